@@ -1,0 +1,11 @@
+use Rattle.std.proofs.Common.{◌≡◌, ◌+◌, ◌++◌, take, length}
+use Rattle.cnf_text.specs.Formula.{units}
+use Rattle.hint_check.specs.BaseSource.{base_of}
+use Rattle.hint_check.proofs.Start.{numbered}
+use Rattle.hint_check.proofs.checker.started.Given as goal
+
+abbrev pub invariant-loop-lit : goal.invariant-loop-lit
+invariant-loop-lit l = record {
+  inserted : l.live ≡ numbered (base_of l.fn.base ++ units (take l.lit-index l.path));
+  next : l.id ≡ length (base_of l.fn.base) + l.lit-index + 1;
+}

@@ -1,0 +1,10 @@
+-- A set of ids that stands for a list of groups.
+use Rattle.std.specs.Prelude.{◌≡◌, ℕ, ◌==◌, nat_eq, List}
+use Rattle.std.specs.HashSet as hash
+use Rattle.std.specs.HashSet.{HashSet}
+use Rattle.std.specs.List.{list_any}
+use Rattle.lrat_text.specs.Lrat.{HintGroup as Group}
+
+-- the set has the candidates of these groups
+abbrev pub Names : {S : Type 0} → HashSet ℕ S → List Group → Type 0
+Names ids groups = (id : ℕ) → hash.contains nat_eq ids id ≡ list_any (λ group. group.candidate == id) groups

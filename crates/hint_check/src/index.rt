@@ -1,0 +1,119 @@
+//! For each literal the ids of the clauses that may hold it.
+ghost use Rattle.std.specs.Prelude.{◌≡◌, ℕ, ◌++◌, ◌∷◌, [], IfOk, OnOk};
+ghost use Rattle.cnf_text.specs.Literal.{number_of};
+ghost use Rattle.std.specs.List.{enumerate_from};
+ghost use Rattle.hint_check.specs.Index.{ids_at, Adds, Lists, Indexes};
+
+use cnf_text::formula::Clause;
+use cnf_text::literal::Lit;
+use std::alloc::{AllocError, Global};
+use std::collections::HashMap;
+use std::marker::Model;
+
+#[derive(Drop)]
+struct Row {
+    ids: Vec<u64>,
+}
+
+impl Model for Row {
+    ghost use Rattle.std.specs.Prelude.{ℕ, List};
+
+    ghost Value = { List ℕ };
+
+    ghost view = { λ r. r.ids.items };
+}
+
+impl Row {
+    fn new(alloc: Global) -> Row
+        ensures { result ≡ [] }
+    {
+        Row {
+            ids: Vec::new(alloc),
+        }
+    }
+
+    fn push(&mut self, id: u64) -> Result<(), AllocError>
+        ensures { OnOk result (self.new ≡ self.old ++ id ∷ []) }
+    {
+        self.ids.push(id)?;
+        Ok(())
+    }
+
+    fn ids(&self) -> &[u64]
+        ensures { result.now ≡ self.now }
+    {
+        self.ids.as_slice()
+    }
+}
+
+#[derive(Drop)]
+pub struct Index {
+    alloc: Global,
+    rows: HashMap<u32, Row>,
+}
+
+impl Model for Index {
+    ghost use Rattle.std.specs.Prelude.{ℕ, List};
+
+    ghost Value = { List (ℕ × List ℕ) };
+
+    ghost view = { λ i. i.rows.entries };
+}
+
+impl Index {
+    pub fn new(alloc: Global) -> Index
+        ensures { result ≡ [] }
+    {
+        Index {
+            alloc,
+            rows: HashMap::new(alloc),
+        }
+    }
+
+    /// The ids listed for a literal.
+    pub fn ids(&self, lit: Lit) -> &[u64]
+        ensures { result.now ≡ ids_at self.now (number_of lit) }
+    {
+        match self.rows.get(&lit.number()) {
+            Some(row) => row.ids(),
+            None => &[],
+        }
+    }
+
+    /// Lists an id for a literal. After an error some ids may be missing.
+    pub fn push(&mut self, lit: Lit, id: u64) -> Result<(), AllocError>
+        ensures { OnOk result (Adds self.old self.new (number_of lit) id) }
+    {
+        let number = lit.number();
+        let mut row = match self.rows.remove(&number) {
+            Some(row) => row,
+            None => Row::new(self.alloc),
+        };
+        row.push(id)?;
+        self.rows.insert(number, row)?;
+        Ok(())
+    }
+
+    /// Lists an id for each of these literals. After an error some ids may be missing.
+    pub fn push_all(&mut self, lits: &[Lit], id: u64) -> Result<(), AllocError>
+        ensures { OnOk result (Lists self.old self.new lits.now id) }
+    {
+        for lit in lits {
+            self.push(*lit, id)?;
+        }
+        Ok(())
+    }
+}
+
+/// The index of clauses that have the ids from 1 on.
+pub fn index_of(alloc: Global, clauses: &[Clause]) -> Result<Index, AllocError>
+    ensures { IfOk result (λ index. Indexes index (enumerate_from 1 clauses.now)) }
+{
+    let mut index = Index::new(alloc);
+    let mut id = 1;
+    for clause in clauses {
+        index.push_all(clause.lits(), id)?;
+        id += 1;
+    }
+    Ok(index)
+}
