@@ -1,0 +1,4 @@
+pub mod Written
+pub mod Cuts
+pub mod Reports
+pub mod Statuses

@@ -1,0 +1,28 @@
+-- What a status says of the bundle.
+use Rattle.std.proofs.Common.{◌≡◌, ◌<◌, ℕ, List, arith, Option, None, Some, IfSome}
+use Rattle.cubeboard.specs.declared.fault.Fault.{Fault}
+use Rattle.cubeboard.specs.declared.fault.Fault.TheVariants.{Header, Token, Unfinished, TooLarge, Limit, Memory, Device, NotYet}
+use Rattle.cubeboard.specs.Faults.{IsInputFault}
+use Rattle.cubeboard.specs.Outcome.{IsFaultOn}
+use Rattle.cubeboard.specs.Command.{status_of, IsStatusOn}
+
+refused : (bundle : List ℕ) (fault : Fault) → IsInputFault fault → IsFaultOn bundle fault → IsStatusOn bundle 3
+refused bundle fault input is = (λ e. absurd (omega arith), λ e. absurd (omega arith), λ _. (fault, input, is))
+
+above_three : (bundle : List ℕ) (status : ℕ) → 3 < status → IsStatusOn bundle status
+above_three bundle status above = (λ e. absurd (omega arith), λ e. absurd (omega arith), λ e. absurd (omega arith))
+
+status_on : (bundle : List ℕ) (fault : Fault) → (IsInputFault fault → IsFaultOn bundle fault) → IsStatusOn bundle (status_of fault)
+status_on bundle Header is = refused bundle Header (λ e. cc, λ e. cc) (is (λ e. cc, λ e. cc))
+status_on bundle (Token line) is = refused bundle (Token line) (λ e. cc, λ e. cc) (is (λ e. cc, λ e. cc))
+status_on bundle Unfinished is = refused bundle Unfinished (λ e. cc, λ e. cc) (is (λ e. cc, λ e. cc))
+status_on bundle (TooLarge line) is = refused bundle (TooLarge line) (λ e. cc, λ e. cc) (is (λ e. cc, λ e. cc))
+status_on bundle Limit is = refused bundle Limit (λ e. cc, λ e. cc) (is (λ e. cc, λ e. cc))
+status_on bundle NotYet is = refused bundle NotYet (λ e. cc, λ e. cc) (is (λ e. cc, λ e. cc))
+status_on bundle Memory is = above_three bundle 4 (omega arith)
+status_on bundle Device is = above_three bundle 5 (omega arith)
+
+-- the status of a fault says of what was read what the fault says
+pub status_of-on : (known : Option (List ℕ)) (fault : Fault) → (IsInputFault fault → IfSome known (λ bundle. IsFaultOn bundle fault)) → IfSome known (λ bundle. IsStatusOn bundle (status_of fault))
+status_of-on None fault is = tt
+status_of-on (Some bundle) fault is = status_on bundle fault is

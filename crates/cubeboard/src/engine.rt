@@ -1,0 +1,181 @@
+//! From the bytes that come in to the bytes that go out.
+
+ghost use Rattle.std.specs.Prelude.{List, ◌≡◌, ◌≢◌, ◌↔◌, ◌⊎◌, ◌∷◌, [], ℕ, ◌<◌, ◌^◌, ◌-◌, ◌+◌, true, map, IsTrue, IfOk, IfErr, OnOk, OnErr, IfSome, IsErrOf};
+ghost use Rattle.std.specs.Io.KnownBytes.{Keeps, Appends};
+ghost use Rattle.cnf_text.specs.Literal.{Literal};
+ghost use Rattle.cnf_text.specs.Formula.{HasNoModel};
+ghost use Rattle.lrat_text.specs.Proof.{proof_of};
+ghost use Rattle.hint_check.specs.Judgement.{judgement};
+ghost use Rattle.cubeboard.specs.Faults.{IsInputFault};
+ghost use Rattle.cubeboard.specs.Device.{AppendsBeginning, IsReadFault};
+ghost use Rattle.cubeboard.specs.Outcome.{IsFormulaOf, IsCase, IsReportOn, IsAnswerOn, IsOutcomeOn, IsFaultOn, IsUnsatisfiable, SaysRefuted};
+
+use crate::bundle::split;
+use crate::device::{Sink, Source};
+use crate::fault::Fault;
+use crate::report::{is_refuted, report_of};
+use cnf_text::{Formula, Lit, read_icnf};
+use hint_check::{Checker, Judged};
+use std::alloc::{AllocError, Global};
+
+/// A formula whose tree is one leaf, and the proof for it.
+#[derive(Drop)]
+struct Case<'b> {
+    formula: Formula,
+    section: &'b [u8],
+}
+
+/// A report, and whether it says that the formula is refuted.
+#[derive(Drop)]
+struct Outcome {
+    text: Vec<u8>,
+    refuted: bool,
+}
+
+/// Whether the cubes are one empty cube.
+fn is_one_empty_cube(cubes: &[Vec<Lit>]) -> bool
+    ensures { IsTrue result ↔ (map (λ cube. cube.items) cubes.now ≡ [] ∷ []) }
+{
+    match cubes {
+        [cube] => cube.is_empty(),
+        _ => false,
+    }
+}
+
+/// The case that a bundle stands for.
+fn case_of(alloc: Global, bundle: &[u8]) -> Result<Case<'_>, Fault>
+    ensures case { IfOk result (λ case. IsCase bundle.now case.formula case.section.now) }
+    ensures formula { IfOk result (λ case. (formula : List (List Literal)) → IsFormulaOf bundle.now formula → formula ≡ case.formula) }
+    ensures fault { IfErr result (λ fault. fault ≢ Fault.Memory → IsFaultOn bundle.now fault) }
+    ensures device { IfErr result (λ fault. fault ≢ Fault.Device) }
+{
+    let parts = split(bundle);
+    let file = read_icnf(alloc, parts.icnf)?;
+    let Some(section) = parts.section else {
+        return Err(Fault::NotYet);
+    };
+    if !is_one_empty_cube(&file.cubes) {
+        return Err(Fault::NotYet);
+    }
+    Ok(Case {
+        formula: file.formula,
+        section,
+    })
+}
+
+/// What is said of the proof of a case.
+fn judge_case(alloc: Global, case: &Case<'_>) -> Result<Judged, AllocError>
+    ensures judgement { IfOk result (λ judged. judged ≡ judgement case.now.formula [] (proof_of case.now.section.now)) }
+    ensures sound { IfOk result (λ judged. judged ≡ Judged.Refuted → HasNoModel case.now.formula) }
+{
+    let checker = Checker::new(alloc, &case.formula, &[])?;
+    checker.judge(alloc, case.section)
+}
+
+/// The report on a bundle, and whether it says refuted.
+fn outcome_of(alloc: Global, bundle: &[u8]) -> Result<Outcome, Fault>
+    ensures outcome { IfOk result (λ outcome. IsOutcomeOn bundle.now outcome.text.items outcome.refuted) }
+    ensures sound { IfOk result (λ outcome. outcome.refuted ≡ true → IsUnsatisfiable bundle.now) }
+    ensures fault { IfErr result (λ fault. fault ≢ Fault.Memory → IsFaultOn bundle.now fault) }
+    ensures device { IfErr result (λ fault. fault ≢ Fault.Device) }
+{
+    let case = case_of(alloc, bundle)?;
+    let judged = judge_case(alloc, &case)?;
+    let text = report_of(alloc, judged)?;
+    Ok(Outcome {
+        text,
+        refuted: is_refuted(judged),
+    })
+}
+
+/// The report on a bundle, by one thread, or the bundle's first fault; `Memory` may stand in the place of any other
+/// answer where a growth is refused.
+pub fn run_one(alloc: Global, bundle: &[u8]) -> Result<Vec<u8>, Fault>
+    // The text is the report on the case that the bundle stands for.
+    ensures text { IfOk result (λ text. IsReportOn bundle.now text.items) }
+    // It says refuted only where the formula has no model.
+    ensures sound { IfOk result (λ text. SaysRefuted text.items → IsUnsatisfiable bundle.now) }
+    // Another bundle is refused for its first fault.
+    ensures fault { IfErr result (λ fault. fault ≢ Fault.Memory → IsFaultOn bundle.now fault) }
+{
+    let outcome = outcome_of(alloc, bundle)?;
+    Ok(outcome.text)
+}
+
+/// Reads a bundle to the reader's end, and writes the report on it; answers whether the formula is refuted.
+///
+/// Nothing is written before all is read and judged. A read of 0 bytes is the reader's end. `Device` where a read or a
+/// write failed in this call, and where a write failed, a beginning of the report was written.
+pub fn run_io<R: Source, W: Sink>(
+    alloc: Global,
+    reader: &mut R,
+    writer: &mut W,
+) -> Result<bool, Fault>
+    requires reader { R.failures reader.old < 2 ^ 64 - 1 }
+    requires writer { W.failures writer.old < 2 ^ 64 - 1 }
+
+    // What is written is the report on what was read, and the answer tells whether it says refuted.
+    ensures written { OnOk result (IfSome (R.remaining reader.old) (λ input.
+        (text : List ℕ) × IsReportOn input text × Appends (W.contents writer.old) (W.contents writer.new) text)) }
+    ensures answer { IfOk result (λ answer. IfSome (R.remaining reader.old) (λ input. IsAnswerOn input answer)) }
+
+    // It is true only where the formula has no model.
+    ensures sound { IfOk result (λ answer. answer ≡ true → IfSome (R.remaining reader.old) IsUnsatisfiable) }
+
+    // A fault of the input is that of what was read.
+    ensures fault { IfErr result (λ fault. IsInputFault fault →
+        IfSome (R.remaining reader.old) (λ input. IsFaultOn input fault)) }
+
+    // Where no write failed, a fault has written nothing, and otherwise a beginning of the report was written.
+    ensures nothing { OnErr result (W.failures writer.new ≡ W.failures writer.old →
+        Keeps (W.contents writer.old) (W.contents writer.new)) }
+    ensures beginning { OnErr result (IfSome (R.remaining reader.old) (λ input. W.failures writer.new ≢ W.failures writer.old →
+        (text : List ℕ) × IsReportOn input text × AppendsBeginning (W.contents writer.old) (W.contents writer.new) text)) }
+
+    // The device is at fault exactly where a call failed.
+    ensures device { IsErrOf result Fault.Device ↔
+        (R.failures reader.old < R.failures reader.new ⊎ W.failures writer.old < W.failures writer.new) }
+{
+    let input = read_all(alloc, reader)?;
+    let outcome = outcome_of(alloc, &input)?;
+    write_all(writer, &outcome.text)?;
+    Ok(outcome.refuted)
+}
+
+/// All bytes up to the reader's end.
+fn read_all<R: Source>(alloc: Global, reader: &mut R) -> Result<Vec<u8>, Fault>
+    requires { R.failures reader.old < 2 ^ 64 - 1 }
+    ensures bytes { IfOk result (λ input. IfSome (R.remaining reader.old) (λ left. input.items ≡ left)) }
+    ensures ok { OnOk result (R.failures reader.new ≡ R.failures reader.old) }
+    ensures err { IfErr result (λ fault. IsReadFault (R.failures reader.old) (R.failures reader.new) fault) }
+{
+    let mut input = Vec::new(alloc);
+    let mut buffer = [0u8; 8192];
+    loop {
+        let Ok(count) = reader.read(&mut buffer) else {
+            return Err(Fault::Device);
+        };
+        if count == 0 {
+            return Ok(input);
+        }
+        input.extend_from_slice(&buffer[..count])?;
+    }
+}
+
+/// Writes all of the text.
+fn write_all<W: Sink>(writer: &mut W, text: &[u8]) -> Result<(), Fault>
+    requires { W.failures writer.old < 2 ^ 64 - 1 }
+    ensures ok { OnOk result (Appends (W.contents writer.old) (W.contents writer.new) text.now) }
+    ensures same { OnOk result (W.failures writer.new ≡ W.failures writer.old) }
+    ensures beginning { OnErr result (AppendsBeginning (W.contents writer.old) (W.contents writer.new) text.now) }
+    ensures err { IfErr result (λ fault. (fault ≡ Fault.Device) × (W.failures writer.new ≡ W.failures writer.old + 1)) }
+{
+    let mut done = 0;
+    while done < text.len() {
+        let Ok(count) = writer.write(&text[done..]) else {
+            return Err(Fault::Device);
+        };
+        done += count;
+    }
+    Ok(())
+}
