@@ -6,14 +6,14 @@ use Rattle.std.specs.FinMap as fin
 use Rattle.std.specs.Ordering.{nat_cmp, eq_by_cmp}
 use Rattle.hint_check.proofs.Maps.{same_key}
 use Rattle.hint_check.proofs.Start.{enumerate_from-push}
-use Rattle.hint_check.proofs.OverlayMaps.{find-append, either_part, IfSome-weaker}
+use Rattle.hint_check.proofs.OverlayMaps.{find-append, find-lookup, either_part, IfSome-weaker}
 use Rattle.std.specs.List.{list_any, enumerate_from}
 use Rattle.std.specs.Map.{lookup}
 use Rattle.std.proofs.lemmas.Bool.{false≢true, or_cases, or_left, or_right, and_parts, and_from, eqb-true, eq-eqb, cases_Bool, cond-true}
 use Rattle.std.proofs.lemmas.List.Folds.{list_any-append}
 use Rattle.cnf_text.specs.Literal.{Literal, number_of, same}
 use Rattle.hint_check.specs.Literals.{has, with_literal}
-use Rattle.hint_check.specs.Index.{ids_at, Adds, is_listed, Lists, Indexes, NamesEntries}
+use Rattle.hint_check.specs.Index.{ids_at, Adds, is_listed, Lists, Indexes, MayList, NamesEntries}
 use Rattle.hint_check.proofs.Literals.{same-true, has-push}
 
 none_listed : (b : Bool) → false ≡ true → b ≡ true
@@ -85,7 +85,89 @@ Indexes-push before after clauses clause id is h lists q l =
     (IfSome-weaker (fin.find nat_cmp q old) (h q l) (λ c was holds. lists l q (or_left (is_listed before l q) (has clause l && (id == q)) (was holds))))
     (last_one after clause id q l (eq_by_cmp nat_cmp q id) refl all))
 
-pub Indexes-names : (rows : List (ℕ × List ℕ)) (clauses : List (List Literal)) (l : Literal) (ids : List ℕ) → Indexes rows (enumerate_from 1 clauses) → ids ≡ ids_at rows (number_of l) → NamesEntries clauses l ids
+pub Indexes-names : (rows : List (ℕ × List ℕ)) (entries : List (ℕ × List Literal)) (l : Literal) (ids : List ℕ) → Indexes rows entries → ids ≡ ids_at rows (number_of l) → NamesEntries entries l ids
 unfolding Indexes NamesEntries
-Indexes-names rows clauses l ids h is q =
-    subst (λ named. IfSome (fin.find nat_cmp q (enumerate_from 1 clauses)) (λ clause. has clause l ≡ true → list_any (λ n. n == q) named ≡ true)) (sym is) (h q l)
+Indexes-names rows entries l ids h is q =
+    subst (λ named. IfSome (fin.find nat_cmp q entries) (λ clause. has clause l ≡ true → list_any (λ n. n == q) named ≡ true)) (sym is) (h q l)
+
+-- ---- entries by ids, one put or taken out
+
+put-Indexes : (before after : List (ℕ × List ℕ)) (clause : List Literal) (id q : ℕ) (l : Literal) (old : Option (List Literal)) (b : Bool) → nat_eq id q ≡ b → Lists before after clause id → IfSome old (λ c. has c l ≡ true → is_listed before l q ≡ true) → IfSome (cond b (Some clause) old) (λ c. has c l ≡ true → is_listed after l q ≡ true)
+unfolding Lists
+put-Indexes before after clause id q l old true here lists was = λ holds. lists l q (or_right (is_listed before l q) (has clause l && (id == q)) (and_from (has clause l) (id == q) holds here))
+put-Indexes before after clause id q l old false apart lists was = IfSome-weaker old was (λ c listed holds. lists l q (or_left (is_listed before l q) (has clause l && (id == q)) (listed holds)))
+
+take-Indexes : (rows : List (ℕ × List ℕ)) (q : ℕ) (l : Literal) (old : Option (List Literal)) (b : Bool) → IfSome old (λ c. has c l ≡ true → is_listed rows l q ≡ true) → IfSome (cond b None old) (λ c. has c l ≡ true → is_listed rows l q ≡ true)
+take-Indexes rows q l old true was = tt
+take-Indexes rows q l old false was = was
+
+module _ (own own' : List (ℕ × List Literal)) (id : ℕ) where
+  Indexes-put : (before after : List (ℕ × List ℕ)) (clause : List Literal) → Indexes before own → Lists before after clause id → ((q : ℕ) → lookup (nat_eq q) own' ≡ cond (nat_eq id q) (Some clause) (lookup (nat_eq q) own)) → Indexes after own'
+  unfolding Indexes
+  Indexes-put before after clause h lists put q l =
+      subst (λ o. IfSome o (λ c. has c l ≡ true → is_listed after l q ≡ true)) (sym (find-lookup q own' ∙ put q))
+      (put-Indexes before after clause id q l (lookup (nat_eq q) own) (nat_eq id q) refl lists
+      (subst (λ o. IfSome o (λ c. has c l ≡ true → is_listed before l q ≡ true)) (find-lookup q own) (h q l)))
+
+  Indexes-take : (rows : List (ℕ × List ℕ)) → Indexes rows own → ((q : ℕ) → lookup (nat_eq q) own' ≡ cond (nat_eq id q) None (lookup (nat_eq q) own)) → Indexes rows own'
+  unfolding Indexes
+  Indexes-take rows h taken q l =
+      subst (λ o. IfSome o (λ c. has c l ≡ true → is_listed rows l q ≡ true)) (sym (find-lookup q own' ∙ taken q))
+      (take-Indexes rows q l (lookup (nat_eq q) own) (nat_eq id q)
+      (subst (λ o. IfSome o (λ c. has c l ≡ true → is_listed rows l q ≡ true)) (find-lookup q own) (h q l)))
+
+  pub MayIndex-put : (index after : Option (List (ℕ × List ℕ))) (clause : List Literal) → IfSome index (λ rows. Indexes rows own) → MayList index after clause id → ((q : ℕ) → lookup (nat_eq q) own' ≡ cond (nat_eq id q) (Some clause) (lookup (nat_eq q) own)) → IfSome after (λ rows. Indexes rows own')
+  MayIndex-put index None clause h lists put = tt
+  MayIndex-put None (Some after) clause h lists put = absurd lists
+  MayIndex-put (Some before) (Some after) clause h lists put = Indexes-put before after clause h lists put
+
+  pub MayIndex-take : (index : Option (List (ℕ × List ℕ))) → IfSome index (λ rows. Indexes rows own) → ((q : ℕ) → lookup (nat_eq q) own' ≡ cond (nat_eq id q) None (lookup (nat_eq q) own)) → IfSome index (λ rows. Indexes rows own')
+  MayIndex-take None h taken = tt
+  MayIndex-take (Some rows) h taken = Indexes-take rows h taken
+
+-- ---- an index made one entry after another
+
+abbrev pub still_has : List (ℕ × List Literal) → Literal → ℕ → Bool
+still_has rest l q = list_any (λ entry. has entry.1 l && (entry.0 == q)) rest
+
+-- an id is listed for each literal of its clause, or its entry is still to come
+unfoldable pub Awaits : List (ℕ × List ℕ) → List (ℕ × List Literal) → List (ℕ × List Literal) → Type 0
+Awaits rows rest entries =
+    (q : ℕ) (l : Literal) → IfSome (fin.find nat_cmp q entries) (λ clause. has clause l ≡ true → (is_listed rows l q || still_has rest l q) ≡ true)
+
+find-still_has : (entries : List (ℕ × List Literal)) (q : ℕ) (l : Literal) → IfSome (fin.find nat_cmp q entries) (λ clause. has clause l ≡ true → still_has entries l q ≡ true)
+find-still_has [] q l = tt
+find-still_has (e ∷ es) q l =
+    elim (eq_by_cmp nat_cmp q e.0) as (λ b. eq_by_cmp nat_cmp q e.0 ≡ b → IfSome (cond b (Some e.1) (fin.find nat_cmp q es)) (λ clause. has clause l ≡ true → still_has (e ∷ es) l q ≡ true)) [
+      | true ↦ λ here holds. or_left (has e.1 l && (e.0 == q)) (still_has es l q) (and_from (has e.1 l) (e.0 == q) holds (eq-eqb e.0 q (sym (same_key q e.0 here))))
+      | false ↦ λ apart. IfSome-weaker (fin.find nat_cmp q es) (find-still_has es q l) (λ clause later holds. or_right (has e.1 l && (e.0 == q)) (still_has es l q) (later holds))
+    ] refl
+
+pub Awaits-all : (rows : List (ℕ × List ℕ)) (entries : List (ℕ × List Literal)) → Awaits rows entries entries
+unfolding Awaits
+Awaits-all rows entries q l = IfSome-weaker (fin.find nat_cmp q entries) (find-still_has entries q l) (λ clause still holds. or_right (is_listed rows l q) (still_has entries l q) (still holds))
+
+next-listed : (before after : List (ℕ × List ℕ)) (e : ℕ × List Literal) (rest : List (ℕ × List Literal)) (l : Literal) (q : ℕ) → Lists before after e.1 e.0 → (is_listed before l q || still_has (e ∷ rest) l q) ≡ true → (is_listed after l q || still_has rest l q) ≡ true
+unfolding Lists
+next-listed before after e rest l q lists h =
+    elim (or_cases (is_listed before l q) (still_has (e ∷ rest) l q) h) [
+      | inl old ↦ or_left (is_listed after l q) (still_has rest l q) (lists l q (or_left (is_listed before l q) (has e.1 l && (e.0 == q)) old))
+      | inr still ↦ elim (or_cases (has e.1 l && (e.0 == q)) (still_has rest l q) still) [
+        | inl this ↦ or_left (is_listed after l q) (still_has rest l q) (lists l q (or_right (is_listed before l q) (has e.1 l && (e.0 == q)) this))
+        | inr later ↦ or_right (is_listed after l q) (still_has rest l q) later
+      ]
+    ]
+
+pub Awaits-next : (before after : List (ℕ × List ℕ)) (e : ℕ × List Literal) (rest entries : List (ℕ × List Literal)) → Awaits before (e ∷ rest) entries → Lists before after e.1 e.0 → Awaits after rest entries
+unfolding Awaits
+Awaits-next before after e rest entries h lists q l =
+    IfSome-weaker (fin.find nat_cmp q entries) (h q l) (λ clause was holds. next-listed before after e rest l q lists (was holds))
+
+or_none : (b : Bool) → (b || false) ≡ true → b ≡ true
+or_none true h = refl
+or_none false h = h
+
+pub Awaits-none : (rows : List (ℕ × List ℕ)) (entries : List (ℕ × List Literal)) → Awaits rows [] entries → Indexes rows entries
+unfolding Awaits Indexes
+Awaits-none rows entries h q l =
+    IfSome-weaker (fin.find nat_cmp q entries) (h q l) (λ clause was holds. or_none (is_listed rows l q) (was holds))

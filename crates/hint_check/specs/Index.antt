@@ -1,7 +1,7 @@
 -- For each literal the ids of the clauses that may hold it.
-use Rattle.std.specs.Prelude.{◌≡◌, ℕ, ◌==◌, nat_eq, Bool, true, ◌&&◌, ◌||◌, if◌then◌else◌, List, [], ◌∷◌, ◌++◌}
+use Rattle.std.specs.Prelude.{◌≡◌, ℕ, ◌==◌, nat_eq, Bool, true, ◌&&◌, ◌||◌, if◌then◌else◌, List, [], ◌∷◌, ◌++◌, Option, Some, None}
 use Rattle.std.specs.Option.{unwrap_or, IfSome}
-use Rattle.std.specs.List.{list_any, enumerate_from}
+use Rattle.std.specs.List.{list_any}
 use Rattle.std.specs.Map.{lookup}
 use Rattle.std.specs.Ordering.{nat_cmp}
 use Rattle.std.specs.FinMap as map
@@ -31,7 +31,13 @@ unfoldable pub Indexes : List (ℕ × List ℕ) → List (ℕ × List Literal) �
 Indexes rows entries =
     (q : ℕ) (l : Literal) → IfSome (map.find nat_cmp q entries) (λ clause. has clause l ≡ true → is_listed rows l q ≡ true)
 
--- the ids name each clause, counted from 1, that holds the literal
-unfoldable pub NamesEntries : List (List Literal) → Literal → List ℕ → Type 0
-NamesEntries clauses l ids =
-    (q : ℕ) → IfSome (map.find nat_cmp q (enumerate_from 1 clauses)) (λ clause. has clause l ≡ true → list_any (λ named. named == q) ids ≡ true)
+-- the ids name each entry whose clause holds the literal
+unfoldable pub NamesEntries : List (ℕ × List Literal) → Literal → List ℕ → Type 0
+NamesEntries entries l ids =
+    (q : ℕ) → IfSome (map.find nat_cmp q entries) (λ clause. has clause l ≡ true → list_any (λ named. named == q) ids ≡ true)
+
+-- where there are rows, the later ones list the id for each of these literals
+abbrev pub MayList : Option (List (ℕ × List ℕ)) → Option (List (ℕ × List ℕ)) → List Literal → ℕ → Type 0
+MayList before None literals id = Unit {0}
+MayList None (Some after) literals id = ⊥
+MayList (Some before) (Some after) literals id = Lists before after literals id

@@ -4,17 +4,18 @@ ghost use Rattle.std.specs.HashSet.{contains};
 ghost use Rattle.std.specs.List.{list_any};
 ghost use Rattle.hint_check.specs.Grouped.{Names};
 
-use lrat_text::steps::Group;
+use lrat_text::StepBuffer;
 use std::alloc::{AllocError, Global};
 use std::collections::HashSet;
 
-/// The candidates of these groups, each looked up in one step.
-pub fn candidates(alloc: Global, groups: &[Group]) -> Result<HashSet<u64>, AllocError>
-    ensures { IfOk result (λ ids. Names ids groups.now) }
+/// The candidates of a step's groups, each looked up in one step.
+pub fn candidates(alloc: Global, step: &StepBuffer) -> Result<HashSet<u64>, AllocError>
+    ensures { IfOk result (λ ids. Names ids step.now.groups) }
 {
     let mut ids = HashSet::new(alloc);
-    for group in groups {
-        ids.insert(group.candidate)?;
+    for place in 0..step.group_count() {
+        let (candidate, _) = step.group(place);
+        ids.insert(candidate)?;
     }
     Ok(ids)
 }

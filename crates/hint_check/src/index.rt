@@ -2,7 +2,7 @@
 ghost use Rattle.std.specs.Prelude.{◌≡◌, ℕ, ◌++◌, ◌∷◌, [], IfOk, OnOk};
 ghost use Rattle.cnf_text.specs.Literal.{number_of};
 ghost use Rattle.std.specs.List.{enumerate_from};
-ghost use Rattle.hint_check.specs.Index.{ids_at, Adds, Lists, Indexes};
+ghost use Rattle.hint_check.specs.Index.{ids_at, Adds, Lists, Indexes, MayList};
 
 use cnf_text::formula::Clause;
 use cnf_text::literal::Lit;
@@ -116,4 +116,28 @@ pub fn index_of(alloc: Global, clauses: &[Clause]) -> Result<Index, AllocError>
         id += 1;
     }
     Ok(index)
+}
+
+/// The index of clauses by their ids.
+pub fn index_of_entries(alloc: Global, clauses: &HashMap<u64, Clause>) -> Result<Index, AllocError>
+    ensures { IfOk result (λ index. Indexes index clauses.now.entries) }
+{
+    let mut index = Index::new(alloc);
+    for (id, clause) in clauses {
+        index.push_all(clause.lits(), *id)?;
+    }
+    Ok(index)
+}
+
+/// Lists an id for each of these literals, where there is an index.
+pub fn listed(index: Option<Index>, lits: &[Lit], id: u64) -> Result<Option<Index>, AllocError>
+    ensures { IfOk result (λ after. MayList index after lits.now id) }
+{
+    match index {
+        None => Ok(None),
+        Some(mut rows) => {
+            rows.push_all(lits, id)?;
+            Ok(Some(rows))
+        }
+    }
 }
