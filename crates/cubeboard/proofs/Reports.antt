@@ -45,7 +45,7 @@ no_way a b p q e = omega arith
 open_is_not_refuted : (xs ys : List ℕ) → xs ++ codes "s OPEN\n" ≡ ys ++ codes "s REFUTED\n" → ⊥
 open_is_not_refuted xs ys e =
     let outer : ((xs ++ open_front) ++ 78 ∷ []) ++ 10 ∷ [] ≡ ((ys ++ refuted_front) ++ 68 ∷ []) ++ 10 ∷ [] =
-      simp append_assoc e in
+    simp append_assoc e in
     let inner = last_same ((xs ++ open_front) ++ 78 ∷ []) ((ys ++ refuted_front) ++ 68 ∷ []) 10 10 outer in
     let ends = last_same (xs ++ open_front) (ys ++ refuted_front) 78 68 inner.0 in
     no_way 78 68 refl refl ends.1
