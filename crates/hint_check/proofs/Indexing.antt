@@ -9,7 +9,7 @@ use Rattle.hint_check.proofs.Start.{enumerate_from-push}
 use Rattle.hint_check.proofs.OverlayMaps.{find-append, find-lookup, either_part, IfSome-weaker}
 use Rattle.std.specs.List.{list_any, enumerate_from}
 use Rattle.std.specs.Map.{lookup}
-use Rattle.std.proofs.lemmas.Bool.{false≢true, or_cases, or_left, or_right, and_parts, and_from, eqb-true, eq-eqb, cases_Bool, cond-true}
+use Rattle.std.proofs.lemmas.Bool.{false≢true, or_cases, or_left, or_right, and_parts, and_from, eqb-true, eq-eqb, cond-true}
 use Rattle.std.proofs.lemmas.List.Folds.{list_any-append}
 use Rattle.cnf_text.specs.Literal.{Literal, number_of, same}
 use Rattle.hint_check.specs.Literals.{has, with_literal}

@@ -1,9 +1,8 @@
 -- Stamps in pages, and the literals that they say are set.
-use Rattle.std.proofs.Common.{◌≡◌, ◌==◌, ◌+◌, ◌-◌, ◌<◌, ◌≤◌, ◌/◌, ◌%◌, ℕ, zero, suc, Bool, true, false, not, cond, eqb, ◌||◌, List, [], ◌∷◌, ◌++◌, length, get_or, take, replicate, slice_set, slice_index, min, subst, refl, sym, ap, ◌∙◌, arith, inl, inr}
-use Rattle.std.proofs.lemmas.Bool.{cases_lt, ne_eqb, or_left, cases_Bool, cond-true, cond-false, eqb-true, eq-eqb, both_ways}
-use Rattle.std.proofs.Math.Nat.{div-add-mod}
+use Rattle.std.proofs.Common.{◌≡◌, ◌==◌, ◌+◌, ◌-◌, ◌<◌, ◌≤◌, ◌/◌, ◌%◌, ℕ, zero, suc, Bool, true, false, ◌||◌, List, [], ◌∷◌, ◌++◌, length, get_or, take, replicate, slice_index, min, subst, refl, sym, ap, ◌∙◌, arith, inl, inr}
+use Rattle.std.proofs.lemmas.Bool.{cases_lt, ne_eqb, or_left, eqb-true, eq-eqb}
 use Rattle.std.specs.Prelude.{if◌then◌else◌}
-use Rattle.std.proofs.lemmas.List.{get_or-set_same, get_or-set_other, take_at, take_all, take-append-le, take-take, length_push, length-take, length-take-le}
+use Rattle.std.proofs.lemmas.List.{take_at, take_all, take-append-le, take-take, length_push, length-take, length-take-le}
 use Rattle.cnf_text.specs.Literal.{Literal, number_of, same}
 use Rattle.hint_check.specs.Literals.{has, with_literal}
 use Rattle.hint_check.specs.Stamps.{stamp_at, HasPage, StampsAre, NoneAbove, NoRepeats, Extends}
@@ -31,33 +30,6 @@ pub stamp_at-empty : (pages : List (List ℕ)) (n : ℕ) → stamp_at (pages ++ 
 stamp_at-empty pages n = ap (λ page. get_or page (n % 1024) 0) (empty-behind pages (n / 1024))
 
 -- ---- one stamp written
-
-half-same : (n m : ℕ) → n / 1024 ≡ m / 1024 → n % 1024 ≡ m % 1024 → n ≡ m
-half-same n m pages places = omega (arith, pages, places, div-add-mod n 1024, div-add-mod m 1024)
-
-elsewhere : (pages : List (List ℕ)) (m stamp n : ℕ) → m / 1024 < length pages → (n ≡ m → ⊥) → stamp_at (slice_set pages (m / 1024) (slice_set (get_or pages (m / 1024) []) (m % 1024) stamp)) n ≡ stamp_at pages n
-elsewhere pages m stamp n has_page apart =
-    let page = get_or pages (m / 1024) [] in
-    elim (cases_Bool (n / 1024 == m / 1024)) [
-      | inl there ↦ let e : n / 1024 ≡ m / 1024 = eqb-true (n / 1024) (m / 1024) there in
-          ap (λ k. slice_index (get_or (slice_set pages (m / 1024) (slice_set page (m % 1024) stamp)) k []) (n % 1024)) e
-          ∙ ap (λ p. slice_index p (n % 1024)) (get_or-set_same pages (m / 1024) (slice_set page (m % 1024) stamp) [] has_page)
-          ∙ get_or-set_other page (m % 1024) (n % 1024) stamp 0 (λ places. apart (half-same n m e places))
-          ∙ ap (λ k. slice_index (get_or pages k []) (n % 1024)) (sym e)
-      | inr other ↦ ap (λ p. slice_index p (n % 1024)) (get_or-set_other pages (m / 1024) (n / 1024) (slice_set page (m % 1024) stamp) [] (λ e. both_ways (n / 1024 == m / 1024) other (eq-eqb (n / 1024) (m / 1024) e)))
-    ]
-
-pub stamp_at-set : (pages : List (List ℕ)) (m stamp n : ℕ) → m / 1024 < length pages → m % 1024 < length (get_or pages (m / 1024) []) → stamp_at (slice_set pages (m / 1024) (slice_set (get_or pages (m / 1024) []) (m % 1024) stamp)) n ≡ (if m == n then stamp else stamp_at pages n)
-stamp_at-set pages m stamp n has_page has_place =
-    let page = get_or pages (m / 1024) [] in
-    elim (cases_Bool (m == n)) [
-      | inl here ↦ let e : n ≡ m = sym (eqb-true m n here) in
-          ap (stamp_at (slice_set pages (m / 1024) (slice_set page (m % 1024) stamp))) e
-          ∙ ap (λ p. slice_index p (m % 1024)) (get_or-set_same pages (m / 1024) (slice_set page (m % 1024) stamp) [] has_page)
-          ∙ get_or-set_same page (m % 1024) stamp 0 has_place
-          ∙ sym (cond-true (m == n) stamp (stamp_at pages n) here)
-      | inr apart ↦ elsewhere pages m stamp n has_page (λ e. both_ways (m == n) apart (eq-eqb m n (sym e))) ∙ sym (cond-false (m == n) stamp (stamp_at pages n) apart)
-    ]
 
 -- ---- the literals that are set
 

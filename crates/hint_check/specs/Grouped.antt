@@ -1,4 +1,4 @@
--- A set of ids that stands for a list of groups.
+-- A set of ids that stands for a list of groups, for the contracts of private functions.
 use Rattle.std.specs.Prelude.{◌≡◌, ℕ, ◌==◌, nat_eq, List}
 use Rattle.std.specs.HashSet as hash
 use Rattle.std.specs.HashSet.{HashSet}

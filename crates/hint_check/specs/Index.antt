@@ -1,4 +1,4 @@
--- For each literal the ids of the clauses that may hold it.
+-- For each literal the ids of the clauses that may hold it, for the contracts of private functions.
 use Rattle.std.specs.Prelude.{◌≡◌, ℕ, ◌==◌, nat_eq, Bool, true, ◌&&◌, ◌||◌, if◌then◌else◌, List, [], ◌∷◌, ◌++◌, Option, Some, None}
 use Rattle.std.specs.Option.{unwrap_or, IfSome}
 use Rattle.std.specs.List.{list_any}

@@ -1,5 +1,5 @@
--- Numbers stamped in pages.
-use Rattle.std.specs.Prelude.{◌≡◌, ℕ, ◌/◌, ◌%◌, ◌<◌, ◌≤◌, ◌==◌, Bool, true, false, if◌then◌else◌, List, [], length, take, slice_index, slice_index_or}
+-- Numbers stamped in pages, for the contracts of private functions.
+use Rattle.std.specs.Prelude.{◌≡◌, ℕ, ◌/◌, ◌%◌, ◌<◌, ◌≤◌, ◌==◌, false, List, [], length, take, slice_index, slice_index_or}
 use Rattle.cnf_text.specs.Literal.{Literal, number_of}
 use Rattle.hint_check.specs.Literals.{has}
 

@@ -49,6 +49,8 @@ impl Row {
 #[derive(Drop)]
 pub struct Index {
     alloc: Global,
+    /// How often an id was listed.
+    listed: usize,
     rows: HashMap<u32, Row>,
 }
 
@@ -66,6 +68,7 @@ impl Index {
     {
         Index {
             alloc,
+            listed: 0,
             rows: HashMap::new(alloc),
         }
     }
@@ -90,6 +93,7 @@ impl Index {
             None => Row::new(self.alloc),
         };
         row.push(id)?;
+        self.listed = self.listed.saturating_add(1);
         self.rows.insert(number, row)?;
         Ok(())
     }
@@ -129,13 +133,22 @@ pub fn index_of_entries(alloc: Global, clauses: &HashMap<u64, Clause>) -> Result
     Ok(index)
 }
 
-/// Lists an id for each of these literals, where there is an index.
-pub fn listed(index: Option<Index>, lits: &[Lit], id: u64) -> Result<Option<Index>, AllocError>
+/// Lists an id for each of these literals, where there is an index. One that names far more than the literals that are
+/// held is given up, since most of what it names is gone.
+pub fn listed(
+    index: Option<Index>,
+    held: usize,
+    lits: &[Lit],
+    id: u64,
+) -> Result<Option<Index>, AllocError>
     ensures { IfOk result (λ after. MayList index after lits.now id) }
 {
     match index {
         None => Ok(None),
         Some(mut rows) => {
+            if rows.listed / 4 > held {
+                return Ok(None);
+            }
             rows.push_all(lits, id)?;
             Ok(Some(rows))
         }

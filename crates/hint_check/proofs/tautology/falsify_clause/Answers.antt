@@ -1,5 +1,5 @@
-use Rattle.std.proofs.Common.{◌≡◌, sym, ap, ◌∙◌}
-use Rattle.hint_check.specs.Literals.{has, meets, negations, with_literals}
+use Rattle.std.proofs.Common.{ap, ◌∙◌}
+use Rattle.hint_check.specs.Literals.{meets, negations, with_literals}
 use Rattle.hint_check.proofs.Candidates.{meets-negations}
 use Rattle.hint_check.proofs.tautology.falsify_clause.Goals as goal
 

@@ -1,4 +1,4 @@
-use Rattle.std.proofs.Common.{◌≡◌, ◌-◌, ◌+◌, ◌≤◌, length, take}
+use Rattle.std.proofs.Common.{◌≡◌, ◌-◌, ◌≤◌, length, take}
 use Rattle.hint_check.proofs.assignment.Assignment.undo.Given as goal
 
 abbrev pub invariant-loop : goal.invariant-loop

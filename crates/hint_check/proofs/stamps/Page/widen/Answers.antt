@@ -1,4 +1,4 @@
-use Rattle.std.proofs.Common.{◌≡◌, ◌-◌, ◌++◌, take, get_or, replicate, ap, ◌∙◌, arith}
+use Rattle.std.proofs.Common.{◌-◌, ◌++◌, get_or, replicate, ap, ◌∙◌, arith}
 use Rattle.std.proofs.lemmas.List.{take_all}
 use Rattle.hint_check.proofs.Stamping.{zeros-behind}
 use Rattle.hint_check.proofs.stamps.Page.widen.Goals as goal
