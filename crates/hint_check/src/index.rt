@@ -10,6 +10,7 @@ use std::alloc::{AllocError, Global};
 use std::collections::HashMap;
 use std::marker::Model;
 
+/// The ids listed for one literal.
 #[derive(Drop)]
 struct Row {
     ids: Vec<u64>,
@@ -46,6 +47,7 @@ impl Row {
     }
 }
 
+/// For each literal a row of ids, by the literal's number.
 #[derive(Drop)]
 pub struct Index {
     alloc: Global,
@@ -63,6 +65,7 @@ impl Model for Index {
 }
 
 impl Index {
+    /// No id is listed. It takes no memory yet.
     pub fn new(alloc: Global) -> Index
         ensures { result ≡ [] }
     {

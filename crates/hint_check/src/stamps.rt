@@ -59,6 +59,7 @@ impl Page {
     }
 }
 
+/// A stamp for each number, 0 where none was set.
 #[derive(Drop)]
 pub struct Stamps {
     alloc: Global,
@@ -74,6 +75,7 @@ impl Model for Stamps {
 }
 
 impl Stamps {
+    /// No stamp is set. It takes no memory yet.
     pub fn new(alloc: Global) -> Stamps
         ensures { result ≡ [] }
     {
@@ -83,6 +85,7 @@ impl Stamps {
         }
     }
 
+    /// The stamp of a number.
     pub fn get(&self, number: u32) -> u32
         ensures { result ≡ stamp_at self.now number }
     {
@@ -102,6 +105,7 @@ impl Stamps {
         self.pages[index].widen()
     }
 
+    /// Sets the stamp of a number that has a page.
     pub fn set(&mut self, number: u32, stamp: u32)
         requires { HasPage self.old number }
         ensures { (n : ℕ) → stamp_at self.new n ≡ (if number == n then stamp else stamp_at self.old n) }
@@ -109,6 +113,7 @@ impl Stamps {
         self.pages[(number / PAGE) as usize].set((number % PAGE) as usize, stamp);
     }
 
+    /// Gives all pages up.
     pub fn clear(&mut self)
         ensures { self.new ≡ [] }
     {
