@@ -1,0 +1,12 @@
+pub mod Trees
+pub mod Clashes
+pub mod Growth
+pub mod Pending
+pub mod Fits
+pub mod Coding
+pub mod Ends
+pub mod Labels
+pub mod Steps
+pub mod Paths
+pub mod Totals
+pub mod Tops
