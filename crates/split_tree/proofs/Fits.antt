@@ -1,5 +1,7 @@
 -- A list of cubes has a tree exactly where no two of them clash.
-use Rattle.std.proofs.Common.{◌≡◌, ℕ, zero, suc, ◌+◌, ◌<◌, List, [], ◌∷◌, length, Bool, true, false, refl, sym, ◌∙◌, inl, inr, arith}
+use Rattle.std.proofs.Common.{◌≡◌, ℕ, zero, suc, ◌+◌, ◌<◌, List, [], ◌∷◌, length, Bool, true, false, refl, sym, ◌∙◌, inl, inr, arith, Vec, Option, Some, None, MatchBool}
+use Rattle.std.specs.Option.{is_some}
+use Rattle.split_tree.specs.declared.shape.Shape.{Shape}
 use Rattle.std.specs.List.{AllByRecursion}
 use Rattle.std.specs.Bool.{beq}
 use Rattle.std.proofs.lemmas.Bool.{eq-eqb, cases_Bool}
@@ -7,7 +9,7 @@ use Rattle.split_tree.specs.declared.clash.Relation.TheVariants.{Fit}
 use Rattle.cnf_text.specs.Literal.{Literal}
 use Rattle.split_tree.specs.Clash.{relation_of, cube_at, AllFit}
 use Rattle.split_tree.specs.SplitTree.{SplitTree, missing, cube, split, Numbered, numbered, SplitsOn, going_with, going, IsTreeOf}
-use Rattle.split_tree.specs.Ahead.{AreFit}
+use Rattle.split_tree.specs.Ahead.{AreFit, AreShapesOf}
 
 all_numbered : (P : List Literal → Type 0) (k : ℕ) (cubes : List (List Literal)) →
     ((j : ℕ) → j < length cubes → P (cube_at cubes j)) → AllByRecursion (λ d. P d.literals) (numbered k cubes)
@@ -107,3 +109,9 @@ pub tree_fits : (tree : SplitTree) (cubes : List Numbered) → IsTreeOf tree cub
 tree_fits missing cubes h = rw h tt
 tree_fits (cube k) cubes h = rw h (tt, tt)
 tree_fits (split v p n) cubes h = merge_fit v cubes h.1 (tree_fits p (going true cubes) h.2) (tree_fits n (going false cubes) h.3)
+
+-- whether there is a tree tells whether all fit
+pub fits_or_not : {Z : Type 0} (cubes : List (List Literal)) (shapes : Option (Vec Shape Z)) → AreShapesOf (numbered 1 cubes) shapes →
+    MatchBool (is_some shapes) (AllFit cubes) (AllFit cubes → ⊥)
+fits_or_not {Z} cubes (Some rows) h = all_fit 1 cubes (tree_fits h.0 (numbered 1 cubes) h.1)
+fits_or_not {Z} cubes None h = λ a. h (are_fit 1 cubes a)

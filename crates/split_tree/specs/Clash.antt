@@ -1,4 +1,4 @@
-use Rattle.std.specs.Prelude.{ℕ, ◌+◌, ◌<◌, ◌≡◌, ◌≢◌, ◌==◌, if◌then◌else◌, List, [], ◌∷◌, length, get_or, map, Vec}
+use Rattle.std.specs.Prelude.{ℕ, ◌+◌, ◌<◌, ◌≡◌, ◌≢◌, ◌==◌, if◌then◌else◌, List, [], ◌∷◌, length, take, get_or, map, Vec}
 use Rattle.std.specs.declared.option.Option.{Option}
 use Rattle.std.specs.declared.option.Option.TheVariants.{None, Some}
 use Rattle.std.specs.Bool.{beq}
@@ -34,6 +34,12 @@ pub record IsClash (cubes : List (List Literal)) (first second : ℕ) (kind : Re
 -- no two cubes of the list clash
 pub record AllFit (cubes : List (List Literal)) : Type 0 where
   pub fit : (i j : ℕ) → i < j → j < length cubes → relation_of (cube_at cubes i) (cube_at cubes j) ≡ Fit
+
+-- so many cubes fit, and with one more some two clash
+pub record IsFitting (cubes : List (List Literal)) (count : ℕ) : Type 0 where
+  pub within : count < length cubes
+  pub fit : AllFit (take count cubes)
+  pub clash : AllFit (take (count + 1) cubes) → ⊥
 
 -- the clash, named as a fault with cubes numbered from 1
 abbrev pub IsFaultOf : List (List Literal) → TreeFault → Type 0

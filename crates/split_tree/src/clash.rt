@@ -1,11 +1,13 @@
-ghost use Rattle.std.specs.Prelude.{◌≡◌, ◌<◌, ◌^◌, ◌-◌, length};
-ghost use Rattle.split_tree.specs.Clash.{relation_of, AllFit, IsFaultOf, FaultAfter, cubes_of};
+ghost use Rattle.std.specs.Prelude.{◌≡◌, ◌<◌, ◌^◌, ◌-◌, length, IfOk, MatchBool};
+ghost use Rattle.split_tree.specs.Clash.{relation_of, AllFit, IsFaultOf, IsFitting, FaultAfter, cubes_of};
 
+use crate::grow::{at_root, grow};
 use cnf_text::literal::Lit;
-use std::alloc::AllocError;
+use std::alloc::{AllocError, Global};
+use thiserror::Error;
 
 /// How two cubes lie to each other, after their longest common beginning.
-#[derive(Clone, Copy)]
+#[derive(Clone, Copy, PartialEq, Eq, Debug)]
 pub enum Relation {
     /// Their next literals are complementary.
     Fit,
@@ -18,15 +20,19 @@ pub enum Relation {
 }
 
 /// Why cubes have no tree. Cubes are numbered from 1.
-#[derive(Drop)]
+#[derive(PartialEq, Eq, Debug, Drop, Error)]
 pub enum TreeFault {
     /// This cube equals an earlier one.
+    #[error("F7 cube {cube} repeats")]
     Repeats { cube: u32 },
     /// These cubes go on with different variables.
+    #[error("F8 cubes {first} and {second} are not of one tree")]
     NotATree { first: u32, second: u32 },
     /// One of these cubes begins the other.
+    #[error("F9 cubes {first} and {second} overlap")]
     Overlap { first: u32, second: u32 },
     /// A growth was refused.
+    #[error("F6 memory")]
     Memory,
 }
 
@@ -62,18 +68,45 @@ pub fn compare(left: &[Lit], right: &[Lit]) -> Relation
     }
 }
 
-/// The fault of these cubes, of which some two clash.
-pub fn fault_of(cubes: &[Vec<Lit>]) -> TreeFault
+/// Whether no two of these cubes clash.
+fn all_fit(alloc: Global, cubes: &[Vec<Lit>]) -> Result<bool, AllocError>
+    requires { length cubes.now < 2 ^ 32 }
+    ensures { IfOk result (λ fit. MatchBool fit (AllFit (cubes_of cubes.now)) (AllFit (cubes_of cubes.now) → ⊥)) }
+{
+    let start = at_root(alloc, cubes)?;
+    Ok(grow(alloc, start)?.is_some())
+}
+
+/// How many cubes fit before the first that clashes with one before it, where some two clash.
+fn fitting(alloc: Global, cubes: &[Vec<Lit>]) -> Result<usize, AllocError>
     requires few { length cubes.now < 2 ^ 32 }
     requires clash { AllFit (cubes_of cubes.now) → ⊥ }
-    ensures { IsFaultOf (cubes_of cubes.now) result }
+    ensures { IfOk result (IsFitting (cubes_of cubes.now)) }
 {
-    for (second, right) in cubes.iter().enumerate() {
-        if let Some(fault) = fault_with(&cubes[..second], right) {
-            return fault;
+    let mut fit = 0;
+    let mut clash = cubes.len();
+    while fit + 1 < clash {
+        let middle = fit + (clash - fit) / 2;
+        if all_fit(alloc, &cubes[..middle])? {
+            fit = middle;
+        } else {
+            clash = middle;
         }
     }
-    unreachable!()
+    Ok(fit)
+}
+
+/// The fault of these cubes, of which some two clash.
+pub fn fault_of(alloc: Global, cubes: &[Vec<Lit>]) -> Result<TreeFault, AllocError>
+    requires few { length cubes.now < 2 ^ 32 }
+    requires clash { AllFit (cubes_of cubes.now) → ⊥ }
+    ensures { IfOk result (IsFaultOf (cubes_of cubes.now)) }
+{
+    let second = fitting(alloc, cubes)?;
+    match fault_with(&cubes[..second], &cubes[second]) {
+        Some(fault) => Ok(fault),
+        None => unreachable!(),
+    }
 }
 
 /// The fault that this cube makes after those before it, which fit each other.

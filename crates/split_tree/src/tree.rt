@@ -47,7 +47,7 @@ pub fn build(alloc: Global, cubes: &[Vec<Lit>]) -> Result<Tree, TreeFault>
 {
     let start = at_root(alloc, cubes)?;
     let Some(shapes) = grow(alloc, start)? else {
-        return Err(fault_of(cubes));
+        return Err(fault_of(alloc, cubes)?);
     };
     let ends = ends_of(alloc, &shapes)?;
     Ok(Tree { shapes, ends })
