@@ -4,7 +4,7 @@ use Rattle.std.proofs.lemmas.Bool.{cases_lt}
 use Rattle.std.proofs.lemmas.List.{get_or_read, get_or_append_left, get_or-append-add, get_or-append_right}
 use Rattle.split_tree.specs.declared.shape.Shape.{Shape}
 use Rattle.split_tree.specs.declared.shape.Shape.TheVariants.{Missing, Cube, Split}
-use Rattle.split_tree.specs.SplitTree.{SplitTree, missing, cube, split, preorder, decode, tree_of, subtrees, size, subtree_at, numbered, IsTreeOf, IsSplit, split_variable}
+use Rattle.split_tree.specs.SplitTree.{SplitTree, missing, cube, split, preorder, decode, tree_of, subtrees, size, subtree_at, numbered, IsTreeOf, IsSplit, root_shape, split_variable}
 use Rattle.cnf_text.specs.Literal.{Literal}
 use Rattle.split_tree.specs.Clash.{literal_count}
 use Rattle.split_tree.proofs.Trees.{splits, splits_bound, literals_of}
@@ -106,12 +106,6 @@ branches_at (split u a b) (suc i) v p n h e = elim (cases_lt i (size a)) [
 shapes_shift : (xs ys : List Shape) (n i : ℕ) (d : Shape) → length xs ≡ n → i ≡ n + (i - n) → get_or (xs ++ ys) i d ≡ get_or ys (i - n) d
 shapes_shift xs ys n i d e h = get_or-append_right xs ys n i d e (omega arith)
 
--- what stands at a node is what stands at the root of the tree below it
-abbrev pub root_shape : SplitTree → Shape
-root_shape missing = Missing
-root_shape (cube k) = Cube k
-root_shape (split v p n) = Split v
-
 pub shape_at-root : (tree : SplitTree) (i : ℕ) (d : Shape) → i < size tree → get_or (preorder tree) i d ≡ root_shape (subtree_at tree i)
 shape_at-root missing zero d h = refl
 shape_at-root missing (suc i) d h = absurd (omega arith)
@@ -169,7 +163,7 @@ stored_nodes t shapes e = sym e ∙ ap preorder (sym (tree_of-preorder t) ∙ ap
 pub stored_tree : (t : SplitTree) (shapes : List Shape) → preorder t ≡ shapes → tree_of shapes ≡ t
 stored_tree t shapes e = ap tree_of (sym e) ∙ tree_of-preorder t
 
-literals_of-numbered : (k : ℕ) (cubes : List (List Literal)) → literals_of (numbered k cubes) ≡ literal_count cubes
+pub literals_of-numbered : (k : ℕ) (cubes : List (List Literal)) → literals_of (numbered k cubes) ≡ literal_count cubes
 literals_of-numbered k [] = refl
 literals_of-numbered k (c ∷ cubes) = ap (λ n. length c + n) (literals_of-numbered (k + 1) cubes)
 

@@ -10,3 +10,6 @@ pub mod Steps
 pub mod Paths
 pub mod Totals
 pub mod Tops
+pub mod Parents
+pub mod Leaves
+pub mod Descents

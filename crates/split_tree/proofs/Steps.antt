@@ -2,9 +2,9 @@
 use Rattle.std.proofs.Common.{[], ◌++◌, ◌∷◌, ◌↔◌, List, ◌≡◌, ℕ, zero, suc, ◌+◌, ◌-◌, ◌<◌, ◌≤◌, ◌⊎◌, length, get_or, Bool, true, false, refl, sym, ap, ◌∙◌, inl, inr, arith}
 use Rattle.std.proofs.lemmas.List.{get_or_read}
 use Rattle.cnf_text.specs.Literal.{Literal}
-use Rattle.split_tree.specs.SplitTree.{SplitTree, missing, cube, split, size, subtree_at, labels, branch, path_at, depth_at, split_variable, IsLeaf, IsSplit}
+use Rattle.split_tree.specs.SplitTree.{SplitTree, missing, cube, split, size, subtree_at, labels, branch, path_at, depth_at, split_variable, IsLeaf, IsSplit, root_shape}
 use Rattle.split_tree.specs.Rows.{IsBelow, StepsToward, AreEnds, AreBranches}
-use Rattle.split_tree.proofs.Coding.{branches_at, SplitNode, some_node, root_shape}
+use Rattle.split_tree.proofs.Coding.{branches_at, SplitNode, some_node}
 use Rattle.split_tree.proofs.Labels.{nested, Handed, handed_down}
 use Rattle.split_tree.specs.declared.shape.Shape.{Shape}
 use Rattle.split_tree.specs.declared.shape.Shape.TheVariants.{Split}
@@ -114,16 +114,14 @@ split_of tree i v (split u p n) x h s e f = record { variable = u; positive = p;
 pub splits_at : (tree : SplitTree) (i v : ℕ) (x : Shape) → i < size tree → x ≡ root_shape (subtree_at tree i) → x ≡ Split v → SplitNode tree i
 splits_at tree i v x h e f = split_of tree i v (subtree_at tree i) x h refl e f
 
-pub branches_stored : (tree : SplitTree) (ends : List ℕ) (i y : ℕ) → i < size tree → AreEnds tree ends → (s : SplitNode tree i) →
-    y ≡ get_or ends (i + 1) y → AreBranches tree i (i + 1) y
-branches_stored tree ends i y h e s r =
+pub branches_of : (tree : SplitTree) (i second : ℕ) → i < size tree → (s : SplitNode tree i) → second ≡ i + 1 + size s.positive →
+    AreBranches tree i (i + 1) second
+branches_of tree i second h s second_is =
     let w : i + suc (size s.positive + size s.negative) ≤ size tree = s.branches.within in
     let a : 1 ≤ size s.positive = some_node s.positive in
     let b : 1 ≤ size s.negative = some_node s.negative in
-    let l : i + 1 < length ends = omega (arith, e.long) in
     let q : i + 1 ≡ suc i = omega arith in
     let first : subtree_at tree (i + 1) ≡ s.positive = rw q s.branches.positive in
-    let y_is : y ≡ i + 1 + size s.positive = get_or_read ends (i + 1) y l r 0 ∙ (e.end (i + 1) (omega arith) ∙ rw first refl) in
     let z : i + 1 + size s.positive ≡ suc (i + size s.positive) = omega arith in
     let d = handed_down (λ (d v : ℕ) (sign : Bool). suc d) 0 0 tree i s.variable s.positive s.negative h s.is in
     record {
@@ -132,13 +130,23 @@ branches_stored tree ends i y h e s r =
       negative = s.negative;
       is = s.is;
       first_is = refl;
-      second_is = y_is;
+      second_is = second_is;
       within = omega arith;
       at_first = first;
-      at_second = rw (y_is, z) s.branches.negative;
+      at_second = rw (second_is, z) s.branches.negative;
       depth_first = rw q (d.positive ∙ omega arith);
-      depth_second = rw (y_is, z) (d.negative ∙ omega arith);
+      depth_second = rw (second_is, z) (d.negative ∙ omega arith);
     }
+
+pub branches_stored : (tree : SplitTree) (ends : List ℕ) (i y : ℕ) → i < size tree → AreEnds tree ends → (s : SplitNode tree i) →
+    y ≡ get_or ends (i + 1) y → AreBranches tree i (i + 1) y
+branches_stored tree ends i y h e s r =
+    let w : i + suc (size s.positive + size s.negative) ≤ size tree = s.branches.within in
+    let a : 1 ≤ size s.positive = some_node s.positive in
+    let l : i + 1 < length ends = omega (arith, e.long) in
+    let q : i + 1 ≡ suc i = omega arith in
+    let first : subtree_at tree (i + 1) ≡ s.positive = rw q s.branches.positive in
+    branches_of tree i y h s (get_or_read ends (i + 1) y l r 0 ∙ (e.end (i + 1) (omega arith) ∙ rw first refl))
 
 pub leaf_stored : (t : SplitTree) (x : Shape) → x ≡ root_shape t → ((v : ℕ) → x ≡ Split v → ⊥) → IsLeaf t
 leaf_stored missing x e f = tt

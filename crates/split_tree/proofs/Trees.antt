@@ -130,7 +130,7 @@ total-at_depth d (split v p n) h =
     let a : total (suc d) p ≡ splits p + 1 = total-at_depth (suc d) p (omega arith) in
     let b : total (suc d) n ≡ splits n + 1 = total-at_depth (suc d) n (omega arith) in omega arith
 
-twice : (depth : ℕ) → depth < 60 → 2 ^ (60 - depth) ≡ 2 ^ (60 - suc depth) + 2 ^ (60 - suc depth)
+pub twice : (depth : ℕ) → depth < 60 → 2 ^ (60 - depth) ≡ 2 ^ (60 - suc depth) + 2 ^ (60 - suc depth)
 twice d h = let e : 60 - d ≡ suc (60 - suc d) = omega arith in rw (e, pow-suc 2 (60 - suc d)) (omega arith)
 
 pub total_bound : (depth : ℕ) (tree : SplitTree) → depth ≤ 60 → total depth tree ≤ 2 ^ (60 - depth) + splits tree

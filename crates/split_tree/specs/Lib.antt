@@ -3,4 +3,6 @@ pub mod SplitTree
 pub mod Ahead
 pub mod Rows
 pub mod Code
+pub mod Leaves
+pub mod Tables
 pub mod Top

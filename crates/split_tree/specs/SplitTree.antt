@@ -168,3 +168,9 @@ abbrev pub split_variable : SplitTree → ℕ
 split_variable missing = 0
 split_variable (cube k) = 0
 split_variable (split v positive negative) = v
+
+-- what stands at a node is what stands at the root of the tree below it
+abbrev pub root_shape : SplitTree → Shape
+root_shape missing = Missing
+root_shape (cube k) = Cube k
+root_shape (split v p n) = Split v

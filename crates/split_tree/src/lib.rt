@@ -4,8 +4,11 @@
 mod clash;
 mod grow;
 mod node;
+mod nodes;
+mod readers;
 mod rows;
 mod shape;
+mod tables;
 mod top;
 mod tree;
 

@@ -1,142 +1,87 @@
-//! The tree of a list of cubes.
+//! The splitting tree of a list of cubes.
 
-ghost use Rattle.cnf_text.specs.Literal.{IsVariable};
+ghost use Rattle.std.specs.Prelude.{◌≡◌, ◌≤◌, ◌⊎◌, ◌+◌, ◌^◌, ◌<◌, length, IfOk, IfErr, IsOk};
 ghost use Rattle.std.specs.List.{All};
-ghost use Rattle.std.specs.Prelude.{◌≡◌, ◌≤◌, ◌⊎◌, ◌^◌, ◌<◌, length, IfOk, IfErr, IsOk};
 ghost use Rattle.split_tree.specs.Clash.{cubes_of, IsFaultOf, AllFit, literal_count};
-ghost use Rattle.split_tree.specs.SplitTree.{numbered, IsTreeOf, IsSplit, size, depth_at, path_at, subtree_at, split_variable, preorder, tree_of};
+ghost use Rattle.split_tree.specs.SplitTree.{numbered, IsTreeOf, total};
 ghost use Rattle.split_tree.specs.declared.clash.TreeFault.TheVariants.{Memory};
-ghost use Rattle.split_tree.specs.Rows.{HasVariable, IsBelow, StepsToward, HasBranches};
+ghost use Rattle.split_tree.specs.Tables.{AreCubeLeaves};
 
 use crate::clash::{TreeFault, fault_of};
 use crate::grow::{at_root, grow};
-use crate::rows::ends_of;
-use crate::shape::Shape;
+use crate::nodes::Nodes;
 use cnf_text::literal::Lit;
 use std::alloc::{AllocError, Global};
 use std::marker::Model;
 
-/// A tree, by its nodes in tree order.
+/// A splitting tree: its nodes in tree order, the parent and the weight of each, and where each leaf stands.
 #[derive(Drop)]
 pub struct Tree {
-    shapes: Vec<Shape>,
-    ends: Vec<u32>,
+    pub(crate) nodes: Nodes,
+    pub(crate) parents: Vec<u32>,
+    pub(crate) weights: Vec<u64>,
+    pub(crate) cube_nodes: Vec<u32>,
+    pub(crate) missing_nodes: Vec<u32>,
 }
 
 impl Model for Tree {
-    ghost use Rattle.split_tree.specs.SplitTree.{SplitTree, tree_of};
-    ghost use Rattle.split_tree.specs.Rows.{IsStored};
+    ghost use Rattle.split_tree.specs.SplitTree.{SplitTree};
+    ghost use Rattle.split_tree.specs.Tables.{IsTabled};
     ghost use Rattle.split_tree.specs.Code.{tree_code};
 
     ghost Value = { SplitTree };
 
     ghost coded = { tree_code };
 
-    ghost view = { λ t. tree_of t.shapes.items };
+    ghost view = { λ t. t.nodes };
 
-    ghost invariant = { λ t. IsStored t.shapes.items t.ends.items };
+    ghost invariant = { λ t. IsTabled t.nodes t.parents.items t.weights.items t.cube_nodes.items t.missing_nodes.items };
 }
 
-/// The tree of these cubes, or the first clash of two of them.
+/// The tree of these cubes, numbered from 1 in their order. A cube's literals are read, in the order as written, as its splits.
+///
+/// It asks for at most 1,048,576 cubes, of at most 4,096 literals each and 16,777,216 together.
+///
+/// # Errors
+///
+/// Where two cubes clash, the clash of the pair with the least second cube and, among those, the least first:
+/// `Repeats` (by the second's number), `NotATree` or `Overlap`. `Memory` where a growth was refused.
 pub fn build(alloc: Global, cubes: &[Vec<Lit>]) -> Result<Tree, TreeFault>
     requires count { length cubes.now ≤ 1048576 }
-    requires literals { literal_count (cubes_of cubes.now) ≤ 2 ^ 24 }
+    requires literals { literal_count (cubes_of cubes.now) ≤ 16777216 }
+    requires each { All (λ cube. length cube ≤ 4096) (cubes_of cubes.now) }
     ensures tree { IfOk result (λ tree. IsTreeOf tree (numbered 1 (cubes_of cubes.now))) }
     ensures fit { IsOk result → AllFit (cubes_of cubes.now) }
+    ensures total { IfOk result (λ tree. total 0 tree ≤ 2 ^ 60 + 2 ^ 24) }
     ensures fault { IfErr result (λ fault. (fault ≡ Memory) ⊎ IsFaultOf (cubes_of cubes.now) fault) }
 {
     let start = at_root(alloc, cubes)?;
     let Some(shapes) = grow(alloc, start)? else {
         return Err(fault_of(alloc, cubes)?);
     };
-    let ends = ends_of(alloc, &shapes)?;
-    Ok(Tree { shapes, ends })
+    let nodes = Nodes::of_shapes(alloc, shapes)?;
+    let tree = Tree::of_nodes(alloc, nodes, cubes.len())?;
+    Ok(tree)
 }
 
 impl Tree {
-    /// The tree of these nodes in tree order.
-    pub(crate) fn of_shapes(alloc: Global, shapes: Vec<Shape>) -> Result<Tree, AllocError>
-        requires nodes { shapes.items ≡ preorder (tree_of shapes.items) }
-        requires few { length shapes.items < 2 ^ 32 }
-        requires variables { All HasVariable shapes.items }
-        ensures { IfOk result (λ tree. tree ≡ tree_of shapes.items) }
+    /// The tree of these nodes, with leaves of so many cubes.
+    pub(crate) fn of_nodes(alloc: Global, nodes: Nodes, cubes: usize) -> Result<Tree, AllocError>
+        requires { AreCubeLeaves nodes cubes }
+        ensures { IfOk result (λ tree. tree ≡ nodes) }
     {
-        let ends = ends_of(alloc, &shapes)?;
-        Ok(Tree { shapes, ends })
-    }
-
-    /// The branch of a node that is, or leads to, a node below it.
-    pub fn toward(&self, node: usize, target: usize) -> usize
-        requires { IsBelow self.now node target }
-        ensures { StepsToward self.now node target result }
-    {
-        let negative = self.ends[node + 1] as usize;
-        if target < negative {
-            node + 1
-        } else {
-            negative
-        }
-    }
-
-    /// The variable on which an inner node splits.
-    pub(crate) fn variable_of(&self, node: usize) -> u32
-        requires within { node < size self.now }
-        requires inner { IsSplit (subtree_at self.now node) }
-        ensures value { result ≡ split_variable (subtree_at self.now node) }
-        ensures range { IsVariable result }
-    {
-        match self.shapes[node] {
-            Shape::Split(variable) => variable,
-            _ => unreachable!(),
-        }
-    }
-
-    /// The branches of a node, the positive one first, or `None` at a leaf.
-    pub fn branches(&self, node: usize) -> Option<(usize, usize)>
-        requires { node < size self.now }
-        ensures { HasBranches self.now node result }
-    {
-        if let Shape::Split(_) = self.shapes[node] {
-            Some((node + 1, self.ends[node + 1] as usize))
-        } else {
-            None
-        }
-    }
-
-    /// The path of a node.
-    pub fn path_to(&self, alloc: Global, node: usize) -> Result<Vec<Lit>, AllocError>
-        requires { node < size self.now }
-        ensures { IfOk result (λ path. path.items ≡ path_at self.now node) }
-    {
-        let mut path = Vec::new(alloc);
-        let mut here = 0;
-        while here < node {
-            let next = self.toward(here, node);
-            path.push(Lit::from_parts(self.variable_of(here), next == here + 1))?;
-            here = next;
-        }
-        Ok(path)
-    }
-
-    /// How many nodes it has.
-    pub fn size(&self) -> usize
-        ensures size { result ≡ size self.now }
-        ensures few { result < 2 ^ 32 }
-    {
-        self.shapes.len()
-    }
-
-    /// The depth of a node.
-    pub fn depth_of(&self, node: usize) -> usize
-        requires { node < size self.now }
-        ensures { result ≡ depth_at self.now node }
-    {
-        let mut here = 0;
-        let mut depth = 0;
-        while here < node {
-            here = self.toward(here, node);
-            depth += 1;
-        }
-        depth
+        let parents = nodes.parents(alloc)?;
+        let mut weights = nodes.weights(alloc, &parents)?;
+        nodes.add_up(&mut weights);
+        let cube_nodes = nodes.cube_nodes(alloc, cubes)?;
+        let missing_nodes = nodes.missing_nodes(alloc)?;
+        let _few = nodes.size();
+        Ok(Tree {
+            nodes,
+            parents,
+            weights,
+            cube_nodes,
+            missing_nodes,
+        })
     }
 }
