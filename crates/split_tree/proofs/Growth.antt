@@ -13,7 +13,7 @@ use Rattle.split_tree.specs.Ahead.{cubes_ahead, AreFit}
 
 -- ---- what stands where some cubes have come to
 
-ended_unfit : (right : List Literal) → relation_of [] right ≡ Fit → ⊥
+pub ended_unfit : (right : List Literal) → relation_of [] right ≡ Fit → ⊥
 ended_unfit [] h = cc
 ended_unfit (m ∷ right) h = cc
 
@@ -24,7 +24,7 @@ fit_splits l left (m ∷ right) h = elim (cases_eq l.variable m.variable) [
   | inr other ↦ let k = rw (ne_eqb l.variable m.variable other) at h in absurd (cc)
 ]
 
-all_fit_split : (l : Literal) (left : List Literal) (cubes : List Numbered) →
+pub all_fit_split : (l : Literal) (left : List Literal) (cubes : List Numbered) →
     AllByRecursion (λ d. relation_of (l ∷ left) d.literals ≡ Fit) cubes → AllByRecursion (λ d. SplitsOn l.variable d.literals) cubes
 all_fit_split l left [] h = tt
 all_fit_split l left (d ∷ cubes) h = (fit_splits l left d.literals h.0, all_fit_split l left cubes h.1)

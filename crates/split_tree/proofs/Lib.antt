@@ -13,3 +13,6 @@ pub mod Tops
 pub mod Parents
 pub mod Leaves
 pub mod Descents
+pub mod Cuts
+pub mod Existence
+pub mod Refuting

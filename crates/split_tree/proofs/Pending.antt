@@ -135,7 +135,7 @@ fit_going_one sign v number (l ∷ left) cubes h k s o = elim (cases_Bool (beq l
   | inr other ↦ rw other o
 ]
 
-fit_going : (sign : Bool) (v : ℕ) (cubes : List Numbered) → AreFit cubes → AllByRecursion (λ d. SplitsOn v d.literals) cubes →
+pub fit_going : (sign : Bool) (v : ℕ) (cubes : List Numbered) → AreFit cubes → AllByRecursion (λ d. SplitsOn v d.literals) cubes →
     AreFit (going sign cubes)
 fit_going sign v [] h k = tt
 fit_going sign v (c ∷ cubes) h k = fit_going_one sign v c.number c.literals cubes h.0 k.1 k.0 (fit_going sign v cubes h.1 k.1)

@@ -1,12 +1,12 @@
--- Laws of splitting trees: the leaves of the parts are the leaves of the tree, and what the weights add up to.
+-- The tree of some cubes is the only one, and what its weights add up to.
 use Rattle.std.proofs.Common.{◌≡◌, ◌≢◌, ℕ, zero, suc, ◌+◌, ◌-◌, ◌^◌, ◌<◌, ◌≤◌, List, [], ◌∷◌, ◌++◌, length, Bool, true, false, refl, sym, ap, append-nil, cond, ◌∙◌, subst, arith, append_assoc, add-zero, inl, inr, length-append}
 use Rattle.std.proofs.lemmas.Bool.Decides.{nat_tests}
 use Rattle.std.proofs.lemmas.Bool.{cases_lt}
 use Rattle.std.proofs.Math.Nat.{pow-suc}
-use Rattle.std.specs.List.{flat_map, AllByRecursion}
+use Rattle.std.specs.List.{AllByRecursion}
 use Rattle.std.specs.Bool.{beq}
 use Rattle.cnf_text.specs.Literal.{Literal}
-use Rattle.split_tree.specs.SplitTree.{SplitTree, missing, cube, split, Numbered, SplitsOn, going_with, going, IsTreeOf, branch, leaf_paths, weight, total, Node, parts}
+use Rattle.split_tree.specs.SplitTree.{SplitTree, missing, cube, split, Numbered, SplitsOn, going_with, going, IsTreeOf, weight, total}
 
 -- ---- the tree of a list of cubes is the only one
 
@@ -43,68 +43,9 @@ tree_unique (split u a b) (split v c d) cubes p q =
     let j : b ≡ d = tree_unique b d (going false cubes) p.3 q.3 in
     cc
 
--- ---- each leaf lies in exactly one part
-
-abbrev pub part_leaves : Node → List (List Literal)
-part_leaves part = leaf_paths part.path part.tree
-
-flat_map-append : {X A : Type 0} (f : X → List A) (xs ys : List X) → flat_map f (xs ++ ys) ≡ flat_map f xs ++ flat_map f ys
-flat_map-append f [] ys = refl
-flat_map-append f (x ∷ xs) ys = ap (λ zs. f x ++ zs) (flat_map-append f xs ys) ∙ sym (append_assoc (f x) (flat_map f xs) (flat_map f ys))
-
-pub leaves_of_parts : (cut : ℕ) (path : List Literal) (tree : SplitTree) →
-    flat_map part_leaves (parts cut path tree) ≡ leaf_paths path tree
-leaves_of_parts zero path tree = append-nil (leaf_paths path tree)
-leaves_of_parts (suc cut) path missing = refl
-leaves_of_parts (suc cut) path (cube k) = refl
-leaves_of_parts (suc cut) path (split v p n) =
-    rw (
-      flat_map-append part_leaves (parts cut (branch path v true) p) (parts cut (branch path v false) n),
-      leaves_of_parts cut (branch path v true) p,
-      leaves_of_parts cut (branch path v false) n,
-    ) refl
-
-abbrev pub part_total : Node → ℕ
-part_total part = total (length part.path) part.tree
-
-abbrev pub totals : List Node → ℕ
-totals [] = 0
-totals (p ∷ ps) = part_total p + totals ps
-
-totals-append : (xs ys : List Node) → totals (xs ++ ys) ≡ totals xs + totals ys
-totals-append [] ys = grind arith
-totals-append (x ∷ xs) ys = let h : totals (xs ++ ys) ≡ totals xs + totals ys = totals-append xs ys in omega arith
-
-pub length-branch : (path : List Literal) (v : ℕ) (sign : Bool) → length (branch path v sign) ≡ suc (length path)
-length-branch [] v sign = refl
-length-branch (l ∷ path) v sign = ap suc (length-branch path v sign)
-
-pub totals_of_parts : (cut : ℕ) (path : List Literal) (tree : SplitTree) →
-    totals (parts cut path tree) ≡ total (length path) tree
-totals_of_parts zero path tree = add-zero (total (length path) tree)
-totals_of_parts (suc cut) path missing = add-zero (weight (length path))
-totals_of_parts (suc cut) path (cube k) = add-zero (weight (length path))
-totals_of_parts (suc cut) path (split v p n) =
-    rw (
-      totals-append (parts cut (branch path v true) p) (parts cut (branch path v false) n),
-      totals_of_parts cut (branch path v true) p,
-      totals_of_parts cut (branch path v false) n,
-      length-branch path v true,
-      length-branch path v false,
-    ) refl
-
 pub one_le_power : (k : ℕ) → 1 ≤ 2 ^ k
 one_le_power zero = omega arith
 one_le_power (suc k) = let h : 1 ≤ 2 ^ k = one_le_power k in rw (pow-suc 2 k) (omega arith)
-
-pub parts_bound : (cut : ℕ) (path : List Literal) (tree : SplitTree) → length (parts cut path tree) ≤ 2 ^ cut
-parts_bound zero path tree = omega arith
-parts_bound (suc cut) path missing = one_le_power (suc cut)
-parts_bound (suc cut) path (cube k) = one_le_power (suc cut)
-parts_bound (suc cut) path (split v p n) =
-    let a : length (parts cut (branch path v true) p) ≤ 2 ^ cut = parts_bound cut (branch path v true) p in
-    let b : length (parts cut (branch path v false) n) ≤ 2 ^ cut = parts_bound cut (branch path v false) n in
-    rw (length-append, pow-suc 2 cut) (omega arith)
 
 -- ---- the splits are no more than the literals
 
@@ -186,10 +127,8 @@ splits_bound (split v p n) cubes h =
     let g : 0 < length cubes = some_length cubes h.0 in
     omega arith
 
--- within the limits: cubes of at most `2 ^ 24` literals together
-pub total_within : (tree : SplitTree) (cubes : List Numbered) → IsTreeOf tree cubes → literals_of cubes ≤ 2 ^ 24 →
-    total 0 tree ≤ 2 ^ 60 + 2 ^ 24
-total_within tree cubes h k =
+pub total_most : (tree : SplitTree) (cubes : List Numbered) → IsTreeOf tree cubes → total 0 tree ≤ 2 ^ 60 + literals_of cubes
+total_most tree cubes h =
     let a : splits tree ≤ literals_of cubes = splits_bound tree cubes h in
     let b : total 0 tree ≤ 2 ^ 60 + splits tree = total_bound 0 tree (omega arith) in
     omega arith

@@ -5,4 +5,6 @@ pub mod Rows
 pub mod Code
 pub mod Leaves
 pub mod Tables
+pub mod Parts
+pub mod Laws
 pub mod Top

@@ -56,27 +56,6 @@ preorder (split v positive negative) = Split v ∷ (preorder positive ++ preorde
 abbrev pub branch : List Literal → ℕ → Bool → List Literal
 branch path v sign = path ++ record { variable = v; positive = sign } ∷ []
 
--- the paths of the leaves below `path`, in tree order
-abbrev pub leaf_paths : List Literal → SplitTree → List (List Literal)
-leaf_paths path missing = path ∷ []
-leaf_paths path (cube k) = path ∷ []
-leaf_paths path (split v positive negative) =
-    leaf_paths (branch path v true) positive ++ leaf_paths (branch path v false) negative
-
--- the paths of the missing leaves alone: missing leaf `j` is the one in place `j`, from 1
-abbrev pub missing_paths : List Literal → SplitTree → List (List Literal)
-missing_paths path missing = path ∷ []
-missing_paths path (cube k) = []
-missing_paths path (split v positive negative) =
-    missing_paths (branch path v true) positive ++ missing_paths (branch path v false) negative
-
--- the cubes' leaves alone, with their paths
-abbrev pub cube_paths : List Literal → SplitTree → List Numbered
-cube_paths path missing = []
-cube_paths path (cube k) = record { number = k; literals = path } ∷ []
-cube_paths path (split v positive negative) =
-    cube_paths (branch path v true) positive ++ cube_paths (branch path v false) negative
-
 -- the weight of a leaf at this depth
 abbrev pub weight : ℕ → ℕ
 weight depth = if nat_le depth 60 then 2 ^ (60 - depth) else 1
@@ -86,19 +65,6 @@ abbrev pub total : ℕ → SplitTree → ℕ
 total depth missing = weight depth
 total depth (cube k) = weight depth
 total depth (split v positive negative) = total (suc depth) positive + total (suc depth) negative
-
--- a node: its path and the tree below it
-pub record Node : Type 0 where
-  pub path : List Literal
-  pub tree : SplitTree
-
--- the parts of a cut: the nodes at its depth and the leaves above it, in tree order
-abbrev pub parts : ℕ → List Literal → SplitTree → List Node
-parts zero path tree = record { path = path; tree = tree } ∷ []
-parts (suc cut) path missing = record { path = path; tree = missing } ∷ []
-parts (suc cut) path (cube k) = record { path = path; tree = cube k } ∷ []
-parts (suc cut) path (split v positive negative) =
-    parts cut (branch path v true) positive ++ parts cut (branch path v false) negative
 
 -- a split of the first two trees
 abbrev pub join : ℕ → List SplitTree → List SplitTree

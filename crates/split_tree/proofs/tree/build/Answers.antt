@@ -1,11 +1,11 @@
-use Rattle.std.proofs.Common.{length, sym, ◌∙◌}
+use Rattle.std.proofs.Common.{length, sym, ◌∙◌, arith}
 use Rattle.split_tree.specs.Clash.{cubes_of}
 use Rattle.split_tree.specs.SplitTree.{numbered}
 use Rattle.split_tree.proofs.Clashes.{length-cubes_of}
 use Rattle.split_tree.proofs.Fits.{are_fit, all_fit, tree_fits}
 use Rattle.split_tree.proofs.Coding.{stored_nodes, stored_tree, few_nodes, literals_of-numbered}
 use Rattle.split_tree.proofs.Paths.{cube_leaves}
-use Rattle.split_tree.proofs.Trees.{total_within}
+use Rattle.split_tree.proofs.Trees.{total_most}
 use Rattle.split_tree.proofs.tree.build.Goals as goal
 
 pub fault_of-requires-clause-clash : goal.fault_of-requires-clause-clash
@@ -45,5 +45,5 @@ pub returns-clause-total : goal.returns-clause-total
 returns-clause-total c =
     let some = rw c.in-Some.is at c.in_ok-shapes.ensures.shapes in
     let same = c.in_ok-tree.ensures ∙ (c.in_ok-nodes.ensures ∙ stored_tree some.0 c.in-Some.shapes.items some.2) in
-    rw same (total_within some.0 (numbered 1 (cubes_of c.args.cubes.now)) (rw c.in_ok-start.ensures at some.1)
-    (rw (literals_of-numbered 1 (cubes_of c.args.cubes.now)) c.requires.literals))
+    let most = rw (literals_of-numbered 1 (cubes_of c.args.cubes.now)) at (total_most some.0 (numbered 1 (cubes_of c.args.cubes.now)) (rw c.in_ok-start.ensures at some.1)) in
+    rw same (omega (arith, most, c.requires.literals))

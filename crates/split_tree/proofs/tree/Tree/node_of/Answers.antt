@@ -1,5 +1,5 @@
-use Rattle.std.proofs.Common.{sym, ◌∙◌}
-use Rattle.split_tree.proofs.Descents.{sought_root, sought_other, sought_more}
+use Rattle.std.proofs.Common.{sym, ◌∙◌, arith}
+use Rattle.split_tree.proofs.Descents.{sought_root, sought_leaf, sought_other, sought_more, sought_last}
 use Rattle.split_tree.proofs.tree.Tree.node_of.Goals as goal
 use Rattle.split_tree.proofs.tree.Tree.node_of.Goals.{then-positive, else-positive}
 
@@ -22,3 +22,13 @@ loop-literal-preserved c =
       | then-positive w ↦ rw w.here-is (next.0 (sym c.positive.ensures ∙ w.if-positive.true))
       | else-positive w ↦ rw w.here-is (next.1 (sym c.positive.ensures ∙ w.if-positive.false))
     ]
+
+pub returns-in_err-first : goal.returns-in_err-first
+returns-in_err-first c = rw c.from_residual.ensures (λ i within inner path.
+    sought_leaf c.self.inside.nodes c.args.path.now c.loop-literal.here c.loop-literal.literal-index c.literal-item.result c.loop-literal.invariant
+    c.loop-literal-test.true c.literal-item.is c.in_err-first.ensures i (rw c.self.view_is within) (rw c.self.view_is path))
+
+pub returns-in_err-branches : goal.returns-in_err-branches
+returns-in_err-branches c = rw c.from_residual-in_err-branches.ensures (λ i within inner path.
+    sought_last c.self.inside.nodes c.args.path.now c.loop-literal.here c.loop-literal.literal-index c.loop-literal.invariant
+    (omega arith) c.in_err-branches.ensures i (rw c.self.view_is within) (rw c.self.view_is inner) (rw c.self.view_is path))
