@@ -6,7 +6,7 @@ use Rattle.split_tree.specs.declared.shape.Shape.{Shape}
 use Rattle.split_tree.specs.declared.shape.Shape.TheVariants.{Missing, Cube, Split}
 use Rattle.split_tree.specs.SplitTree.{SplitTree, missing, cube, split, preorder, decode, tree_of, subtrees, size, subtree_at, numbered, IsTreeOf, IsSplit, root_shape, split_variable}
 use Rattle.cnf_text.specs.Literal.{Literal}
-use Rattle.split_tree.specs.Clash.{literal_count}
+use Rattle.cnf_text.specs.Icnf.{total as literal_count}
 use Rattle.split_tree.proofs.Trees.{splits, splits_bound, literals_of}
 
 pub decode-preorder : (t : SplitTree) (shapes : List Shape) → decode (preorder t ++ shapes) ≡ t ∷ decode shapes

@@ -197,11 +197,11 @@ sought_more tree path here n first second l s h e branches same =
     let second_is : second ≡ here + 1 + size branches.positive = branches.second_is in
     let longer : take (n + 1) path ≡ take n path ++ l ∷ [] = take_more path n l h ∙ ap (λ (m : Literal). take n path ++ m ∷ []) (sym e) in
     let way = λ (i : ℕ) (k : i < size tree) (f : path_at tree i ≡ path).
-        let b = s.below i k f in
-        let reached : here ≤ i = b.reached in
-        let end : i < here + size (split branches.variable branches.positive branches.negative) = rw branches.is at b.before_end in
-        ways branches.variable branches.positive branches.negative (i - here) l (drop (n + 1) path) (omega arith)
-        (rw branches.is at (ahead tree path here n i l s h e k f)) in (
+    let b = s.below i k f in
+    let reached : here ≤ i = b.reached in
+    let end : i < here + size (split branches.variable branches.positive branches.negative) = rw branches.is at b.before_end in
+    ways branches.variable branches.positive branches.negative (i - here) l (drop (n + 1) path) (omega arith)
+    (rw branches.is at (ahead tree path here n i l s h e k f)) in (
       λ yes. record {
         within = omega arith;
         path_is = paths.0 ∙ rw (s.path_is, longer) (ap (λ (m : Literal). take n path ++ m ∷ []) (literal_is l branches.variable true variable yes));

@@ -152,4 +152,3 @@ module _ {X : Type 0} (down : X → ℕ → Bool → X) (d : X) where
         rw (q, label_negative down d x v p n (i + r) ((i - size p) + r) (omega arith), e, label_negative down d x v p n i (i - size p) m)
         (label_below (down x v false) n (i - size p) r (omega arith) l)
   ]
-

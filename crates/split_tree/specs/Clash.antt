@@ -67,8 +67,3 @@ FaultAfter (Some (NotATree first second)) before cube =
 FaultAfter (Some (Overlap first second)) before cube =
     (i : ℕ) × (first ≡ i + 1) × (second ≡ length before + 1) × ClashesAt before cube i Prefix
 FaultAfter (Some Memory) before cube = ⊥
-
--- how many literals the cubes have together
-abbrev pub literal_count : List (List Literal) → ℕ
-literal_count [] = 0
-literal_count (c ∷ cubes) = length c + literal_count cubes

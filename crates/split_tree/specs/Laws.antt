@@ -1,9 +1,10 @@
 -- Laws of splitting trees.
 use Rattle.std.specs.Prelude.{ℕ, ◌+◌, ◌^◌, ◌<◌, ◌≤◌, ◌≡◌, true, false, List}
 use Rattle.cnf_text.specs.Literal.{Literal}
+use Rattle.cnf_text.specs.Icnf.{total as literal_count}
 use Rattle.cnf_text.specs.Formula.{IsRefuted}
 use Rattle.split_tree.specs.SplitTree.{SplitTree, cube, numbered, IsTreeOf, size, total, branch, subtree_at, path_at}
-use Rattle.split_tree.specs.Clash.{AllFit, cube_at, literal_count}
+use Rattle.split_tree.specs.Clash.{AllFit, cube_at}
 
 -- some cubes have a tree exactly where all of them fit
 abbrev pub TreeWhereAllFit : Type 0

@@ -41,7 +41,8 @@ impl NodeId {
         ensures value { result ≡ self }
         ensures few { result < 2 ^ 32 }
     {
-        self.number as usize
+        let NodeId { number } = self;
+        number as usize
     }
 }
 

@@ -6,16 +6,18 @@ ghost use Rattle.std.specs.Prelude.{◌≡◌, ◌≤◌, ◌<◌, ◌++◌, IfO
 ghost use Rattle.split_tree.specs.SplitTree.{size, subtree_at, preorder};
 ghost use Rattle.split_tree.specs.Top.{top, top_nodes};
 
-use crate::shape::Shape;
 use crate::node::NodeId;
 use crate::nodes::Nodes;
+use crate::shape::Shape;
 use crate::tree::Tree;
 use std::alloc::{AllocError, Global};
 
 /// The nodes above a cut, with the parts as leaves, and their numbers in the whole tree.
 #[derive(Drop)]
 pub struct Top {
+    /// The nodes above the cut, with the parts as missing leaves.
     pub tree: Tree,
+    /// For each of its nodes, in tree order, the node of the whole tree.
     pub nodes: Vec<NodeId>,
 }
 

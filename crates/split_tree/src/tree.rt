@@ -1,8 +1,9 @@
 //! The splitting tree of a list of cubes.
 
 ghost use Rattle.std.specs.Prelude.{◌≡◌, ◌≤◌, ◌⊎◌, ◌+◌, ◌^◌, ◌<◌, length, IfOk, IfErr, IsOk};
-ghost use Rattle.std.specs.List.{All};
-ghost use Rattle.split_tree.specs.Clash.{cubes_of, IsFaultOf, AllFit, literal_count};
+ghost use Rattle.std.specs.List.{AllByRecursion};
+ghost use Rattle.split_tree.specs.Clash.{cubes_of, IsFaultOf, AllFit};
+ghost use Rattle.cnf_text.specs.Icnf.{total as literal_count};
 ghost use Rattle.split_tree.specs.SplitTree.{numbered, IsTreeOf, total};
 ghost use Rattle.split_tree.specs.declared.clash.TreeFault.TheVariants.{Memory};
 ghost use Rattle.split_tree.specs.Tables.{AreCubeLeaves};
@@ -49,7 +50,7 @@ impl Model for Tree {
 pub fn build(alloc: Global, cubes: &[Vec<Lit>]) -> Result<Tree, TreeFault>
     requires count { length cubes.now ≤ 1048576 }
     requires literals { literal_count (cubes_of cubes.now) ≤ 16777216 }
-    requires each { All (λ cube. length cube ≤ 4096) (cubes_of cubes.now) }
+    requires each { AllByRecursion (λ cube. length cube ≤ 4096) (cubes_of cubes.now) }
     ensures tree { IfOk result (λ tree. IsTreeOf tree (numbered 1 (cubes_of cubes.now))) }
     ensures fit { IsOk result → AllFit (cubes_of cubes.now) }
     ensures total { IfOk result (λ tree. total 0 tree ≤ 2 ^ 60 + 2 ^ 24) }

@@ -29,8 +29,8 @@ returns-then-number-ge1-2 c =
     ap length (rw c.self.view_is at c.self.invariant.missing_are) in
     rw c.in-Missing.is (
       λ e. (
-          get_or (missing_nodes c.args.self.now) (c.in-Missing.number - 1) 0,
-          (c.if-number-ge1-2.true, omega (arith, leb-true c.in-Missing.number c.len-then-number-ge1-2.result e), refl),
+        get_or (missing_nodes c.args.self.now) (c.in-Missing.number - 1) 0,
+        (c.if-number-ge1-2.true, omega (arith, leb-true c.in-Missing.number c.len-then-number-ge1-2.result e), refl),
       ),
       λ h. le-leb c.in-Missing.number c.len-then-number-ge1-2.result (omega (arith, h.1.1)),
     )
