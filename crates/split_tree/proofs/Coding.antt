@@ -3,7 +3,7 @@ use Rattle.std.proofs.Common.{◌≡◌, ℕ, zero, suc, ◌+◌, ◌-◌, ◌*�
 use Rattle.std.proofs.lemmas.Bool.{cases_lt}
 use Rattle.std.proofs.lemmas.List.{get_or_read, get_or_append_left, get_or-append-add, get_or-append_right}
 use Rattle.split_tree.specs.declared.shape.Shape.{Shape}
-use Rattle.split_tree.specs.declared.shape.Shape.TheVariants.{Missing, Cube, Split}
+use Rattle.split_tree.specs.declared.shape.Shape.TheVariants.{Missing, Split}
 use Rattle.split_tree.specs.SplitTree.{SplitTree, missing, cube, split, preorder, decode, tree_of, subtrees, size, subtree_at, numbered, IsTreeOf, IsSplit, root_shape, split_variable}
 use Rattle.cnf_text.specs.Literal.{Literal}
 use Rattle.cnf_text.specs.Icnf.{total as literal_count}

@@ -1,6 +1,6 @@
 -- The paths of nodes, seen from a node above them.
 use Rattle.std.proofs.Common.{◌≡◌, ◌≢◌, ℕ, zero, suc, ◌+◌, ◌-◌, ◌<◌, ◌≤◌, List, [], ◌∷◌, ◌++◌, length, get_or, take, drop, Bool, true, false, refl, sym, ap, ◌∙◌, inl, inr, arith, append_assoc, append-nil}
-use Rattle.std.proofs.lemmas.Bool.{cases_lt, cases_Bool}
+use Rattle.std.proofs.lemmas.Bool.{cases_lt}
 use Rattle.std.proofs.lemmas.List.{append_cancel_left, drop_more, take-append-drop, take_more, take_all}
 use Rattle.cnf_text.specs.Literal.{Literal}
 use Rattle.split_tree.specs.SplitTree.{SplitTree, missing, cube, split, branch, labels, path_at, size, subtree_at, split_variable, IsLeaf, IsSplit}

@@ -1,9 +1,7 @@
 -- Cubes that all fit have a tree.
 use Rattle.std.proofs.Common.{◌≡◌, ℕ, zero, suc, ◌+◌, ◌<◌, List, [], ◌∷◌, length, true, false, refl, ap, arith}
 use Rattle.std.specs.List.{AllByRecursion}
-use Rattle.split_tree.specs.declared.clash.Relation.TheVariants.{Fit}
 use Rattle.cnf_text.specs.Literal.{Literal}
-use Rattle.split_tree.specs.Clash.{relation_of}
 use Rattle.split_tree.specs.SplitTree.{SplitTree, missing, cube, split, Numbered, SplitsOn, going, IsTreeOf}
 use Rattle.split_tree.specs.Ahead.{AreFit}
 use Rattle.split_tree.proofs.Growth.{ended_unfit, all_fit_split}

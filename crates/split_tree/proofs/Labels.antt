@@ -1,5 +1,5 @@
 -- What is handed down from the root to the nodes, and which nodes lie below a node.
-use Rattle.std.proofs.Common.{[], ◌++◌, ◌∷◌, List, ◌≡◌, ℕ, zero, suc, ◌+◌, ◌-◌, ◌<◌, ◌≤◌, length, get_or, Bool, true, false, refl, sym, ap, ◌∙◌, inl, inr, arith, length-append, zero-add}
+use Rattle.std.proofs.Common.{◌≡◌, ℕ, zero, suc, ◌+◌, ◌-◌, ◌<◌, ◌≤◌, length, get_or, Bool, true, false, refl, sym, ap, ◌∙◌, inl, inr, arith, length-append, zero-add}
 use Rattle.std.proofs.lemmas.Bool.{cases_lt}
 use Rattle.std.proofs.lemmas.List.{get_or_append_left, get_or-append_right}
 use Rattle.split_tree.specs.SplitTree.{SplitTree, missing, cube, split, size, subtree_at, labels}

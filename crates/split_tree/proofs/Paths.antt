@@ -1,5 +1,5 @@
 -- The path of a cube's leaf is the cube, and each cube has its leaf.
-use Rattle.std.proofs.Common.{◌≡◌, ℕ, zero, suc, ◌+◌, ◌-◌, ◌<◌, ◌≤◌, ◌⊎◌, List, [], ◌∷◌, ◌++◌, length, get_or, Bool, true, false, cond, refl, sym, ap, ◌∙◌, inl, inr, arith, append_assoc, append-nil}
+use Rattle.std.proofs.Common.{◌≡◌, ℕ, zero, suc, ◌+◌, ◌-◌, ◌<◌, ◌⊎◌, List, [], ◌∷◌, ◌++◌, length, get_or, Bool, true, false, cond, refl, sym, ap, ◌∙◌, inl, inr, arith, append_assoc, append-nil}
 use Rattle.std.specs.List.{AllByRecursion}
 use Rattle.std.specs.Bool.{beq}
 use Rattle.std.proofs.lemmas.Bool.{cases_lt, cases_Bool}

@@ -1,8 +1,8 @@
 -- One step down the tree, towards a node or to both branches.
-use Rattle.std.proofs.Common.{[], ◌++◌, ◌∷◌, ◌↔◌, List, ◌≡◌, ℕ, zero, suc, ◌+◌, ◌-◌, ◌<◌, ◌≤◌, ◌⊎◌, length, get_or, Bool, true, false, refl, sym, ap, ◌∙◌, inl, inr, arith}
+use Rattle.std.proofs.Common.{[], ◌++◌, ◌∷◌, ◌↔◌, List, ◌≡◌, ℕ, suc, ◌+◌, ◌<◌, ◌≤◌, ◌⊎◌, length, get_or, Bool, true, false, refl, sym, ap, ◌∙◌, inl, inr, arith}
 use Rattle.std.proofs.lemmas.List.{get_or_read}
 use Rattle.cnf_text.specs.Literal.{Literal}
-use Rattle.split_tree.specs.SplitTree.{SplitTree, missing, cube, split, size, subtree_at, labels, branch, path_at, depth_at, split_variable, IsLeaf, IsSplit, root_shape}
+use Rattle.split_tree.specs.SplitTree.{SplitTree, missing, cube, split, size, subtree_at, branch, path_at, depth_at, split_variable, IsLeaf, IsSplit, root_shape}
 use Rattle.split_tree.specs.Rows.{IsBelow, StepsToward, AreEnds, AreBranches}
 use Rattle.split_tree.proofs.Coding.{branches_at, SplitNode, some_node}
 use Rattle.split_tree.proofs.Labels.{nested, Handed, handed_down}

@@ -3,7 +3,7 @@ use Rattle.split_tree.specs.Tables.{IsParent}
 use Rattle.split_tree.proofs.Parents.{parent_before, parent_depth}
 use Rattle.split_tree.proofs.Labels.{label-root}
 use Rattle.std.proofs.lemmas.List.{get_or_append_left, get_or_push}
-use Rattle.std.proofs.Common.{ap, [], ◌∷◌, ◌++◌, length-append, ◌≡◌, ℕ, zero, suc, ◌+◌, ◌-◌, ◌*◌, ◌/◌, ◌^◌, ◌<◌, ◌≤◌, List, length, get_or, set, Bool, false, refl, sym, ◌∙◌, inl, inr, arith, get_or-set_same, get_or-set_other}
+use Rattle.std.proofs.Common.{ap, [], ◌∷◌, ◌++◌, length-append, ◌≡◌, ℕ, zero, suc, ◌+◌, ◌-◌, ◌*◌, ◌/◌, ◌^◌, ◌<◌, ◌≤◌, List, length, get_or, set, Bool, refl, sym, ◌∙◌, inl, inr, arith, get_or-set_same, get_or-set_other}
 use Rattle.std.proofs.lemmas.List.{get_or_read}
 use Rattle.std.proofs.lemmas.Bool.{cases_lt, cases_eq}
 use Rattle.split_tree.specs.SplitTree.{SplitTree, missing, cube, split, size, weight, total, subtree_at, labels, depth_at, IsLeaf}

@@ -1,4 +1,4 @@
-use Rattle.std.specs.Prelude.{ℕ, zero, suc, get_or, ◌+◌, ◌-◌, ◌^◌, ◌≡◌, ◌≢◌, nat_le, if◌then◌else◌, Bool, true, false, List, [], ◌∷◌, ◌++◌}
+use Rattle.std.specs.Prelude.{ℕ, suc, get_or, ◌+◌, ◌-◌, ◌^◌, ◌≡◌, ◌≢◌, nat_le, if◌then◌else◌, Bool, true, false, List, [], ◌∷◌, ◌++◌}
 use Rattle.std.specs.Bool.{beq}
 use Rattle.std.specs.List.{AllByRecursion}
 use Rattle.split_tree.specs.declared.shape.Shape.{Shape}

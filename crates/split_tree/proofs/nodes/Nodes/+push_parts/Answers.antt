@@ -1,4 +1,4 @@
-use Rattle.std.proofs.Common.{◌-◌, ap, ◌∙◌, append_assoc}
+use Rattle.std.proofs.Common.{◌-◌}
 use Rattle.split_tree.specs.SplitTree.{subtree_at}
 use Rattle.split_tree.specs.Parts.{part_nodes}
 use Rattle.split_tree.proofs.Cuts.{part_branches, both_parts}

@@ -1,5 +1,5 @@
-use Rattle.std.proofs.Common.{◌≡◌, ◌≤◌, ◌<◌, ◌+◌, ◌-◌, ◌^◌, ℕ, get_or, arith}
-use Rattle.split_tree.specs.SplitTree.{size, total, depth_at, subtree_at}
+use Rattle.std.proofs.Common.{◌≡◌, ◌<◌, ◌+◌, ◌-◌, ◌^◌, ℕ, arith}
+use Rattle.split_tree.specs.SplitTree.{total}
 use Rattle.split_tree.proofs.Totals.{TotalsFrom, sum_of, total_at, total_fits}
 use Rattle.split_tree.proofs.nodes.Nodes.add_up.Goals as goal
 

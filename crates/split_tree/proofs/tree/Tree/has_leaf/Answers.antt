@@ -1,4 +1,4 @@
-use Rattle.std.proofs.Common.{◌≡◌, ◌≤◌, length, get_or, ◌-◌, refl, ap, arith}
+use Rattle.std.proofs.Common.{◌≡◌, length, get_or, ◌-◌, refl, ap, arith}
 use Rattle.std.proofs.lemmas.Bool.{leb-true, le-leb}
 use Rattle.split_tree.specs.Leaves.{missing_nodes}
 use Rattle.split_tree.proofs.Leaves.{has_cube, cube_has}

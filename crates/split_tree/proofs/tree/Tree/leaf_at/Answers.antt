@@ -1,4 +1,4 @@
-use Rattle.std.proofs.Common.{◌≡◌, ◌<◌, ◌≤◌, ◌+◌, ◌-◌, Ok, Err, length, get_or, sym, ap, ◌∙◌, arith}
+use Rattle.std.proofs.Common.{◌≡◌, ◌<◌, ◌≤◌, ◌+◌, ◌-◌, Ok, Err, length, sym, ap, ◌∙◌, arith}
 use Rattle.std.proofs.lemmas.List.Sorted.{searched}
 use Rattle.split_tree.specs.SplitTree.{missing, size, subtrees, subtree_at}
 use Rattle.split_tree.specs.Leaves.{missing_nodes, cube_count, leaf_count}

@@ -1,5 +1,5 @@
-use Rattle.std.proofs.Common.{◌≡◌, ℕ, suc, Bool, ◌∙◌}
-use Rattle.split_tree.specs.SplitTree.{total, depth_at, subtree_at}
+use Rattle.std.proofs.Common.{◌≡◌, ℕ, suc, Bool}
+use Rattle.split_tree.specs.SplitTree.{depth_at, subtree_at}
 use Rattle.split_tree.proofs.Coding.{subtree-root}
 use Rattle.split_tree.proofs.Labels.{label-root}
 use Rattle.split_tree.proofs.tree.Tree.total.Goals as goal

@@ -1,5 +1,5 @@
-use Rattle.std.proofs.Common.{◌≡◌, ◌≤◌, ◌∙◌}
-use Rattle.split_tree.specs.SplitTree.{weight, depth_at, subtree_at}
+use Rattle.std.proofs.Common.{◌∙◌}
+use Rattle.split_tree.specs.SplitTree.{depth_at, subtree_at}
 use Rattle.split_tree.proofs.Leaves.{leaf_there}
 use Rattle.split_tree.proofs.Totals.{leaf_total, weight_some}
 use Rattle.split_tree.proofs.tree.Tree.weight_of.Goals as goal
