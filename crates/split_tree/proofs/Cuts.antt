@@ -158,11 +158,5 @@ part_branches tree node first second cut b h =
     ∙ (map-append (λ (part : Part). part.node) (parts (cut - 1) (suc node) b.positive) (parts (cut - 1) (suc (node + size b.positive)) b.negative)
     ∙ rw (f, g) refl))
 
-pub part_alone : (cut node : ℕ) (t : SplitTree) → IsLeaf t → part_nodes cut node t ≡ node ∷ []
-part_alone zero node t l = refl
-part_alone (suc cut) node missing l = refl
-part_alone (suc cut) node (cube k) l = refl
-part_alone (suc cut) node (split v p n) l = absurd l
-
 pub both_parts : (old one first rest : List ℕ) → one ≡ old ++ first → one ++ rest ≡ old ++ (first ++ rest)
 both_parts old one first rest e = rw e (append_assoc old first rest)

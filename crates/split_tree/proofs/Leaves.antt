@@ -1,8 +1,8 @@
 -- The nodes of the leaves, and how many there are.
-use Rattle.std.proofs.Common.{◌≡◌, ℕ, zero, suc, ◌+◌, ◌-◌, ◌<◌, ◌≤◌, List, [], ◌∷◌, ◌++◌, length, get_or, drop, set, refl, sym, ap, ◌∙◌, inl, inr, arith, append_assoc, append-nil, get_or-set_same, get_or-set_other}
-use Rattle.std.proofs.lemmas.Bool.{cases_lt, cases_eq}
+use Rattle.std.proofs.Common.{◌≡◌, ℕ, zero, suc, ◌+◌, ◌-◌, ◌<◌, ◌≤◌, List, [], ◌∷◌, ◌++◌, length, get_or, drop, refl, sym, ap, ◌∙◌, inl, inr, arith, append_assoc, append-nil}
+use Rattle.std.proofs.lemmas.Bool.{cases_lt}
 use Rattle.std.proofs.lemmas.List.{drop_more, drop_all, get_or_read}
-use Rattle.split_tree.specs.declared.shape.Shape.TheVariants.{Missing, Cube}
+use Rattle.split_tree.specs.declared.shape.Shape.TheVariants.{Missing}
 use Rattle.split_tree.specs.SplitTree.{SplitTree, missing, cube, split, size, subtrees, subtree_at, IsLeaf, root_shape}
 use Rattle.split_tree.specs.Leaves.{missing_from, missing_nodes, cube_count, leaf_count, HasLeaf, IsLeafAt}
 use Rattle.split_tree.specs.declared.node.Leaf.{Leaf}
@@ -117,47 +117,9 @@ few_leaves (split v p n) = let a : leaf_count p ≤ size p = few_leaves p in let
 
 -- ---- filling the table of the cubes' nodes
 
-pub cube_root : (t : SplitTree) (k : ℕ) → Cube k ≡ root_shape t → t ≡ cube k
-cube_root missing k e = cc
-cube_root (cube j) k e = let f : k ≡ j = cc in ap cube (sym f)
-cube_root (split v p n) k e = cc
-
 -- the table has the node of each cube's leaf before node `i`
 abbrev pub Placed : SplitTree → ℕ → List ℕ → Type 0
 Placed tree i nodes = (j k : ℕ) → j < i → subtree_at tree j ≡ cube k → get_or nodes (k - 1) 0 ≡ j
-
-pub placed_more : (tree : SplitTree) (cubes i n : ℕ) (nodes : List ℕ) → AreCubeLeaves tree cubes → length nodes ≡ cubes → i < size tree →
-    subtree_at tree i ≡ cube n → Placed tree i nodes → Placed tree (i + 1) (set nodes (n - 1) i)
-placed_more tree cubes i n nodes a long h e known j k l f =
-    let w = a.numbered i n h e in
-    let v = a.numbered j k (omega arith) f in
-    elim (cases_eq (k - 1) (n - 1)) [
-      | inl same ↦
-          let m : k ≡ n = omega (arith, w.0, v.0) in
-          let o : j ≡ i = a.once j i k (omega arith) h f (rw m e) in
-          let b : n - 1 < length nodes = omega (arith, w.0, w.1) in
-          rw (same, get_or-set_same nodes (n - 1) i 0 b, o) refl
-      | inr other ↦
-          rw (get_or-set_other nodes (n - 1) (k - 1) i 0 other) (elim (cases_lt j i) [
-            | inl less ↦ known j k less f
-            | inr more ↦
-                let o : j ≡ i = omega arith in
-                let g : subtree_at tree i ≡ cube k = rw o at f in
-                let m : cube n ≡ cube k = sym e ∙ g in
-                let p : n ≡ k = cc in
-                absurd (other (ap (λ (x : ℕ). x - 1) (sym p)))
-          ])
-    ]
-
-pub placed_past : (tree : SplitTree) (i : ℕ) (nodes : List ℕ) → ((k : ℕ) → root_shape (subtree_at tree i) ≡ Cube k → ⊥) → Placed tree i nodes →
-    Placed tree (i + 1) nodes
-placed_past tree i nodes none known j k l f = elim (cases_lt j i) [
-  | inl less ↦ known j k less f
-  | inr more ↦
-      let o : j ≡ i = omega arith in
-      let g : subtree_at tree i ≡ cube k = rw o at f in
-      absurd (none k (ap root_shape g))
-]
 
 pub placed_all : (tree : SplitTree) (cubes : ℕ) (nodes : List ℕ) → AreCubeLeaves tree cubes → length nodes ≡ cubes →
     Placed tree (size tree) nodes → AreCubeNodes tree nodes

@@ -3,9 +3,9 @@ use Rattle.split_tree.specs.Tables.{IsParent}
 use Rattle.split_tree.proofs.Parents.{parent_before, parent_depth}
 use Rattle.split_tree.proofs.Labels.{label-root}
 use Rattle.std.proofs.lemmas.List.{get_or_append_left, get_or_push}
-use Rattle.std.proofs.Common.{ap, [], ◌∷◌, ◌++◌, length-append, ◌≡◌, ℕ, zero, suc, ◌+◌, ◌-◌, ◌*◌, ◌/◌, ◌^◌, ◌<◌, ◌≤◌, List, length, get_or, set, Bool, refl, sym, ◌∙◌, inl, inr, arith, get_or-set_same, get_or-set_other}
+use Rattle.std.proofs.Common.{ap, [], ◌∷◌, ◌++◌, length-append, ◌≡◌, ℕ, zero, suc, ◌+◌, ◌-◌, ◌*◌, ◌/◌, ◌^◌, ◌<◌, ◌≤◌, List, length, get_or, Bool, refl, sym, ◌∙◌, inl, inr, arith}
 use Rattle.std.proofs.lemmas.List.{get_or_read}
-use Rattle.std.proofs.lemmas.Bool.{cases_lt, cases_eq}
+use Rattle.std.proofs.lemmas.Bool.{cases_lt}
 use Rattle.split_tree.specs.SplitTree.{SplitTree, missing, cube, split, size, weight, total, subtree_at, labels, depth_at, IsLeaf}
 use Rattle.split_tree.proofs.Coding.{in_positive, in_negative, size-splits}
 use Rattle.split_tree.proofs.Trees.{weight-deep, weight-shallow, one_le_power, twice, splits, total_bound}
@@ -15,13 +15,6 @@ use Rattle.split_tree.specs.Rows.{AreBranches}
 -- the totals are known from the node `from` on
 abbrev pub TotalsFrom : SplitTree → ℕ → List ℕ → Type 0
 TotalsFrom tree from weights = (k : ℕ) → from ≤ k → k < size tree → get_or weights k 0 ≡ total (depth_at tree k) (subtree_at tree k)
-
-pub totals_more : (tree : SplitTree) (weights : List ℕ) (i j x : ℕ) → j + 1 ≡ i → length weights ≡ size tree → TotalsFrom tree i weights → j < size tree →
-    x ≡ total (depth_at tree j) (subtree_at tree j) → TotalsFrom tree j (set weights j x)
-totals_more tree weights i j x n l k h f m from below = elim (cases_eq m j) [
-  | inl same ↦ let b : j < length weights = omega arith in rw (same, get_or-set_same weights j x 0 b) f
-  | inr other ↦ rw (get_or-set_other weights j m x 0 other) (k m (omega arith) below)
-]
 
 pub leaf_total : (depth : ℕ) (t : SplitTree) → IsLeaf t → total depth t ≡ weight depth
 leaf_total depth missing h = refl
