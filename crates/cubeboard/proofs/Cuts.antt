@@ -1,10 +1,10 @@
 -- A text that is cut at its first label line.
-use Rattle.std.proofs.Common.{◌≡◌, ℕ, ◌-◌, ◌+◌, Bool, true, false, List, [], ◌∷◌, ◌++◌, length, take, refl, sym, ◌∙◌, ap, arith, append_assoc, append-nil, length-append, Option, Bor, MatchOption, None, Some}
+use Rattle.std.proofs.Common.{◌≡◌, ℕ, ◌-◌, ◌+◌, true, false, List, [], ◌∷◌, ◌++◌, length, take, refl, sym, ◌∙◌, ap, arith, append_assoc, append-nil, length-append, Option, Bor, MatchOption, None, Some}
 use Rattle.std.proofs.Math.Seq.{take-append_seam}
 use Rattle.std.proofs.lemmas.List.Splits.{length-slice_split}
 use Rattle.std.specs.Option.{unwrap_or}
 use Rattle.cnf_text.specs.Tokens.{is_line_end, words}
-use Rattle.cubeboard.specs.Bundle.{lines_of, is_label, line_onto, text_before, Labelled, labelled}
+use Rattle.cubeboard.specs.Bundle.{lines_of, is_label, line_onto, text_before, labelled}
 
 -- What is cut off the front so far: nothing but lines that are no label lines.
 pub record CutOff (text rest : List ℕ) : Type 0 where

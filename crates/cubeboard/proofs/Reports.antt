@@ -1,5 +1,5 @@
 -- What a judgement and a report say of the formula.
-use Rattle.std.proofs.Common.{◌≡◌, ℕ, Bool, true, false, List, [], ◌∷◌, ◌++◌, append-nil, append_assoc, arith, refl, sym, ◌∙◌, subst, Result, Ok, Err, IfOk, Option, None, Some, IfSome}
+use Rattle.std.proofs.Common.{◌≡◌, ℕ, Bool, true, List, [], ◌∷◌, ◌++◌, append-nil, append_assoc, arith, refl, sym, ◌∙◌, subst, Result, Ok, Err, IfOk, Option, None, Some, IfSome}
 use Rattle.std.specs.Prelude.{codes}
 use Rattle.cnf_text.specs.Literal.{Literal}
 use Rattle.cnf_text.specs.Formula.{HasNoModel, IsRefuted}

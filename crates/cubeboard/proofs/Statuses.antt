@@ -1,5 +1,5 @@
 -- What a status says of the bundle.
-use Rattle.std.proofs.Common.{◌≡◌, ◌<◌, ℕ, List, arith, Option, None, Some, IfSome}
+use Rattle.std.proofs.Common.{◌<◌, ℕ, List, arith, Option, None, Some, IfSome}
 use Rattle.cubeboard.specs.declared.fault.Fault.{Fault}
 use Rattle.cubeboard.specs.declared.fault.Fault.TheVariants.{Header, Token, Unfinished, TooLarge, Limit, Memory, Device, NotYet}
 use Rattle.cubeboard.specs.Faults.{IsInputFault}

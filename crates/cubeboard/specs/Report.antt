@@ -1,5 +1,5 @@
 -- The text of a report, as bytes: fields are separated by a space, and each line ends with a line feed.
-use Rattle.std.specs.Prelude.{ℕ, Bool, List, [], ◌∷◌, ◌++◌, true, false, codes, decimal, if◌then◌else◌}
+use Rattle.std.specs.Prelude.{ℕ, Bool, List, [], ◌++◌, true, false, codes, decimal, if◌then◌else◌}
 use Rattle.std.specs.List.{flat_map}
 use Rattle.cnf_text.specs.Literal.{Literal}
 use Rattle.hint_check.specs.declared.Judged.{Judged}
