@@ -1,0 +1,5 @@
+use Rattle.split_tree.proofs.Cuts.{leaf_in_one}
+use Rattle.split_tree.proofs.parts.each_leaf_in_one_part.Goals as goal
+
+pub returns : goal.returns
+returns c cut tree leaf within is_leaf = leaf_in_one cut tree leaf within is_leaf

@@ -1,0 +1,5 @@
+use Rattle.split_tree.proofs.Cuts.{parts_bound}
+use Rattle.split_tree.proofs.parts.parts_are_few.Goals as goal
+
+pub returns : goal.returns
+returns c cut tree = parts_bound cut 0 tree

@@ -1,0 +1,10 @@
+pub mod Clash
+pub mod SplitTree
+pub mod Ahead
+pub mod Rows
+pub mod Code
+pub mod Leaves
+pub mod Tables
+pub mod Parts
+pub mod Laws
+pub mod Top

@@ -1,0 +1,25 @@
+//! The splitting tree of a list of cubes: whether the cubes fit, and where each leaf lies.
+#![tactic(auto)]
+
+mod clash;
+mod grow;
+mod laws;
+mod node;
+mod nodes;
+mod parts;
+mod readers;
+mod rows;
+mod shape;
+mod tables;
+mod top;
+mod tree;
+
+pub use clash::{Relation, TreeFault, compare};
+pub use laws::{
+    branches_refute_their_node, cube_path_is_cube, paths_are_apart, total_is_bounded, tree_is_only_one,
+    tree_where_all_fit,
+};
+pub use node::{Leaf, NodeId, Target};
+pub use parts::{each_leaf_in_one_part, part_totals_add_up, parts_are_few, parts_are_subtrees};
+pub use top::Top;
+pub use tree::{Tree, build};
