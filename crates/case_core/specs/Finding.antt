@@ -1,0 +1,21 @@
+-- What is found of a target: the judgement of its section.
+use Rattle.std.specs.Prelude.{◌≡◌, ℕ, List, Option, None, Some}
+use Rattle.cnf_text.specs.Literal.{Literal}
+use Rattle.cnf_text.specs.Formula.{IsRefuted}
+use Rattle.lrat_text.specs.Proof.{proof_of}
+use Rattle.hint_check.specs.Judgement.{judgement}
+use Rattle.hint_check.specs.declared.Judged.{Judged}
+use Rattle.hint_check.specs.declared.Judged.TheVariants.{Refuted}
+use Rattle.split_tree.specs.Leaves.{IsPathOf}
+use Rattle.split_tree.specs.declared.node.Target.{Target}
+use Rattle.case_core.specs.Case.{CaseOf, proof_for}
+
+-- the target's section is judged so: from the formula and the literals of the target's path
+abbrev pub IsFinding : CaseOf → Target → Judged → Type 0
+IsFinding case target judged =
+    (path : List Literal) × (proof : List ℕ) × IsPathOf case.tree target path × (proof_for case.sections target ≡ Some proof)
+    × (judged ≡ judgement case.formula path (proof_of proof))
+
+-- where the target is judged refuted, the formula has no model together with the literals of its path
+abbrev pub IsSound : CaseOf → Target → Judged → Type 0
+IsSound case target judged = judged ≡ Refuted → (path : List Literal) → IsPathOf case.tree target path → IsRefuted case.formula path
