@@ -19,12 +19,12 @@ use Rattle.hint_check.proofs.Literals.{same-true, has-push}
 none_listed : (b : Bool) → false ≡ true → b ≡ true
 none_listed b h = absurd (false≢true h)
 
--- a row taken out and put back with one more id
-pub Adds-row : (before between after : List (ℕ × List ℕ)) (number id : ℕ) (row longer : List ℕ) → row ≡ ids_at before number → longer ≡ row ++ id ∷ [] → ((q : ℕ) → lookup (nat_eq q) between ≡ cond (nat_eq number q) None (lookup (nat_eq q) before)) → ((q : ℕ) → lookup (nat_eq q) after ≡ cond (nat_eq number q) (Some longer) (lookup (nat_eq q) between)) → Adds before after number id
+-- a row with one more id in the place of what was listed for the number
+pub Adds-put : (before after : List (ℕ × List ℕ)) (number id : ℕ) (row longer : List ℕ) → row ≡ ids_at before number → longer ≡ row ++ id ∷ [] → ((q : ℕ) → lookup (nat_eq q) after ≡ cond (nat_eq number q) (Some longer) (lookup (nat_eq q) before)) → Adds before after number id
 unfolding Adds
-Adds-row before between after number id row longer was more taken put n =
-    ap (λ o. unwrap_or o []) (put n ∙ ap (cond (nat_eq number n) (Some longer)) (taken n))
-    ∙ elim (nat_eq number n) as (λ b. nat_eq number n ≡ b → unwrap_or (cond b (Some longer) (cond b None (lookup (nat_eq n) before))) [] ≡ (if b then ids_at before n ++ id ∷ [] else ids_at before n)) [
+Adds-put before after number id row longer was more put n =
+    ap (λ o. unwrap_or o []) (put n)
+    ∙ elim (nat_eq number n) as (λ b. nat_eq number n ≡ b → unwrap_or (cond b (Some longer) (lookup (nat_eq n) before)) [] ≡ (if b then ids_at before n ++ id ∷ [] else ids_at before n)) [
       | true ↦ λ here. more ∙ ap (λ ids. ids ++ id ∷ []) (was ∙ ap (ids_at before) (eqb-true number n here))
       | false ↦ λ apart. refl
     ] refl

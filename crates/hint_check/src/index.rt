@@ -91,12 +91,13 @@ impl Index {
         ensures { OnOk result (Adds self.old self.new (number_of lit) id) }
     {
         let number = lit.number();
-        let mut row = match self.rows.remove(&number) {
-            Some(row) => row,
-            None => Row::new(self.alloc),
-        };
-        row.push(id)?;
         self.listed = self.listed.saturating_add(1);
+        if let Some(row) = self.rows.get_mut(&number) {
+            row.push(id)?;
+            return Ok(());
+        }
+        let mut row = Row::new(self.alloc);
+        row.push(id)?;
         self.rows.insert(number, row)?;
         Ok(())
     }

@@ -1,20 +1,29 @@
-use Rattle.std.proofs.Common.{◌≡◌, [], sym, ap, ◌∙◌, subst}
+use Rattle.std.proofs.Common.{[], Some, cond, nat_eq, ap, ◌∙◌, subst, rules}
+use Rattle.std.specs.Map.{lookup}
 use Rattle.std.specs.Option.{unwrap_or}
 use Rattle.cnf_text.specs.Literal.{number_of}
-use Rattle.hint_check.specs.Index.{ids_at, Adds}
-use Rattle.hint_check.proofs.Indexing.{Adds-row}
+use Rattle.hint_check.specs.Index.{Adds}
+use Rattle.hint_check.proofs.Indexing.{Adds-put}
 use Rattle.hint_check.proofs.index.Index.push.Goals as goal
-use Rattle.hint_check.proofs.index.Index.push.Goals.{in-Some, in-None}
+
+pub returns-in-Some : goal.returns-in-Some
+returns-in-Some c =
+    let before = c.self.inside.rows.entries in
+    let longer = c.push.new.self in
+    let after = (c.get_mut.follows.lender longer).entries in
+    let number = c.number-number.result in
+    subst (λ rows. Adds rows after (number_of c.args.lit) c.args.id) c.self.view_is
+    (subst (λ k. Adds before after k c.args.id) c.number-number.ensures.value
+    (Adds-put before after number c.args.id c.in-Some.row.now longer (ap (λ o. unwrap_or o []) c.in-Some.ensures.value) c.in_ok-push.ensures
+    ((c.get_mut.follows.holds longer).3 (search rules)).0))
 
 pub returns : goal.returns
 returns c =
     let before = c.self.inside.rows.entries in
+    let longer = c.push-2.new.self in
+    let after = c.insert.new.self.entries in
     let number = c.number-number.result in
-    let was : c.match-remove.row ≡ ids_at before number =
-    elim c.match-remove.branch [
-      | in-Some w ↦ w.row-is ∙ ap (λ o. unwrap_or o []) (sym w.in-Some.is ∙ c.remove.ensures.value)
-      | in-None w ↦ w.row-is ∙ w.new-row.ensures ∙ ap (λ o. unwrap_or o []) (sym w.in-None.is ∙ c.remove.ensures.value)
-    ] in
-    subst (λ rows. Adds rows c.insert.new.self.entries (number_of c.args.lit) c.args.id) c.self.view_is
-    (subst (λ k. Adds before c.insert.new.self.entries k c.args.id) c.number-number.ensures.value
-    (Adds-row before c.remove.new.self.entries c.insert.new.self.entries number c.args.id c.match-remove.row c.push.new.self was c.in_ok-push.ensures c.remove.ensures.updates.0 c.in_ok-insert.ensures.updates.0))
+    subst (λ rows. Adds rows after (number_of c.args.lit) c.args.id) c.self.view_is
+    (subst (λ k. Adds before after k c.args.id) c.number-number.ensures.value
+    (Adds-put before after number c.args.id c.new-row.result longer (c.new-row.ensures ∙ ap (λ o. unwrap_or o []) c.in_default.ensures.value) c.in_ok-push-2.ensures
+    (λ q. c.in_ok-insert.ensures.updates.0 q ∙ ap (λ rows. cond (nat_eq number q) (Some longer) (lookup (nat_eq q) rows.entries)) c.get_mut.follows.holds-at-none)))
