@@ -39,9 +39,10 @@ impl Model for Case {
 }
 
 impl Case {
-    ghost use Rattle.std.specs.Prelude.{◌≡◌, ◌≤◌, ◌^◌, ◌+◌, map};
+    ghost use Rattle.std.specs.Prelude.{◌≡◌, ℕ, ◌≤◌, ◌^◌, ◌+◌, map, MatchOption, None, Some};
     ghost use Rattle.split_tree.specs.SplitTree.{total};
-    ghost use Rattle.case_core.specs.Case.{section_of, AreSections};
+    ghost use Rattle.split_tree.specs.Leaves.{HasTarget, IsTargetAt};
+    ghost use Rattle.case_core.specs.Case.{section_of, AreSections, proof_for};
 
     /// The formula: all clauses of the text.
     pub fn formula(&self) -> &Formula
@@ -56,6 +57,27 @@ impl Case {
         ensures total { total 0 self.now.tree ≤ 2 ^ 60 + 2 ^ 24 }
     {
         &self.tree
+    }
+
+    /// What the formula's checkers stand on.
+    pub(crate) fn base(&self) -> &Base<'static>
+        ensures { result.now ≡ self.now.formula }
+    {
+        &self.base
+    }
+
+    /// The proof of the section for a target, or `None` where it has none. It asks for a target of the tree.
+    pub(crate) fn proof_for(&self, target: Target) -> Option<&[u8]>
+        requires { HasTarget self.now.tree target }
+        ensures found { MatchOption result (proof_for self.now.sections target ≡ None) (λ proof. proof_for self.now.sections target ≡ Some proof.now) }
+        ensures one_place { (i j : ℕ) → IsTargetAt self.now.tree i target → IsTargetAt self.now.tree j target → i ≡ j }
+    {
+        let node = self.tree.node_of_target(target);
+        let place = self.places[node.index()] as usize;
+        if place == 0 {
+            return None;
+        }
+        Some(&self.sections[place - 1].proof)
     }
 
     /// The sections, in the order of the text.
