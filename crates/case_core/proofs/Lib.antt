@@ -1,1 +1,3 @@
 pub mod Findings
+pub mod Labels
+pub mod Cuts

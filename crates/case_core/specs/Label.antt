@@ -47,3 +47,9 @@ abbrev pub IsNamed : SplitTree → Name → Target → Type 0
 IsNamed tree (CubeName number) target = (target ≡ Leaf (Cube number)) × HasLeaf tree (Cube number)
 IsNamed tree (MissingName number) target = (target ≡ Leaf (Missing number)) × HasLeaf tree (Missing number)
 IsNamed tree (PathName path) target = (node : ℕ) × (target ≡ Node node) × IsNodeOf tree path (Some node)
+
+-- the name, where there is one, is this target in the tree
+pub record IsTargetOf (tree : SplitTree) (name : Option Name) (target : Target) : Type 0 where
+  pub value : Name
+  pub is : name ≡ Some value
+  pub named : IsNamed tree value target

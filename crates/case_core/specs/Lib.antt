@@ -3,3 +3,7 @@ pub mod Label
 pub mod Case
 pub mod Code
 pub mod Finding
+pub mod Faults
+pub mod Naming
+pub mod Sections
+pub mod Cut

@@ -1,10 +1,14 @@
 //! A case: the formula, the tree of its cubes and the proofs of a bundle, and what is found of each of them.
 #![tactic(auto)]
 
+mod bundle;
 mod case;
+mod fault;
 mod finding;
+mod label;
 
 pub use case::{Case, Section};
+pub use fault::CaseFault;
 pub use cnf_text::{Clause, Formula, Lit};
 pub use finding::{Finding, examine};
 pub use hint_check::{Judged, Reason};
