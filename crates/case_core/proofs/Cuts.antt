@@ -3,6 +3,7 @@ use Rattle.std.proofs.Common.{◌≡◌, ℕ, suc, ◌-◌, ◌+◌, ◌≤◌, 
 use Rattle.std.specs.Prelude.{count_by}
 use Rattle.std.proofs.Math.Seq.{take-append_seam}
 use Rattle.std.proofs.lemmas.List.Splits.{length-slice_split}
+use Rattle.std.proofs.lemmas.List.Sums.{sum_by-append}
 use Rattle.std.specs.Option.{unwrap_or}
 use Rattle.cnf_text.specs.Tokens.{is_line_end, words}
 use Rattle.case_core.specs.Bundle.{lines_of, is_label, line_onto, text_before, Labelled, labelled}
@@ -105,3 +106,12 @@ front_of text end before ends counted =
     let size : length text ≡ length ends.front + length end = ap length ends.parts ∙ length-append ends.front end in
     let place : before ≡ length ends.front = omega arith in
     rw place (ap (take (length ends.front)) ends.parts ∙ take-append_seam ends.front end)
+
+pub line_number : (text end : List ℕ) (before count : ℕ) → EndsWith text end → before ≡ length text - length end → count ≡ count_by is_line_end (take before text)
+    → count + 1 + length (lines_of end) ≡ length (lines_of text) + 1
+line_number text end before count ends counted is =
+    let front : take before text ≡ ends.front = front_of text end before ends counted in
+    let there : count ≡ count_by is_line_end ends.front = is ∙ ap (count_by is_line_end) front in
+    let whole : count_by is_line_end text ≡ count_by is_line_end ends.front + count_by is_line_end end = ap (count_by is_line_end) ends.parts ∙ sum_by-append _ ends.front end in
+    let a = length-slice_split is_line_end text in
+    let b = length-slice_split is_line_end end in omega arith

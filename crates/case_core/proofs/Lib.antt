@@ -1,3 +1,6 @@
 pub mod Findings
 pub mod Labels
 pub mod Cuts
+pub mod Tables
+pub mod Limits
+pub mod Reading

@@ -7,3 +7,5 @@ pub mod Faults
 pub mod Naming
 pub mod Sections
 pub mod Cut
+pub mod Kept
+pub mod Told

@@ -6,7 +6,7 @@ use Rattle.cnf_text.specs.Icnf.{Symbol}
 use Rattle.split_tree.specs.SplitTree.{SplitTree, cube, size, subtree_at, path_at}
 use Rattle.split_tree.specs.declared.node.Target.{Target}
 use Rattle.case_core.specs.declared.label.LabelFault.{LabelFault}
-use Rattle.case_core.specs.declared.label.LabelFault.TheVariants.{BadForm, NoSuchTarget, Memory}
+use Rattle.case_core.specs.declared.label.LabelFault.TheVariants.{BadForm, NoSuchTarget, Twice, Memory}
 use Rattle.case_core.specs.Label.{Name, IsNamed, path_of_symbols}
 
 -- no variable of the path is above the limit
@@ -22,6 +22,7 @@ pub record IsLimited (tree : SplitTree) : Type 0 where
 abbrev pub NamesNone : SplitTree → Option Name → LabelFault → Type 0
 NamesNone tree name BadForm = name ≡ None
 NamesNone tree name NoSuchTarget = (value : Name) × (name ≡ Some value) × ((target : Target) → IsNamed tree value target → ⊥)
+NamesNone tree name Twice = ⊥
 NamesNone tree name Memory = Unit {0}
 
 -- a path that is read as far as these symbols, which are left
@@ -40,4 +41,5 @@ IsPathRead whole None = (path : List Literal) × (whole ≡ Some path) × (InRan
 abbrev pub NoPathRead : Option (List Literal) → LabelFault → Type 0
 NoPathRead whole BadForm = whole ≡ None
 NoPathRead whole NoSuchTarget = ⊥
+NoPathRead whole Twice = ⊥
 NoPathRead whole Memory = Unit {0}

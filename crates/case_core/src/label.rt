@@ -8,11 +8,12 @@ ghost use Rattle.cnf_text.specs.Numbers.{decimal};
 ghost use Rattle.case_core.specs.Label.{CubeName, MissingName, PathName, IsTargetOf, leaf_name, label_name, path_of_symbols};
 ghost use Rattle.case_core.specs.Naming.{IsLimited, NamesNone, IsPathRead, NoPathRead};
 
+use crate::fault::CaseFault;
 use cnf_text::numbers::read_number;
 use cnf_text::tokens::first_word;
 use cnf_text::{Lit, MAX_VARIABLE};
 use split_tree::{Leaf, Target, Tree};
-use std::alloc::{AllocFailed, Global};
+use std::alloc::{AllocError, AllocFailed, Global};
 
 /// Why a label line names no target.
 #[derive(Clone, Copy, Debug)]
@@ -21,8 +22,38 @@ pub(crate) enum LabelFault {
     BadForm,
     /// The tree has no such leaf, or no inner node with this path.
     NoSuchTarget,
+    /// An earlier label line has named the target.
+    Twice,
     /// A growth was refused.
     Memory,
+}
+
+impl LabelFault {
+    ghost use Rattle.std.specs.Prelude.{◌≡◌};
+    ghost use Rattle.case_core.specs.Told.{told};
+
+    /// The fault of a bundle that has it on this line.
+    pub(crate) fn on_line(self, line: u64) -> CaseFault
+        ensures { result ≡ told self line }
+    {
+        match self {
+            LabelFault::BadForm => CaseFault::BadLabel { line },
+            LabelFault::NoSuchTarget => CaseFault::NoSuchLeaf { line },
+            LabelFault::Twice => CaseFault::ProofTwice { line },
+            LabelFault::Memory => CaseFault::Memory,
+        }
+    }
+}
+
+impl From<AllocError> for LabelFault {
+    ghost use Rattle.std.specs.Prelude.{◌≡◌};
+    ghost use Rattle.case_core.specs.declared.label.LabelFault.TheVariants.{Memory};
+
+    ghost from_gives = { λ _ fault. fault ≡ Memory };
+
+    fn from(_error: AllocError) -> Self {
+        LabelFault::Memory
+    }
 }
 
 impl<T: Drop> From<AllocFailed<T>> for LabelFault {

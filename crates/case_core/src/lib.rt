@@ -6,7 +6,9 @@ mod case;
 mod fault;
 mod finding;
 mod label;
+mod sections;
 
+pub use bundle::read_bundle;
 pub use case::{Case, Section};
 pub use fault::CaseFault;
 pub use cnf_text::{Clause, Formula, Lit};
