@@ -4,3 +4,5 @@ pub mod Cuts
 pub mod Tables
 pub mod Limits
 pub mod Reading
+pub mod Bundles
+pub mod Unique
