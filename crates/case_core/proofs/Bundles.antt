@@ -1,20 +1,11 @@
 -- A bundle stands for one case at most, or has one fault.
-use Rattle.std.proofs.Common.{◌≡◌, ◌≢◌, ℕ, zero, suc, ◌+◌, ◌<◌, ◌≤◌, ◌^◌, List, [], ◌∷◌, ◌++◌, Bool, true, false, length, map, refl, sym, ◌∙◌, ap, subst, arith, append_assoc, length-append, Vec, Option, None, Some, Result, Ok, Err}
-use Rattle.std.specs.Prelude.{IfOk, IfErr, MatchResult}
+use Rattle.std.proofs.Common.{◌≡◌, ◌+◌, ◌≤◌, ◌^◌, List, [], ◌∷◌, subst, arith, Vec}
 use Rattle.std.specs.List.{AllByRecursion}
-use Rattle.cnf_text.specs.Literal.{Literal, greatest_variable}
+use Rattle.cnf_text.specs.Literal.{Literal}
 use Rattle.cnf_text.specs.Icnf.{Item, ClauseItem, CubeItem, literals_of, clauses_of, cubes_of, Within, StandsFor, IsTextFault}
 use Rattle.cnf_text.specs.Icnf as icnf
-use Rattle.cnf_text.specs.declared.icnf.TextFault.{TextFault}
-use Rattle.cnf_text.specs.declared.icnf.TextFault.TheVariants as text
 use Rattle.split_tree.specs.Clash as clash
-use Rattle.split_tree.specs.declared.clash.TreeFault.{TreeFault}
-use Rattle.split_tree.specs.declared.clash.TreeFault.TheVariants as kind
 use Rattle.split_tree.specs.SplitTree.{SplitTree, numbered, IsTreeOf, total}
-use Rattle.case_core.specs.declared.fault.CaseFault.{CaseFault}
-use Rattle.case_core.specs.declared.fault.CaseFault.TheVariants as faults
-use Rattle.case_core.specs.Faults.{of_text, of_clash}
-use Rattle.case_core.specs.Bundle.{icnf_text, labels_of}
 use Rattle.case_core.specs.Naming.{InRange}
 use Rattle.case_core.specs.Kept.{HasTree}
 use Rattle.case_core.proofs.Limits.{limited}

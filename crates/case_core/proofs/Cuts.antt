@@ -1,13 +1,12 @@
 -- A text that is cut at its first label line.
-use Rattle.std.proofs.Common.{◌≡◌, ℕ, suc, ◌-◌, ◌+◌, ◌≤◌, Bool, true, false, List, [], ◌∷◌, ◌++◌, length, take, refl, sym, ◌∙◌, ap, subst, arith, append_assoc, append-nil, length-append, Option, Bor, MatchOption, None, Some}
+use Rattle.std.proofs.Common.{◌≡◌, ℕ, suc, ◌-◌, ◌+◌, true, false, List, [], ◌∷◌, ◌++◌, length, take, refl, sym, ◌∙◌, ap, arith, append_assoc, append-nil, length-append, Option, Bor, MatchOption, None, Some}
 use Rattle.std.specs.Prelude.{count_by}
 use Rattle.std.proofs.Math.Seq.{take-append_seam}
 use Rattle.std.proofs.lemmas.List.Splits.{length-slice_split}
 use Rattle.std.proofs.lemmas.List.Sums.{sum_by-append}
-use Rattle.std.specs.Option.{unwrap_or}
-use Rattle.cnf_text.specs.Tokens.{is_line_end, words}
-use Rattle.case_core.specs.Bundle.{lines_of, is_label, line_onto, text_before, Labelled, labelled}
-use Rattle.case_core.specs.Cut.{EndsWith, HasNoLabel, BeginsWithLabel, FirstLabel}
+use Rattle.cnf_text.specs.Tokens.{is_line_end}
+use Rattle.case_core.specs.Bundle.{lines_of, is_label, line_onto, text_before, labelled}
+use Rattle.case_core.specs.Cut.{EndsWith, HasNoLabel, FirstLabel}
 
 -- What is cut off the front so far: nothing but lines that are no label lines.
 pub record CutOff (text rest : List ℕ) : Type 0 where
@@ -54,7 +53,7 @@ one_line_more text rest line next cut split whole other = record {
   skipped = suc cut.skipped;
   counted = let count : length (lines_of rest) ≡ suc (length (lines_of next)) = ap length split in omega (arith, cut.counted);
   labels = λ number.
-  cut.labels number ∙ skipped_labels (number + cut.skipped) rest next line split other ∙ ap (λ n. labelled n (lines_of next)) (one_further number cut.skipped);
+      cut.labels number ∙ skipped_labels (number + cut.skipped) rest next line split other ∙ ap (λ n. labelled n (lines_of next)) (one_further number cut.skipped);
 }
 
 -- the last line is no label line

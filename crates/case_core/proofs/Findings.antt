@@ -1,5 +1,5 @@
 -- A judgement of a proof from a target's path is the finding of the target.
-use Rattle.std.proofs.Common.{◌≡◌, ℕ, List, Option, None, Some, refl, sym, ◌∙◌, ap, subst, Result, Ok, Err}
+use Rattle.std.proofs.Common.{◌≡◌, ℕ, List, None, Some, sym, ◌∙◌, ap, subst, Result, Ok, Err}
 use Rattle.std.specs.Prelude.{IfOk}
 use Rattle.cnf_text.specs.Literal.{Literal}
 use Rattle.cnf_text.specs.Formula.{IsRefuted}
@@ -40,9 +40,10 @@ pub is_found : (case : CaseOf) (target : Target) (proof : List ℕ) (judged : Ju
     → ((i j : ℕ) → IsTargetAt case.tree i target → IsTargetAt case.tree j target → i ≡ j)
     → proof_for case.sections target ≡ Some proof → IsJudged case target proof judged
     → HasSection case target × IsFinding case target judged × IsSound case target judged
-is_found case target proof judged once found j =
-    (λ none. let clash : Some proof ≡ None = sym found ∙ none in cc,
-    λ path other of is.
-    j.is ∙ ap (λ p. judgement case.formula p (proof_of proof)) (one_path case target j.path path once j.of_target of)
-    ∙ ap (λ p. judgement case.formula path (proof_of p)) (some_proof proof other (sym found ∙ is)),
-    λ refuted path of. subst (λ (p : List Literal). IsRefuted case.formula p) (one_path case target j.path path once j.of_target of) (j.refuted refuted))
+is_found case target proof judged once found j = (
+  λ none. let clash : Some proof ≡ None = sym found ∙ none in cc,
+  λ path other of is.
+      j.is ∙ ap (λ p. judgement case.formula p (proof_of proof)) (one_path case target j.path path once j.of_target of)
+      ∙ ap (λ p. judgement case.formula path (proof_of p)) (some_proof proof other (sym found ∙ is)),
+  λ refuted path of. subst (λ (p : List Literal). IsRefuted case.formula p) (one_path case target j.path path once j.of_target of) (j.refuted refuted),
+)

@@ -1,17 +1,15 @@
 -- What the words of a label line name.
-use Rattle.std.proofs.Common.{◌≡◌, ◌≢◌, ℕ, suc, ◌+◌, ◌-◌, ◌<◌, ◌≤◌, ◌^◌, List, [], ◌∷◌, ◌++◌, Bool, true, false, length, take, drop, get_or, map, refl, sym, ◌∙◌, ap, subst, arith, Option, Some, None, append_assoc}
+use Rattle.std.proofs.Common.{◌≡◌, ◌≢◌, ℕ, ◌<◌, ◌≤◌, List, [], ◌∷◌, ◌++◌, Bool, false, length, drop, get_or, map, refl, sym, ◌∙◌, ap, subst, arith, Option, Some, None, append_assoc}
 use Rattle.std.specs.Prelude.{min, not}
 use Rattle.std.specs.Option.{option_map}
-use Rattle.std.specs.List.{AllByRecursion}
 use Rattle.std.specs.Char.{is_ascii_digit}
-use Rattle.std.specs.Str.{bytes_eq}
 use Rattle.std.proofs.lemmas.Bool.{ne_eqb}
 use Rattle.cnf_text.specs.declared.numbers.Number as code
 use Rattle.cnf_text.specs.Literal.{Literal, greatest_variable}
 use Rattle.cnf_text.specs.Icnf.{Symbol, Signed, symbol_of, symbol_of_number}
 use Rattle.cnf_text.specs.Numbers.{decimal, number_of, unsigned_of, Number, capped}
-use Rattle.cnf_text.proofs.Digits.{no_decimal, number_plain, other_symbol, large_number}
-use Rattle.split_tree.specs.SplitTree.{SplitTree, size, subtree_at, path_at, IsSplit}
+use Rattle.cnf_text.proofs.Digits.{no_decimal, number_plain}
+use Rattle.split_tree.specs.SplitTree.{SplitTree}
 use Rattle.split_tree.specs.Leaves.{HasLeaf, missing_nodes, IsNodeOf}
 use Rattle.split_tree.specs.declared.node.Leaf.TheVariants.{Cube, Missing}
 use Rattle.split_tree.specs.declared.node.Target.{Target}
@@ -52,10 +50,13 @@ NoTarget tree name = (value : Name) × (name ≡ Some value) × ((target : Targe
 
 pub no_great_cube : (tree : SplitTree) (found : Option ℕ) (value : ℕ) → IsLimited tree → Some value ≡ option_map (λ v. min v 18446744073709551615) found → 4294967296 ≤ value → NoTarget tree (option_map CubeName found)
 no_great_cube tree found value limited told great =
-    let r = told_value found value told in
-    (CubeName r.0, ap (option_map CubeName) r.1, λ target named.
-    let few : r.0 < 4294967296 = limited.cubes named.1.0 r.0 named.1.1.1 in
-    let e : value ≡ min r.0 18446744073709551615 = r.2 in absurd (omega arith))
+    let r = told_value found value told in (
+      CubeName r.0,
+      ap (option_map CubeName) r.1,
+      λ target named.
+          let few : r.0 < 4294967296 = limited.cubes named.1.0 r.0 named.1.1.1 in
+          let e : value ≡ min r.0 18446744073709551615 = r.2 in absurd (omega arith),
+    )
 
 pub no_cube : (tree : SplitTree) (found : Option ℕ) (value : ℕ) → Some value ≡ option_map (λ v. min v 18446744073709551615) found → value < 4294967296 → (HasLeaf tree (Cube value) → ⊥) → NoTarget tree (option_map CubeName found)
 no_cube tree found value told few none =
@@ -66,10 +67,13 @@ no_cube tree found value told few none =
 
 pub no_great_missing : (tree : SplitTree) (found : Option ℕ) (value : ℕ) → Some value ≡ option_map (λ v. min v 18446744073709551615) found → length (missing_nodes tree) < value → NoTarget tree (option_map MissingName found)
 no_great_missing tree found value told great =
-    let r = told_value found value told in
-    (MissingName r.0, ap (option_map MissingName) r.1, λ target named.
-    let few : r.0 ≤ length (missing_nodes tree) = named.1.1.1 in
-    let e : value ≡ min r.0 18446744073709551615 = r.2 in absurd (omega arith))
+    let r = told_value found value told in (
+      MissingName r.0,
+      ap (option_map MissingName) r.1,
+      λ target named.
+          let few : r.0 ≤ length (missing_nodes tree) = named.1.1.1 in
+          let e : value ≡ min r.0 18446744073709551615 = r.2 in absurd (omega arith),
+    )
 
 pub no_missing : (tree : SplitTree) (found : Option ℕ) (value : ℕ) → Some value ≡ option_map (λ v. min v 18446744073709551615) found → value < 4294967296 → (HasLeaf tree (Missing value) → ⊥) → NoTarget tree (option_map MissingName found)
 no_missing tree found value told few none =

@@ -6,3 +6,4 @@ pub mod Limits
 pub mod Reading
 pub mod Bundles
 pub mod Unique
+pub mod Faults

@@ -1,10 +1,10 @@
 -- The numbers of cubes and the variables of paths in a tree of cubes within the limits.
-use Rattle.std.proofs.Common.{◌≡◌, ◌≢◌, ℕ, zero, suc, ◌+◌, ◌<◌, ◌≤◌, ◌^◌, List, [], ◌∷◌, ◌++◌, Bool, true, false, length, get_or, refl, sym, ◌∙◌, ap, subst, arith, inl, inr}
+use Rattle.std.proofs.Common.{◌≡◌, ◌≢◌, ℕ, zero, suc, ◌+◌, ◌<◌, ◌≤◌, ◌^◌, List, [], ◌∷◌, ◌++◌, Bool, true, false, length, get_or, refl, subst, arith, inl, inr}
 use Rattle.std.specs.List.{AllByRecursion}
 use Rattle.std.specs.Bool.{beq}
 use Rattle.std.proofs.lemmas.Bool.{cases_Bool}
 use Rattle.cnf_text.specs.Literal.{Literal, greatest_variable}
-use Rattle.split_tree.specs.SplitTree.{SplitTree, missing, cube, split, Numbered, numbered, SplitsOn, going_with, going, IsTreeOf, subtrees, subtree_at, labels, branch, path_at}
+use Rattle.split_tree.specs.SplitTree.{SplitTree, missing, cube, split, Numbered, numbered, SplitsOn, going_with, going, IsTreeOf, subtrees, labels, branch}
 use Rattle.case_core.specs.Naming.{InRange, IsLimited}
 
 all_front : {X : Type 0} (P : X → Type 0) (a b : List X) → AllByRecursion P a → AllByRecursion P b → AllByRecursion P (a ++ b)
@@ -58,10 +58,12 @@ paths_below : (most : ℕ) (tree : SplitTree) (cubes : List Numbered) (path : Li
 paths_below most missing cubes path is h r = (r, tt)
 paths_below most (cube n) cubes path is h r = (r, tt)
 paths_below most (split v p q) cubes path is h r =
-    let l = split_in_range most v cubes is.0 is.1 h in
-    (r, all_front InRange (labels branch (branch path v true) p) (labels branch (branch path v false) q)
-    (paths_below most p (going true cubes) (branch path v true) is.2 (fine_going most true cubes h) (in_branch path v true r l))
-    (paths_below most q (going false cubes) (branch path v false) is.3 (fine_going most false cubes h) (in_branch path v false r l)))
+    let l = split_in_range most v cubes is.0 is.1 h in (
+      r,
+      all_front InRange (labels branch (branch path v true) p) (labels branch (branch path v false) q)
+          (paths_below most p (going true cubes) (branch path v true) is.2 (fine_going most true cubes h) (in_branch path v true r l))
+          (paths_below most q (going false cubes) (branch path v false) is.3 (fine_going most false cubes h) (in_branch path v false r l)),
+    )
 
 fine_numbered : (from most : ℕ) (cubes : List (List Literal)) → from + length cubes ≤ most + 1 → AllByRecursion InRange cubes → AllByRecursion (Fine most) (numbered from cubes)
 fine_numbered from most [] l h = tt

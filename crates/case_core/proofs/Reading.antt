@@ -1,16 +1,14 @@
 -- The sections of a bundle, read label line after label line.
-use Rattle.std.proofs.Common.{◌≡◌, ◌≢◌, ℕ, suc, ◌+◌, ◌<◌, ◌≤◌, List, [], ◌∷◌, ◌++◌, true, false, length, refl, sym, ◌∙◌, ap, subst, arith, append_assoc, append-nil, length-append, Option, Bor, MatchOption, None, Some, Result, Ok, Err}
+use Rattle.std.proofs.Common.{◌≡◌, ◌≢◌, ℕ, suc, ◌+◌, ◌<◌, List, [], ◌∷◌, ◌++◌, true, length, refl, sym, ◌∙◌, ap, subst, arith, append_assoc, length-append, Option, Bor, MatchOption, None, Some}
 use Rattle.std.specs.Prelude.{IfSome}
 use Rattle.cnf_text.specs.Tokens.{words}
 use Rattle.split_tree.specs.SplitTree.{SplitTree}
-use Rattle.split_tree.specs.Leaves.{HasTarget}
 use Rattle.split_tree.specs.declared.node.Target.{Target}
-use Rattle.case_core.specs.declared.fault.CaseFault.{CaseFault}
 use Rattle.case_core.specs.declared.fault.CaseFault.TheVariants as faults
 use Rattle.case_core.specs.declared.label.LabelFault.{LabelFault}
 use Rattle.case_core.specs.declared.label.LabelFault.TheVariants.{BadForm, NoSuchTarget, Twice, Memory}
 use Rattle.case_core.specs.Bundle.{lines_of, is_label, text_before, Labelled, labelled, labels_of}
-use Rattle.case_core.specs.Cut.{EndsWith, HasNoLabel, BeginsWithLabel, FirstLabel, at_line, OneLabel, NextLabel}
+use Rattle.case_core.specs.Cut.{HasNoLabel, BeginsWithLabel, FirstLabel, at_line, OneLabel, NextLabel}
 use Rattle.case_core.specs.Case.{SectionOf, AreSections}
 use Rattle.case_core.specs.Label.{Name, label_name, IsNamed, IsTargetOf}
 use Rattle.case_core.specs.Kept.{Refuses, GoesOn, LabelAt}
@@ -48,10 +46,10 @@ next_part text line below section (Some at) b split whole is first = record {
   skipped = suc first.skipped;
   counted = let count : length (lines_of text) ≡ suc (length (lines_of below)) = ap length split in omega (arith, first.counted);
   labels = λ number.
-  ap (labelled number) split ∙ one_labelled number line (lines_of below) (begins_is text line _ b split)
-  ∙ ap (λ rest. record { line = number; label = words line; section = text_before (lines_of below) } ∷ rest)
-  (first.labels (number + 1) ∙ ap (λ n. labelled n (lines_of at.now)) (two_steps number first.skipped))
-  ∙ ap (λ s. at_line number line s ∷ labelled (number + suc first.skipped) (lines_of at.now)) (sym is);
+      ap (labelled number) split ∙ one_labelled number line (lines_of below) (begins_is text line _ b split)
+      ∙ ap (λ rest. record { line = number; label = words line; section = text_before (lines_of below) } ∷ rest)
+      (first.labels (number + 1) ∙ ap (λ n. labelled n (lines_of at.now)) (two_steps number first.skipped))
+      ∙ ap (λ s. at_line number line s ∷ labelled (number + suc first.skipped) (lines_of at.now)) (sym is);
   begins = first.begins;
 }
 
@@ -92,7 +90,6 @@ read_on tree bundle text line section old new (Some rest) at n g apart = record 
   ends = record { front = at.ends.front ++ n.ends.front; parts = at.ends.parts ∙ ap (λ r. at.ends.front ++ r) n.ends.parts ∙ sym (append_assoc at.ends.front n.ends.front rest.now) };
   begins = n.begins;
 }
-
 
 pub nothing_read : (tree : SplitTree) (bundle : List ℕ) (sections : List SectionOf) (first : Option (Bor (List ℕ))) → sections ≡ [] → MatchOption first (HasNoLabel bundle) (λ at. FirstLabel bundle at.now)
     → MatchOption first (AreSectionsOf tree (labels_of bundle) sections) (λ at. LabelAt tree bundle sections at.now)

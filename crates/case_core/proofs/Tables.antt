@@ -1,6 +1,6 @@
 -- The table of the sections' places, one section after the other.
-use Rattle.std.proofs.Common.{◌≡◌, ◌≢◌, ℕ, zero, suc, ◌+◌, ◌-◌, ◌<◌, ◌≤◌, ◌==◌, List, [], ◌∷◌, ◌++◌, Bool, true, false, length, get_or, map, refl, sym, ◌∙◌, ap, subst, arith, Option, Some, None, inl, inr}
-use Rattle.std.specs.Prelude.{count_by, replicate, slice_set as set, slice_index, if◌then◌else◌}
+use Rattle.std.proofs.Common.{◌≡◌, ◌≢◌, ℕ, zero, suc, ◌+◌, ◌-◌, ◌<◌, ◌≤◌, List, [], ◌∷◌, ◌++◌, true, false, length, get_or, map, refl, sym, ◌∙◌, ap, subst, arith, Option, Some, None, inl, inr}
+use Rattle.std.specs.Prelude.{count_by, replicate, slice_set as set, if◌then◌else◌}
 use Rattle.std.proofs.lemmas.Bool.{cases_Bool, cases_eq, eq-eqb, eqb-true, ne_eqb}
 use Rattle.std.proofs.lemmas.List.{length-set, length-append, length-replicate, get_or-set_same, get_or-set_other, get_or_append_left, get_or_at, length-map, map-append}
 use Rattle.std.proofs.lemmas.List.Sums.{sum_by-set, count_by-le-length}
@@ -48,9 +48,9 @@ same_missing : (nodes : List ℕ) (i j : ℕ) → ((a b : ℕ) → a < b → b <
     → get_or nodes (i - 1) 0 ≡ get_or nodes (j - 1) 0 → i ≡ j
 same_missing nodes i j rise a b c d e = elim (cases_eq i j) [
   | inl h ↦ h
-  | inr other ↦ 
-    let up : i < j → ⊥ = one_missing nodes i j rise a b c d e other in
-    let down : j < i → ⊥ = one_missing nodes j i rise c d a b (sym e) (λ h. other (sym h)) in omega (arith, up, down)
+  | inr other ↦
+      let up : i < j → ⊥ = one_missing nodes i j rise a b c d e other in
+      let down : j < i → ⊥ = one_missing nodes j i rise c d a b (sym e) (λ h. other (sym h)) in omega (arith, up, down)
 ]
 
 same_cube : (t : SplitTree) (k j : ℕ) → t ≡ cube k → t ≡ cube j → k ≡ j
@@ -132,12 +132,12 @@ sections_more tree sections s are has none i l =
     let long : length (sections ++ s ∷ []) ≡ length sections + 1 = length-append sections (s ∷ []) in
     elim (cases_eq i (length sections)) [
       | inl e ↦ subst (λ (n : ℕ). HasTarget tree (section_at (sections ++ s ∷ []) n).target × ((j : ℕ) → j < n → same_target (section_at (sections ++ s ∷ []) j).target (section_at (sections ++ s ∷ []) n).target ≡ false)) (sym e)
-        (subst (λ (x : SectionOf). HasTarget tree x.target × ((j : ℕ) → j < length sections → same_target (section_at (sections ++ s ∷ []) j).target x.target ≡ false)) (sym (at_last sections s))
-        (has, λ j h. apart_at sections s j h s.target (none_before sections s.target none j h)))
+          (subst (λ (x : SectionOf). HasTarget tree x.target × ((j : ℕ) → j < length sections → same_target (section_at (sections ++ s ∷ []) j).target x.target ≡ false)) (sym (at_last sections s))
+          (has, λ j h. apart_at sections s j h s.target (none_before sections s.target none j h)))
       | inr other ↦
-        let less : i < length sections = omega arith in
-        subst (λ (x : SectionOf). HasTarget tree x.target × ((j : ℕ) → j < i → same_target (section_at (sections ++ s ∷ []) j).target x.target ≡ false)) (sym (at_left sections s i less))
-        ((are i less).0, λ j h. apart_at sections s j (omega arith) (section_at sections i).target ((are i less).1 j h))
+          let less : i < length sections = omega arith in
+          subst (λ (x : SectionOf). HasTarget tree x.target × ((j : ℕ) → j < i → same_target (section_at (sections ++ s ∷ []) j).target x.target ≡ false)) (sym (at_left sections s i less))
+          ((are i less).0, λ j h. apart_at sections s j (omega arith) (section_at sections i).target ((are i less).1 j h))
     ]
 
 by_place : (sections : List SectionOf) (p : ℕ) → section_by sections (suc p) ≡ Some (section_at sections p).proof
@@ -163,11 +163,11 @@ found_more : (tree : SplitTree) (sections : List SectionOf) (places : List ℕ) 
     → (target : Target) (at : ℕ) → IsTargetAt tree at target → proof_for (sections ++ s ∷ []) target ≡ section_by (sections ++ s ∷ []) (get_or (set places node (suc (length sections))) at 0)
 found_more tree sections places s node t none within here only target at is = elim (cases_eq at node) [
   | inl e ↦
-    let same : target ≡ s.target = one_target tree node target s.target (subst (λ (n : ℕ). IsTargetAt tree n target) e is) here in
-    rw (same, e, get_or-set_same places node (suc (length sections)) 0 within) (proof_added sections s none ∙ sym (place_added sections s))
+      let same : target ≡ s.target = one_target tree node target s.target (subst (λ (n : ℕ). IsTargetAt tree n target) e is) here in
+      rw (same, e, get_or-set_same places node (suc (length sections)) 0 within) (proof_added sections s none ∙ sym (place_added sections s))
   | inr other ↦
-    rw (get_or-set_other places node at (suc (length sections)) 0 other)
-    (proof_kept sections s target (other_target tree node s.target target at only is other) ∙ t.found target at is ∙ sym (place_kept sections s (get_or places at 0) (t.within at)))
+      rw (get_or-set_other places node at (suc (length sections)) 0 other)
+      (proof_kept sections s target (other_target tree node s.target target at only is other) ∙ t.found target at is ∙ sym (place_kept sections s (get_or places at 0) (t.within at)))
 ]
 
 within_more : (places : List ℕ) (node n at : ℕ) → node < length places → get_or places at 0 ≤ n → get_or (set places node (suc n)) at 0 ≤ n + 1
@@ -185,7 +185,7 @@ place_counts n = let some : suc n ≡ 0 → ⊥ = λ z. absurd (omega arith) in 
 count_more : (places : List ℕ) (node n : ℕ) → node < length places → get_or places node 0 ≡ 0 → count_by is_place (set places node (suc n)) ≡ count_by is_place places + 1
 count_more places node n within none =
     let e : count_by is_place (set places node (suc n)) + (if is_place (get_or places node 0) then 1 else 0) ≡ count_by is_place places + (if is_place (suc n) then 1 else 0) =
-      sum_by-set (λ (p : ℕ). if is_place p then 1 else 0) places node (suc n) 0 within in
+    sum_by-set (λ (p : ℕ). if is_place p then 1 else 0) places node (suc n) 0 within in
     let z = free_counts (get_or places node 0) none in
     let o = place_counts n in omega arith
 

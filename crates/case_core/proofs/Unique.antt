@@ -1,10 +1,10 @@
 -- A bundle stands for one case at most, and then has no fault.
-use Rattle.std.proofs.Common.{◌≡◌, ◌≢◌, ℕ, zero, suc, ◌+◌, ◌<◌, ◌≤◌, List, [], ◌∷◌, ◌++◌, true, false, length, refl, sym, ◌∙◌, ap, subst, arith, length-append, Option, None, Some, Result, Ok, Err, inl, inr}
+use Rattle.std.proofs.Common.{◌≡◌, ◌≢◌, ℕ, suc, ◌+◌, List, [], ◌∷◌, ◌++◌, length, refl, sym, ◌∙◌, ap, subst, arith, length-append, Option, None, Some, Result, Ok, Err}
 use Rattle.std.specs.Prelude.{IfOk, IfErr, MatchResult}
 use Rattle.std.specs.Result.{IsErrAnd}
 use Rattle.std.proofs.lemmas.List.{get_or_append_left, get_or_at}
 use Rattle.cnf_text.specs.Icnf.{Item, clauses_of, cubes_of}
-use Rattle.cnf_text.proofs.Unique.{one_text, one_text_fault, no_text_fault}
+use Rattle.cnf_text.proofs.Unique.{one_text, no_text_fault}
 use Rattle.split_tree.specs.Clash as clash
 use Rattle.split_tree.specs.declared.clash.TreeFault.{TreeFault}
 use Rattle.split_tree.specs.declared.clash.TreeFault.TheVariants as kind
@@ -13,14 +13,13 @@ use Rattle.split_tree.proofs.Descents.{one_node}
 use Rattle.split_tree.proofs.Trees.{tree_unique}
 use Rattle.split_tree.proofs.Fits.{all_fit, tree_fits}
 use Rattle.split_tree.specs.declared.node.Target.{Target}
-use Rattle.split_tree.specs.declared.node.Target.TheVariants.{Leaf, Node}
+use Rattle.split_tree.specs.declared.node.Target.TheVariants.{Node}
 use Rattle.case_core.specs.declared.fault.CaseFault.{CaseFault}
 use Rattle.case_core.specs.declared.fault.CaseFault.TheVariants as faults
-use Rattle.case_core.specs.Faults.{of_text, of_clash}
 use Rattle.case_core.specs.Bundle.{Labelled, icnf_text, labels_of}
-use Rattle.case_core.specs.Label.{Name, CubeName, MissingName, PathName, label_name, IsNamed, IsTargetOf}
+use Rattle.case_core.specs.Label.{Name, CubeName, MissingName, PathName, IsNamed, IsTargetOf}
 use Rattle.case_core.specs.Case.{SectionOf, CaseOf, AreSections, section_at, same_target, proof_for}
-use Rattle.case_core.specs.Sections.{IsSectionOf, AreLabelled, AreSectionsOf, FaultAt, IsLabelFault, IsCaseOf, IsFaultOf, InText, InCubes, InLabels}
+use Rattle.case_core.specs.Sections.{IsSectionOf, AreLabelled, AreSectionsOf, FaultAt, IsCaseOf, IsFaultOf, InText, InCubes, InLabels}
 use Rattle.case_core.proofs.Tables.{none_from}
 
 -- ---- a name is of one target
@@ -47,7 +46,7 @@ section_once tree label a b x y = same_section a b (target_once tree _ a.target 
 join : (a b : SectionOf) (x y : List SectionOf) → a ≡ b → x ≡ y → a ∷ x ≡ b ∷ y
 join a b x y e f = cc
 
-sections_once : (tree : SplitTree) (labels : List Labelled) (a b : List SectionOf) → AreLabelled tree labels a → AreLabelled tree labels b → a ≡ b
+pub sections_once : (tree : SplitTree) (labels : List Labelled) (a b : List SectionOf) → AreLabelled tree labels a → AreLabelled tree labels b → a ≡ b
 sections_once tree [] [] [] x y = refl
 sections_once tree [] [] (s ∷ b) x y = absurd y
 sections_once tree [] (s ∷ a) b x y = absurd x
@@ -76,7 +75,7 @@ goes_past tree (b ∷ before) label after [] (s ∷ all) h k = absurd k
 goes_past tree (b ∷ before) label after (f ∷ front) (s ∷ all) h k =
     push_past tree label s f front all (section_once tree b s f h.0 k.0) (goes_past tree before label after front all h.1 k.1)
 
-some_is : (name : Option Name) (value : Name) → name ≡ Some value → name ≡ None → ⊥
+pub some_is : (name : Option Name) (value : Name) → name ≡ Some value → name ≡ None → ⊥
 some_is name value a b = let e : Some value ≡ None = sym a ∙ b in cc
 
 no_earlier : (tree : SplitTree) (front rest : List SectionOf) (section : SectionOf) → AreSections tree (front ++ section ∷ rest) → proof_for front section.target ≡ None
@@ -117,16 +116,19 @@ none_past tree before label after front all fault h k broken =
 no_clash_kind : (cubes : List _) (i j : ℕ) (k : _) → clash.AllFit cubes → clash.IsClash cubes i j k → ⊥
 no_clash_kind cubes i j k all c = c.clashes (sym c.is_kind ∙ all.fit i j c.ordered c.within)
 
-no_clash : (cubes : List _) (fault : TreeFault) → clash.AllFit cubes → clash.IsFaultOf cubes fault → ⊥
+pub no_clash : (cubes : List _) (fault : TreeFault) → clash.AllFit cubes → clash.IsFaultOf cubes fault → ⊥
 no_clash cubes (kind.Repeats second) all f = no_clash_kind cubes f.1 f.0 _ all f.3
 no_clash cubes (kind.NotATree first second) all f = no_clash_kind cubes f.0 f.1 _ all f.4
 no_clash cubes (kind.Overlap first second) all f = no_clash_kind cubes f.0 f.1 _ all f.4
 no_clash cubes kind.Memory all f = f
 
+pub fits : (items : List Item) (tree : SplitTree) → IsTreeOf tree (numbered 1 (cubes_of items)) → clash.AllFit (cubes_of items)
+fits items tree is = all_fit 1 (cubes_of items) (tree_fits tree (numbered 1 (cubes_of items)) is)
+
 same_case : (a b : CaseOf) → a.formula ≡ b.formula → a.tree ≡ b.tree → a.sections ≡ b.sections → a ≡ b
 same_case a b f t s = λ i. record { formula = f i; tree = t i; sections = s i }
 
-one_tree : (items others : List Item) (a b : SplitTree) → items ≡ others → IsTreeOf a (numbered 1 (cubes_of items)) → IsTreeOf b (numbered 1 (cubes_of others)) → a ≡ b
+pub one_tree : (items others : List Item) (a b : SplitTree) → items ≡ others → IsTreeOf a (numbered 1 (cubes_of items)) → IsTreeOf b (numbered 1 (cubes_of others)) → a ≡ b
 one_tree items others a b e x y = tree_unique a b (numbered 1 (cubes_of others)) (subst (λ (i : List Item). IsTreeOf a (numbered 1 (cubes_of i))) e x) y
 
 pub one_case : (bundle : List ℕ) (a b : CaseOf) → IsCaseOf bundle a → IsCaseOf bundle b → a ≡ b
@@ -140,7 +142,7 @@ pub case_or_fault : (bundle : List ℕ) (case : CaseOf) (fault : CaseFault) → 
 case_or_fault bundle case fault x (InText text e f) = no_text_fault (icnf_text bundle) text x.items x.text f
 case_or_fault bundle case fault x (InCubes items k e stands clashes) =
     let same : x.items ≡ items = one_text (icnf_text bundle) x.items items x.text stands in
-    no_clash (cubes_of x.items) k (all_fit 1 (cubes_of x.items) (tree_fits case.tree (numbered 1 (cubes_of x.items)) x.tree))
+    no_clash (cubes_of x.items) k (fits x.items case.tree x.tree)
     (subst (λ (i : List Item). clash.IsFaultOf (cubes_of i) k) (sym same) clashes)
 case_or_fault bundle case fault x (InLabels items tree stands is f) =
     let same : x.items ≡ items = one_text (icnf_text bundle) x.items items x.text stands in

@@ -3,7 +3,6 @@ use Rattle.std.specs.Prelude.{◌≡◌, ℕ, ◌<◌, ◌≤◌, ◌+◌, ◌-�
 use Rattle.cnf_text.specs.Literal.{Literal}
 use Rattle.split_tree.specs.SplitTree.{SplitTree, size, total}
 use Rattle.split_tree.specs.Leaves.{HasTarget, IsTargetAt}
-use Rattle.split_tree.specs.declared.node.Leaf.{Leaf as LeafName}
 use Rattle.split_tree.specs.declared.node.Leaf.TheVariants.{Cube, Missing}
 use Rattle.split_tree.specs.declared.node.Target.{Target}
 use Rattle.split_tree.specs.declared.node.Target.TheVariants.{Leaf, Node}

@@ -3,7 +3,7 @@ use Rattle.std.specs.Prelude.{◌≡◌, ℕ, ◌<◌, ◌≤◌, ◌^◌, true,
 use Rattle.std.specs.List.{AllByRecursion}
 use Rattle.cnf_text.specs.Literal.{Literal, greatest_variable}
 use Rattle.cnf_text.specs.Icnf.{Symbol}
-use Rattle.split_tree.specs.SplitTree.{SplitTree, cube, size, subtree_at, path_at}
+use Rattle.split_tree.specs.SplitTree.{SplitTree, cube, subtree_at, path_at}
 use Rattle.split_tree.specs.declared.node.Target.{Target}
 use Rattle.case_core.specs.declared.label.LabelFault.{LabelFault}
 use Rattle.case_core.specs.declared.label.LabelFault.TheVariants.{BadForm, NoSuchTarget, Twice, Memory}

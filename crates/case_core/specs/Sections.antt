@@ -9,7 +9,7 @@ use Rattle.split_tree.specs.declared.node.Target.{Target}
 use Rattle.case_core.specs.declared.fault.CaseFault.{CaseFault}
 use Rattle.case_core.specs.declared.fault.CaseFault.TheVariants as faults
 use Rattle.case_core.specs.Bundle.{Labelled, icnf_text, labels_of}
-use Rattle.case_core.specs.Label.{Name, label_name, IsNamed, IsTargetOf}
+use Rattle.case_core.specs.Label.{label_name, IsTargetOf}
 use Rattle.case_core.specs.Case.{SectionOf, CaseOf, AreSections, proof_for}
 use Rattle.case_core.specs.Faults.{of_text, of_clash}
 

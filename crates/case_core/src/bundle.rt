@@ -6,7 +6,6 @@ ghost use Rattle.cnf_text.specs.Icnf.{Item, Within};
 ghost use Rattle.cnf_text.specs.Progress.{IsFileOf};
 ghost use Rattle.case_core.specs.Bundle.{lines_of, is_label, text_before, labels_of};
 ghost use Rattle.case_core.specs.Cut.{HasNoLabel, FirstLabel, EndsWith, BeginsWithLabel, OneLabel, NextLabel};
-
 ghost use Rattle.case_core.specs.Case.{section_of, CaseOf};
 ghost use Rattle.case_core.specs.Naming.{IsLimited};
 ghost use Rattle.case_core.specs.Kept.{AreKept, LabelAt, HasTree, HasClash};
@@ -125,7 +124,12 @@ fn read_section<'b>(
 }
 
 /// The sections of a bundle, the first of whose label lines stands where this text begins.
-fn read_sections(alloc: Global, tree: &Tree, bundle: &[u8], first: Option<&[u8]>) -> Result<Sections, CaseFault>
+fn read_sections(
+    alloc: Global,
+    tree: &Tree,
+    bundle: &[u8],
+    first: Option<&[u8]>,
+) -> Result<Sections, CaseFault>
     requires limited { IsLimited tree.now }
     requires first { MatchOption first (HasNoLabel bundle.now) (λ text. FirstLabel bundle.now text.now) }
     ensures kept { IfOk result (λ read. AreKept tree.now (map section_of read.sections.items) read.places.items) }

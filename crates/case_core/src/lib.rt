@@ -6,12 +6,17 @@ mod case;
 mod fault;
 mod finding;
 mod label;
+mod laws;
 mod sections;
 
 pub use bundle::read_bundle;
 pub use case::{Case, Section};
-pub use fault::CaseFault;
 pub use cnf_text::{Clause, Formula, Lit};
+pub use fault::CaseFault;
 pub use finding::{Finding, examine};
 pub use hint_check::{Judged, Reason};
+pub use laws::{case_or_a_fault, one_case, one_fault};
 pub use split_tree::{Leaf, NodeId, Target, Tree};
+
+#[cfg(test)]
+mod tests;

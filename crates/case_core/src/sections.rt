@@ -36,7 +36,13 @@ impl Sections {
     }
 
     /// One section more, for the target that a label line names.
-    pub(crate) fn add(&mut self, alloc: Global, tree: &Tree, line: &[u8], proof: &[u8]) -> Result<(), LabelFault>
+    pub(crate) fn add(
+        &mut self,
+        alloc: Global,
+        tree: &Tree,
+        line: &[u8],
+        proof: &[u8],
+    ) -> Result<(), LabelFault>
         requires limited { IsLimited tree.now }
         requires kept { AreKept tree.now (map section_of self.old.sections.items) self.old.places.items }
         ensures kept { OnOk result (AreKept tree.now (map section_of self.new.sections.items) self.new.places.items) }

@@ -1,4 +1,4 @@
-use Rattle.std.proofs.Common.{List, map, sym, subst}
+use Rattle.std.proofs.Common.{List, sym, subst}
 use Rattle.case_core.specs.Case.{SectionOf}
 use Rattle.case_core.specs.Kept.{AreKept}
 use Rattle.case_core.proofs.Reading.{nothing_read}

@@ -1,4 +1,4 @@
-use Rattle.std.proofs.Common.{map, ap, ◌∙◌}
+use Rattle.std.proofs.Common.{ap, ◌∙◌}
 use Rattle.split_tree.specs.Clash.{cubes_of}
 use Rattle.case_core.proofs.Bundles.{has_tree}
 use Rattle.case_core.proofs.bundle.tree_of.Goals as goal

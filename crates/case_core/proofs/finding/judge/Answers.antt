@@ -1,5 +1,4 @@
-use Rattle.std.proofs.Common.{◌≡◌, List, ap, ◌∙◌, subst}
-use Rattle.cnf_text.specs.Literal.{Literal}
+use Rattle.std.proofs.Common.{ap, ◌∙◌, subst}
 use Rattle.hint_check.specs.Live.{start}
 use Rattle.split_tree.specs.SplitTree.{SplitTree}
 use Rattle.split_tree.specs.Leaves.{IsPathOf}

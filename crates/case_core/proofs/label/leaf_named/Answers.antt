@@ -1,4 +1,4 @@
-use Rattle.std.proofs.Common.{sym, ◌∙◌, ap, arith, get_or, ◌≡◌}
+use Rattle.std.proofs.Common.{sym, ◌∙◌, arith}
 use Rattle.std.proofs.lemmas.Bool.{eqb-true}
 use Rattle.std.proofs.lemmas.List.{take_rest}
 use Rattle.case_core.proofs.Labels.{leaf_missing, leaf_cube, nothing_first}
@@ -10,7 +10,6 @@ returns-then-word-eq109-clause-ok c = rw (leaf_missing c.args.word.now c.if-word
 
 pub returns-then-word-eq109-clause-err : goal.returns-then-word-eq109-clause-err
 returns-then-word-eq109-clause-err c = rw (leaf_missing c.args.word.now c.if-word-eq109.true) (rw take_rest at c.missing_named.ensures.err)
-
 
 pub returns-else-not-is_empty-clause-ok : goal.returns-else-not-is_empty-clause-ok
 returns-else-not-is_empty-clause-ok c = rw (leaf_cube c.args.word.now (
