@@ -1,0 +1,11 @@
+pub mod Bundle
+pub mod Label
+pub mod Case
+pub mod Code
+pub mod Finding
+pub mod Faults
+pub mod Naming
+pub mod Sections
+pub mod Cut
+pub mod Kept
+pub mod Told

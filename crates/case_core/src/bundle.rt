@@ -1,0 +1,190 @@
+//! The reader of bundles: an iCNF text, and behind it sections, each below a label line.
+
+ghost use Rattle.std.specs.Prelude.{◌≡◌, List, MatchResult, ◌≤◌, ◌+◌, length, map, ◌<◌, ◌≢◌, OnOk, IfOk, IfErr, IfSome, MatchOption, count_by};
+ghost use Rattle.cnf_text.specs.Tokens.{is_line_end};
+ghost use Rattle.cnf_text.specs.Icnf.{Item, Within};
+ghost use Rattle.cnf_text.specs.Progress.{IsFileOf};
+ghost use Rattle.case_core.specs.Bundle.{lines_of, is_label, text_before, labels_of};
+ghost use Rattle.case_core.specs.Cut.{HasNoLabel, FirstLabel, EndsWith, BeginsWithLabel, OneLabel, NextLabel};
+ghost use Rattle.case_core.specs.Case.{section_of, CaseOf};
+ghost use Rattle.case_core.specs.Naming.{IsLimited};
+ghost use Rattle.case_core.specs.Kept.{AreKept, LabelAt, HasTree, HasClash};
+ghost use Rattle.case_core.specs.Sections.{AreSectionsOf, IsLabelFault, IsCaseOf, IsFaultOf};
+
+use crate::case::Case;
+use crate::fault::CaseFault;
+use crate::sections::Sections;
+use cnf_text::tokens::{first_word, split_line};
+use cnf_text::{IcnfFile, read_icnf};
+use hint_check::Base;
+use split_tree::{Tree, build};
+use std::alloc::Global;
+
+/// Whether a line is a label line.
+#[tactic(auto, unfolding(crate::specs::Bundle::is_label))]
+fn is_label(line: &[u8]) -> bool
+    ensures { result ≡ is_label line.now }
+{
+    match first_word(line) {
+        Some((word, _)) => word == b"l".as_slice(),
+        None => false,
+    }
+}
+
+/// The text before the first label line, and the text from that line on, if there is one.
+fn cut(text: &[u8]) -> (&[u8], Option<&[u8]>)
+    ensures front { result.0.now ≡ text_before (lines_of text.now) }
+    ensures label { MatchOption result.1 (HasNoLabel text.now) (λ at. FirstLabel text.now at.now) }
+{
+    let mut rest = text;
+    'lines: loop {
+        let (line, below) = split_line(rest);
+        if is_label(line) {
+            return (&text[..text.len() - rest.len()], Some(rest));
+        }
+        let Some(next) = below else {
+            return (text, None);
+        };
+        rest = next;
+    }
+}
+
+/// The number of the line, counted from 1, on which the end of a text begins.
+fn line_at(text: &[u8], end: &[u8]) -> u64
+    requires { EndsWith text.now end.now }
+    ensures { result + length (lines_of end.now) ≡ length (lines_of text.now) + 1 }
+{
+    let before = &text[..text.len() - end.len()];
+    line_ends(before) as u64 + 1
+}
+
+/// How many lines end in a text.
+fn line_ends(text: &[u8]) -> usize
+    ensures value { result ≡ count_by is_line_end text.now }
+    ensures within { result ≤ length text.now }
+{
+    text.iter().filter(|byte| **byte == b'\n').count()
+}
+
+/// A label line, the section below it, and the text from the next label line on, if there is one.
+#[derive(Clone, Copy)]
+struct Part<'b> {
+    line: &'b [u8],
+    section: &'b [u8],
+    next: Option<&'b [u8]>,
+}
+
+/// The first part of a text that begins with a label line.
+fn first_part(text: &[u8]) -> Part<'_>
+    requires { BeginsWithLabel text.now }
+    ensures labels { MatchOption result.next
+        (OneLabel text.now result.line.now result.section.now)
+        (λ next. NextLabel text.now result.line.now result.section.now next.now) }
+    ensures shorter { IfSome result.next (λ next. length next.now < length text.now) }
+{
+    let (line, below) = split_line(text);
+    let Some(below) = below else {
+        return Part {
+            line,
+            section: &[],
+            next: None,
+        };
+    };
+    let (section, next) = cut(below);
+    Part {
+        line,
+        section,
+        next,
+    }
+}
+
+/// Reads one label line and the section below it, and answers the text from the next label line on, if there is one.
+fn read_section<'b>(
+    alloc: Global,
+    tree: &Tree,
+    sections: &mut Sections,
+    bundle: &[u8],
+    text: &'b [u8],
+) -> Result<Option<&'b [u8]>, CaseFault>
+    requires limited { IsLimited tree.now }
+    requires kept { AreKept tree.now (map section_of sections.old.sections.items) sections.old.places.items }
+    requires label { LabelAt tree.now bundle.now (map section_of sections.old.sections.items) text.now }
+    ensures kept { OnOk result (AreKept tree.now (map section_of sections.new.sections.items) sections.new.places.items) }
+    ensures ok { IfOk result (λ next. MatchOption next
+        (AreSectionsOf tree.now (labels_of bundle.now) (map section_of sections.new.sections.items))
+        (λ rest. LabelAt tree.now bundle.now (map section_of sections.new.sections.items) rest.now)) }
+    ensures shorter { IfOk result (λ next. IfSome next (λ rest. length rest.now < length text.now)) }
+    ensures err { IfErr result (λ fault. fault ≢ CaseFault.Memory → IsLabelFault tree.now (labels_of bundle.now) fault) }
+{
+    let part = first_part(text);
+    match sections.add(alloc, tree, part.line, part.section) {
+        Ok(()) => Ok(part.next),
+        Err(fault) => Err(fault.on_line(line_at(bundle, text))),
+    }
+}
+
+/// The sections of a bundle, the first of whose label lines stands where this text begins.
+fn read_sections(
+    alloc: Global,
+    tree: &Tree,
+    bundle: &[u8],
+    first: Option<&[u8]>,
+) -> Result<Sections, CaseFault>
+    requires limited { IsLimited tree.now }
+    requires first { MatchOption first (HasNoLabel bundle.now) (λ text. FirstLabel bundle.now text.now) }
+    ensures kept { IfOk result (λ read. AreKept tree.now (map section_of read.sections.items) read.places.items) }
+    ensures ok { IfOk result (λ read. AreSectionsOf tree.now (labels_of bundle.now) (map section_of read.sections.items)) }
+    ensures err { IfErr result (λ fault. fault ≢ CaseFault.Memory → IsLabelFault tree.now (labels_of bundle.now) fault) }
+{
+    let mut sections = Sections::new(alloc, tree)?;
+    let mut next = first;
+    while let Some(text) = next {
+        next = read_section(alloc, tree, &mut sections, bundle, text)?;
+    }
+    Ok(sections)
+}
+
+/// The tree of a file's cubes, or why they have none.
+fn tree_of(alloc: Global, file: &IcnfFile) -> Result<Tree, CaseFault>
+    requires { (items : List Item) × Within items × IsFileOf file.now items }
+    ensures ok { IfOk result (λ tree. (items : List Item) → Within items → IsFileOf file.now items → HasTree tree items) }
+    ensures err { IfErr result (λ fault. fault ≢ CaseFault.Memory → (items : List Item) → IsFileOf file.now items → HasClash items fault) }
+{
+    Ok(build(alloc, &file.cubes)?)
+}
+
+/// Reads a bundle: an iCNF text (HVC 2011), and behind it sections, each below a label line. A label line has the tokens
+/// `l` and a name: `K` for cube K, `mJ` for missing leaf J, or `n`, literals and an end mark for the inner node with this
+/// path. A section is the text up to the next label line, and is the proof of what its label names.
+///
+/// Answers the case, with the sections in the order of the text, or the first fault: of the iCNF text, then of the cubes,
+/// then of the label lines, from the first on. `Memory` may stand in the place of any other answer.
+pub fn read_bundle(alloc: Global, bundle: &[u8]) -> Result<Case, CaseFault>
+    // The case is the bundle's.
+    ensures ok { IfOk result (IsCaseOf bundle.now) }
+    // Each bundle that stands for a case is read, unless memory runs out.
+    ensures only { (case : CaseOf) → IsCaseOf bundle.now case → MatchResult result (λ read. read ≡ case) (λ fault. fault ≡ CaseFault.Memory) }
+    // Another is refused for its first fault, unless memory runs out.
+    ensures err { IfErr result (λ fault. fault ≢ CaseFault.Memory → IsFaultOf bundle.now fault) }
+{
+    read_case(alloc, bundle)
+}
+
+/// The case of a bundle, or its fault.
+fn read_case(alloc: Global, bundle: &[u8]) -> Result<Case, CaseFault>
+    ensures ok { IfOk result (IsCaseOf bundle.now) }
+    ensures err { IfErr result (λ fault. fault ≢ CaseFault.Memory → IsFaultOf bundle.now fault) }
+{
+    let (icnf, first) = cut(bundle);
+    let file = read_icnf(alloc, icnf)?;
+    let tree = tree_of(alloc, &file)?;
+    let Sections { sections, places } = read_sections(alloc, &tree, bundle, first)?;
+    let IcnfFile { formula, .. } = file;
+    let base = Base::owning(alloc, formula)?;
+    Ok(Case {
+        base,
+        tree,
+        sections,
+        places,
+    })
+}

@@ -1,0 +1,22 @@
+//! A case: the formula, the tree of its cubes and the proofs of a bundle, and what is found of each of them.
+#![tactic(auto)]
+
+mod bundle;
+mod case;
+mod fault;
+mod finding;
+mod label;
+mod laws;
+mod sections;
+
+pub use bundle::read_bundle;
+pub use case::{Case, Section};
+pub use cnf_text::{Clause, Formula, Lit};
+pub use fault::CaseFault;
+pub use finding::{Finding, examine};
+pub use hint_check::{Judged, Reason};
+pub use laws::{case_or_a_fault, one_case, one_fault};
+pub use split_tree::{Leaf, NodeId, Target, Tree};
+
+#[cfg(test)]
+mod tests;

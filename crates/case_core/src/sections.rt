@@ -1,0 +1,67 @@
+//! The sections of a bundle, read one label line after the other.
+
+ghost use Rattle.std.specs.Prelude.{◌≡◌, ◌<◌, OnOk, IfOk, IfErr, map};
+ghost use Rattle.cnf_text.specs.Tokens.{words};
+ghost use Rattle.split_tree.specs.SplitTree.{SplitTree};
+ghost use Rattle.case_core.specs.Label.{label_name};
+ghost use Rattle.case_core.specs.Naming.{IsLimited};
+
+use crate::case::Section;
+use crate::label::{LabelFault, target_of};
+use split_tree::{Target, Tree};
+use std::alloc::{AllocError, Global};
+
+/// The sections so far, and for each node of the tree the place of its section, counted from 1, or 0.
+#[derive(Drop)]
+pub(crate) struct Sections {
+    pub(crate) sections: Vec<Section>,
+    pub(crate) places: Vec<u32>,
+}
+
+impl Sections {
+    ghost use Rattle.std.specs.Prelude.{◌≡◌, [], ◌∷◌, ◌++◌, OnOk, IfOk, IfErr, map};
+    ghost use Rattle.split_tree.specs.Leaves.{HasTarget};
+    ghost use Rattle.case_core.specs.Case.{section_of};
+    ghost use Rattle.case_core.specs.Kept.{AreKept, Refuses, GoesOn};
+
+    /// No section.
+    pub(crate) fn new(alloc: Global, tree: &Tree) -> Result<Self, AllocError>
+        ensures { IfOk result (λ read. (map section_of read.sections.items ≡ []) × AreKept tree.now [] read.places.items) }
+    {
+        let places = vec![in alloc; 0u32; tree.size() as usize]?;
+        Ok(Sections {
+            sections: Vec::new(alloc),
+            places,
+        })
+    }
+
+    /// One section more, for the target that a label line names.
+    pub(crate) fn add(
+        &mut self,
+        alloc: Global,
+        tree: &Tree,
+        line: &[u8],
+        proof: &[u8],
+    ) -> Result<(), LabelFault>
+        requires limited { IsLimited tree.now }
+        requires kept { AreKept tree.now (map section_of self.old.sections.items) self.old.places.items }
+        ensures kept { OnOk result (AreKept tree.now (map section_of self.new.sections.items) self.new.places.items) }
+        ensures added { OnOk result (GoesOn tree.now (map section_of self.old.sections.items) (map section_of self.new.sections.items) (label_name (words line.now)) proof.now) }
+        ensures err { IfErr result (Refuses tree.now (map section_of self.old.sections.items) (label_name (words line.now))) }
+    {
+        let target = match target_of(alloc, tree, line) {
+            Ok(target) => target,
+            Err(fault) => return Err(fault),
+        };
+        let placed = target;
+        let node = tree.node_of_target(placed).index();
+        if self.places[node] != 0 {
+            return Err(LabelFault::Twice);
+        }
+        let proof = proof.to_vec(alloc)?;
+        self.sections.push(Section { target, proof })?;
+        let _nodes = tree.size();
+        self.places[node] = self.sections.len() as u32;
+        Ok(())
+    }
+}
