@@ -1,0 +1,5 @@
+pub mod Laws
+pub mod Ways
+pub mod Seeking
+pub mod Posts
+pub mod Tops
