@@ -1,0 +1,5 @@
+pub mod Bundle
+pub mod Label
+pub mod Case
+pub mod Code
+pub mod Finding

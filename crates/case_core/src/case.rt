@@ -1,0 +1,90 @@
+//! A case: a formula, the tree of its cubes, and sections for targets of the tree.
+
+use cnf_text::Formula;
+use hint_check::Base;
+use split_tree::{Target, Tree};
+use std::marker::Model;
+
+/// A target and the text of its proof.
+#[derive(Drop)]
+pub struct Section {
+    /// What the proof is for: a leaf, or an inner node.
+    pub target: Target,
+    /// The bytes of the proof, in text LRAT.
+    pub proof: Vec<u8>,
+}
+
+/// A formula, the tree of its cubes, and sections in the order of the text, no two of them for one target. It doesn't change.
+#[derive(Drop)]
+pub struct Case {
+    pub(crate) base: Base<'static>,
+    pub(crate) tree: Tree,
+    pub(crate) sections: Vec<Section>,
+    /// For each node the place of its section, counted from 1, or 0.
+    pub(crate) places: Vec<u32>,
+}
+
+impl Model for Case {
+    ghost use Rattle.std.specs.Prelude.{map};
+    ghost use Rattle.case_core.specs.Case.{CaseOf, section_of, IsKept};
+    ghost use Rattle.case_core.specs.Code.{case_code};
+
+    ghost Value = { CaseOf };
+
+    ghost coded = { case_code };
+
+    ghost view = { λ c. record { formula = c.base; tree = c.tree; sections = map section_of c.sections.items } };
+
+    ghost invariant = { λ c. IsKept c.tree (map section_of c.sections.items) c.places.items };
+}
+
+impl Case {
+    ghost use Rattle.std.specs.Prelude.{◌≡◌, ℕ, ◌≤◌, ◌^◌, ◌+◌, map, MatchOption, None, Some};
+    ghost use Rattle.split_tree.specs.SplitTree.{total};
+    ghost use Rattle.split_tree.specs.Leaves.{HasTarget, IsTargetAt};
+    ghost use Rattle.case_core.specs.Case.{section_of, AreSections, proof_for};
+
+    /// The formula: all clauses of the text.
+    pub fn formula(&self) -> &Formula
+        ensures { result.now ≡ self.now.formula }
+    {
+        self.base.formula()
+    }
+
+    /// The tree of the cubes.
+    pub fn tree(&self) -> &Tree
+        ensures tree { result.now ≡ self.now.tree }
+        ensures total { total 0 self.now.tree ≤ 2 ^ 60 + 2 ^ 24 }
+    {
+        &self.tree
+    }
+
+    /// What the formula's checkers stand on.
+    pub(crate) fn base(&self) -> &Base<'static>
+        ensures { result.now ≡ self.now.formula }
+    {
+        &self.base
+    }
+
+    /// The proof of the section for a target, or `None` where it has none. It asks for a target of the tree.
+    pub(crate) fn proof_for(&self, target: Target) -> Option<&[u8]>
+        requires { HasTarget self.now.tree target }
+        ensures found { MatchOption result (proof_for self.now.sections target ≡ None) (λ proof. proof_for self.now.sections target ≡ Some proof.now) }
+        ensures one_place { (i j : ℕ) → IsTargetAt self.now.tree i target → IsTargetAt self.now.tree j target → i ≡ j }
+    {
+        let node = self.tree.node_of_target(target);
+        let place = self.places[node.index()] as usize;
+        if place == 0 {
+            return None;
+        }
+        Some(&self.sections[place - 1].proof)
+    }
+
+    /// The sections, in the order of the text.
+    pub fn sections(&self) -> &[Section]
+        ensures sections { map section_of result.now ≡ self.now.sections }
+        ensures targets { AreSections self.now.tree self.now.sections }
+    {
+        &self.sections
+    }
+}

@@ -1,0 +1,103 @@
+//! What is found of a target.
+
+ghost use Rattle.std.specs.Prelude.{◌≡◌, IfOk, MatchOption, None};
+ghost use Rattle.split_tree.specs.Leaves.{HasTarget, IsTargetAt};
+ghost use Rattle.case_core.specs.Case.{proof_for};
+ghost use Rattle.case_core.specs.Finding.{IsFinding, HasSection, IsSound, IsJudged, IsTargetAt-prop};
+
+use crate::case::Case;
+use hint_check::{Checker, Judged};
+use split_tree::{NodeId, Target};
+use std::alloc::{AllocError, Global};
+
+/// The judgement of a target's section in its case. Only `examine` makes one.
+#[derive(Drop)]
+pub struct Finding<'c> {
+    case: &'c Case,
+    target: Target,
+    node: NodeId,
+    judged: Judged,
+    pub ghost here: { IsTargetAt case.now.tree node target } by { IsTargetAt-prop case.now.tree node target },
+    pub ghost has_section: { HasSection case.now target },
+    pub ghost is: { IsFinding case.now target judged },
+    pub ghost sound: { IsSound case.now target judged },
+}
+
+impl<'c> Finding<'c> {
+    /// Its case.
+    pub fn case(&self) -> &'c Case
+        ensures { result.now ≡ self.now.case.now }
+    {
+        self.case
+    }
+
+    /// Its target.
+    pub fn target(&self) -> Target
+        ensures { result ≡ self.now.target }
+    {
+        self.target
+    }
+
+    /// The node at which the target stands.
+    pub fn node(&self) -> NodeId
+        ensures value { result ≡ self.now.node }
+        ensures here { IsTargetAt self.now.case.now.tree result self.now.target }
+    {
+        self.node
+    }
+
+    /// What is said of the target's proof.
+    pub fn judged(&self) -> Judged
+        ensures value { result ≡ self.now.judged }
+        ensures is { IsFinding self.now.case.now self.now.target result }
+    {
+        self.judged
+    }
+}
+
+/// Judges the section of a target, from the formula and the target's path; `None` exactly where the target has no section.
+/// It asks for a target of the case's tree. `AllocError` where a growth was refused.
+pub fn examine<'c>(
+    alloc: Global,
+    case: &'c Case,
+    target: Target,
+) -> Result<Option<Finding<'c>>, AllocError>
+    requires { HasTarget case.now.tree target }
+    ensures { IfOk result (λ found. MatchOption found (proof_for case.now.sections target ≡ None)
+        (λ finding. HasSection case.now target × (finding.case.now ≡ case.now) × (finding.target ≡ target) × IsFinding case.now target finding.judged)) }
+{
+    let asked = target;
+    let placed = target;
+    let Some(judged) = judged_in(alloc, case, asked)? else {
+        return Ok(None);
+    };
+    let node = case.tree().node_of_target(placed);
+    Ok(Some(Finding {
+        case,
+        target,
+        node,
+        judged,
+    }))
+}
+
+/// What is said of the target's proof, if it has one.
+fn judged_in(alloc: Global, case: &Case, target: Target) -> Result<Option<Judged>, AllocError>
+    requires { HasTarget case.now.tree target }
+    ensures { IfOk result (λ found. MatchOption found (proof_for case.now.sections target ≡ None)
+        (λ judged. HasSection case.now target × IsFinding case.now target judged × IsSound case.now target judged)) }
+{
+    let Some(proof) = case.proof_for(target) else {
+        return Ok(None);
+    };
+    Ok(Some(judge(alloc, case, target, proof)?))
+}
+
+/// What is said of a proof from the formula and the target's path.
+fn judge(alloc: Global, case: &Case, target: Target, proof: &[u8]) -> Result<Judged, AllocError>
+    requires { HasTarget case.now.tree target }
+    ensures { IfOk result (λ judged. IsJudged case.now target proof.now judged) }
+{
+    let path = case.tree().path_of(alloc, target)?;
+    let checker = Checker::over(alloc, case.base(), &path)?;
+    checker.judge(alloc, proof)
+}
