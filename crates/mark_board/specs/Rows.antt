@@ -19,10 +19,9 @@ abbrev pub refuted_by : List Mark → ℕ → Bool
 refuted_by marks node = is_refuted (mark_at marks node)
 
 -- the leaves under each node weigh this much together, and each leaf weighs something
-pub record IsWeighed (tree : SplitTree) (worths : List ℕ) : Type 0 where
-  pub long : length worths ≡ size tree
-  pub some : (i : ℕ) → i < size tree → 1 ≤ slice_index worths i
-  pub sums : (i : ℕ) → i < size tree → slice_index worths i ≡ whole_weight (slice_index worths) i (subtree_at tree i)
+pub record IsWeighed (tree : SplitTree) (worth : ℕ → ℕ) : Type 0 where
+  pub some : (i : ℕ) → i < size tree → 1 ≤ worth i
+  pub sums : (i : ℕ) → i < size tree → worth i ≡ whole_weight worth i (subtree_at tree i)
 
 -- the open weight below each node
 pub record AreOpen (tree : SplitTree) (worth : ℕ → ℕ) (refuted : ℕ → Bool) (open_weights : List ℕ) : Type 0 where
@@ -30,9 +29,9 @@ pub record AreOpen (tree : SplitTree) (worth : ℕ → ℕ) (refuted : ℕ → B
   pub is : (i : ℕ) → i < size tree → slice_index open_weights i ≡ open_weight worth refuted i (subtree_at tree i)
 
 -- what a board keeps
-pub record IsBoard (tree : SplitTree) (worths : List ℕ) (marks : List Mark) (open_weights : List ℕ) : Type 0 where
+pub record IsBoard (tree : SplitTree) (worth : ℕ → ℕ) (marks : List Mark) (open_weights : List ℕ) : Type 0 where
   pub long : length marks ≡ size tree
-  pub are_open : AreOpen tree (slice_index worths) (refuted_by marks) open_weights
+  pub are_open : AreOpen tree worth (refuted_by marks) open_weights
 
 -- the branch of `node` that is, or leads to, the target; all nodes passed over end before that
 pub record StepsDown (tree : SplitTree) (node target next : ℕ) : Type 0 where
@@ -56,10 +55,10 @@ pub record Takes (tree : SplitTree) (first target taken : ℕ) (old new : List �
   pub others : (j : ℕ) → j < length old → (HasBelow tree j target → ⊥) → slice_index new j ≡ slice_index old j
 
 -- what a board of this tree keeps: the leaves under each node weigh so much, and the open weights are those of the marks
-pub record IsKept (tree : SplitTree) (worths : List ℕ) (marks : List Mark) (open_weights : List ℕ) : Type 0 where
-  pub weighed : IsWeighed tree worths
-  pub board : IsBoard tree worths marks open_weights
+pub record IsKept (tree : SplitTree) (worth : ℕ → ℕ) (marks : List Mark) (open_weights : List ℕ) : Type 0 where
+  pub weighed : IsWeighed tree worth
+  pub board : IsBoard tree worth marks open_weights
 
 -- the same, whatever the leaves weigh
 abbrev pub HasKept : SplitTree → List Mark → List ℕ → Type 0
-HasKept tree marks open_weights = (worths : List ℕ) × IsKept tree worths marks open_weights
+HasKept tree marks open_weights = (worth : ℕ → ℕ) × IsKept tree worth marks open_weights

@@ -84,7 +84,7 @@ impl Rows {
         requires node { node < size (subtree_at tree.now root) }
         requires kept { HasKept (subtree_at tree.now root) self.old.marks.items self.old.weights.items }
         ensures marks { self.new.marks.items ≡ slice_set self.old.marks.items node Refuted }
-        ensures kept { (worths : List ℕ) → IsKept (subtree_at tree.now root) worths self.old.marks.items self.old.weights.items → IsKept (subtree_at tree.now root) worths self.new.marks.items self.new.weights.items }
+        ensures kept { (worth : ℕ → ℕ) → IsKept (subtree_at tree.now root) worth self.old.marks.items self.old.weights.items → IsKept (subtree_at tree.now root) worth self.new.marks.items self.new.weights.items }
         ensures root { IsTrue result ↔ MarksRoot (subtree_at tree.now root) self.old.marks.items self.new.marks.items }
     {
         let first = self.first_open(tree, root, node);
@@ -101,7 +101,7 @@ impl Rows {
         requires judged { mark ≢ Open }
         requires kept { HasKept (subtree_at tree.now root) self.old.marks.items self.old.weights.items }
         ensures marks { self.new.marks.items ≡ marks_after result self.old.marks.items node mark }
-        ensures kept { (worths : List ℕ) → IsKept (subtree_at tree.now root) worths self.old.marks.items self.old.weights.items → IsKept (subtree_at tree.now root) worths self.new.marks.items self.new.weights.items }
+        ensures kept { (worth : ℕ → ℕ) → IsKept (subtree_at tree.now root) worth self.old.marks.items self.old.weights.items → IsKept (subtree_at tree.now root) worth self.new.marks.items self.new.weights.items }
         ensures already { (result ≡ Answer.Already) ↔ (mark_at self.old.marks.items node ≢ Open) }
         ensures root { (result ≡ Answer.RootMarked) ↔ MarksRoot (subtree_at tree.now root) self.old.marks.items self.new.marks.items }
     {

@@ -14,7 +14,7 @@ returns-in_default-mark c =
     c.args.mark c.requires.kept.1 c.requires.node is_open c.in_default-mark.not-Refuted in
     record {
       marks = refl;
-      kept = λ worths k. kept_rejected (subtree_at c.args.tree.now c.args.root) worths c.args.self.now.marks.items c.args.self.now.weights.items c.args.node
+      kept = λ worth k. kept_rejected (subtree_at c.args.tree.now c.args.root) worth c.args.self.now.marks.items c.args.self.now.weights.items c.args.node
           c.args.mark k c.requires.node is_open c.in_default-mark.not-Refuted;
       already = (λ r. cc, λ r. absurd (r is_open));
       root = (λ r. cc, λ r. absurd (no_root r));

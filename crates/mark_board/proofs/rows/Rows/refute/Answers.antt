@@ -1,4 +1,4 @@
-use Rattle.std.proofs.Common.{get_or, refl}
+use Rattle.std.proofs.Common.{refl}
 use Rattle.split_tree.specs.SplitTree.{subtree_at}
 use Rattle.mark_board.proofs.Posts.{enough_kept, kept_refuted, root_then, root_else}
 use Rattle.mark_board.proofs.rows.Rows.refute.Goals as goal
@@ -10,19 +10,19 @@ pub cover-requires-clause-enough : goal.cover-requires-clause-enough
 cover-requires-clause-enough c =
     enough_kept (subtree_at c.args.tree.now c.args.root) c.requires.kept.0 c.args.self.now.marks.items c.args.self.now.weights.items c.deref_mut.result.now
     c.args.node c.first_open-first.result c.requires.kept.1 c.requires.node c.deref_mut.ensures.value
-    (c.first_open-first.ensures (λ k. get_or c.requires.kept.0 k 0))
+    (c.first_open-first.ensures c.requires.kept.0)
 
 pub returns-then-was_open-clause-kept : goal.returns-then-was_open-clause-kept
-returns-then-was_open-clause-kept c = λ worths k.
-    kept_refuted (subtree_at c.args.tree.now c.args.root) worths c.args.self.now.marks.items c.args.self.now.weights.items c.deref_mut.result.now
+returns-then-was_open-clause-kept c = λ worth k.
+    kept_refuted (subtree_at c.args.tree.now c.args.root) worth c.args.self.now.marks.items c.args.self.now.weights.items c.deref_mut.result.now
     c.cover.new.weights c.args.self.now.weights.len c.args.node c.first_open-first.result k c.requires.node c.deref_mut.ensures.value c.deref_mut.ensures.len
-    (c.first_open-first.ensures (λ i. get_or worths i 0)) c.cover.ensures
+    (c.first_open-first.ensures worth) c.cover.ensures
 
 pub returns-else-was_open-clause-kept : goal.returns-else-was_open-clause-kept
-returns-else-was_open-clause-kept c = λ worths k.
-    kept_refuted (subtree_at c.args.tree.now c.args.root) worths c.args.self.now.marks.items c.args.self.now.weights.items c.deref_mut.result.now
+returns-else-was_open-clause-kept c = λ worth k.
+    kept_refuted (subtree_at c.args.tree.now c.args.root) worth c.args.self.now.marks.items c.args.self.now.weights.items c.deref_mut.result.now
     c.cover.new.weights c.args.self.now.weights.len c.args.node c.first_open-first.result k c.requires.node c.deref_mut.ensures.value c.deref_mut.ensures.len
-    (c.first_open-first.ensures (λ i. get_or worths i 0)) c.cover.ensures
+    (c.first_open-first.ensures worth) c.cover.ensures
 
 pub returns-then-was_open-clause-root : goal.returns-then-was_open-clause-root
 returns-then-was_open-clause-root c =
