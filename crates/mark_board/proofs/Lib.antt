@@ -3,3 +3,6 @@ pub mod Ways
 pub mod Seeking
 pub mod Posts
 pub mod Tops
+pub mod Sounds
+pub mod Worths
+pub mod TopPlaces

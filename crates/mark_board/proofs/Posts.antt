@@ -254,3 +254,20 @@ root_else tree worth marks old node x b k e h g =
       λ t. let u : true ≡ false = sym t ∙ (g ∙ rw z refl) in absurd (cc),
       λ r. let u : true ≡ false = sym marked_before ∙ r.was in absurd (cc),
     )
+
+-- the rows of a board are read at a node or at the root
+pub kept_marked : (tree : SplitTree) (worth : ℕ → ℕ) (marks : List Mark) (weights : List ℕ) (node x : ℕ) → IsKept tree worth marks weights → node < size tree →
+    x ≡ get_or weights node 0 → (x == 0) ≡ marked (refuted_by marks) node (subtree_at tree node)
+kept_marked tree worth marks weights node x k h e =
+    zero_is (marked (refuted_by marks) node (subtree_at tree node)) x (λ z. zero_marked tree worth marks weights node k.weighed k.board h (sym e ∙ z))
+    (λ m. e ∙ marked_zero tree worth marks weights node k.board h m)
+
+pub kept_open : (tree : SplitTree) (worth : ℕ → ℕ) (marks : List Mark) (weights : List ℕ) (x : ℕ) → IsKept tree worth marks weights →
+    x ≡ get_or weights 0 0 → x ≡ open_weight worth (refuted_by marks) 0 tree
+kept_open tree worth marks weights x k e =
+    let r : subtree_at tree 0 ≡ tree = subtree-root tree in
+    let s : 0 < size tree = omega (arith, some_node tree) in
+    e ∙ rw r at (k.board.are_open.is 0 s)
+
+pub kept_some : (tree : SplitTree) (worth : ℕ → ℕ) (marks : List Mark) (weights : List ℕ) → IsKept tree worth marks weights → 0 < length weights
+kept_some tree worth marks weights k = some_row tree worth marks weights k.board

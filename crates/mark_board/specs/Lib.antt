@@ -1,3 +1,5 @@
 pub mod Marking
 pub mod Rows
 pub mod Answers
+pub mod Places
+pub mod Posted

@@ -2,8 +2,12 @@
 #![tactic(auto)]
 
 mod mark;
+mod part;
 mod rows;
+mod top;
 mod walk;
 
 pub use mark::Mark;
+pub use part::{PartAnswer, PartBoard, PartVerdict};
 pub use rows::{Answer, Rows};
+pub use top::TopBoard;
