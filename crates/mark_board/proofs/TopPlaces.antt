@@ -1,16 +1,18 @@
 -- The places of the top board, and the nodes of the whole tree that stand there.
 use Rattle.std.proofs.Common.{◌≡◌, ℕ, zero, suc, ◌+◌, ◌-◌, ◌<◌, ◌≤◌, List, [], ◌∷◌, length, map, replicate, get_or, refl, sym, ap, ◌∙◌, arith, inl, inr, true, false, add-zero, zero-add}
 use Rattle.std.proofs.lemmas.Bool.{cases_lt}
-use Rattle.std.proofs.lemmas.List.{get_or_append_left, get_or-append_right}
+use Rattle.std.proofs.lemmas.List.{get_or_append_left, get_or-append_right, get_or_read}
 use Rattle.cnf_text.specs.Literal.{Literal}
-use Rattle.split_tree.specs.SplitTree.{SplitTree, missing, cube, split, size, subtree_at, depth_at, labels, branch, path_at}
+use Rattle.split_tree.specs.SplitTree.{SplitTree, missing, cube, split, size, subtree_at, depth_at, labels, branch, path_at, IsLeaf, IsSplit}
 use Rattle.split_tree.specs.Top.{top, top_nodes}
+use Rattle.split_tree.specs.Rows.{HasBelow, AreBranches}
+use Rattle.split_tree.proofs.Tops.{no_cubes}
 use Rattle.split_tree.proofs.Coding.{branches_at, subtree-root, some_node, in_positive, in_negative}
 use Rattle.split_tree.proofs.Labels.{label_positive, label_negative, label-root, handed_down}
 use Rattle.mark_board.specs.declared.mark.Mark.{Mark}
 use Rattle.mark_board.specs.declared.mark.Mark.TheVariants.{Open}
 use Rattle.mark_board.specs.Rows.{IsWeighed, IsKept}
-use Rattle.mark_board.specs.Places.{worth_of, top_node}
+use Rattle.mark_board.specs.Places.{worth_of, top_node, IsPlaceOf}
 use Rattle.mark_board.proofs.Tops.{length-top_nodes, IsAtTop, at_root, at_first, at_second}
 use Rattle.mark_board.proofs.Posts.{new_kept}
 use Rattle.mark_board.proofs.Worths.{weighed_by, whole_adds_up, total_some}
@@ -162,3 +164,72 @@ top_kept tree cut nodes rows marks e r m =
     let k : length rows ≡ size (top cut tree) = rw (r, e, length-mapped (worth_of tree) (top_nodes cut 0 tree)) (length-top_nodes cut 0 tree) in
     rw m (new_kept (top cut tree) (λ place. worth_of tree (top_node cut tree place)) rows (top_weighed tree cut) k
     (λ i l. rw (r, e) (get_or-map (worth_of tree) (top_nodes cut 0 tree) i (rw (length-top_nodes cut 0 tree) l))))
+
+-- ---- the way down the top board to the place of a node
+
+pub place_root : (tree : SplitTree) (cut x : ℕ) → x < size tree → (0 < size (top cut tree)) × HasBelow tree (top_node cut tree 0) x
+place_root tree cut x l =
+    let z : top_node cut tree 0 ≡ 0 = top_first cut 0 tree in
+    let s : subtree_at tree 0 ≡ tree = subtree-root tree in
+    (omega (arith, some_node (top cut tree)), record { reached = rw z (omega arith); before_end = rw (z, s) (omega arith) })
+
+pub place_first : (tree : SplitTree) (cut place first second x : ℕ) → place < size (top cut tree) → AreBranches (top cut tree) place first second →
+    HasBelow tree (top_node cut tree place) x → (top_node cut tree place ≡ x → ⊥) → x < top_node cut tree second →
+    (first < size (top cut tree)) × HasBelow tree (top_node cut tree first) x
+place_first tree cut place first second x l b h ne less =
+    let s = split_at_top tree cut place b.variable b.positive b.negative l b.is in
+    let w = branches_at tree (top_node cut tree place) b.variable s.positive s.negative s.within s.is in
+    let f : first ≡ suc place = omega (arith, b.first_is) in
+    let g : second ≡ suc (place + size b.positive) = omega (arith, b.second_is) in
+    let one : top_node cut tree first ≡ suc (top_node cut tree place) = rw f s.first in
+    let two : top_node cut tree second ≡ suc (top_node cut tree place + size s.positive) = rw g s.second in
+    let r : top_node cut tree place ≤ x = h.reached in
+    let i : second < size (top cut tree) = b.within in (
+      omega (arith, b.first_is, b.second_is),
+      record { reached = rw one (omega (arith, ne)); before_end = rw (one, w.positive) (omega (arith, two)) },
+    )
+
+pub place_second : (tree : SplitTree) (cut place first second x : ℕ) → place < size (top cut tree) → AreBranches (top cut tree) place first second →
+    HasBelow tree (top_node cut tree place) x → top_node cut tree second ≤ x →
+    (second < size (top cut tree)) × HasBelow tree (top_node cut tree second) x
+place_second tree cut place first second x l b h more =
+    let s = split_at_top tree cut place b.variable b.positive b.negative l b.is in
+    let w = branches_at tree (top_node cut tree place) b.variable s.positive s.negative s.within s.is in
+    let g : second ≡ suc (place + size b.positive) = omega (arith, b.second_is) in
+    let two : top_node cut tree second ≡ suc (top_node cut tree place + size s.positive) = rw g s.second in
+    let e : x < top_node cut tree place + size (subtree_at tree (top_node cut tree place)) = h.before_end in
+    let e2 : x < top_node cut tree place + suc (size s.positive + size s.negative) = rw s.is at e in
+    (b.within, record { reached = more; before_end = rw (two, w.negative) (omega arith) })
+
+leaf_split : (t : SplitTree) → IsLeaf t → IsSplit t → ⊥
+leaf_split missing h k = k
+leaf_split (cube j) h k = k
+leaf_split (split v p n) h k = h
+
+pub place_part : (tree : SplitTree) (cut place x : ℕ) → place < size (top cut tree) → IsLeaf (subtree_at (top cut tree) place) →
+    HasBelow tree (top_node cut tree place) x → IsPlaceOf cut tree x place
+place_part tree cut place x l leaf h = record { within = l; below = h; own = λ s. absurd (leaf_split (subtree_at (top cut tree) place) leaf s) }
+
+pub place_own : (tree : SplitTree) (cut place x : ℕ) → place < size (top cut tree) → HasBelow tree (top_node cut tree place) x →
+    top_node cut tree place ≡ x → IsPlaceOf cut tree x place
+place_own tree cut place x l h e = record { within = l; below = h; own = λ s. e }
+
+-- no part stands for a cube
+pub no_cube_above : (tree : SplitTree) (cut place k : ℕ) → place < size (top cut tree) → subtree_at (top cut tree) place ≡ cube k → ⊥
+no_cube_above tree cut place k l e =
+    let b = (no_cubes cut tree).numbered place k l e in
+    let some : 1 ≤ k = b.0 in
+    let none : k ≤ 0 = b.1 in
+    omega arith
+
+-- ---- the table of the nodes at the places
+
+pub nodes_long : (tree : SplitTree) (cut : ℕ) (nodes : List ℕ) → nodes ≡ top_nodes cut 0 tree → length nodes ≡ size (top cut tree)
+nodes_long tree cut nodes e = rw e (length-top_nodes cut 0 tree)
+
+pub nodes_read : (tree : SplitTree) (cut : ℕ) (nodes : List ℕ) (place x : ℕ) → nodes ≡ top_nodes cut 0 tree → place < size (top cut tree) →
+    x ≡ get_or nodes place x → x ≡ top_node cut tree place
+nodes_read tree cut nodes place x e l h =
+    let k : length nodes ≡ size (top cut tree) = nodes_long tree cut nodes e in
+    let r : x ≡ get_or nodes place 0 = get_or_read nodes place x (omega arith) h 0 in
+    r ∙ ap (λ (xs : List ℕ). get_or xs place 0) e

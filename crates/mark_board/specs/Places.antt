@@ -1,7 +1,7 @@
 -- Where the nodes of a case stand on its boards.
-use Rattle.std.specs.Prelude.{ℕ, ◌<◌, ◌≡◌, List, length, slice_index, [], Bool, true}
-use Rattle.cnf_text.specs.Literal.{Literal}
-use Rattle.split_tree.specs.SplitTree.{SplitTree, size, total, depth_at, subtree_at, path_at, IsSplit}
+use Rattle.std.specs.Prelude.{ℕ, ◌<◌, ◌≡◌, length, slice_index, Option, None, Some}
+use Rattle.split_tree.specs.Rows.{HasBelow}
+use Rattle.split_tree.specs.SplitTree.{SplitTree, size, total, depth_at, subtree_at, IsSplit}
 use Rattle.split_tree.specs.Leaves.{missing_nodes}
 use Rattle.split_tree.specs.Top.{top, top_nodes}
 use Rattle.hint_check.specs.declared.Judged.{Judged}
@@ -34,6 +34,17 @@ pub record IsOwnPlace (cut : ℕ) (tree : SplitTree) (node place : ℕ) : Type 0
   pub within : place < size (top cut tree)
   pub here : top_node cut tree place ≡ node
   pub inner : IsSplit (subtree_at (top cut tree) place)
+
+-- a node lies at this place of the top board: as an inner node above the cut, or in the part there
+pub record IsPlaceOf (cut : ℕ) (tree : SplitTree) (node place : ℕ) : Type 0 where
+  pub within : place < size (top cut tree)
+  pub below : HasBelow tree (top_node cut tree place) node
+  pub own : IsSplit (subtree_at (top cut tree) place) → top_node cut tree place ≡ node
+
+-- the part at this place of the top board, or that an inner node above the cut stands there
+abbrev pub IsPartAt : ℕ → SplitTree → ℕ → Option ℕ → Type 0
+IsPartAt cut tree place None = IsSplit (subtree_at (top cut tree) place)
+IsPartAt cut tree place (Some part) = (part < part_count cut tree) × (part_place cut tree part ≡ place)
 
 -- the mark that a judgement gives
 abbrev pub mark_as : Judged → Mark

@@ -9,7 +9,7 @@ ghost use Rattle.split_tree.specs.Rows.{HasBelow};
 ghost use Rattle.split_tree.specs.Top.{top, top_nodes};
 ghost use Rattle.mark_board.specs.Marking.{AreRefuted, marked, open_weight};
 ghost use Rattle.mark_board.specs.Rows.{IsKept, refuted_by, mark_at};
-ghost use Rattle.mark_board.specs.Places.{part_count, part_place, top_node, worth_of, mark_as, IsOwnPlace};
+ghost use Rattle.mark_board.specs.Places.{part_count, part_place, top_node, worth_of, mark_as, IsOwnPlace, IsPlaceOf, IsPartAt};
 
 use crate::mark::Mark;
 use crate::part::{PartVerdict, mark_for};
@@ -75,6 +75,40 @@ impl<'c> TopBoard<'c> {
     {
         let _count = self.above.tree.missing_count();
         self.above.tree.node_of_leaf(Leaf::Missing(part + 1)).index()
+    }
+
+    /// The place of a node of the tree: its own, where it is an inner node above the cut, and otherwise that of its part.
+    pub fn place_of(&self, node: NodeId) -> usize
+        requires { node < size self.now.case.now.tree }
+        ensures { IsPlaceOf self.now.cut self.now.case.now.tree node result }
+    {
+        let _few = self.above.tree.size();
+        let mut place = 0;
+        while self.above.nodes[place].number() != node.number() {
+            let here = NodeId::new(place as u32);
+            let Some((first, second)) = self.above.tree.branches(here) else {
+                return place;
+            };
+            place = if node.number() < self.above.nodes[second.index()].number() {
+                first.index()
+            } else {
+                second.index()
+            };
+        }
+        place
+    }
+
+    /// The number of the part at a place, or `None` for an inner node above the cut.
+    pub fn part_at(&self, place: usize) -> Option<u32>
+        requires { place < size (top self.now.cut self.now.case.now.tree) }
+        ensures { IsPartAt self.now.cut self.now.case.now.tree place result }
+    {
+        let _few = self.above.tree.size();
+        match self.above.tree.leaf_at(NodeId::new(place as u32)) {
+            None => None,
+            Some(Leaf::Missing(number)) => Some(number - 1),
+            Some(Leaf::Cube(_)) => unreachable!(),
+        }
     }
 
     /// Marks a part as refuted, if it has no mark yet.
