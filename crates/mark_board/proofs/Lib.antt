@@ -1,4 +1,4 @@
-pub mod Laws
+pub mod Marks
 pub mod Ways
 pub mod Seeking
 pub mod Posts

@@ -12,7 +12,7 @@ use Rattle.mark_board.specs.declared.mark.Mark.TheVariants.{Open, Refuted, Rejec
 use Rattle.mark_board.specs.Marking.{marked, open_weight, Weighs}
 use Rattle.mark_board.specs.Rows.{is_refuted, mark_at, refuted_by, AreOpen, IsBoard, IsWeighed, IsStart, Takes, IsKept}
 use Rattle.mark_board.specs.Answers.{MarksRoot}
-use Rattle.mark_board.proofs.Laws.{test_same, marked_same, open_same, open_after, marked_open, open_marked}
+use Rattle.mark_board.proofs.Marks.{test_same, marked_same, open_same, open_after, marked_open, open_marked}
 use Rattle.mark_board.proofs.Seeking.{open_below_less}
 
 -- ---- the rows after a new refuted node

@@ -8,7 +8,7 @@ use Rattle.split_tree.proofs.Steps.{splits_below}
 use Rattle.split_tree.proofs.Labels.{nested}
 use Rattle.mark_board.specs.Marking.{marked, open_weight, open_below}
 use Rattle.mark_board.specs.Rows.{StepsDown, IsStart}
-use Rattle.mark_board.proofs.Laws.{test_same, test_other, open_below-here, marked_open, or_rest, not_refuted, root_covered, open_sum}
+use Rattle.mark_board.proofs.Marks.{test_same, test_other, open_below-here, marked_open, or_rest, not_refuted, root_covered, open_sum}
 use Rattle.mark_board.proofs.Ways.{is_below, steps_has, passed_over}
 
 -- ---- nodes outside a run of numbers

@@ -20,7 +20,7 @@ use Rattle.mark_board.specs.Marking.{marked, AreRefuted}
 use Rattle.mark_board.specs.Rows.{is_refuted, refuted_by}
 use Rattle.mark_board.specs.Answers.{marks_after}
 use Rattle.mark_board.specs.Places.{mark_as}
-use Rattle.mark_board.proofs.Laws.{marked_refuted}
+use Rattle.mark_board.proofs.Marks.{marked_refuted}
 
 -- a list after a write has at its place the new item or the old one
 set_either : (marks : List Mark) (i : ℕ) (x d : Mark) → (get_or (set marks i x) i d ≡ x) ⊎ (get_or (set marks i x) i d ≡ get_or marks i d)

@@ -14,7 +14,7 @@ use Rattle.mark_board.specs.Rows.{IsWeighed, IsKept, refuted_by}
 use Rattle.mark_board.proofs.Posts.{new_kept}
 use Rattle.mark_board.proofs.Sounds.{sound_first}
 use Rattle.mark_board.specs.Places.{worth_of}
-use Rattle.mark_board.proofs.Laws.{open_sum}
+use Rattle.mark_board.proofs.Marks.{open_sum}
 
 -- an inner node's leaves weigh what those of its branches do
 abbrev pub AddsUp : (ℕ → ℕ) → SplitTree → Type 0

@@ -3,3 +3,5 @@ pub mod Rows
 pub mod Answers
 pub mod Places
 pub mod Posted
+pub mod Laws
+pub mod Stored

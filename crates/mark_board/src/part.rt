@@ -10,6 +10,7 @@ ghost use Rattle.mark_board.specs.Places.{part_count, part_root, worth_of, mark_
 
 use crate::mark::Mark;
 use crate::rows::{Answer, Rows};
+use crate::stored::PartData;
 use case_core::{Case, Finding, Judged, NodeId};
 use std::alloc::{AllocError, Global};
 
@@ -74,6 +75,7 @@ impl<'c> PartBoard<'c> {
     ghost use Rattle.mark_board.specs.declared.mark.Mark.TheVariants.{Open};
     ghost use Rattle.mark_board.specs.Answers.{marks_after, MarksRoot};
     ghost use Rattle.mark_board.specs.Posted.{answer_of};
+    ghost use Rattle.mark_board.specs.Stored.{IsPartData};
 
     /// The board of a part of a case, with nothing marked.
     pub fn new(
@@ -99,6 +101,36 @@ impl<'c> PartBoard<'c> {
             root,
             rows,
         })
+    }
+
+    /// The board without its case.
+    pub fn unbind(self) -> PartData
+        ensures place { (result.cut ≡ self.entry.cut) × (result.part ≡ self.entry.part) × (result.root ≡ self.entry.root) }
+        ensures marks { result.rows.marks.items ≡ self.entry.rows.marks.items }
+        ensures stored { IsPartData self.entry.case.now result }
+    {
+        PartData {
+            cut: self.cut,
+            part: self.part,
+            root: self.root,
+            rows: self.rows,
+        }
+    }
+
+    /// The board of a case of which this is stored.
+    pub fn bind(case: &'c Case, stored: PartData) -> PartBoard<'c>
+        requires { IsPartData case.now stored }
+        ensures case { result.case.now ≡ case.now }
+        ensures place { (result.cut ≡ stored.cut) × (result.part ≡ stored.part) × (result.root ≡ stored.root) }
+        ensures marks { result.rows.marks.items ≡ stored.rows.marks.items }
+    {
+        PartBoard {
+            case,
+            cut: stored.cut,
+            part: stored.part,
+            root: stored.root,
+            rows: stored.rows,
+        }
     }
 
     /// What is posted of a node itself.

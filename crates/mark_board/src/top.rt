@@ -14,6 +14,7 @@ ghost use Rattle.mark_board.specs.Places.{part_count, part_place, top_node, wort
 use crate::mark::Mark;
 use crate::part::{PartVerdict, mark_for};
 use crate::rows::{Answer, Rows};
+use crate::stored::TopData;
 use case_core::{Case, Finding, Leaf, NodeId, Tree};
 use split_tree::Top;
 use std::alloc::{AllocError, Global};
@@ -49,6 +50,7 @@ impl<'c> TopBoard<'c> {
     ghost use Rattle.mark_board.specs.declared.rows.Answer.TheVariants.{RootMarked, Already};
     ghost use Rattle.mark_board.specs.declared.mark.Mark.TheVariants.{Open, Refuted as refuted_mark};
     ghost use Rattle.mark_board.specs.Answers.{marks_after, MarksRoot};
+    ghost use Rattle.mark_board.specs.Stored.{IsTopData};
 
     /// The top board of a cut of a case, with nothing marked.
     pub fn new(alloc: Global, case: &'c Case, cut: u32) -> Result<TopBoard<'c>, AllocError>
@@ -65,6 +67,34 @@ impl<'c> TopBoard<'c> {
             above,
             rows,
         })
+    }
+
+    /// The board without its case.
+    pub fn unbind(self) -> TopData
+        ensures place { result.cut ≡ self.entry.cut }
+        ensures marks { result.rows.marks.items ≡ self.entry.rows.marks.items }
+        ensures stored { IsTopData self.entry.case.now result }
+    {
+        TopData {
+            cut: self.cut,
+            above: self.above,
+            rows: self.rows,
+        }
+    }
+
+    /// The board of a case of which this is stored.
+    pub fn bind(case: &'c Case, stored: TopData) -> TopBoard<'c>
+        requires { IsTopData case.now stored }
+        ensures case { result.case.now ≡ case.now }
+        ensures place { result.cut ≡ stored.cut }
+        ensures marks { result.rows.marks.items ≡ stored.rows.marks.items }
+    {
+        TopBoard {
+            case,
+            cut: stored.cut,
+            above: stored.above,
+            rows: stored.rows,
+        }
     }
 
     /// The place of a part, by its number.
