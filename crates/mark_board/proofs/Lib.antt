@@ -6,3 +6,4 @@ pub mod Tops
 pub mod Sounds
 pub mod Worths
 pub mod TopPlaces
+pub mod PartPlaces

@@ -17,7 +17,7 @@ use Rattle.mark_board.proofs.Tops.{length-top_nodes, IsAtTop, at_root, at_first,
 use Rattle.mark_board.proofs.Posts.{new_kept}
 use Rattle.mark_board.proofs.Worths.{weighed_by, whole_adds_up, total_some}
 
-top_first : (cut node : ℕ) (t : SplitTree) → get_or (top_nodes cut node t) 0 0 ≡ node
+pub top_first : (cut node : ℕ) (t : SplitTree) → get_or (top_nodes cut node t) 0 0 ≡ node
 top_first zero node t = refl
 top_first (suc cut) node missing = refl
 top_first (suc cut) node (cube k) = refl

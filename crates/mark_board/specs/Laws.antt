@@ -1,8 +1,12 @@
 -- Laws of marks and open weights.
-use Rattle.std.specs.Prelude.{ℕ, ◌+◌, ◌≡◌, ◌≢◌, Bool, true, List}
+use Rattle.std.specs.Prelude.{ℕ, map, ◌+◌, ◌≡◌, ◌≢◌, Bool, true, List}
 use Rattle.cnf_text.specs.Literal.{Literal}
 use Rattle.cnf_text.specs.Formula.{IsRefuted}
 use Rattle.split_tree.specs.SplitTree.{SplitTree, size}
+use Rattle.split_tree.specs.Leaves.{missing_nodes}
+use Rattle.split_tree.specs.Parts.{part_nodes}
+use Rattle.split_tree.specs.Top.{top}
+use Rattle.mark_board.specs.Places.{top_node}
 use Rattle.mark_board.specs.Marking.{marked, open_weight, open_below, marked_on_top, open_on_top, open_branches, weight_under, AreApart, AreRefuted, IsWithin, Agrees}
 
 -- where each node of the set has no model together with the formula, so has each marked node
@@ -39,3 +43,7 @@ OpenBranchesAddUp = (worth : ℕ → ℕ) (refuted : ℕ → Bool) (tree : Split
 -- no node lies under two of them
 abbrev pub OpenBranchesAreApart : Type 0
 OpenBranchesAreApart = (refuted : ℕ → Bool) (tree : SplitTree) → AreApart 0 (open_branches refuted 0 tree) (size tree)
+
+-- the leaves of the top board stand for the parts of the tree, in their order
+abbrev pub PartsStandOnTop : Type 0
+PartsStandOnTop = (cut : ℕ) (tree : SplitTree) → part_nodes cut 0 tree ≡ map (top_node cut tree) (missing_nodes (top cut tree))

@@ -1,6 +1,6 @@
 //! Laws of marks and open weights. Each function does nothing: its contract is the law.
 
-ghost use Rattle.mark_board.specs.Laws.{MarkedHasNoModel, MarkedStaysMarked, OpenAfterPost, TopMarksTheRoot, OpenPartsAddUp, OpenBranchesAddUp, OpenBranchesAreApart};
+ghost use Rattle.mark_board.specs.Laws.{MarkedHasNoModel, MarkedStaysMarked, OpenAfterPost, TopMarksTheRoot, OpenPartsAddUp, OpenBranchesAddUp, OpenBranchesAreApart, PartsStandOnTop};
 
 /// Where each refuted node has no model together with the formula, so has each marked node.
 pub fn marked_has_no_model()
@@ -35,4 +35,9 @@ pub fn open_branches_add_up()
 /// No node lies under two open branches.
 pub fn open_branches_are_apart()
     ensures { OpenBranchesAreApart }
+{}
+
+/// The leaves of the top board stand for the parts of the tree, in their order.
+pub fn parts_stand_on_top()
+    ensures { PartsStandOnTop }
 {}
