@@ -60,7 +60,7 @@ pub struct PartBoard<'c> {
     case: &'c Case,
     cut: u32,
     part: u32,
-    root: NodeId,
+    root: u32,
     rows: Rows,
     ghost within: { part < part_count cut case.now.tree },
     ghost placed: { root ≡ part_root cut case.now.tree part },
@@ -98,7 +98,7 @@ impl<'c> PartBoard<'c> {
             case,
             cut,
             part,
-            root,
+            root: root.number(),
             rows,
         })
     }
@@ -138,7 +138,7 @@ impl<'c> PartBoard<'c> {
         requires { HasBelow self.now.case.now.tree self.now.root node }
         ensures { result ≡ mark_at self.now.rows.marks.items (node - self.now.root) }
     {
-        self.rows.mark_of(node.index() - self.root.index())
+        self.rows.mark_of(node.index() - self.root as usize)
     }
 
     /// Whether a node is marked.
@@ -146,7 +146,7 @@ impl<'c> PartBoard<'c> {
         requires { HasBelow self.now.case.now.tree self.now.root node }
         ensures { result ≡ marked (refuted_by self.now.rows.marks.items) (node - self.now.root) (subtree_at self.now.case.now.tree node) }
     {
-        self.rows.weight_of(node.index() - self.root.index()) == 0
+        self.rows.weight_of(node.index() - self.root as usize) == 0
     }
 
     /// The weight of the leaves under no marked node.
@@ -166,7 +166,7 @@ impl<'c> PartBoard<'c> {
         ensures root { (answer_of result ≡ RootMarked) ↔ MarksRoot (subtree_at self.old.case.now.tree self.old.root) self.old.rows.marks.items self.new.rows.marks.items }
     {
         let case = self.case;
-        let root = self.root.index();
+        let root = self.root as usize;
         let node = finding.node().index() - root;
         let mark = mark_for(finding.judged());
         let answer = self.rows.post(case.tree(), root, node, mark);

@@ -1,7 +1,6 @@
 //! Boards without their case.
 
 use crate::rows::Rows;
-use case_core::NodeId;
 use split_tree::Top;
 
 /// The board of a part without its case.
@@ -9,7 +8,7 @@ use split_tree::Top;
 pub struct PartData {
     pub(crate) cut: u32,
     pub(crate) part: u32,
-    pub(crate) root: NodeId,
+    pub(crate) root: u32,
     pub(crate) rows: Rows,
 }
 

@@ -32,8 +32,8 @@ invariant_of-result c =
     rw c.index.ensures.value at c.in_ok-rows.ensures.marks in
     record {
       within = c.requires.part;
-      placed = c.requires.placed;
-      inside = c.requires.root;
-      kept = part_kept tree c.weights.result.now c.in_ok-rows.rows.weights.items c.in_ok-rows.rows.marks.items root (c.end_of-end.result - root) t c.requires.root n2 weights marks;
-      sound = part_sound c.args.case.now.formula (path_at tree root) (subtree_at tree root) _ c.in_ok-rows.rows.marks.items marks;
+      placed = rw c.number.ensures c.requires.placed;
+      inside = rw c.number.ensures c.requires.root;
+      kept = rw c.number.ensures (part_kept tree c.weights.result.now c.in_ok-rows.rows.weights.items c.in_ok-rows.rows.marks.items root (c.end_of-end.result - root) t c.requires.root n2 weights marks);
+      sound = rw c.number.ensures (part_sound c.args.case.now.formula (path_at tree root) (subtree_at tree root) _ c.in_ok-rows.rows.marks.items marks);
     }

@@ -15,6 +15,6 @@ returns c =
     let t : subtree_at board.case.now.tree c.args.node ≡ subtree_at (subtree_at board.case.now.tree board.root) (c.args.node - board.root) =
     ap (λ i. subtree_at board.case.now.tree i) (sym q) ∙ s in
     let e : c.weight_of.result ≡ slice_index board.rows.weights.items (c.args.node - board.root) =
-    rw (c.index.ensures.value, c.index-2.ensures.value) at c.weight_of.ensures in
+    rw c.index.ensures.value at c.weight_of.ensures in
     rw t (kept_marked (subtree_at board.case.now.tree board.root) _ board.rows.marks.items board.rows.weights.items (c.args.node - board.root)
     c.weight_of.result board.kept l e)
