@@ -9,7 +9,7 @@ ghost use Rattle.split_tree.specs.Rows.{HasBelow};
 ghost use Rattle.split_tree.specs.Top.{top, top_nodes};
 ghost use Rattle.mark_board.specs.Marking.{AreRefuted, marked, open_weight};
 ghost use Rattle.mark_board.specs.Rows.{IsKept, refuted_by, mark_at};
-ghost use Rattle.mark_board.specs.Places.{part_count, part_place, top_node, worth_of, mark_as, IsOwnPlace, IsPlaceOf, IsPartAt};
+ghost use Rattle.mark_board.specs.Places.{part_count, part_place, part_root, top_node, worth_of, mark_as, IsOwnPlace, IsPlaceOf, IsPartAt};
 
 use crate::mark::Mark;
 use crate::part::{PartVerdict, mark_for};
@@ -105,6 +105,23 @@ impl<'c> TopBoard<'c> {
     {
         let _count = self.above.tree.missing_count();
         self.above.tree.node_of_leaf(Leaf::Missing(part + 1)).index()
+    }
+
+    /// How many parts the cut makes.
+    pub fn count_parts(&self) -> u32
+        ensures { result ≡ part_count self.now.cut self.now.case.now.tree }
+    {
+        self.above.tree.missing_count()
+    }
+
+    /// The node at the root of a part, by the part's number, from 0 in tree order.
+    pub fn root_of_part(&self, part: u32) -> NodeId
+        requires { part < part_count self.now.cut self.now.case.now.tree }
+        ensures value { result ≡ part_root self.now.cut self.now.case.now.tree part }
+        ensures within { result < size self.now.case.now.tree }
+    {
+        let place = self.place_of_part(part);
+        self.above.nodes[place]
     }
 
     /// The place of a node of the tree: its own, where it is an inner node above the cut, and otherwise that of its part.
