@@ -74,7 +74,7 @@ impl<'c> PartBoard<'c> {
     ghost use Rattle.mark_board.specs.declared.rows.Answer.TheVariants.{RootMarked, Already};
     ghost use Rattle.mark_board.specs.declared.mark.Mark.TheVariants.{Open};
     ghost use Rattle.mark_board.specs.Answers.{marks_after, MarksRoot};
-    ghost use Rattle.mark_board.specs.Posted.{answer_of};
+    ghost use Rattle.mark_board.specs.Posted.{answer_of, IsVerdictOf};
     ghost use Rattle.mark_board.specs.Stored.{IsPartData};
 
     /// The board of a part of a case, with nothing marked.
@@ -162,6 +162,7 @@ impl<'c> PartBoard<'c> {
         requires within { HasBelow self.old.case.now.tree self.old.root finding.now.node }
         ensures same { (self.new.case.now ≡ self.old.case.now) × (self.new.cut ≡ self.old.cut) × (self.new.part ≡ self.old.part) × (self.new.root ≡ self.old.root) }
         ensures marks { self.new.rows.marks.items ≡ marks_after (answer_of result) self.old.rows.marks.items (finding.now.node - self.old.root) (mark_as finding.now.judged) }
+        ensures verdict { IsVerdictOf result self.old.case.now self.old.cut self.old.part }
         ensures already { (answer_of result ≡ Already) ↔ (mark_at self.old.rows.marks.items (finding.now.node - self.old.root) ≢ Open) }
         ensures root { (answer_of result ≡ RootMarked) ↔ MarksRoot (subtree_at self.old.case.now.tree self.old.root) self.old.rows.marks.items self.new.rows.marks.items }
     {
