@@ -7,3 +7,4 @@ pub mod Sounds
 pub mod Worths
 pub mod TopPlaces
 pub mod PartPlaces
+pub mod Depths

@@ -1,12 +1,12 @@
 -- Laws of marks and open weights.
-use Rattle.std.specs.Prelude.{ℕ, map, ◌+◌, ◌≡◌, ◌≢◌, Bool, true, List}
+use Rattle.std.specs.Prelude.{ℕ, map, ◌+◌, ◌<◌, ◌≡◌, ◌≢◌, Bool, true, List}
 use Rattle.cnf_text.specs.Literal.{Literal}
 use Rattle.cnf_text.specs.Formula.{IsRefuted}
-use Rattle.split_tree.specs.SplitTree.{SplitTree, size}
+use Rattle.split_tree.specs.SplitTree.{SplitTree, size, subtree_at, depth_at, IsSplit}
 use Rattle.split_tree.specs.Leaves.{missing_nodes}
 use Rattle.split_tree.specs.Parts.{part_nodes}
 use Rattle.split_tree.specs.Top.{top}
-use Rattle.mark_board.specs.Places.{top_node}
+use Rattle.mark_board.specs.Places.{top_node, IsPlaceOf}
 use Rattle.mark_board.specs.Marking.{marked, open_weight, open_below, marked_on_top, open_on_top, open_branches, weight_under, AreApart, AreRefuted, IsWithin, Agrees}
 
 -- where each node of the set has no model together with the formula, so has each marked node
@@ -47,3 +47,9 @@ OpenBranchesAreApart = (refuted : ℕ → Bool) (tree : SplitTree) → AreApart 
 -- the leaves of the top board stand for the parts of the tree, in their order
 abbrev pub PartsStandOnTop : Type 0
 PartsStandOnTop = (cut : ℕ) (tree : SplitTree) → part_nodes cut 0 tree ≡ map (top_node cut tree) (missing_nodes (top cut tree))
+
+-- the top board has as its own nodes the inner nodes at depths below the cut, and no others
+abbrev pub TopHasTheNodesAboveTheCut : Type 0
+TopHasTheNodesAboveTheCut = (cut : ℕ) (tree : SplitTree) (node place : ℕ) → IsPlaceOf cut tree node place →
+    (IsSplit (subtree_at (top cut tree) place) → (depth_at tree node < cut) × IsSplit (subtree_at tree node))
+    × (depth_at tree node < cut → IsSplit (subtree_at tree node) → IsSplit (subtree_at (top cut tree) place))

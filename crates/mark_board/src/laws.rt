@@ -1,6 +1,6 @@
 //! Laws of marks and open weights. Each function does nothing: its contract is the law.
 
-ghost use Rattle.mark_board.specs.Laws.{MarkedHasNoModel, MarkedStaysMarked, OpenAfterPost, TopMarksTheRoot, OpenPartsAddUp, OpenBranchesAddUp, OpenBranchesAreApart, PartsStandOnTop};
+ghost use Rattle.mark_board.specs.Laws.{MarkedHasNoModel, MarkedStaysMarked, OpenAfterPost, TopMarksTheRoot, OpenPartsAddUp, OpenBranchesAddUp, OpenBranchesAreApart, PartsStandOnTop, TopHasTheNodesAboveTheCut};
 
 /// Where each refuted node has no model together with the formula, so has each marked node.
 pub fn marked_has_no_model()
@@ -40,4 +40,9 @@ pub fn open_branches_are_apart()
 /// The leaves of the top board stand for the parts of the tree, in their order.
 pub fn parts_stand_on_top()
     ensures { PartsStandOnTop }
+{}
+
+/// The top board has as its own nodes the inner nodes at depths below the cut, and no others.
+pub fn top_has_the_nodes_above_the_cut()
+    ensures { TopHasTheNodesAboveTheCut }
 {}
