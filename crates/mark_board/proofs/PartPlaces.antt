@@ -4,7 +4,7 @@ use Rattle.std.proofs.lemmas.List.{map-append}
 use Rattle.split_tree.specs.SplitTree.{SplitTree, missing, cube, split, size, subtrees}
 use Rattle.split_tree.specs.Leaves.{missing_from, missing_nodes}
 use Rattle.split_tree.specs.Parts.{Part, parts, part_nodes}
-use Rattle.split_tree.specs.Top.{top, top_nodes}
+use Rattle.split_tree.specs.Top.{top}
 use Rattle.split_tree.proofs.Coding.{length-subtrees}
 use Rattle.mark_board.specs.Places.{top_node}
 use Rattle.mark_board.proofs.Tops.{IsAtTop, at_root, at_first, at_second}

@@ -108,8 +108,8 @@ pub top_weighed : (tree : SplitTree) (cut : ℕ) → IsWeighed (top cut tree) (�
 top_weighed tree cut = weighed_by (λ place. worth_of tree (top_node cut tree place)) (top cut tree)
     (λ i l. total_some (depth_at tree (top_node cut tree i)) (subtree_at tree (top_node cut tree i)))
     (λ i v a b l e.
-        let s = split_at_top tree cut i v a b l e in
-        rw (s.first, s.second) (whole_adds_up tree (top_node cut tree i) v s.positive s.negative s.within s.is))
+    let s = split_at_top tree cut i v a b l e in
+    rw (s.first, s.second) (whole_adds_up tree (top_node cut tree i) v s.positive s.negative s.within s.is))
 
 -- ---- the path of a place of the top board is that of its node in the whole tree
 

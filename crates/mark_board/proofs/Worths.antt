@@ -1,5 +1,5 @@
 -- What the leaves under the nodes of a board weigh together.
-use Rattle.std.proofs.Common.{◌≡◌, ℕ, suc, ◌+◌, ◌-◌, ◌<◌, ◌≤◌, List, length, get_or, take, drop, replicate, false, Bool, refl, ◌∙◌, arith, length-drop, length-take}
+use Rattle.std.proofs.Common.{◌≡◌, ℕ, suc, ◌+◌, ◌<◌, ◌≤◌, List, length, get_or, take, drop, replicate, false, Bool, refl, ◌∙◌, arith, length-drop, length-take}
 use Rattle.std.proofs.lemmas.List.{get_or-take, get_or-drop}
 use Rattle.split_tree.specs.SplitTree.{SplitTree, missing, cube, split, size, total, subtree_at, depth_at}
 use Rattle.split_tree.specs.Tables.{AreTotals}
@@ -58,11 +58,11 @@ pub part_weighed : (tree : SplitTree) (root : ℕ) → root < size tree → IsWe
 part_weighed tree root h = weighed_by (λ place. worth_of tree (root + place)) (subtree_at tree root)
     (λ i l. total_some (depth_at tree (root + i)) (subtree_at tree (root + i)))
     (λ i v p n l e.
-        let w : root + size (subtree_at tree root) ≤ size tree = inside tree root h in
-        let s : subtree_at tree (root + i) ≡ split v p n = below tree root i h l ∙ e in
-        let a : root + suc i ≡ suc (root + i) = omega arith in
-        let b : root + suc (i + size p) ≡ suc (root + i + size p) = omega arith in
-        rw (a, b) (whole_adds_up tree (root + i) v p n (omega arith) s))
+    let w : root + size (subtree_at tree root) ≤ size tree = inside tree root h in
+    let s : subtree_at tree (root + i) ≡ split v p n = below tree root i h l ∙ e in
+    let a : root + suc i ≡ suc (root + i) = omega arith in
+    let b : root + suc (i + size p) ≡ suc (root + i + size p) = omega arith in
+    rw (a, b) (whole_adds_up tree (root + i) v p n (omega arith) s))
 
 -- the rows of a part, cut out of those of the whole tree
 pub slice_read : (xs : List ℕ) (root n i : ℕ) → i < n → get_or (take n (drop root xs)) i 0 ≡ get_or xs (root + i) 0

@@ -1,4 +1,4 @@
-use Rattle.std.specs.Prelude.{ℕ, suc, ◌+◌, ◌<◌, ◌≤◌, ◌≡◌, Bool, true, false, List, length, get_or, slice_index}
+use Rattle.std.specs.Prelude.{ℕ, ◌+◌, ◌<◌, ◌≤◌, ◌≡◌, Bool, true, false, List, length, get_or, slice_index}
 use Rattle.split_tree.specs.SplitTree.{SplitTree, size, subtree_at}
 use Rattle.split_tree.specs.Rows.{HasBelow}
 use Rattle.mark_board.specs.declared.mark.Mark.{Mark}

@@ -1,5 +1,5 @@
 -- What is stored of a board without its case.
-use Rattle.std.specs.Prelude.{ℕ, ◌+◌, ◌<◌, ◌≤◌, ◌≡◌, []}
+use Rattle.std.specs.Prelude.{◌+◌, ◌<◌, ◌≤◌, ◌≡◌, []}
 use Rattle.split_tree.specs.SplitTree.{size, subtree_at, path_at}
 use Rattle.split_tree.specs.Top.{top, top_nodes}
 use Rattle.case_core.specs.Case.{CaseOf}

@@ -104,7 +104,10 @@ impl<'c> TopBoard<'c> {
         ensures within { result < size (top self.now.cut self.now.case.now.tree) }
     {
         let _count = self.above.tree.missing_count();
-        self.above.tree.node_of_leaf(Leaf::Missing(part + 1)).index()
+        self.above
+            .tree
+            .node_of_leaf(Leaf::Missing(part + 1))
+            .index()
     }
 
     /// How many parts the cut makes.
@@ -180,7 +183,8 @@ impl<'c> TopBoard<'c> {
         ensures already { (result ≡ Already) ↔ (mark_at self.old.rows.marks.items place ≢ Open) }
         ensures root { (result ≡ RootMarked) ↔ MarksRoot (top self.old.cut self.old.case.now.tree) self.old.rows.marks.items self.new.rows.marks.items }
     {
-        self.rows.post(&self.above.tree, 0, place, mark_for(finding.judged()))
+        self.rows
+            .post(&self.above.tree, 0, place, mark_for(finding.judged()))
     }
 
     /// What is posted of the node or part at a place.

@@ -1,11 +1,8 @@
-use Rattle.std.proofs.Common.{◌≡◌, ◌+◌, ◌-◌, ◌<◌, ◌≤◌, arith, rules, length, replicate, take, drop, ◌∙◌, sym}
+use Rattle.std.proofs.Common.{◌≡◌, ◌+◌, ◌-◌, ◌≤◌, arith, length, replicate, take, drop}
 use Rattle.split_tree.specs.SplitTree.{size, subtree_at, path_at}
 use Rattle.split_tree.specs.Tables.{AreTotals}
 use Rattle.split_tree.proofs.Labels.{inside}
 use Rattle.mark_board.specs.declared.mark.Mark.TheVariants.{Open}
-use Rattle.mark_board.specs.Places.{worth_of}
-
-
 use Rattle.mark_board.proofs.Worths.{part_kept, part_sound}
 use Rattle.mark_board.proofs.part.PartBoard.new.Goals as goal
 

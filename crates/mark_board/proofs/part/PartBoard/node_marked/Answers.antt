@@ -1,5 +1,5 @@
-use Rattle.std.proofs.Common.{◌≡◌, ◌+◌, ◌-◌, ◌<◌, ap, sym, ◌∙◌, arith, slice_index}
-use Rattle.split_tree.specs.SplitTree.{SplitTree, subtree_at}
+use Rattle.std.proofs.Common.{◌≡◌, ◌+◌, ◌-◌, ap, sym, ◌∙◌, arith, slice_index}
+use Rattle.split_tree.specs.SplitTree.{subtree_at}
 use Rattle.split_tree.proofs.Labels.{below}
 use Rattle.mark_board.proofs.Posts.{kept_marked}
 use Rattle.mark_board.proofs.Sounds.{place_within}

@@ -6,7 +6,7 @@ use Rattle.cnf_text.specs.Formula.{IsRefuted}
 use Rattle.mark_board.specs.Marking.{AreRefuted}
 use Rattle.mark_board.specs.Rows.{refuted_by, IsKept}
 use Rattle.mark_board.specs.Answers.{marks_after}
-use Rattle.mark_board.specs.Places.{mark_as, part_root}
+use Rattle.mark_board.specs.Places.{mark_as}
 use Rattle.mark_board.proofs.Sounds.{sound_posted, root_refuted}
 use Rattle.mark_board.proofs.part.PartBoard.post.Goals as goal
 
@@ -44,4 +44,4 @@ invariant_of-result c =
     let root : IsRefuted board.case.now.formula (path_at board.case.now.tree board.root) =
     root_refuted board.case.now.formula (path_at board.case.now.tree board.root) (subtree_at board.case.now.tree board.root)
     (refuted_by c.post-answer.new.self.marks.items) new (rw c.tree.ensures.tree at (c.post-answer.ensures.root.0 c.in-RootMarked.is)).is in
-    record { within = board.within; refuted = rw board.placed at root; }
+    record { within = board.within; refuted = rw board.placed at root }

@@ -1,4 +1,4 @@
-use Rattle.std.proofs.Common.{◌≡◌, ◌<◌, ◌≤◌, arith}
+use Rattle.std.proofs.Common.{◌<◌, ◌≤◌, arith}
 use Rattle.split_tree.specs.SplitTree.{size, subtree_at}
 use Rattle.mark_board.specs.Rows.{refuted_by}
 use Rattle.mark_board.proofs.Seeking.{seek_start, seek_clear, seek_past, seek_end}
@@ -14,18 +14,18 @@ loop-here-preserved-in-Refuted c =
     let l : c.loop-here.here < c.args.node = c.loop-here-test.true in
     let here : c.loop-here.here < size (subtree_at c.args.tree.now c.args.root) = omega (arith, c.requires.node) in
     λ worth. seek_past (subtree_at c.args.tree.now c.args.root) worth (refuted_by c.args.self.now.marks.items) c.args.node c.loop-here.here c.loop-here.first
-        c.toward-next.result (c.loop-here.invariant worth) l c.toward-next.ensures
-        (refuted_read (subtree_at c.args.tree.now c.args.root) c.args.self.now.marks.items c.loop-here.here c.index.result.now
-        c.requires.long here c.index.ensures c.in-Refuted.is)
+    c.toward-next.result (c.loop-here.invariant worth) l c.toward-next.ensures
+    (refuted_read (subtree_at c.args.tree.now c.args.root) c.args.self.now.marks.items c.loop-here.here c.index.result.now
+    c.requires.long here c.index.ensures c.in-Refuted.is)
 
 pub loop-here-preserved : goal.loop-here-preserved
 loop-here-preserved c =
     let l : c.loop-here.here < c.args.node = c.loop-here-test.true in
     let here : c.loop-here.here < size (subtree_at c.args.tree.now c.args.root) = omega (arith, c.requires.node) in
     λ worth. seek_clear (subtree_at c.args.tree.now c.args.root) worth (refuted_by c.args.self.now.marks.items) c.args.node c.loop-here.here c.loop-here.first
-        c.toward-next.result (c.loop-here.invariant worth) c.requires.node l c.toward-next.ensures
-        (clear_read (subtree_at c.args.tree.now c.args.root) c.args.self.now.marks.items c.loop-here.here c.index.result.now
-        c.requires.long here c.index.ensures c.in_default.not-Refuted)
+    c.toward-next.result (c.loop-here.invariant worth) c.requires.node l c.toward-next.ensures
+    (clear_read (subtree_at c.args.tree.now c.args.root) c.args.self.now.marks.items c.loop-here.here c.index.result.now
+    c.requires.long here c.index.ensures c.in_default.not-Refuted)
 
 pub returns : goal.returns
 returns c = λ worth.

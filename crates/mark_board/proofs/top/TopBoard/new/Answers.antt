@@ -1,5 +1,4 @@
-use Rattle.std.proofs.Common.{◌≡◌, ◌<◌, ℕ, [], length, map, replicate, ◌∙◌}
-use Rattle.split_tree.specs.SplitTree.{size}
+use Rattle.std.proofs.Common.{◌≡◌, [], length, map, replicate, ◌∙◌}
 use Rattle.split_tree.specs.Top.{top, top_nodes}
 use Rattle.mark_board.specs.declared.mark.Mark.TheVariants.{Open}
 use Rattle.mark_board.specs.Places.{worth_of}

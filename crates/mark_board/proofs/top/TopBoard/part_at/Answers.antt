@@ -1,5 +1,3 @@
-use Rattle.std.proofs.Common.{◌≡◌, ℕ, ◌∙◌, Some}
-use Rattle.split_tree.specs.SplitTree.{cube, subtree_at}
 use Rattle.split_tree.specs.Leaves.{IsLeafAt}
 use Rattle.split_tree.specs.Top.{top}
 use Rattle.split_tree.specs.declared.node.Leaf.TheVariants.{Cube}

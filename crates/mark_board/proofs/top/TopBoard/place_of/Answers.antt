@@ -1,9 +1,8 @@
-use Rattle.std.proofs.Common.{◌≡◌, ℕ, ◌<◌, ◌≤◌, ◌∙◌, sym, arith}
-use Rattle.split_tree.specs.SplitTree.{size, subtree_at, IsLeaf}
+use Rattle.std.proofs.Common.{◌≡◌, ◌∙◌, sym, arith}
 use Rattle.split_tree.specs.Top.{top}
 use Rattle.split_tree.specs.Rows.{AreBranches}
 use Rattle.mark_board.specs.Places.{top_node}
-use Rattle.mark_board.proofs.TopPlaces.{place_root, place_first, place_second, place_part, place_own, nodes_long, nodes_read}
+use Rattle.mark_board.proofs.TopPlaces.{place_root, place_first, place_second, place_own, nodes_long, nodes_read}
 use Rattle.mark_board.proofs.top.TopBoard.place_of.Goals as goal
 
 pub loop-node-init : goal.loop-node-init

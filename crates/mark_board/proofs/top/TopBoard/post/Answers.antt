@@ -1,10 +1,9 @@
-use Rattle.std.proofs.Common.{◌≡◌, ◌-◌, ◌∙◌, ℕ, [], get_or}
-use Rattle.split_tree.specs.SplitTree.{subtree_at, labels, branch}
+use Rattle.std.proofs.Common.{◌≡◌, ℕ, []}
 use Rattle.split_tree.specs.Top.{top}
 use Rattle.split_tree.specs.Leaves.{IsTargetAt}
 use Rattle.split_tree.proofs.Coding.{subtree-root}
 use Rattle.case_core.specs.Finding.{IsSound}
-use Rattle.mark_board.specs.Rows.{refuted_by, IsKept}
+use Rattle.mark_board.specs.Rows.{IsKept}
 use Rattle.mark_board.specs.Answers.{marks_after}
 use Rattle.mark_board.specs.Places.{mark_as}
 use Rattle.mark_board.proofs.Sounds.{sound_after, finding_sound}

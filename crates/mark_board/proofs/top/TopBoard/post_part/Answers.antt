@@ -1,11 +1,10 @@
-use Rattle.std.proofs.Common.{◌≡◌, ◌-◌, ◌∙◌, ℕ, [], get_or}
+use Rattle.std.proofs.Common.{◌≡◌, ℕ, []}
 use Rattle.cnf_text.specs.Formula.{IsRefuted}
-use Rattle.split_tree.specs.SplitTree.{subtree_at, labels, branch, path_at}
+use Rattle.split_tree.specs.SplitTree.{path_at}
 use Rattle.split_tree.specs.Top.{top}
 use Rattle.split_tree.proofs.Coding.{subtree-root}
 use Rattle.mark_board.specs.declared.mark.Mark.TheVariants.{Refuted}
-use Rattle.mark_board.specs.Rows.{refuted_by, IsKept}
-use Rattle.mark_board.specs.Answers.{marks_after}
+use Rattle.mark_board.specs.Rows.{IsKept}
 use Rattle.mark_board.specs.Places.{part_root, part_place}
 use Rattle.mark_board.proofs.Sounds.{sound_after}
 use Rattle.mark_board.proofs.TopPlaces.{path_of_top}

@@ -1,8 +1,7 @@
-use Rattle.std.proofs.Common.{◌≡◌, ◌==◌, ◌<◌, [], sym, ◌∙◌, arith}
-use Rattle.split_tree.specs.SplitTree.{size, subtree_at}
+use Rattle.std.proofs.Common.{◌<◌, [], sym, ◌∙◌, arith}
+use Rattle.split_tree.specs.SplitTree.{size}
 use Rattle.split_tree.specs.Top.{top}
 use Rattle.split_tree.proofs.Coding.{some_node, subtree-root}
-use Rattle.mark_board.specs.Marking.{marked}
 use Rattle.mark_board.specs.Rows.{refuted_by}
 use Rattle.mark_board.proofs.Posts.{kept_marked}
 use Rattle.mark_board.proofs.Sounds.{root_refuted}

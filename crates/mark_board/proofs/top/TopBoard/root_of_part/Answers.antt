@@ -1,5 +1,4 @@
-use Rattle.std.proofs.Common.{◌≡◌, ◌<◌, arith}
-use Rattle.split_tree.specs.SplitTree.{size}
+use Rattle.std.proofs.Common.{◌≡◌, arith}
 use Rattle.mark_board.specs.Places.{top_node}
 use Rattle.mark_board.proofs.TopPlaces.{nodes_long, nodes_read, node_within}
 use Rattle.mark_board.proofs.top.TopBoard.root_of_part.Goals as goal
