@@ -1,0 +1,13 @@
+use Rattle.std.proofs.Common.{◌-◌, ◌<◌}
+use Rattle.split_tree.specs.SplitTree.{size}
+use Rattle.split_tree.specs.Rows.{HasBelow}
+use Rattle.split_tree.specs.Top.{top}
+use Rattle.mark_board.specs.Places.{top_node}
+use Rattle.mark_board.proofs.top.TopBoard.place_of.Given as goal
+
+abbrev pub invariant-loop-node : goal.invariant-loop-node
+invariant-loop-node l =
+    (l.place < size (top l.self.cut l.self.case.now.tree)) × HasBelow l.self.case.now.tree (top_node l.self.cut l.self.case.now.tree l.place) l.node
+
+abbrev pub decreases-loop-node : goal.decreases-loop-node
+decreases-loop-node l = size (top l.self.cut l.self.case.now.tree) - l.place

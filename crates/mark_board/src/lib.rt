@@ -1,0 +1,21 @@
+//! The boards of a case: what is refuted, and how much is open below each node.
+#![tactic(auto)]
+
+mod laws;
+mod mark;
+mod part;
+mod rows;
+mod stored;
+mod top;
+mod walk;
+
+pub use laws::{
+    marked_has_no_model, marked_stays_marked, open_after_post, open_branches_add_up,
+    open_branches_are_apart, open_parts_add_up, parts_stand_on_top,
+    top_has_the_nodes_above_the_cut, top_marks_the_root,
+};
+pub use mark::Mark;
+pub use part::{PartAnswer, PartBoard, PartVerdict};
+pub use rows::{Answer, Rows};
+pub use stored::{PartData, TopData};
+pub use top::TopBoard;

@@ -1,0 +1,184 @@
+//! The board of a part.
+
+ghost use Rattle.std.specs.Prelude.{◌≡◌, ◌≢◌, ◌≤◌, ◌-◌, ◌<◌, ◌↔◌, ◌+◌, ℕ, IfOk};
+ghost use Rattle.cnf_text.specs.Formula.{IsRefuted};
+ghost use Rattle.split_tree.specs.SplitTree.{size, subtree_at, path_at};
+ghost use Rattle.split_tree.specs.Rows.{HasBelow};
+ghost use Rattle.mark_board.specs.Marking.{AreRefuted, marked, open_weight};
+ghost use Rattle.mark_board.specs.Rows.{IsKept, refuted_by, mark_at};
+ghost use Rattle.mark_board.specs.Places.{part_count, part_root, worth_of, mark_as};
+
+use crate::mark::Mark;
+use crate::rows::{Answer, Rows};
+use crate::stored::PartData;
+use case_core::{Case, Finding, Judged, NodeId};
+use std::alloc::{AllocError, Global};
+
+/// That a formula has no model together with the path of a part's root. Only a board whose root became marked makes one.
+#[derive(Drop)]
+pub struct PartVerdict<'c> {
+    case: &'c Case,
+    cut: u32,
+    part: u32,
+    pub ghost within: { part < part_count cut case.now.tree },
+    pub ghost refuted: { IsRefuted case.now.formula (path_at case.now.tree (part_root cut case.now.tree part)) },
+}
+
+impl<'c> PartVerdict<'c> {
+    /// The part's number, from 0 in tree order.
+    pub fn part(&self) -> u32
+        ensures { result ≡ self.now.part }
+    {
+        self.part
+    }
+}
+
+/// The mark that a judgement gives.
+pub fn mark_for(judged: Judged) -> Mark
+    ensures { result ≡ mark_as judged }
+{
+    match judged {
+        Judged::Refuted => Mark::Refuted,
+        Judged::Rejected { step, reason } => Mark::Rejected { step, reason },
+    }
+}
+
+/// What became of a finding on the board of a part.
+#[derive(Drop)]
+pub enum PartAnswer<'c> {
+    /// The target stands as the finding says.
+    Marked,
+    /// The same, and this marked the part's root.
+    RootMarked(PartVerdict<'c>),
+    /// The target had a finding: nothing changed.
+    Already,
+}
+
+/// The board of a part.
+#[derive(Drop)]
+pub struct PartBoard<'c> {
+    case: &'c Case,
+    cut: u32,
+    part: u32,
+    root: u32,
+    rows: Rows,
+    ghost within: { part < part_count cut case.now.tree },
+    ghost placed: { root ≡ part_root cut case.now.tree part },
+    ghost inside: { root < size case.now.tree },
+    ghost kept: { IsKept (subtree_at case.now.tree root) (λ place. worth_of case.now.tree (root + place)) rows.marks.items rows.weights.items },
+    ghost sound: { AreRefuted case.now.formula (refuted_by rows.marks.items) (path_at case.now.tree root) 0 (subtree_at case.now.tree root) },
+}
+
+impl<'c> PartBoard<'c> {
+    ghost use Rattle.std.specs.Prelude.{replicate};
+    ghost use Rattle.mark_board.specs.declared.rows.Answer.TheVariants.{RootMarked, Already};
+    ghost use Rattle.mark_board.specs.declared.mark.Mark.TheVariants.{Open};
+    ghost use Rattle.mark_board.specs.Answers.{marks_after, MarksRoot};
+    ghost use Rattle.mark_board.specs.Posted.{answer_of, IsVerdictOf};
+    ghost use Rattle.mark_board.specs.Stored.{IsPartData};
+
+    /// The board of a part of a case, with nothing marked.
+    pub fn new(
+        alloc: Global,
+        case: &'c Case,
+        cut: u32,
+        part: u32,
+        root: NodeId,
+    ) -> Result<PartBoard<'c>, AllocError>
+        requires part { part < part_count cut case.now.tree }
+        requires placed { root ≡ part_root cut case.now.tree part }
+        requires root { root < size case.now.tree }
+        ensures place { IfOk result (λ board. (board.case.now ≡ case.now) × (board.cut ≡ cut) × (board.part ≡ part) × (board.root ≡ root)) }
+        ensures marks { IfOk result (λ board. board.rows.marks.items ≡ replicate (size (subtree_at case.now.tree root)) Open) }
+    {
+        let tree = case.tree();
+        let end = tree.end_of(root) as usize;
+        let rows = Rows::new(alloc, &tree.weights()[root.index()..end])?;
+        Ok(PartBoard {
+            case,
+            cut,
+            part,
+            root: root.number(),
+            rows,
+        })
+    }
+
+    /// The board without its case.
+    pub fn unbind(self) -> PartData
+        ensures place { (result.cut ≡ self.entry.cut) × (result.part ≡ self.entry.part) × (result.root ≡ self.entry.root) }
+        ensures marks { result.rows.marks.items ≡ self.entry.rows.marks.items }
+        ensures stored { IsPartData self.entry.case.now result }
+    {
+        PartData {
+            cut: self.cut,
+            part: self.part,
+            root: self.root,
+            rows: self.rows,
+        }
+    }
+
+    /// The board of a case of which this is stored.
+    pub fn bind(case: &'c Case, stored: PartData) -> PartBoard<'c>
+        requires { IsPartData case.now stored }
+        ensures case { result.case.now ≡ case.now }
+        ensures place { (result.cut ≡ stored.cut) × (result.part ≡ stored.part) × (result.root ≡ stored.root) }
+        ensures marks { result.rows.marks.items ≡ stored.rows.marks.items }
+    {
+        PartBoard {
+            case,
+            cut: stored.cut,
+            part: stored.part,
+            root: stored.root,
+            rows: stored.rows,
+        }
+    }
+
+    /// What is posted of a node itself.
+    pub fn mark_of(&self, node: NodeId) -> Mark
+        requires { HasBelow self.now.case.now.tree self.now.root node }
+        ensures { result ≡ mark_at self.now.rows.marks.items (node - self.now.root) }
+    {
+        self.rows.mark_of(node.index() - self.root as usize)
+    }
+
+    /// Whether a node is marked.
+    pub fn node_marked(&self, node: NodeId) -> bool
+        requires { HasBelow self.now.case.now.tree self.now.root node }
+        ensures { result ≡ marked (refuted_by self.now.rows.marks.items) (node - self.now.root) (subtree_at self.now.case.now.tree node) }
+    {
+        self.rows.weight_of(node.index() - self.root as usize) == 0
+    }
+
+    /// The weight of the leaves under no marked node.
+    pub fn open_weight(&self) -> u64
+        ensures { result ≡ open_weight (λ place. worth_of self.now.case.now.tree (self.now.root + place)) (refuted_by self.now.rows.marks.items) 0 (subtree_at self.now.case.now.tree self.now.root) }
+    {
+        self.rows.weight_of(0)
+    }
+
+    /// Marks a finding's target as it says, if that has no finding yet.
+    pub fn post(&mut self, finding: &Finding<'c>) -> PartAnswer<'c>
+        requires case { finding.now.case.now ≡ self.old.case.now }
+        requires within { HasBelow self.old.case.now.tree self.old.root finding.now.node }
+        ensures same { (self.new.case.now ≡ self.old.case.now) × (self.new.cut ≡ self.old.cut) × (self.new.part ≡ self.old.part) × (self.new.root ≡ self.old.root) }
+        ensures marks { self.new.rows.marks.items ≡ marks_after (answer_of result) self.old.rows.marks.items (finding.now.node - self.old.root) (mark_as finding.now.judged) }
+        ensures verdict { IsVerdictOf result self.old.case.now self.old.cut self.old.part }
+        ensures already { (answer_of result ≡ Already) ↔ (mark_at self.old.rows.marks.items (finding.now.node - self.old.root) ≢ Open) }
+        ensures root { (answer_of result ≡ RootMarked) ↔ MarksRoot (subtree_at self.old.case.now.tree self.old.root) self.old.rows.marks.items self.new.rows.marks.items }
+    {
+        let case = self.case;
+        let root = self.root as usize;
+        let node = finding.node().index() - root;
+        let mark = mark_for(finding.judged());
+        let answer = self.rows.post(case.tree(), root, node, mark);
+        match answer {
+            Answer::Already => PartAnswer::Already,
+            Answer::Marked => PartAnswer::Marked,
+            Answer::RootMarked => PartAnswer::RootMarked(PartVerdict {
+                case,
+                cut: self.cut,
+                part: self.part,
+            }),
+        }
+    }
+}

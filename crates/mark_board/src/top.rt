@@ -1,0 +1,220 @@
+//! The top board.
+
+ghost use Rattle.std.specs.Prelude.{◌≡◌, ◌≢◌, ◌≤◌, ◌<◌, ◌↔◌, ◌+◌, ℕ, IfOk, IsTrue, [], map, length, slice_index};
+ghost use Rattle.std.specs.Coded.{Coded-set};
+ghost use Rattle.cnf_text.specs.Formula.{IsRefuted};
+ghost use Rattle.split_tree.specs.Code.{tree_code};
+ghost use Rattle.split_tree.specs.SplitTree.{size, subtree_at, path_at, IsSplit};
+ghost use Rattle.split_tree.specs.Rows.{HasBelow};
+ghost use Rattle.split_tree.specs.Top.{top, top_nodes};
+ghost use Rattle.mark_board.specs.Marking.{AreRefuted, marked, open_weight};
+ghost use Rattle.mark_board.specs.Rows.{IsKept, refuted_by, mark_at};
+ghost use Rattle.mark_board.specs.Places.{part_count, part_place, part_root, top_node, worth_of, mark_as, IsOwnPlace, IsPlaceOf, IsPartAt};
+
+use crate::mark::Mark;
+use crate::part::{PartVerdict, mark_for};
+use crate::rows::{Answer, Rows};
+use crate::stored::TopData;
+use case_core::{Case, Finding, Leaf, NodeId, Tree};
+use split_tree::Top;
+use std::alloc::{AllocError, Global};
+
+/// What the leaves under these nodes weigh together, for each of them.
+fn worths_of(alloc: Global, tree: &Tree, nodes: &[NodeId]) -> Result<Vec<u64>, AllocError>
+    requires { (i : ℕ) → i < length nodes.now → slice_index nodes.now i < size tree.now }
+    ensures { IfOk result (λ worths. worths.items ≡ map (worth_of tree.now) nodes.now) }
+{
+    let mut worths = Vec::new(alloc);
+    for node in nodes {
+        worths.push(tree.weight_under(*node))?;
+    }
+    Ok(worths)
+}
+
+/// The top board of a cut: the inner nodes above the cut, with the parts as its leaves.
+#[derive(Drop)]
+pub struct TopBoard<'c> {
+    case: &'c Case,
+    cut: u32,
+    above: Top,
+    rows: Rows,
+    ghost low: { cut ≤ 6 },
+    ghost nodes: { above.nodes.items ≡ top_nodes cut 0 case.now.tree },
+    ghost tree: { above.tree ≡ top cut case.now.tree } by { Coded-set tree_code above.tree (top cut case.now.tree) },
+    ghost kept: { IsKept (top cut case.now.tree) (λ place. worth_of case.now.tree (top_node cut case.now.tree place)) rows.marks.items rows.weights.items },
+    ghost sound: { AreRefuted case.now.formula (refuted_by rows.marks.items) [] 0 (top cut case.now.tree) },
+}
+
+impl<'c> TopBoard<'c> {
+    ghost use Rattle.std.specs.Prelude.{replicate};
+    ghost use Rattle.mark_board.specs.declared.rows.Answer.TheVariants.{RootMarked, Already};
+    ghost use Rattle.mark_board.specs.declared.mark.Mark.TheVariants.{Open, Refuted as refuted_mark};
+    ghost use Rattle.mark_board.specs.Answers.{marks_after, MarksRoot};
+    ghost use Rattle.mark_board.specs.Stored.{IsTopData};
+
+    /// The top board of a cut of a case, with nothing marked.
+    pub fn new(alloc: Global, case: &'c Case, cut: u32) -> Result<TopBoard<'c>, AllocError>
+        requires { cut ≤ 6 }
+        ensures place { IfOk result (λ board. (board.case.now ≡ case.now) × (board.cut ≡ cut)) }
+        ensures marks { IfOk result (λ board. board.rows.marks.items ≡ replicate (size (top cut case.now.tree)) Open) }
+    {
+        let above = case.tree().top(alloc, cut)?;
+        let worths = worths_of(alloc, case.tree(), &above.nodes)?;
+        let rows = Rows::new(alloc, &worths)?;
+        Ok(TopBoard {
+            case,
+            cut,
+            above,
+            rows,
+        })
+    }
+
+    /// The board without its case.
+    pub fn unbind(self) -> TopData
+        ensures place { result.cut ≡ self.entry.cut }
+        ensures marks { result.rows.marks.items ≡ self.entry.rows.marks.items }
+        ensures stored { IsTopData self.entry.case.now result }
+    {
+        TopData {
+            cut: self.cut,
+            above: self.above,
+            rows: self.rows,
+        }
+    }
+
+    /// The board of a case of which this is stored.
+    pub fn bind(case: &'c Case, stored: TopData) -> TopBoard<'c>
+        requires { IsTopData case.now stored }
+        ensures case { result.case.now ≡ case.now }
+        ensures place { result.cut ≡ stored.cut }
+        ensures marks { result.rows.marks.items ≡ stored.rows.marks.items }
+    {
+        TopBoard {
+            case,
+            cut: stored.cut,
+            above: stored.above,
+            rows: stored.rows,
+        }
+    }
+
+    /// The place of a part, by its number.
+    fn place_of_part(&self, part: u32) -> usize
+        requires { part < part_count self.now.cut self.now.case.now.tree }
+        ensures place { result ≡ part_place self.now.cut self.now.case.now.tree part }
+        ensures within { result < size (top self.now.cut self.now.case.now.tree) }
+    {
+        let _count = self.above.tree.missing_count();
+        self.above
+            .tree
+            .node_of_leaf(Leaf::Missing(part + 1))
+            .index()
+    }
+
+    /// How many parts the cut makes.
+    pub fn count_parts(&self) -> u32
+        ensures { result ≡ part_count self.now.cut self.now.case.now.tree }
+    {
+        self.above.tree.missing_count()
+    }
+
+    /// The node at the root of a part, by the part's number, from 0 in tree order.
+    pub fn root_of_part(&self, part: u32) -> NodeId
+        requires { part < part_count self.now.cut self.now.case.now.tree }
+        ensures value { result ≡ part_root self.now.cut self.now.case.now.tree part }
+        ensures within { result < size self.now.case.now.tree }
+    {
+        let place = self.place_of_part(part);
+        self.above.nodes[place]
+    }
+
+    /// The place of a node of the tree: its own, where it is an inner node above the cut, and otherwise that of its part.
+    pub fn place_of(&self, node: NodeId) -> usize
+        requires { node < size self.now.case.now.tree }
+        ensures { IsPlaceOf self.now.cut self.now.case.now.tree node result }
+    {
+        let _few = self.above.tree.size();
+        let mut place = 0;
+        while self.above.nodes[place].number() != node.number() {
+            let here = NodeId::new(place as u32);
+            let Some((first, second)) = self.above.tree.branches(here) else {
+                return place;
+            };
+            place = if node.number() < self.above.nodes[second.index()].number() {
+                first.index()
+            } else {
+                second.index()
+            };
+        }
+        place
+    }
+
+    /// The number of the part at a place, or `None` for an inner node above the cut.
+    pub fn part_at(&self, place: usize) -> Option<u32>
+        requires { place < size (top self.now.cut self.now.case.now.tree) }
+        ensures { IsPartAt self.now.cut self.now.case.now.tree place result }
+    {
+        let _few = self.above.tree.size();
+        match self.above.tree.leaf_at(NodeId::new(place as u32)) {
+            None => None,
+            Some(Leaf::Missing(number)) => Some(number - 1),
+            Some(Leaf::Cube(_)) => unreachable!(),
+        }
+    }
+
+    /// Marks a part as refuted, if it has no mark yet.
+    pub fn post_part(&mut self, verdict: &PartVerdict<'c>) -> Answer
+        requires case { verdict.now.case.now ≡ self.old.case.now }
+        requires cut { verdict.now.cut ≡ self.old.cut }
+        ensures same { (self.new.case.now ≡ self.old.case.now) × (self.new.cut ≡ self.old.cut) }
+        ensures marks { self.new.rows.marks.items ≡ marks_after result self.old.rows.marks.items (part_place self.old.cut self.old.case.now.tree verdict.now.part) refuted_mark }
+        ensures already { (result ≡ Already) ↔ (mark_at self.old.rows.marks.items (part_place self.old.cut self.old.case.now.tree verdict.now.part) ≢ Open) }
+        ensures root { (result ≡ RootMarked) ↔ MarksRoot (top self.old.cut self.old.case.now.tree) self.old.rows.marks.items self.new.rows.marks.items }
+    {
+        let place = self.place_of_part(verdict.part());
+        self.rows.post(&self.above.tree, 0, place, Mark::Refuted)
+    }
+
+    /// Marks the own node at a place as its finding says, if it has no mark yet.
+    pub fn post(&mut self, place: usize, finding: &Finding<'c>) -> Answer
+        requires case { finding.now.case.now ≡ self.old.case.now }
+        requires place { IsOwnPlace self.old.cut self.old.case.now.tree finding.now.node place }
+        ensures same { (self.new.case.now ≡ self.old.case.now) × (self.new.cut ≡ self.old.cut) }
+        ensures marks { self.new.rows.marks.items ≡ marks_after result self.old.rows.marks.items place (mark_as finding.now.judged) }
+        ensures already { (result ≡ Already) ↔ (mark_at self.old.rows.marks.items place ≢ Open) }
+        ensures root { (result ≡ RootMarked) ↔ MarksRoot (top self.old.cut self.old.case.now.tree) self.old.rows.marks.items self.new.rows.marks.items }
+    {
+        self.rows
+            .post(&self.above.tree, 0, place, mark_for(finding.judged()))
+    }
+
+    /// What is posted of the node or part at a place.
+    pub fn mark_of(&self, place: usize) -> Mark
+        requires { place < size (top self.now.cut self.now.case.now.tree) }
+        ensures { result ≡ mark_at self.now.rows.marks.items place }
+    {
+        self.rows.mark_of(place)
+    }
+
+    /// Whether the node or part at a place is marked.
+    pub fn place_marked(&self, place: usize) -> bool
+        requires { place < size (top self.now.cut self.now.case.now.tree) }
+        ensures { result ≡ marked (refuted_by self.now.rows.marks.items) place (subtree_at (top self.now.cut self.now.case.now.tree) place) }
+    {
+        self.rows.weight_of(place) == 0
+    }
+
+    /// Whether the tree's root is marked: then the formula has no model.
+    pub fn root_marked(&self) -> bool
+        ensures marked { result ≡ marked (refuted_by self.now.rows.marks.items) 0 (top self.now.cut self.now.case.now.tree) }
+        ensures no_model { IsTrue result → IsRefuted self.now.case.now.formula [] }
+    {
+        self.rows.weight_of(0) == 0
+    }
+
+    /// The weights of the parts under no marked node.
+    pub fn open_weight(&self) -> u64
+        ensures { result ≡ open_weight (λ place. worth_of self.now.case.now.tree (top_node self.now.cut self.now.case.now.tree place)) (refuted_by self.now.rows.marks.items) 0 (top self.now.cut self.now.case.now.tree) }
+    {
+        self.rows.weight_of(0)
+    }
+}

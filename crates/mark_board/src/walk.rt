@@ -1,0 +1,38 @@
+//! Ways down the tree below a root, by places from that root.
+
+ghost use Rattle.std.specs.Prelude.{ℕ, ◌≡◌, ◌+◌, ◌<◌, ◌≤◌, length, slice_index};
+ghost use Rattle.split_tree.specs.SplitTree.{size, subtree_at};
+ghost use Rattle.split_tree.specs.Rows.{IsBelow, HasBelow};
+ghost use Rattle.mark_board.specs.Rows.{StepsDown, Takes};
+
+use split_tree::{NodeId, Tree};
+
+/// The branch of a node that is, or leads to, a node below it.
+pub fn toward(tree: &Tree, root: usize, node: usize, target: usize) -> usize
+    requires root { root < size tree.now }
+    requires below { IsBelow (subtree_at tree.now root) node target }
+    ensures { StepsDown (subtree_at tree.now root) node target result }
+{
+    let _few = tree.size();
+    let here = NodeId::new((root + node) as u32);
+    let end = NodeId::new((root + target) as u32);
+    tree.toward(here, end).index() - root
+}
+
+/// Takes what is open below a node from it and from each node above it, down from the node `first`.
+pub fn cover(tree: &Tree, root: usize, weights: &mut [u64], first: usize, target: usize)
+    requires root { root < size tree.now }
+    requires long { length weights.old ≡ size (subtree_at tree.now root) }
+    requires first { HasBelow (subtree_at tree.now root) first target }
+    requires target { target < size (subtree_at tree.now root) }
+    requires enough { (j : ℕ) → first ≤ j → j < length weights.old → HasBelow (subtree_at tree.now root) j target → slice_index weights.old target ≤ slice_index weights.old j }
+    ensures { Takes (subtree_at tree.now root) first target (slice_index weights.old target) weights.old weights.new }
+{
+    let taken = weights[target];
+    let mut node = first;
+    while node < target {
+        weights[node] -= taken;
+        node = toward(tree, root, node, target);
+    }
+    weights[target] -= taken;
+}
