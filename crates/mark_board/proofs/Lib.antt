@@ -8,3 +8,4 @@ pub mod Worths
 pub mod TopPlaces
 pub mod PartPlaces
 pub mod Depths
+pub mod Apart
