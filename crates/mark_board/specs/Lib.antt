@@ -5,3 +5,4 @@ pub mod Places
 pub mod Posted
 pub mod Laws
 pub mod Stored
+pub mod Boards
