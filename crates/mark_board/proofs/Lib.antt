@@ -10,3 +10,4 @@ pub mod PartPlaces
 pub mod Depths
 pub mod Apart
 pub mod Joined
+pub mod Branches

@@ -20,7 +20,7 @@ use Rattle.mark_board.proofs.Marks.{open_sum}
 abbrev pub AddsUp : (ℕ → ℕ) → SplitTree → Type 0
 AddsUp worth tree = (i v : ℕ) (p n : SplitTree) → i < size tree → subtree_at tree i ≡ split v p n → worth i ≡ worth (suc i) + worth (suc (i + size p))
 
-whole_at : (worth : ℕ → ℕ) (tree : SplitTree) → AddsUp worth tree → (i : ℕ) (t : SplitTree) → i < size tree → subtree_at tree i ≡ t →
+pub whole_at : (worth : ℕ → ℕ) (tree : SplitTree) → AddsUp worth tree → (i : ℕ) (t : SplitTree) → i < size tree → subtree_at tree i ≡ t →
     worth i ≡ whole_weight worth i t
 whole_at worth tree h i missing l e = refl
 whole_at worth tree h i (cube k) l e = refl
