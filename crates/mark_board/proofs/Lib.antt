@@ -9,3 +9,4 @@ pub mod TopPlaces
 pub mod PartPlaces
 pub mod Depths
 pub mod Apart
+pub mod BoardRows

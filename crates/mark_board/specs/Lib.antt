@@ -5,3 +5,5 @@ pub mod Places
 pub mod Posted
 pub mod Laws
 pub mod Stored
+pub mod Board
+pub mod Kinds
