@@ -9,7 +9,7 @@ use Rattle.hint_check.specs.Judgement.{judged_by, judgement}
 use Rattle.hint_check.specs.declared.Judged.{Judged}
 use Rattle.hint_check.specs.declared.Judged.TheVariants.{Refuted}
 use Rattle.split_tree.specs.Leaves.{IsPathOf, IsTargetAt}
-use Rattle.split_tree.specs.SplitTree.{path_at}
+use Rattle.split_tree.specs.SplitTree.{SplitTree, path_at}
 use Rattle.split_tree.specs.declared.node.Target.{Target}
 use Rattle.case_core.specs.Case.{CaseOf, proof_for}
 use Rattle.case_core.specs.Finding.{IsJudged, IsFinding, IsSound, HasSection}
@@ -47,3 +47,15 @@ is_found case target proof judged once found j = (
       ∙ ap (λ p. judgement case.formula path (proof_of p)) (some_proof proof other (sym found ∙ is)),
   λ refuted path of. subst (λ (p : List Literal). IsRefuted case.formula p) (one_path case target j.path path once j.of_target of) (j.refuted refuted),
 )
+
+-- where a target stands, the node's number given twice
+pub stands_there : (a b : SplitTree) (node number : ℕ) (target : Target) → a ≡ b → number ≡ node → IsTargetAt a node target → IsTargetAt b number target
+stands_there a b node number target tree is here = subst (λ (t : SplitTree). IsTargetAt t number target) tree (rw is here)
+
+-- what is found of a target, of the same target otherwise named
+pub found_of : (case : CaseOf) (target other : Target) (node : ℕ) (judged : Judged) → other ≡ target
+    → HasSection case target × IsFinding case target judged × IsSound case target judged → IsTargetAt case.tree node target
+    → IsTargetAt case.tree node other × HasSection case other × IsFinding case other judged × IsSound case other judged
+found_of case target other node judged same found here =
+    subst (λ (t : Target). IsTargetAt case.tree node t × HasSection case t × IsFinding case t judged × IsSound case t judged) (sym same)
+    (here, found.0, found.1, found.2)

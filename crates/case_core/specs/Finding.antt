@@ -1,5 +1,5 @@
 -- What is found of a target: the judgement of its section.
-use Rattle.std.specs.Prelude.{◌≡◌, ◌≢◌, ℕ, List, None, Some}
+use Rattle.std.specs.Prelude.{◌≡◌, ◌≢◌, ℕ, List, Option, None, Some}
 use Rattle.std.specs.Coded.{×_prop, Unit-prop, le_prop, Coded-set, coded_ℕ}
 use Rattle.cnf_text.specs.Literal.{Literal}
 use Rattle.cnf_text.specs.Formula.{IsRefuted}
@@ -10,10 +10,16 @@ use Rattle.hint_check.specs.declared.Judged.TheVariants.{Refuted}
 use Rattle.split_tree.specs.Leaves.{IsPathOf, IsTargetAt}
 use Rattle.split_tree.specs.Code.{tree_code}
 use Rattle.split_tree.specs.SplitTree.{SplitTree, missing, cube, split, subtree_at, IsSplit}
+use Rattle.split_tree.specs.declared.node.Leaf.{Leaf}
 use Rattle.split_tree.specs.declared.node.Leaf.TheVariants.{Cube, Missing}
 use Rattle.split_tree.specs.declared.node.Target.{Target}
-use Rattle.split_tree.specs.declared.node.Target.TheVariants.{Leaf, Node}
+use Rattle.split_tree.specs.declared.node.Target.TheVariants.{Leaf as Named, Node}
 use Rattle.case_core.specs.Case.{CaseOf, proof_for}
+
+-- the target that a finding is of: its leaf, or else the inner node with its number
+abbrev pub target_of : Option Leaf → ℕ → Target
+target_of (Some leaf) node = Named leaf
+target_of None node = Node node
 
 -- the target's section is judged so: from the formula and the literals of the target's path
 abbrev pub IsFinding : CaseOf → Target → Judged → Type 0
@@ -43,7 +49,7 @@ IsSplit-prop (cube k) = λ x y. absurd x
 IsSplit-prop (split v positive negative) = Unit-prop
 
 pub IsTargetAt-prop : (tree : SplitTree) (node : ℕ) (target : Target) → IsProp (IsTargetAt tree node target)
-IsTargetAt-prop tree node (Leaf (Cube k)) = ×_prop le_prop (Coded-set tree_code (subtree_at tree node) (cube k))
-IsTargetAt-prop tree node (Leaf (Missing j)) =
+IsTargetAt-prop tree node (Named (Cube k)) = ×_prop le_prop (Coded-set tree_code (subtree_at tree node) (cube k))
+IsTargetAt-prop tree node (Named (Missing j)) =
     λ x y i. (le_prop x.0 y.0 i, le_prop x.1 y.1 i, Coded-set coded_ℕ _ _ x.2 y.2 i)
 IsTargetAt-prop tree node (Node inner) = λ x y i. (Coded-set coded_ℕ _ _ x.0 y.0 i, le_prop x.1 y.1 i, IsSplit-prop (subtree_at tree node) x.2 y.2 i)

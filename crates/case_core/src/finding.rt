@@ -1,26 +1,29 @@
 //! What is found of a target.
 
-ghost use Rattle.std.specs.Prelude.{◌≡◌, IfOk, MatchOption, None};
+ghost use Rattle.std.specs.Prelude.{◌≡◌, ℕ, IfOk, MatchOption, None};
 ghost use Rattle.split_tree.specs.Leaves.{HasTarget, IsTargetAt};
+ghost use Rattle.split_tree.specs.SplitTree.{SplitTree};
 ghost use Rattle.case_core.specs.Case.{proof_for};
-ghost use Rattle.case_core.specs.Finding.{IsFinding, HasSection, IsSound, IsJudged, IsTargetAt-prop};
+ghost use Rattle.case_core.specs.Finding.{IsFinding, HasSection, IsSound, IsJudged, IsTargetAt-prop, target_of};
 
 use crate::case::Case;
 use hint_check::{Checker, Judged};
-use split_tree::{NodeId, Target};
+use split_tree::{Leaf, NodeId, Target};
 use std::alloc::{AllocError, Global};
 
 /// The judgement of a target's section in its case. Only `examine` makes one.
 #[derive(Drop)]
 pub struct Finding<'c> {
     case: &'c Case,
-    target: Target,
-    node: NodeId,
+    /// The leaf that it is of, or `None` for an inner node.
+    leaf: Option<Leaf>,
+    /// The number of the node at which the target stands.
+    node: u32,
     judged: Judged,
-    pub ghost here: { IsTargetAt case.now.tree node target } by { IsTargetAt-prop case.now.tree node target },
-    pub ghost has_section: { HasSection case.now target },
-    pub ghost is: { IsFinding case.now target judged },
-    pub ghost sound: { IsSound case.now target judged },
+    pub ghost here: { IsTargetAt case.now.tree node (target_of leaf node) } by { IsTargetAt-prop case.now.tree node (target_of leaf node) },
+    pub ghost has_section: { HasSection case.now (target_of leaf node) },
+    pub ghost is: { IsFinding case.now (target_of leaf node) judged },
+    pub ghost sound: { IsSound case.now (target_of leaf node) judged },
 }
 
 impl<'c> Finding<'c> {
@@ -33,23 +36,26 @@ impl<'c> Finding<'c> {
 
     /// Its target.
     pub fn target(&self) -> Target
-        ensures { result ≡ self.now.target }
+        ensures { result ≡ target_of self.now.leaf self.now.node }
     {
-        self.target
+        match self.leaf {
+            Some(leaf) => Target::Leaf(leaf),
+            None => Target::Node(NodeId::new(self.node)),
+        }
     }
 
     /// The node at which the target stands.
     pub fn node(&self) -> NodeId
         ensures value { result ≡ self.now.node }
-        ensures here { IsTargetAt self.now.case.now.tree result self.now.target }
+        ensures here { IsTargetAt self.now.case.now.tree result (target_of self.now.leaf self.now.node) }
     {
-        self.node
+        NodeId::new(self.node)
     }
 
     /// What is said of the target's proof.
     pub fn judged(&self) -> Judged
         ensures value { result ≡ self.now.judged }
-        ensures is { IsFinding self.now.case.now self.now.target result }
+        ensures is { IsFinding self.now.case.now (target_of self.now.leaf self.now.node) result }
     {
         self.judged
     }
@@ -64,20 +70,30 @@ pub fn examine<'c>(
 ) -> Result<Option<Finding<'c>>, AllocError>
     requires { HasTarget case.now.tree target }
     ensures { IfOk result (λ found. MatchOption found (proof_for case.now.sections target ≡ None)
-        (λ finding. HasSection case.now target × (finding.case.now ≡ case.now) × (finding.target ≡ target) × IsFinding case.now target finding.judged)) }
+        (λ finding. HasSection case.now target × (finding.case.now ≡ case.now) × (target_of finding.leaf finding.node ≡ target) × IsFinding case.now target finding.judged)) }
 {
     let asked = target;
     let placed = target;
     let Some(judged) = judged_in(alloc, case, asked)? else {
         return Ok(None);
     };
-    let node = case.tree().node_of_target(placed);
+    let node = case.tree().node_of_target(placed).number();
     Ok(Some(Finding {
         case,
-        target,
+        leaf: leaf_of(target),
         node,
         judged,
     }))
+}
+
+/// The leaf of a target, or `None` where it is an inner node.
+fn leaf_of(target: Target) -> Option<Leaf>
+    ensures { (tree : SplitTree) (node : ℕ) → IsTargetAt tree node target → target_of result node ≡ target }
+{
+    match target {
+        Target::Leaf(leaf) => Some(leaf),
+        Target::Node(_) => None,
+    }
 }
 
 /// What is said of the target's proof, if it has one.

@@ -1,16 +1,16 @@
 -- A node of the tree has one place on the top board.
-use Rattle.std.proofs.Common.{◌≡◌, ◌≢◌, ℕ, zero, suc, ◌+◌, ◌-◌, ◌<◌, ◌≤◌, ◌⊎◌, List, [], ◌∷◌, length, get_or, refl, sym, ap, ◌∙◌, arith, inl, inr}
+use Rattle.std.proofs.Common.{◌≡◌, ℕ, zero, suc, ◌+◌, ◌-◌, ◌<◌, ◌≤◌, ◌⊎◌, List, [], ◌∷◌, length, get_or, refl, arith, inl, inr}
 use Rattle.std.proofs.lemmas.Bool.{cases_lt, cases_eq}
 use Rattle.std.proofs.lemmas.List.{get_or_append_left, get_or-append_right}
 use Rattle.split_tree.specs.SplitTree.{SplitTree, missing, cube, split, size, subtrees, subtree_at, IsSplit}
-use Rattle.split_tree.specs.Leaves.{missing_from, missing_nodes}
+use Rattle.split_tree.specs.Leaves.{missing_from}
 use Rattle.split_tree.specs.Top.{top, top_nodes}
 use Rattle.split_tree.proofs.Coding.{branches_at, subtree-root, some_node, in_positive, in_negative}
 use Rattle.split_tree.proofs.Labels.{nested}
 use Rattle.split_tree.proofs.Leaves.{missing_is}
 use Rattle.mark_board.specs.Places.{top_node, part_count, part_place, IsPlaceOf}
 use Rattle.mark_board.proofs.Tops.{length-top_nodes}
-use Rattle.mark_board.proofs.TopPlaces.{top_within, node_within}
+use Rattle.mark_board.proofs.TopPlaces.{top_within}
 
 -- ---- the nodes at the places rise, and those of a part lie before the node at the next place
 

@@ -11,3 +11,4 @@ pub mod Depths
 pub mod Apart
 pub mod Joined
 pub mod Branches
+pub mod BoardRows

@@ -6,3 +6,5 @@ pub mod Posted
 pub mod Laws
 pub mod Stored
 pub mod Boards
+pub mod Board
+pub mod Kinds

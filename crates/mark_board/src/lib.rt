@@ -1,14 +1,18 @@
 //! The boards of a case: what is refuted, and how much is open below each node.
 #![tactic(auto)]
 
+mod board;
+mod kind;
 mod laws;
 mod mark;
 mod part;
+mod place;
 mod rows;
 mod stored;
 mod top;
 mod walk;
 
+pub use board::Board;
 pub use laws::{
     marked_has_no_model, marked_stays_marked, open_after_post, open_branches_add_up,
     open_branches_are_apart, open_parts_add_up, parts_stand_on_top,
@@ -16,6 +20,7 @@ pub use laws::{
 };
 pub use mark::Mark;
 pub use part::{PartAnswer, PartBoard, PartVerdict};
+pub use place::Place;
 pub use rows::{Answer, Rows};
 pub use stored::{PartData, TopData};
 pub use top::TopBoard;

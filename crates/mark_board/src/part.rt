@@ -9,6 +9,7 @@ ghost use Rattle.mark_board.specs.Rows.{IsKept, refuted_by, mark_at};
 ghost use Rattle.mark_board.specs.Places.{part_count, part_root, worth_of, mark_as};
 
 use crate::mark::Mark;
+use crate::place::Place;
 use crate::rows::{Answer, Rows};
 use crate::stored::PartData;
 use case_core::{Case, Finding, Judged, NodeId};
@@ -73,6 +74,7 @@ impl<'c> PartBoard<'c> {
     ghost use Rattle.std.specs.Prelude.{replicate};
     ghost use Rattle.mark_board.specs.declared.rows.Answer.TheVariants.{RootMarked, Already};
     ghost use Rattle.mark_board.specs.declared.mark.Mark.TheVariants.{Open};
+    ghost use Rattle.mark_board.specs.declared.place.Place.TheVariants.{Part};
     ghost use Rattle.mark_board.specs.Answers.{marks_after, MarksRoot};
     ghost use Rattle.mark_board.specs.Posted.{answer_of, IsVerdictOf};
     ghost use Rattle.mark_board.specs.Stored.{IsPartData};
@@ -133,6 +135,20 @@ impl<'c> PartBoard<'c> {
         }
     }
 
+    /// Its case.
+    pub fn case(&self) -> &'c Case
+        ensures { result.now ≡ self.now.case.now }
+    {
+        self.case
+    }
+
+    /// Its place.
+    pub fn place(&self) -> Place
+        ensures { result ≡ Part self.now.part }
+    {
+        Place::Part(self.part)
+    }
+
     /// What is posted of a node itself.
     pub fn mark_of(&self, node: NodeId) -> Mark
         requires { HasBelow self.now.case.now.tree self.now.root node }
@@ -147,6 +163,14 @@ impl<'c> PartBoard<'c> {
         ensures { result ≡ marked (refuted_by self.now.rows.marks.items) (node - self.now.root) (subtree_at self.now.case.now.tree node) }
     {
         self.rows.weight_of(node.index() - self.root as usize) == 0
+    }
+
+    /// The weight of the leaves under a node that lie under no marked node from there on.
+    pub fn open_under(&self, node: NodeId) -> u64
+        requires { HasBelow self.now.case.now.tree self.now.root node }
+        ensures { result ≡ open_weight (λ place. worth_of self.now.case.now.tree (self.now.root + place)) (refuted_by self.now.rows.marks.items) (node - self.now.root) (subtree_at self.now.case.now.tree node) }
+    {
+        self.rows.weight_of(node.index() - self.root as usize)
     }
 
     /// The weight of the leaves under no marked node.

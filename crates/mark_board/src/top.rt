@@ -110,6 +110,13 @@ impl<'c> TopBoard<'c> {
             .index()
     }
 
+    /// Its case.
+    pub fn case(&self) -> &'c Case
+        ensures { result.now ≡ self.now.case.now }
+    {
+        self.case
+    }
+
     /// How many parts the cut makes.
     pub fn count_parts(&self) -> u32
         ensures { result ≡ part_count self.now.cut self.now.case.now.tree }
@@ -209,6 +216,14 @@ impl<'c> TopBoard<'c> {
         ensures no_model { IsTrue result → IsRefuted self.now.case.now.formula [] }
     {
         self.rows.weight_of(0) == 0
+    }
+
+    /// The weights of the parts under the node at a place that lie under no marked node from there on.
+    pub fn open_under(&self, place: usize) -> u64
+        requires { place < size (top self.now.cut self.now.case.now.tree) }
+        ensures { result ≡ open_weight (λ place. worth_of self.now.case.now.tree (top_node self.now.cut self.now.case.now.tree place)) (refuted_by self.now.rows.marks.items) place (subtree_at (top self.now.cut self.now.case.now.tree) place) }
+    {
+        self.rows.weight_of(place)
     }
 
     /// The weights of the parts under no marked node.

@@ -1,12 +1,15 @@
-use Rattle.std.proofs.Common.{subst}
-use Rattle.split_tree.specs.SplitTree.{SplitTree}
-use Rattle.split_tree.specs.Leaves.{IsTargetAt}
+use Rattle.std.proofs.Common.{refl}
+use Rattle.case_core.proofs.Findings.{stands_there, found_of}
 use Rattle.case_core.proofs.finding.examine.Goals as goal
 
 pub invariant_of-result : goal.invariant_of-result
-invariant_of-result c = let found = rw c.in-Some.is at c.in_ok-judged.ensures in record {
-  here = subst (λ (tree : SplitTree). IsTargetAt tree c.node_of_target-node.result c.args.target) c.tree.ensures.tree c.node_of_target-node.ensures.here;
-  has_section = found.0;
-  is = found.1;
-  sound = found.2;
-}
+invariant_of-result c =
+    let here = stands_there _ _ _ c.number-node.result c.args.target c.tree.ensures.tree c.number-node.ensures c.node_of_target.ensures.here in
+    let found = found_of c.args.case.now c.args.target _ c.number-node.result c.in-Some.judged (c.leaf_of.ensures _ _ here)
+    (rw c.in-Some.is at c.in_ok-judged.ensures) here in
+    record { here = found.0; has_section = found.1; is = found.2; sound = found.3 }
+
+pub returns : goal.returns
+returns c =
+    let here = stands_there _ _ _ c.number-node.result c.args.target c.tree.ensures.tree c.number-node.ensures c.node_of_target.ensures.here in
+    let found = rw c.in-Some.is at c.in_ok-judged.ensures in (found.0, refl, c.leaf_of.ensures _ _ here, found.1)

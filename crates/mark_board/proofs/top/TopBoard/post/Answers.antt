@@ -2,7 +2,7 @@ use Rattle.std.proofs.Common.{◌≡◌, ℕ, []}
 use Rattle.split_tree.specs.Top.{top}
 use Rattle.split_tree.specs.Leaves.{IsTargetAt}
 use Rattle.split_tree.proofs.Coding.{subtree-root}
-use Rattle.case_core.specs.Finding.{IsSound}
+use Rattle.case_core.specs.Finding.{IsSound, target_of}
 use Rattle.mark_board.specs.Rows.{IsKept}
 use Rattle.mark_board.specs.Answers.{marks_after}
 use Rattle.mark_board.specs.Places.{mark_as}
@@ -23,8 +23,8 @@ pub invariant_of-self : goal.invariant_of-self
 invariant_of-self c =
     let board = c.args.self.now in
     let finding = c.args.finding.now in
-    let sound : IsSound board.case.now finding.target finding.judged = rw c.requires.case at finding.sound in
-    let here : IsTargetAt board.case.now.tree finding.node finding.target = rw c.requires.case at finding.here in
+    let sound : IsSound board.case.now (target_of finding.leaf finding.node) finding.judged = rw c.requires.case at finding.sound in
+    let here : IsTargetAt board.case.now.tree finding.node (target_of finding.leaf finding.node) = rw c.requires.case at finding.here in
     let marks : c.post.new.self.marks.items ≡ marks_after c.post.result board.rows.marks.items c.args.place (mark_as finding.judged) =
     rw (c.mark_for.ensures, c.judged.ensures.value) at c.post.ensures.marks in
     let kept : (worth : ℕ → ℕ) → IsKept (top board.cut board.case.now.tree) worth board.rows.marks.items board.rows.weights.items →
@@ -37,5 +37,5 @@ invariant_of-self c =
       kept = kept _ board.kept;
       sound = rw marks (sound_after board.case.now.formula [] (top board.cut board.case.now.tree) c.args.place board.rows.marks.items (mark_as finding.judged)
           c.post.result (λ m l. rw (path_of_top board.case.now.tree board.cut c.args.place l, c.requires.place.here)
-          (finding_sound board.case.now finding.target finding.judged finding.node sound here m)) board.sound);
+          (finding_sound board.case.now (target_of finding.leaf finding.node) finding.judged finding.node sound here m)) board.sound);
     }

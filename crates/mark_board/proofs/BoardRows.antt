@@ -1,0 +1,139 @@
+-- The rows of a board of either kind, and what they say of their nodes.
+use Rattle.std.proofs.Common.{◌≡◌, ℕ, ◌+◌, ◌-◌, ◌<◌, ◌≤◌, List, [], get_or, Bool, true, sym, ap, ◌∙◌, arith, zero-add}
+use Rattle.cnf_text.specs.Literal.{Literal}
+use Rattle.cnf_text.specs.Formula.{IsRefuted}
+use Rattle.split_tree.specs.SplitTree.{SplitTree, size, subtree_at, labels, branch, path_at}
+use Rattle.split_tree.specs.Rows.{HasBelow}
+use Rattle.split_tree.specs.Leaves.{IsTargetAt}
+use Rattle.split_tree.specs.declared.node.Target.{Target}
+use Rattle.split_tree.specs.Top.{top}
+use Rattle.split_tree.proofs.Coding.{some_node}
+use Rattle.split_tree.proofs.Labels.{inside, below, label_below}
+use Rattle.mark_board.specs.declared.part.PartBoard.{PartBoard}
+use Rattle.mark_board.specs.declared.top.TopBoard.{TopBoard}
+use Rattle.mark_board.specs.declared.mark.Mark.{Mark}
+use Rattle.mark_board.specs.declared.mark.Mark.TheVariants.{Refuted}
+use Rattle.mark_board.specs.declared.kind.Kind.TheVariants.{Part as part_kind, Top as top_kind}
+use Rattle.mark_board.specs.Marking.{marked, open_weight, AreRefuted}
+use Rattle.mark_board.specs.Rows.{is_refuted, refuted_by, mark_at}
+use Rattle.mark_board.specs.Places.{part_root, top_node, worth_of, IsPlaceOf}
+use Rattle.mark_board.specs.Board.{BoardOf, IsRowOn, tree_on, worth_on}
+use Rattle.mark_board.specs.Kinds.{board_of}
+use Rattle.mark_board.proofs.Marks.{marked_refuted}
+use Rattle.mark_board.proofs.TopPlaces.{path_of_top, node_within}
+use Rattle.mark_board.proofs.Apart.{place_once}
+
+-- the row of a target's node is that of the node that is found for it
+pub target_row : (board : BoardOf) (tree : SplitTree) (target : Target) (found : ℕ) → tree ≡ board.case.tree →
+    ((node : ℕ) → IsTargetAt tree node target → node ≡ found) → (node row : ℕ) → IsTargetAt board.case.tree node target → IsRowOn board node row →
+    IsRowOn board found row
+target_row board tree target found e only node row here at =
+    let same : (i : ℕ) → IsTargetAt board.case.tree i target → i ≡ found = rw e at only in rw (same node here) at at
+
+-- ---- the board of a part
+
+pub record IsPartRow (board : PartBoard) (node row : ℕ) : Type 0 where
+  pub within : row < size (subtree_at board.case.now.tree board.root)
+  pub has_below : HasBelow board.case.now.tree board.root node
+  pub is : node - board.root ≡ row
+  pub there : board.root + row ≡ node
+
+pub part_row : (board : PartBoard) (node row : ℕ) → IsRowOn (board_of (part_kind board)) node row → IsPartRow board node row
+part_row board node row at =
+    let w : row < size (subtree_at board.case.now.tree board.root) = rw board.placed at.within in
+    let h : board.root + row ≡ node = rw board.placed at.here in record {
+      within = w;
+      has_below = record { reached = omega arith; before_end = omega arith };
+      is = omega arith;
+      there = h;
+    }
+
+part_tree : (board : PartBoard) (node row : ℕ) → IsPartRow board node row →
+    subtree_at board.case.now.tree node ≡ subtree_at (subtree_at board.case.now.tree board.root) row
+part_tree board node row p =
+    ap (λ (i : ℕ). subtree_at board.case.now.tree i) (sym p.there) ∙ below board.case.now.tree board.root row board.inside p.within
+
+pub part_marked : (board : PartBoard) (node row : ℕ) (x : Bool) → IsRowOn (board_of (part_kind board)) node row →
+    x ≡ marked (refuted_by board.rows.marks.items) (node - board.root) (subtree_at board.case.now.tree node) →
+    x ≡ marked (refuted_by board.rows.marks.items) row (subtree_at (tree_on (board_of (part_kind board))) row)
+part_marked board node row x at e =
+    let p = part_row board node row at in rw (← board.placed) (rw (p.is, part_tree board node row p) at e)
+
+pub part_open : (board : PartBoard) (node row x : ℕ) → IsRowOn (board_of (part_kind board)) node row →
+    x ≡ open_weight (λ place. worth_of board.case.now.tree (board.root + place)) (refuted_by board.rows.marks.items) (node - board.root) (subtree_at board.case.now.tree node) →
+    x ≡ open_weight (worth_on (board_of (part_kind board))) (refuted_by board.rows.marks.items) row (subtree_at (tree_on (board_of (part_kind board))) row)
+part_open board node row x at e =
+    let p = part_row board node row at in
+    let root : ℕ = part_root board.cut board.case.now.tree board.part in
+    let k : x ≡ open_weight (λ place. worth_of board.case.now.tree (root + place)) (refuted_by board.rows.marks.items) row
+    (subtree_at (subtree_at board.case.now.tree root) row) = rw (← board.placed) (rw (p.is, part_tree board node row p) at e) in
+    k
+
+-- ---- the top board
+
+pub top_place : (board : TopBoard) (node row : ℕ) → IsRowOn (board_of (top_kind board)) node row → IsPlaceOf board.cut board.case.now.tree node row
+top_place board node row at =
+    let h : top_node board.cut board.case.now.tree row ≡ node = at.here in
+    let s : 1 ≤ size (subtree_at board.case.now.tree (top_node board.cut board.case.now.tree row)) =
+    some_node (subtree_at board.case.now.tree (top_node board.cut board.case.now.tree row)) in
+    record {
+      within = at.within;
+      below = record { reached = omega arith; before_end = omega arith };
+      own = λ is. h;
+    }
+
+pub top_row : (board : TopBoard) (node row place : ℕ) → IsRowOn (board_of (top_kind board)) node row → IsPlaceOf board.cut board.case.now.tree node place → place ≡ row
+top_row board node row place at is = place_once board.cut board.case.now.tree node place row is (top_place board node row at)
+
+pub top_inside : (board : TopBoard) (node row : ℕ) → IsRowOn (board_of (top_kind board)) node row → node < size board.case.now.tree
+top_inside board node row at = rw at.here at (node_within board.case.now.tree board.cut row at.within)
+
+-- ---- what is marked has no model
+
+sound_below : (formula : List (List Literal)) (refuted : ℕ → Bool) (path : List Literal) (t : SplitTree) (row : ℕ) → AreRefuted formula refuted path 0 t →
+    row < size t → AreRefuted formula refuted (get_or (labels branch path t) row []) row (subtree_at t row)
+sound_below formula refuted path t row s h r l k =
+    let i : row + size (subtree_at t row) ≤ size t = inside t row h in
+    rw (label_below branch [] path t row r h l) at (s (row + r) (omega arith) (rw (zero-add (row + r)) k))
+
+sound_row : (formula : List (List Literal)) (refuted : ℕ → Bool) (path : List Literal) (t : SplitTree) (row : ℕ) → AreRefuted formula refuted path 0 t →
+    row < size t → marked refuted row (subtree_at t row) ≡ true → IsRefuted formula (get_or (labels branch path t) row [])
+sound_row formula refuted path t row s h m =
+    marked_refuted formula refuted (get_or (labels branch path t) row []) row (subtree_at t row) (sound_below formula refuted path t row s h) m
+
+sound_mark : (formula : List (List Literal)) (marks : List Mark) (path : List Literal) (t : SplitTree) (row : ℕ) → AreRefuted formula (refuted_by marks) path 0 t →
+    row < size t → mark_at marks row ≡ Refuted → IsRefuted formula (get_or (labels branch path t) row [])
+sound_mark formula marks path t row s h m = s row h (rw (zero-add row) (ap is_refuted m))
+
+part_path : (board : PartBoard) (node row : ℕ) → IsPartRow board node row →
+    get_or (labels branch (path_at board.case.now.tree board.root) (subtree_at board.case.now.tree board.root)) row [] ≡ path_at board.case.now.tree node
+part_path board node row p =
+    sym (label_below branch [] [] board.case.now.tree board.root row board.inside p.within) ∙ ap (λ (i : ℕ). path_at board.case.now.tree i) p.there
+
+pub part_sound_marked : (board : PartBoard) (node row : ℕ) → IsRowOn (board_of (part_kind board)) node row →
+    marked (refuted_by board.rows.marks.items) row (subtree_at (tree_on (board_of (part_kind board))) row) ≡ true →
+    IsRefuted board.case.now.formula (path_at board.case.now.tree node)
+part_sound_marked board node row at m =
+    let p = part_row board node row at in
+    rw (part_path board node row p) at (sound_row board.case.now.formula (refuted_by board.rows.marks.items) (path_at board.case.now.tree board.root)
+    (subtree_at board.case.now.tree board.root) row board.sound p.within (rw (← board.placed) at m))
+
+pub part_sound_mark : (board : PartBoard) (node row : ℕ) → IsRowOn (board_of (part_kind board)) node row → mark_at board.rows.marks.items row ≡ Refuted →
+    IsRefuted board.case.now.formula (path_at board.case.now.tree node)
+part_sound_mark board node row at m =
+    let p = part_row board node row at in
+    rw (part_path board node row p) at (sound_mark board.case.now.formula board.rows.marks.items (path_at board.case.now.tree board.root)
+    (subtree_at board.case.now.tree board.root) row board.sound p.within m)
+
+pub top_sound_marked : (board : TopBoard) (node row : ℕ) → IsRowOn (board_of (top_kind board)) node row →
+    marked (refuted_by board.rows.marks.items) row (subtree_at (top board.cut board.case.now.tree) row) ≡ true →
+    IsRefuted board.case.now.formula (path_at board.case.now.tree node)
+top_sound_marked board node row at m =
+    rw (path_of_top board.case.now.tree board.cut row at.within, at.here) at (sound_row board.case.now.formula (refuted_by board.rows.marks.items) []
+    (top board.cut board.case.now.tree) row board.sound at.within m)
+
+pub top_sound_mark : (board : TopBoard) (node row : ℕ) → IsRowOn (board_of (top_kind board)) node row → mark_at board.rows.marks.items row ≡ Refuted →
+    IsRefuted board.case.now.formula (path_at board.case.now.tree node)
+top_sound_mark board node row at m =
+    rw (path_of_top board.case.now.tree board.cut row at.within, at.here) at (sound_mark board.case.now.formula board.rows.marks.items []
+    (top board.cut board.case.now.tree) row board.sound at.within m)
