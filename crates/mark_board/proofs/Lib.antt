@@ -12,3 +12,4 @@ pub mod Apart
 pub mod Joined
 pub mod Branches
 pub mod BoardRows
+pub mod Together

@@ -10,7 +10,7 @@ use Rattle.mark_board.specs.Places.{top_node}
 use Rattle.mark_board.proofs.Tops.{IsAtTop, at_root, at_first, at_second}
 use Rattle.mark_board.proofs.TopPlaces.{top_first}
 
-missing_append : (n : ℕ) (xs ys : List SplitTree) → missing_from n (xs ++ ys) ≡ missing_from n xs ++ missing_from (n + length xs) ys
+pub missing_append : (n : ℕ) (xs ys : List SplitTree) → missing_from n (xs ++ ys) ≡ missing_from n xs ++ missing_from (n + length xs) ys
 missing_append n [] ys = rw (add-zero n) refl
 missing_append n (missing ∷ xs) ys =
     let q : n + suc (length xs) ≡ suc n + length xs = omega arith in rw q (ap (λ (l : List ℕ). n ∷ l) (missing_append (suc n) xs ys))
