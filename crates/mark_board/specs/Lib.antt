@@ -7,3 +7,4 @@ pub mod Laws
 pub mod Stored
 pub mod Board
 pub mod Kinds
+pub mod BoardPosts

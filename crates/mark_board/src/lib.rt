@@ -7,6 +7,7 @@ mod laws;
 mod mark;
 mod part;
 mod place;
+mod posted;
 mod rows;
 mod stored;
 mod top;
@@ -21,6 +22,7 @@ pub use laws::{
 pub use mark::Mark;
 pub use part::{PartAnswer, PartBoard, PartVerdict};
 pub use place::Place;
+pub use posted::{PartPosted, Posted};
 pub use rows::{Answer, Rows};
-pub use stored::{PartData, TopData};
+pub use stored::{BoardData, PartData, TopData};
 pub use top::TopBoard;

@@ -19,3 +19,16 @@ pub struct TopData {
     pub(crate) above: Top,
     pub(crate) rows: Rows,
 }
+
+/// What is stored of a board of either kind.
+#[derive(Drop)]
+pub(crate) enum Stored {
+    Part(PartData),
+    Top(TopData),
+}
+
+/// A board without its case: its cut, its place, its marks and open weights.
+#[derive(Drop)]
+pub struct BoardData {
+    pub(crate) kind: Stored,
+}
