@@ -5,7 +5,7 @@ use split_tree::Top;
 
 /// The board of a part without its case.
 #[derive(Drop)]
-pub struct PartData {
+pub(crate) struct PartData {
     pub(crate) cut: u32,
     pub(crate) part: u32,
     pub(crate) root: u32,
@@ -14,7 +14,7 @@ pub struct PartData {
 
 /// The top board without its case.
 #[derive(Drop)]
-pub struct TopData {
+pub(crate) struct TopData {
     pub(crate) cut: u32,
     pub(crate) above: Top,
     pub(crate) rows: Rows,
