@@ -16,8 +16,8 @@ use Rattle.mark_board.specs.declared.mark.Mark.TheVariants.{Refuted}
 use Rattle.mark_board.specs.declared.kind.Kind.TheVariants.{Part as part_kind, Top as top_kind}
 use Rattle.mark_board.specs.Marking.{marked, open_weight, AreRefuted}
 use Rattle.mark_board.specs.Rows.{is_refuted, refuted_by, mark_at}
-use Rattle.mark_board.specs.Places.{part_root, top_node, worth_of, IsPlaceOf}
-use Rattle.mark_board.specs.Board.{BoardOf, IsRowOn, tree_on, worth_on}
+use Rattle.mark_board.specs.Places.{part_root, top_node, worth_of, IsOwnPlace, IsPlaceOf}
+use Rattle.mark_board.specs.Board.{BoardOf, IsRowOn, IsTargetRow, tree_on, worth_on}
 use Rattle.mark_board.specs.Kinds.{board_of}
 use Rattle.mark_board.proofs.Marks.{marked_refuted}
 use Rattle.mark_board.proofs.TopPlaces.{path_of_top, node_within}
@@ -84,6 +84,11 @@ top_place board node row at =
 
 pub top_row : (board : TopBoard) (node row place : ℕ) → IsRowOn (board_of (top_kind board)) node row → IsPlaceOf board.cut board.case.now.tree node place → place ≡ row
 top_row board node row place at is = place_once board.cut board.case.now.tree node place row is (top_place board node row at)
+
+pub top_own : (board : TopBoard) (node row place : ℕ) → IsTargetRow (board_of (top_kind board)) node row → IsPlaceOf board.cut board.case.now.tree node place →
+    IsOwnPlace board.cut board.case.now.tree node place
+top_own board node row place at is =
+    rw (top_row board node row place at.is_row is) (record { within = at.is_row.within; here = at.is_row.here; inner = at.has_targets })
 
 pub top_inside : (board : TopBoard) (node row : ℕ) → IsRowOn (board_of (top_kind board)) node row → node < size board.case.now.tree
 top_inside board node row at = rw at.here at (node_within board.case.now.tree board.cut row at.within)

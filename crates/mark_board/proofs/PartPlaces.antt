@@ -1,14 +1,15 @@
 -- The parts on the top board are those of the tree.
-use Rattle.std.proofs.Common.{◌≡◌, ℕ, zero, suc, ◌+◌, List, [], ◌∷◌, ◌++◌, length, map, refl, ap, ◌∙◌, arith, zero-add, add-zero}
-use Rattle.std.proofs.lemmas.List.{map-append}
+use Rattle.std.proofs.Common.{◌≡◌, ℕ, zero, suc, ◌+◌, ◌<◌, List, [], ◌∷◌, ◌++◌, length, map, get_or, refl, ap, ◌∙◌, arith, zero-add, add-zero}
+use Rattle.std.proofs.lemmas.List.{map-append, get_or_read}
 use Rattle.split_tree.specs.SplitTree.{SplitTree, missing, cube, split, size, subtrees}
 use Rattle.split_tree.specs.Leaves.{missing_from, missing_nodes}
 use Rattle.split_tree.specs.Parts.{Part, parts, part_nodes}
 use Rattle.split_tree.specs.Top.{top}
 use Rattle.split_tree.proofs.Coding.{length-subtrees}
-use Rattle.mark_board.specs.Places.{top_node}
+use Rattle.split_tree.proofs.Leaves.{missing_is}
+use Rattle.mark_board.specs.Places.{top_node, part_count, part_place, part_root}
 use Rattle.mark_board.proofs.Tops.{IsAtTop, at_root, at_first, at_second}
-use Rattle.mark_board.proofs.TopPlaces.{top_first}
+use Rattle.mark_board.proofs.TopPlaces.{top_first, get_or-map, length-mapped, node_within}
 
 pub missing_append : (n : ℕ) (xs ys : List SplitTree) → missing_from n (xs ++ ys) ≡ missing_from n xs ++ missing_from (n + length xs) ys
 missing_append n [] ys = rw (add-zero n) refl
@@ -39,3 +40,24 @@ parts_at own base (suc cut) node (split v p n) at =
 
 pub parts_on_top : (cut : ℕ) (tree : SplitTree) → part_nodes cut 0 tree ≡ map (top_node cut tree) (missing_nodes (top cut tree))
 parts_on_top cut tree = parts_at (top_node cut tree) 0 cut 0 tree (λ j k. rw (zero-add j) refl)
+
+-- the root of a part, read from the list of the parts
+pub part_known : (cut : ℕ) (tree : SplitTree) (roots : List ℕ) (part : ℕ) → roots ≡ part_nodes cut 0 tree → part < part_count cut tree → part < length roots
+part_known cut tree roots part e l =
+    let k : length roots ≡ part_count cut tree =
+    rw (e, parts_on_top cut tree) (length-mapped (top_node cut tree) (missing_nodes (top cut tree))) in
+    omega (arith, k, l)
+
+pub part_read : (cut : ℕ) (tree : SplitTree) (roots : List ℕ) (part x : ℕ) → roots ≡ part_nodes cut 0 tree → part < part_count cut tree →
+    x ≡ get_or roots part x → x ≡ part_root cut tree part
+part_read cut tree roots part x e l h =
+    let r : x ≡ get_or roots part 0 = get_or_read roots part x (part_known cut tree roots part e l) h 0 in
+    let m : get_or roots part 0 ≡ get_or (map (top_node cut tree) (missing_nodes (top cut tree))) part 0 = rw (e, parts_on_top cut tree) refl in
+    r ∙ (m ∙ get_or-map (top_node cut tree) (missing_nodes (top cut tree)) part l)
+
+pub part_within : (cut : ℕ) (tree : SplitTree) (part : ℕ) → part < part_count cut tree → part_root cut tree part < size tree
+part_within cut tree part l =
+    let r = missing_is 0 (subtrees (top cut tree)) part l in
+    let k : length (subtrees (top cut tree)) ≡ size (top cut tree) = length-subtrees (top cut tree) in
+    let e : part_place cut tree part ≡ r.0 = r.2 ∙ zero-add r.0 in
+    node_within tree cut (part_place cut tree part) (rw e (omega (arith, r.1, k)))

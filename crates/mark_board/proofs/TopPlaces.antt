@@ -152,7 +152,7 @@ get_or-map f [] i l = absurd (omega arith)
 get_or-map f (x ∷ xs) zero l = refl
 get_or-map f (x ∷ xs) (suc i) l = get_or-map f xs i (omega arith)
 
-length-mapped : (f : ℕ → ℕ) (xs : List ℕ) → length (map f xs) ≡ length xs
+pub length-mapped : (f : ℕ → ℕ) (xs : List ℕ) → length (map f xs) ≡ length xs
 length-mapped f [] = refl
 length-mapped f (x ∷ xs) = ap suc (length-mapped f xs)
 

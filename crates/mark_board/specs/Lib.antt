@@ -8,3 +8,4 @@ pub mod Stored
 pub mod Boards
 pub mod Board
 pub mod Kinds
+pub mod BoardPosts

@@ -1,17 +1,32 @@
 //! The board of a part of a cut, or the one above the parts.
 
-ghost use Rattle.std.specs.Prelude.{◌≡◌, ◌≤◌, ℕ, IfOk, IsTrue};
+ghost use Rattle.std.specs.Prelude.{◌≡◌, ◌≢◌, ◌≤◌, ◌<◌, ◌-◌, ◌↔◌, ℕ, IfOk, IsTrue, replicate};
 ghost use Rattle.cnf_text.specs.Formula.{IsRefuted};
-ghost use Rattle.split_tree.specs.SplitTree.{subtree_at, path_at};
+ghost use Rattle.split_tree.specs.SplitTree.{size, subtree_at, path_at};
 ghost use Rattle.split_tree.specs.Leaves.{IsTargetAt};
-ghost use Rattle.mark_board.specs.Board.{tree_on, worth_on, IsRowOn, HasNode, TakesTarget};
+ghost use Rattle.split_tree.specs.Rows.{HasBelow};
+ghost use Rattle.split_tree.specs.Top.{top};
+ghost use Rattle.mark_board.specs.Board.{IsPlace, board_tree, tree_on, worth_on, IsRowOn, HasNode, TakesNode, TakesTarget};
 ghost use Rattle.mark_board.specs.Marking.{marked, open_weight};
+ghost use Rattle.mark_board.specs.Places.{part_count, part_place, part_root, mark_as};
 ghost use Rattle.mark_board.specs.Rows.{refuted_by, mark_at};
+ghost use Rattle.mark_board.specs.Answers.{marks_after, MarksRoot};
+ghost use Rattle.mark_board.specs.BoardPosts.{posted_answer, part_posted_answer, IsPostedOn, GivesBack, GivesPartBack};
+ghost use Rattle.mark_board.specs.Kinds.{board_of, stored_board, IsDataOf};
+ghost use Rattle.mark_board.specs.declared.mark.Mark.TheVariants.{Open, Refuted};
+ghost use Rattle.mark_board.specs.declared.place.Place.TheVariants.{Top};
+ghost use Rattle.mark_board.specs.declared.rows.Answer.TheVariants.{RootMarked, Already};
 
 use crate::kind::Kind;
 use crate::mark::Mark;
+use crate::part::{PartAnswer, PartBoard, PartVerdict};
 use crate::place::Place;
-use case_core::{Case, NodeId, Target};
+use crate::posted::{PartPosted, Posted};
+use crate::rows::Answer;
+use crate::stored::{BoardData, Stored};
+use crate::top::TopBoard;
+use case_core::{Case, Finding, NodeId, Target};
+use std::alloc::{AllocError, Global};
 use std::marker::Model;
 
 /// The board of a part of a cut of a case, or the one above the parts: what is posted of each of its nodes.
@@ -35,8 +50,138 @@ impl<'c> Model for Board<'c> {
     ghost view = { λ b. board_of b.kind };
 }
 
+/// The node at the root of a part, by the part's number.
+fn root_of_part(alloc: Global, case: &Case, cut: u32, part: u32) -> Result<NodeId, AllocError>
+    requires cut { cut ≤ 6 }
+    requires part { part < part_count cut case.now.tree }
+    ensures value { IfOk result (λ root. root ≡ part_root cut case.now.tree part) }
+    ensures within { IfOk result (λ root. root < size case.now.tree) }
+{
+    let parts = case.tree().parts(alloc, cut)?;
+    Ok(parts[part as usize])
+}
+
+/// The post on the board of a part.
+fn post_in_part<'c>(board: &mut PartBoard<'c>, finding: Finding<'c>) -> Posted<'c>
+    requires case { finding.case.now ≡ board.old.case.now }
+    requires within { HasBelow board.old.case.now.tree board.old.root finding.node }
+    ensures same { (board.new.case.now ≡ board.old.case.now) × (board.new.cut ≡ board.old.cut) × (board.new.part ≡ board.old.part) }
+    ensures marks { board.new.rows.marks.items ≡ marks_after (posted_answer result) board.old.rows.marks.items (finding.entry.node - board.old.root) (mark_as finding.entry.judged) }
+    ensures already { (posted_answer result ≡ Already) ↔ (mark_at board.old.rows.marks.items (finding.entry.node - board.old.root) ≢ Open) }
+    ensures root { (posted_answer result ≡ RootMarked) ↔ MarksRoot (subtree_at board.old.case.now.tree board.old.root) board.old.rows.marks.items board.new.rows.marks.items }
+    ensures verdict { IsPostedOn (board_of (Kind.Part board.old)) result }
+    ensures back { GivesBack result finding.entry }
+{
+    match board.post(&finding) {
+        PartAnswer::Marked => Posted::Marked,
+        PartAnswer::RootMarked(verdict) => Posted::RootMarked(verdict),
+        PartAnswer::Already => Posted::Already(finding),
+    }
+}
+
+/// The post on the top board.
+fn post_on_top<'c>(board: &mut TopBoard<'c>, finding: Finding<'c>) -> Posted<'c>
+    requires case { finding.case.now ≡ board.old.case.now }
+    requires within { TakesNode (board_of (Kind.Top board.old)) finding.node }
+    ensures same { (board.new.case.now ≡ board.old.case.now) × (board.new.cut ≡ board.old.cut) }
+    ensures marks { (row : ℕ) → IsRowOn (board_of (Kind.Top board.old)) finding.entry.node row → board.new.rows.marks.items ≡ marks_after (posted_answer result) board.old.rows.marks.items row (mark_as finding.entry.judged) }
+    ensures already { (row : ℕ) → IsRowOn (board_of (Kind.Top board.old)) finding.entry.node row → (posted_answer result ≡ Already) ↔ (mark_at board.old.rows.marks.items row ≢ Open) }
+    ensures root { (posted_answer result ≡ RootMarked) ↔ MarksRoot (top board.old.cut board.old.case.now.tree) board.old.rows.marks.items board.new.rows.marks.items }
+    ensures verdict { IsPostedOn (board_of (Kind.Top board.old)) result }
+    ensures back { GivesBack result finding.entry }
+{
+    let place = board.place_of(finding.node());
+    match board.post(place, &finding) {
+        Answer::Marked => Posted::Marked,
+        Answer::RootMarked => Posted::TopMarked,
+        Answer::Already => Posted::Already(finding),
+    }
+}
+
 impl<'c> Board<'c> {
-    ghost use Rattle.mark_board.specs.declared.mark.Mark.TheVariants.{Open, Refuted};
+    /// The board at a place of a cut of a case, with nothing marked.
+    pub fn new(
+        alloc: Global,
+        case: &'c Case,
+        cut: u32,
+        place: Place,
+    ) -> Result<Board<'c>, AllocError>
+        requires cut { cut ≤ 6 }
+        requires place { IsPlace cut case.now.tree place }
+        ensures place { IfOk result (λ board. (board.case ≡ case.now) × (board.cut ≡ cut) × (board.place ≡ place)) }
+        ensures marks { IfOk result (λ board. board.marks ≡ replicate (size (board_tree cut case.now.tree place)) Open) }
+    {
+        let kind = match place {
+            Place::Part(part) => {
+                let root = root_of_part(alloc, case, cut, part)?;
+                Kind::Part(PartBoard::new(alloc, case, cut, part, root)?)
+            }
+            Place::Top => Kind::Top(TopBoard::new(alloc, case, cut)?),
+        };
+        Ok(Board { kind })
+    }
+
+    /// The board without its case.
+    pub fn unbind(self) -> BoardData
+        ensures case { IsDataOf self.entry.case result }
+        ensures board { stored_board self.entry.case result ≡ self.entry }
+    {
+        let kind = match self.kind {
+            Kind::Part(board) => Stored::Part(board.unbind()),
+            Kind::Top(board) => Stored::Top(board.unbind()),
+        };
+        BoardData { kind }
+    }
+
+    /// The board of a case of which this is stored.
+    pub fn bind(case: &'c Case, stored: BoardData) -> Board<'c>
+        requires { IsDataOf case.now stored }
+        ensures { result ≡ stored_board case.now stored }
+    {
+        let kind = match stored.kind {
+            Stored::Part(stored) => Kind::Part(PartBoard::bind(case, stored)),
+            Stored::Top(stored) => Kind::Top(TopBoard::bind(case, stored)),
+        };
+        Board { kind }
+    }
+
+    /// Marks a finding's target as it says, if that has no finding yet.
+    pub fn post(&mut self, finding: Finding<'c>) -> Posted<'c>
+        requires case { finding.case.now ≡ self.old.case }
+        requires within { TakesNode self.old finding.node }
+        ensures same { (self.new.case ≡ self.old.case) × (self.new.cut ≡ self.old.cut) × (self.new.place ≡ self.old.place) }
+        ensures marks { (row : ℕ) → IsRowOn self.old finding.entry.node row → self.new.marks ≡ marks_after (posted_answer result) self.old.marks row (mark_as finding.entry.judged) }
+        ensures already { (row : ℕ) → IsRowOn self.old finding.entry.node row → (posted_answer result ≡ Already) ↔ (mark_at self.old.marks row ≢ Open) }
+        ensures root { (posted_answer result ≡ RootMarked) ↔ MarksRoot (tree_on self.old) self.old.marks self.new.marks }
+        ensures verdict { IsPostedOn self.old result }
+        ensures back { GivesBack result finding.entry }
+    {
+        match &mut self.kind {
+            Kind::Part(board) => post_in_part(board, finding),
+            Kind::Top(board) => post_on_top(board, finding),
+        }
+    }
+
+    /// Marks a part as refuted, if it has no mark yet. It asks for the top board.
+    pub fn post_part(&mut self, verdict: PartVerdict<'c>) -> PartPosted<'c>
+        requires top { self.old.place ≡ Top }
+        requires case { verdict.case.now ≡ self.old.case }
+        requires cut { verdict.cut ≡ self.old.cut }
+        ensures same { (self.new.case ≡ self.old.case) × (self.new.cut ≡ self.old.cut) × (self.new.place ≡ self.old.place) }
+        ensures marks { self.new.marks ≡ marks_after (part_posted_answer result) self.old.marks (part_place self.old.cut self.old.case.tree verdict.entry.part) Refuted }
+        ensures already { (part_posted_answer result ≡ Already) ↔ (mark_at self.old.marks (part_place self.old.cut self.old.case.tree verdict.entry.part) ≢ Open) }
+        ensures root { (part_posted_answer result ≡ RootMarked) ↔ MarksRoot (tree_on self.old) self.old.marks self.new.marks }
+        ensures back { GivesPartBack result verdict.entry }
+    {
+        match &mut self.kind {
+            Kind::Part(_) => unreachable!(),
+            Kind::Top(board) => match board.post_part(&verdict) {
+                Answer::Marked => PartPosted::Marked,
+                Answer::RootMarked => PartPosted::RootMarked,
+                Answer::Already => PartPosted::Already(verdict),
+            },
+        }
+    }
 
     /// Its case.
     pub fn case(&self) -> &'c Case

@@ -1,7 +1,6 @@
 //! The two kinds of boards.
 
 use crate::part::PartBoard;
-use crate::stored::{PartData, TopData};
 use crate::top::TopBoard;
 
 /// The board of a part or the top board.
@@ -9,11 +8,4 @@ use crate::top::TopBoard;
 pub(crate) enum Kind<'c> {
     Part(PartBoard<'c>),
     Top(TopBoard<'c>),
-}
-
-/// What is stored of either.
-#[derive(Drop)]
-pub(crate) enum Stored {
-    Part(PartData),
-    Top(TopData),
 }

@@ -7,6 +7,7 @@ mod laws;
 mod mark;
 mod part;
 mod place;
+mod posted;
 mod rows;
 mod stored;
 mod top;
@@ -19,8 +20,7 @@ pub use laws::{
     top_has_the_nodes_above_the_cut, top_marks_the_root,
 };
 pub use mark::Mark;
-pub use part::{PartAnswer, PartBoard, PartVerdict};
+pub use part::PartVerdict;
 pub use place::Place;
-pub use rows::{Answer, Rows};
-pub use stored::{PartData, TopData};
-pub use top::TopBoard;
+pub use posted::{PartPosted, Posted};
+pub use stored::BoardData;

@@ -46,7 +46,7 @@ pub fn mark_for(judged: Judged) -> Mark
 
 /// What became of a finding on the board of a part.
 #[derive(Drop)]
-pub enum PartAnswer<'c> {
+pub(crate) enum PartAnswer<'c> {
     /// The target stands as the finding says.
     Marked,
     /// The same, and this marked the part's root.
@@ -57,7 +57,7 @@ pub enum PartAnswer<'c> {
 
 /// The board of a part.
 #[derive(Drop)]
-pub struct PartBoard<'c> {
+pub(crate) struct PartBoard<'c> {
     case: &'c Case,
     cut: u32,
     part: u32,

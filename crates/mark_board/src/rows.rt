@@ -14,7 +14,7 @@ use std::alloc::{AllocError, Global};
 
 /// What a post did.
 #[derive(Clone, Copy)]
-pub enum Answer {
+pub(crate) enum Answer {
     /// The node stands as the finding says.
     Marked,
     /// The same, and this marked the root.
@@ -25,7 +25,7 @@ pub enum Answer {
 
 /// A row for each node below a root, in tree order: its mark, and the open weight below it.
 #[derive(Drop)]
-pub struct Rows {
+pub(crate) struct Rows {
     pub marks: Vec<Mark>,
     pub weights: Vec<u64>,
 }

@@ -5,7 +5,7 @@ use split_tree::Top;
 
 /// The board of a part without its case.
 #[derive(Drop)]
-pub struct PartData {
+pub(crate) struct PartData {
     pub(crate) cut: u32,
     pub(crate) part: u32,
     pub(crate) root: u32,
@@ -14,8 +14,21 @@ pub struct PartData {
 
 /// The top board without its case.
 #[derive(Drop)]
-pub struct TopData {
+pub(crate) struct TopData {
     pub(crate) cut: u32,
     pub(crate) above: Top,
     pub(crate) rows: Rows,
+}
+
+/// What is stored of a board of either kind.
+#[derive(Drop)]
+pub(crate) enum Stored {
+    Part(PartData),
+    Top(TopData),
+}
+
+/// A board without its case: its cut, its place, its marks and open weights.
+#[derive(Drop)]
+pub struct BoardData {
+    pub(crate) kind: Stored,
 }

@@ -33,7 +33,7 @@ fn worths_of(alloc: Global, tree: &Tree, nodes: &[NodeId]) -> Result<Vec<u64>, A
 
 /// The top board of a cut: the inner nodes above the cut, with the parts as its leaves.
 #[derive(Drop)]
-pub struct TopBoard<'c> {
+pub(crate) struct TopBoard<'c> {
     case: &'c Case,
     cut: u32,
     above: Top,
