@@ -264,7 +264,7 @@ posted_at refuted whole missing node = marked refuted node (subtree_at whole nod
 posted_at refuted whole (cube k) node = marked refuted node (subtree_at whole node)
 posted_at refuted whole (split v p n) node = refuted node
 
-agreed_below : (whole : SplitTree) (refuted own : ℕ → Bool) (base cut node : ℕ) (t : SplitTree) → node < size whole → subtree_at whole node ≡ t →
+pub agreed_below : (whole : SplitTree) (refuted own : ℕ → Bool) (base cut node : ℕ) (t : SplitTree) → node < size whole → subtree_at whole node ≡ t →
     ((i : ℕ) → i < size (top cut t) → own (base + i) ≡ posted_at refuted whole (subtree_at (top cut t) i) (get_or (top_nodes cut node t) i 0)) →
     marked own base (top cut t) ≡ marked refuted node t
 agreed_below whole refuted own base zero node t h s at =

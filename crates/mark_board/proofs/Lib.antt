@@ -13,3 +13,4 @@ pub mod Joined
 pub mod Branches
 pub mod BoardRows
 pub mod Together
+pub mod Gathered

@@ -1,14 +1,16 @@
 -- The top board and all parts' boards of one case and one cut, together.
 use Rattle.std.specs.Prelude.{ℕ, zero, suc, ◌+◌, ◌<◌, ◌≤◌, ◌≡◌, Bool, if◌then◌else◌, List, [], ◌∷◌, ◌++◌, drop, length, get_or, map, slice_set}
 use Rattle.split_tree.specs.SplitTree.{SplitTree, missing, cube, split, size, subtree_at, IsSplit}
+use Rattle.split_tree.specs.Leaves.{IsTargetAt}
+use Rattle.split_tree.specs.declared.node.Target.{Target}
 use Rattle.split_tree.specs.Top.{top}
 use Rattle.case_core.specs.Case.{CaseOf}
 use Rattle.mark_board.specs.declared.mark.Mark.{Mark}
 use Rattle.mark_board.specs.declared.mark.Mark.TheVariants.{Open, Refuted}
 use Rattle.mark_board.specs.declared.place.Place.{Place}
 use Rattle.mark_board.specs.declared.place.Place.TheVariants.{Part, Top}
-use Rattle.mark_board.specs.Board.{BoardOf, board_tree}
-use Rattle.mark_board.specs.Marking.{marked}
+use Rattle.mark_board.specs.Board.{BoardOf, IsPlace, IsRow, HasTargets, board_tree}
+use Rattle.mark_board.specs.Marking.{marked, Place as NodeWithTree}
 use Rattle.mark_board.specs.Rows.{mark_at, refuted_by}
 use Rattle.mark_board.specs.Places.{top_node, part_count, part_place, part_root}
 
@@ -48,20 +50,22 @@ abbrev pub ArePosted : ℕ → SplitTree → List Mark → List (List Mark) → 
 ArePosted cut tree above parts = (part : ℕ) → part < part_count cut tree →
     mark_at above (part_place cut tree part) ≡ part_mark (marked (refuted_by (part_marks parts part)) 0 (part_tree cut tree part))
 
--- the top board and the parts' boards of a case and a cut, by their marks
+-- all boards of a cut of a case together: the marks of the tree's nodes, in tree order
 pub record BoardsOf : Type 0 where
   pub case : CaseOf
   pub cut : ℕ
-  pub above : List Mark
-  pub parts : List (List Mark)
+  pub marks : List Mark
 
--- these are the marks of its case's nodes on them
-abbrev pub AreMarksOf : BoardsOf → List Mark → Type 0
-AreMarksOf boards marks = AreMarks boards.cut boards.case.tree boards.above boards.parts marks
+abbrev pub marks_of : BoardOf → List Mark
+marks_of board = board.marks
 
--- the marks after a finding was posted, or wasn't since its target had a mark
-abbrev pub marks_with : Bool → List Mark → ℕ → Mark → List Mark
-marks_with posted marks node mark = if posted then slice_set marks node mark else marks
+-- those of a top board and the parts' boards
+abbrev pub boards_of : BoardOf → List BoardOf → BoardsOf
+boards_of above parts = record {
+  case = above.case;
+  cut = above.cut;
+  marks = joined_marks above.cut above.case.tree above.marks (map marks_of parts);
+}
 
 -- a board of this case, cut and place
 pub record IsBoardAt (case : CaseOf) (cut : ℕ) (place : Place) (board : BoardOf) : Type 0 where
@@ -70,14 +74,29 @@ pub record IsBoardAt (case : CaseOf) (cut : ℕ) (place : Place) (board : BoardO
   pub place_is : board.place ≡ place
   pub long : length board.marks ≡ size (board_tree cut case.tree place)
 
-abbrev pub marks_of : BoardOf → List Mark
-marks_of board = board.marks
-
 -- the top board and all parts' boards of one case and one cut, the parts in their order, where the top board marks a
 -- part exactly where the part's own root is marked
-pub record AreBoards (case : CaseOf) (cut : ℕ) (top_board : BoardOf) (parts : List BoardOf) : Type 0 where
-  pub low : cut ≤ 6
-  pub count : length parts ≡ part_count cut case.tree
-  pub top_at : IsBoardAt case cut Top top_board
-  pub part_at : (part : ℕ) → part < part_count cut case.tree → IsBoardAt case cut (Part part) (get_or parts part top_board)
-  pub posted : ArePosted cut case.tree top_board.marks (map marks_of parts)
+pub record AreBoards (above : BoardOf) (parts : List BoardOf) : Type 0 where
+  pub low : above.cut ≤ 6
+  pub at_top : IsBoardAt above.case above.cut Top above
+  pub count : length parts ≡ part_count above.cut above.case.tree
+  pub at_part : (part : ℕ) → part < part_count above.cut above.case.tree → IsBoardAt above.case above.cut (Part part) (get_or parts part above)
+  pub posted : ArePosted above.cut above.case.tree above.marks (map marks_of parts)
+
+-- the marks after a finding was posted, or wasn't since its target had a mark
+abbrev pub marks_with : Bool → List Mark → ℕ → Mark → List Mark
+marks_with posted marks node mark = if posted then slice_set marks node mark else marks
+
+-- the board on which a node's finding is posted
+pub record IsPlaceFor (cut : ℕ) (tree : SplitTree) (node : ℕ) (place : Place) : Type 0 where
+  pub row : ℕ
+  pub is_place : IsPlace cut tree place
+  pub is_row : IsRow cut tree place node row
+  pub has_targets : HasTargets cut tree place row
+
+-- these targets stand at these nodes, one for each
+abbrev pub AreTargetsAt : SplitTree → List Target → List NodeWithTree → Type 0
+AreTargetsAt tree [] [] = Unit {0}
+AreTargetsAt tree [] (node ∷ nodes) = ⊥
+AreTargetsAt tree (target ∷ targets) [] = ⊥
+AreTargetsAt tree (target ∷ targets) (node ∷ nodes) = IsTargetAt tree node.node target × AreTargetsAt tree targets nodes

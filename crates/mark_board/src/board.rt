@@ -248,3 +248,22 @@ impl<'c> Board<'c> {
         }
     }
 }
+
+impl<'c> Board<'c> {
+    ghost use Rattle.mark_board.specs.Boards.{IsPlaceFor};
+
+    /// The board on which findings of a node are posted. It asks for the top board.
+    pub(crate) fn place_for(&self, node: NodeId) -> Place
+        requires top { self.now.place ≡ Top }
+        requires node { node < size self.now.case.tree }
+        ensures { IsPlaceFor self.now.cut self.now.case.tree node result }
+    {
+        match &self.kind {
+            Kind::Part(_) => unreachable!(),
+            Kind::Top(board) => match board.part_at(board.place_of(node)) {
+                Some(part) => Place::Part(part),
+                None => Place::Top,
+            },
+        }
+    }
+}

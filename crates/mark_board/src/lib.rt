@@ -2,6 +2,7 @@
 #![tactic(auto)]
 
 mod board;
+mod boards;
 mod kind;
 mod laws;
 mod mark;
@@ -13,6 +14,7 @@ mod stored;
 mod top;
 mod walk;
 
+pub use boards::Boards;
 pub use board::Board;
 pub use laws::{
     marked_has_no_model, marked_stays_marked, open_after_post, open_branches_add_up,

@@ -1,0 +1,181 @@
+//! All boards of a cut of a case together.
+
+ghost use Rattle.std.specs.Prelude.{◌≡◌, ◌≤◌, ◌<◌, ◌↔◌, ℕ, IfOk, IsTrue, [], map};
+ghost use Rattle.cnf_text.specs.Formula.{IsRefuted};
+ghost use Rattle.split_tree.specs.SplitTree.{size, subtree_at, path_at};
+ghost use Rattle.split_tree.specs.Leaves.{HasTarget, IsTargetAt};
+ghost use Rattle.mark_board.specs.Marking.{marked, open_weight, open_branches};
+ghost use Rattle.mark_board.specs.Places.{worth_of, mark_as};
+ghost use Rattle.mark_board.specs.Rows.{refuted_by, mark_at};
+ghost use Rattle.mark_board.specs.Boards.{AreTargetsAt};
+
+use crate::board::Board;
+use crate::mark::Mark;
+use crate::place::Place;
+use crate::posted::Posted;
+use case_core::{Case, Finding, NodeId, Target, Tree};
+use std::alloc::{AllocError, Global};
+use std::marker::Model;
+
+/// The target that stands at a node: the leaf there, or the inner node.
+fn target_at(tree: &Tree, node: NodeId) -> Target
+    requires { node < size tree.now }
+    ensures { IsTargetAt tree.now node result }
+{
+    match tree.leaf_at(node) {
+        Some(leaf) => Target::Leaf(leaf),
+        None => Target::Node(node),
+    }
+}
+
+/// All boards of a cut of a case: that of each part, and the one above the parts.
+#[derive(Drop)]
+pub struct Boards<'c> {
+    above: Board<'c>,
+    parts: Vec<Board<'c>>,
+}
+
+impl<'c> Model for Boards<'c> {
+    ghost use Rattle.mark_board.specs.Boards.{BoardsOf, boards_of, AreBoards};
+    ghost use Rattle.std.specs.Coded.{codes};
+    ghost use Rattle.case_core.specs.Code.{case_code};
+
+    ghost Value = { BoardsOf };
+
+    ghost coded = { Prim.hlevel (codes, case_code) };
+
+    ghost view = { λ b. boards_of b.above b.parts.items };
+
+    ghost invariant = { λ b. AreBoards b.above b.parts.items };
+}
+
+impl<'c> Boards<'c> {
+    ghost use Rattle.std.specs.Prelude.{replicate};
+    ghost use Rattle.mark_board.specs.declared.mark.Mark.TheVariants.{Open, Refuted};
+    ghost use Rattle.mark_board.specs.Boards.{AreBoards, boards_of, marks_with};
+
+    /// The boards of a cut of a case, with nothing marked. It asks for a cut from 0 to 6. `AllocError` where a growth was refused.
+    pub fn new(alloc: Global, case: &'c Case, cut: u32) -> Result<Boards<'c>, AllocError>
+        requires { cut ≤ 6 }
+        ensures case { IfOk result (λ boards. (boards.case ≡ case.now) × (boards.cut ≡ cut)) }
+        ensures marks { IfOk result (λ boards. boards.marks ≡ replicate (size case.now.tree) Open) }
+    {
+        let above = Board::new(alloc, case, cut, Place::Top)?;
+        let count = case.tree().parts(alloc, cut)?.len() as u32;
+        let mut parts = Vec::new(alloc);
+        for part in 0..count {
+            parts.push(Board::new(alloc, case, cut, Place::Part(part))?)?;
+        }
+        Ok(Boards { above, parts })
+    }
+
+    /// These boards as they are: the top board, and all parts' boards in the order of the parts. It asks that they are those of one
+    /// cut of one case, and that the top board marks a part exactly where the part's own root is marked.
+    pub fn gather(above: Board<'c>, parts: Vec<Board<'c>>) -> Boards<'c>
+        requires { AreBoards above parts.items }
+        ensures { result ≡ boards_of above.entry parts.entry.items }
+    {
+        Boards { above, parts }
+    }
+
+    /// Their case.
+    pub fn case(&self) -> &'c Case
+        ensures { result.now ≡ self.now.case }
+    {
+        self.above.case()
+    }
+
+    /// Marks a finding's target as it says, if that has no finding yet: false exactly where it has one, and then nothing changes.
+    /// It asks for a finding of the same case.
+    pub fn post(&mut self, finding: Finding<'c>) -> bool
+        requires { finding.case.now ≡ self.old.case }
+        ensures same { (self.new.case ≡ self.old.case) × (self.new.cut ≡ self.old.cut) }
+        ensures new { IsTrue result ↔ (mark_at self.old.marks finding.entry.node ≡ Open) }
+        ensures marks { self.new.marks ≡ marks_with result self.old.marks finding.entry.node (mark_as finding.entry.judged) }
+    {
+        match self.above.place_for(finding.node()) {
+            Place::Top => match self.above.post(finding) {
+                Posted::Already(_) => false,
+                Posted::Marked | Posted::RootMarked(_) | Posted::TopMarked => true,
+            },
+            Place::Part(part) => match self.parts[part as usize].post(finding) {
+                Posted::Already(_) => false,
+                Posted::Marked | Posted::TopMarked => true,
+                Posted::RootMarked(verdict) => {
+                    let _ = self.above.post_part(verdict);
+                    true
+                }
+            },
+        }
+    }
+
+    /// What is posted of a target. It asks for a target of the case's tree.
+    pub fn mark_of(&self, target: Target) -> Mark
+        requires { HasTarget self.now.case.tree target }
+        ensures mark { (node : ℕ) → IsTargetAt self.now.case.tree node target → result ≡ mark_at self.now.marks node }
+        ensures sound { (node : ℕ) → IsTargetAt self.now.case.tree node target → result ≡ Refuted → IsRefuted self.now.case.formula (path_at self.now.case.tree node) }
+    {
+        let asked = target;
+        let node = self.case().tree().node_of_target(asked);
+        match self.above.place_for(node) {
+            Place::Top => self.above.mark_of(target),
+            Place::Part(part) => self.parts[part as usize].mark_of(target),
+        }
+    }
+
+    /// Whether the root is marked: then the formula has no model.
+    pub fn root_marked(&self) -> bool
+        ensures marked { result ≡ marked (refuted_by self.now.marks) 0 self.now.case.tree }
+        ensures sound { IsTrue result → IsRefuted self.now.case.formula [] }
+    {
+        self.above.node_marked(self.case().tree().root())
+    }
+
+    /// The weight of the leaves under no marked node.
+    pub fn open_weight(&self) -> u64
+        ensures { result ≡ open_weight (worth_of self.now.case.tree) (refuted_by self.now.marks) 0 self.now.case.tree }
+    {
+        self.open_under(self.case().tree().root())
+    }
+
+    /// The weight of the leaves under a node that lie under no marked node from there on. It calls itself no deeper than the cut.
+    fn open_under(&self, node: NodeId) -> u64
+        requires { node < size self.now.case.tree }
+        ensures { result ≡ open_weight (worth_of self.now.case.tree) (refuted_by self.now.marks) node (subtree_at self.now.case.tree node) }
+    {
+        if let Place::Part(part) = self.above.place_for(node) {
+            return self.parts[part as usize].open_under(node);
+        }
+        if let Mark::Refuted = self.above.mark_of(Target::Node(node)) {
+            return 0;
+        }
+        match self.case().tree().branches(node) {
+            Some((first, second)) => self.open_under(first) + self.open_under(second),
+            None => unreachable!(),
+        }
+    }
+
+    /// The open branches, in tree order: each wholly open node that is the root or whose parent isn't wholly open, where a node is
+    /// wholly open if neither it nor a node above or under it is marked. `AllocError` where a growth was refused.
+    pub fn open_branches(&self, alloc: Global) -> Result<Vec<Target>, AllocError>
+        ensures { IfOk result (λ targets. AreTargetsAt self.now.case.tree targets.items (open_branches (refuted_by self.now.marks) 0 self.now.case.tree)) }
+    {
+        let tree = self.case().tree();
+        let mut targets = Vec::new(alloc);
+        let mut number = 0;
+        while number < tree.size() {
+            let node = NodeId::new(number);
+            let weight = self.open_under(node);
+            let whole = tree.weight_under(node);
+            if weight == whole {
+                targets.push(target_at(tree, node))?;
+            }
+            number = if weight == 0 || weight == whole {
+                tree.end_of(node)
+            } else {
+                number + 1
+            };
+        }
+        Ok(targets)
+    }
+}
