@@ -2,12 +2,13 @@
 use Rattle.std.proofs.Common.{◌≡◌, ℕ, ◌+◌, ◌-◌, ◌<◌, ◌≤◌, List, [], get_or, Bool, true, sym, ap, ◌∙◌, arith, zero-add}
 use Rattle.cnf_text.specs.Literal.{Literal}
 use Rattle.cnf_text.specs.Formula.{IsRefuted}
-use Rattle.split_tree.specs.SplitTree.{SplitTree, size, subtree_at, labels, branch, path_at}
+use Rattle.split_tree.specs.SplitTree.{SplitTree, size, subtrees, subtree_at, labels, branch, path_at, IsSplit}
 use Rattle.split_tree.specs.Rows.{HasBelow}
 use Rattle.split_tree.specs.Leaves.{IsTargetAt}
 use Rattle.split_tree.specs.declared.node.Target.{Target}
 use Rattle.split_tree.specs.Top.{top}
 use Rattle.split_tree.proofs.Coding.{some_node}
+use Rattle.split_tree.proofs.Leaves.{missing_is}
 use Rattle.split_tree.proofs.Labels.{inside, below, label_below}
 use Rattle.mark_board.specs.declared.part.PartBoard.{PartBoard}
 use Rattle.mark_board.specs.declared.top.TopBoard.{TopBoard}
@@ -16,8 +17,8 @@ use Rattle.mark_board.specs.declared.mark.Mark.TheVariants.{Refuted}
 use Rattle.mark_board.specs.declared.kind.Kind.TheVariants.{Part as part_kind, Top as top_kind}
 use Rattle.mark_board.specs.Marking.{marked, open_weight, AreRefuted}
 use Rattle.mark_board.specs.Rows.{is_refuted, refuted_by, mark_at}
-use Rattle.mark_board.specs.Places.{part_root, top_node, worth_of, IsOwnPlace, IsPlaceOf}
-use Rattle.mark_board.specs.Board.{BoardOf, IsRowOn, IsTargetRow, tree_on, worth_on}
+use Rattle.mark_board.specs.Places.{part_root, part_count, part_place, top_node, worth_of, IsOwnPlace, HasOwnPlace, IsPlaceOf}
+use Rattle.mark_board.specs.Board.{BoardOf, IsRowOn, IsTargetRow, TakesNode, tree_on, worth_on}
 use Rattle.mark_board.specs.Kinds.{board_of}
 use Rattle.mark_board.proofs.Marks.{marked_refuted}
 use Rattle.mark_board.proofs.TopPlaces.{path_of_top, node_within}
@@ -69,18 +70,48 @@ part_open board node row x at e =
     (subtree_at (subtree_at board.case.now.tree root) row) = rw (← board.placed) (rw (p.is, part_tree board node row p) at e) in
     k
 
+pub part_takes : (board : PartBoard) (node : ℕ) → HasBelow board.case.now.tree board.root node → TakesNode (board_of (part_kind board)) node
+part_takes board node b =
+    let reached : board.root ≤ node = b.reached in
+    let before : node < board.root + size (subtree_at board.case.now.tree board.root) = b.before_end in
+    let w : node - board.root < size (subtree_at board.case.now.tree board.root) = omega arith in
+    let h : board.root + (node - board.root) ≡ node = omega arith in
+    (node - board.root, record { is_row = record { within = rw (← board.placed) w; here = rw (← board.placed) h }; has_targets = tt })
+
 -- ---- the top board
 
-pub top_place : (board : TopBoard) (node row : ℕ) → IsRowOn (board_of (top_kind board)) node row → IsPlaceOf board.cut board.case.now.tree node row
-top_place board node row at =
-    let h : top_node board.cut board.case.now.tree row ≡ node = at.here in
-    let s : 1 ≤ size (subtree_at board.case.now.tree (top_node board.cut board.case.now.tree row)) =
-    some_node (subtree_at board.case.now.tree (top_node board.cut board.case.now.tree row)) in
-    record {
-      within = at.within;
+-- a node lies where it stands
+pub lies_there : (cut : ℕ) (tree : SplitTree) (node place : ℕ) → place < size (top cut tree) → top_node cut tree place ≡ node → IsPlaceOf cut tree node place
+lies_there cut tree node place l h =
+    let s : 1 ≤ size (subtree_at tree (top_node cut tree place)) = some_node (subtree_at tree (top_node cut tree place)) in record {
+      within = l;
       below = record { reached = omega arith; before_end = omega arith };
       own = λ is. h;
     }
+
+pub own_place : (cut : ℕ) (tree : SplitTree) (node place : ℕ) → IsOwnPlace cut tree node place → IsPlaceOf cut tree node place
+own_place cut tree node place o = lies_there cut tree node place o.within o.here
+
+top_place : (board : TopBoard) (node row : ℕ) → IsRowOn (board_of (top_kind board)) node row → IsPlaceOf board.cut board.case.now.tree node row
+top_place board node row at = lies_there board.cut board.case.now.tree node row at.within at.here
+
+-- an inner node above the cut isn't a part
+pub part_not_own : (cut : ℕ) (tree : SplitTree) (part place : ℕ) → part < part_count cut tree → part_place cut tree part ≡ place →
+    IsSplit (subtree_at (top cut tree) place) → ⊥
+part_not_own cut tree part place l e s =
+    let r = missing_is 0 (subtrees (top cut tree)) part l in
+    let q : place ≡ r.0 = sym e ∙ (r.2 ∙ zero-add r.0) in
+    let k : IsSplit (subtree_at (top cut tree) r.0) = rw q at s in
+    rw r.3 at k
+
+pub own_takes : (board : TopBoard) (node : ℕ) → HasOwnPlace board.cut board.case.now.tree node → TakesNode (board_of (top_kind board)) node
+own_takes board node o = (
+  o.0,
+  record { is_row = record { within = o.1.within; here = o.1.here }; has_targets = o.1.inner },
+)
+
+pub takes_own : (board : TopBoard) (node : ℕ) → TakesNode (board_of (top_kind board)) node → HasOwnPlace board.cut board.case.now.tree node
+takes_own board node t = (t.0, record { within = t.1.is_row.within; here = t.1.is_row.here; inner = t.1.has_targets })
 
 pub top_row : (board : TopBoard) (node row place : ℕ) → IsRowOn (board_of (top_kind board)) node row → IsPlaceOf board.cut board.case.now.tree node place → place ≡ row
 top_row board node row place at is = place_once board.cut board.case.now.tree node place row is (top_place board node row at)

@@ -119,23 +119,9 @@ marked_zero tree worth marks weights node b h e =
 pub some_row : (tree : SplitTree) (worth : ℕ → ℕ) (marks : List Mark) (weights : List ℕ) → IsBoard tree worth marks weights → 0 < length weights
 some_row tree worth marks weights b = omega (arith, b.are_open.long, some_node tree)
 
-pub root_open : (tree : SplitTree) (worth : ℕ → ℕ) (marks : List Mark) (weights : List ℕ) (x : ℕ) → IsBoard tree worth marks weights →
-    x ≡ get_or weights 0 x → x ≡ open_weight worth (refuted_by marks) 0 tree
-root_open tree worth marks weights x b e =
-    let r : subtree_at tree 0 ≡ tree = subtree-root tree in
-    let s : 0 < size tree = omega (arith, some_node tree) in
-    get_or_read weights 0 x (some_row tree worth marks weights b) e 0 ∙ rw r at (b.are_open.is 0 s)
-
 zero_is : (b : Bool) (x : ℕ) → (x ≡ 0 → b ≡ true) → (b ≡ true → x ≡ 0) → (x == 0) ≡ b
 zero_is true x f g = let e : x ≡ 0 = g refl in rw e refl
 zero_is false x f g = elim (cases_eq x 0) [ inl e ↦ let k : false ≡ true = f e in absurd (cc) | inr ne ↦ grind (arith, nat_tests) ]
-
-pub marked_read : (tree : SplitTree) (worth : ℕ → ℕ) (marks : List Mark) (weights : List ℕ) (node x : ℕ) → IsWeighed tree worth → IsBoard tree worth marks weights →
-    node < size tree → x ≡ get_or weights node x → (x == 0) ≡ marked (refuted_by marks) node (subtree_at tree node)
-marked_read tree worth marks weights node x w b h e =
-    let r : x ≡ get_or weights node 0 = get_or_read weights node x (omega (arith, b.are_open.long)) e 0 in
-    zero_is (marked (refuted_by marks) node (subtree_at tree node)) x (λ z. zero_marked tree worth marks weights node w b h (sym r ∙ z))
-    (λ m. r ∙ marked_zero tree worth marks weights node b h m)
 
 -- ---- a mark that is read
 

@@ -201,15 +201,6 @@ place_second tree cut place first second x l b h more =
     let e2 : x < top_node cut tree place + suc (size s.positive + size s.negative) = rw s.is at e in
     (b.within, record { reached = more; before_end = rw (two, w.negative) (omega arith) })
 
-leaf_split : (t : SplitTree) → IsLeaf t → IsSplit t → ⊥
-leaf_split missing h k = k
-leaf_split (cube j) h k = k
-leaf_split (split v p n) h k = h
-
-pub place_part : (tree : SplitTree) (cut place x : ℕ) → place < size (top cut tree) → IsLeaf (subtree_at (top cut tree) place) →
-    HasBelow tree (top_node cut tree place) x → IsPlaceOf cut tree x place
-place_part tree cut place x l leaf h = record { within = l; below = h; own = λ s. absurd (leaf_split (subtree_at (top cut tree) place) leaf s) }
-
 pub place_own : (tree : SplitTree) (cut place x : ℕ) → place < size (top cut tree) → HasBelow tree (top_node cut tree place) x →
     top_node cut tree place ≡ x → IsPlaceOf cut tree x place
 place_own tree cut place x l h e = record { within = l; below = h; own = λ s. e }

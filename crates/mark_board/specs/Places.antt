@@ -35,6 +35,9 @@ pub record IsOwnPlace (cut : ℕ) (tree : SplitTree) (node place : ℕ) : Type 0
   pub here : top_node cut tree place ≡ node
   pub inner : IsSplit (subtree_at (top cut tree) place)
 
+abbrev pub HasOwnPlace : ℕ → SplitTree → ℕ → Type 0
+HasOwnPlace cut tree node = (place : ℕ) × IsOwnPlace cut tree node place
+
 -- a node lies at this place of the top board: as an inner node above the cut, or in the part there
 pub record IsPlaceOf (cut : ℕ) (tree : SplitTree) (node place : ℕ) : Type 0 where
   pub within : place < size (top cut tree)

@@ -203,6 +203,17 @@ impl<'c> Board<'c> {
         }
     }
 
+    /// Whether findings of a node are posted on this board. It asks for a node of the case's tree.
+    pub fn takes(&self, node: NodeId) -> bool
+        requires { node < size self.now.case.tree }
+        ensures { IsTrue result ↔ TakesNode self.now node }
+    {
+        match &self.kind {
+            Kind::Part(board) => board.takes(node),
+            Kind::Top(board) => board.takes(node),
+        }
+    }
+
     /// The weight of the leaves under no marked node.
     pub fn open_weight(&self) -> u64
         ensures { result ≡ open_weight (worth_on self.now) (refuted_by self.now.marks) 0 (tree_on self.now) }

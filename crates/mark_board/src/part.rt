@@ -1,6 +1,6 @@
 //! The board of a part.
 
-ghost use Rattle.std.specs.Prelude.{◌≡◌, ◌≢◌, ◌≤◌, ◌-◌, ◌<◌, ◌↔◌, ◌+◌, ℕ, IfOk};
+ghost use Rattle.std.specs.Prelude.{◌≡◌, ◌≢◌, ◌≤◌, ◌-◌, ◌<◌, ◌↔◌, ◌+◌, ℕ, IfOk, IsTrue};
 ghost use Rattle.cnf_text.specs.Formula.{IsRefuted};
 ghost use Rattle.split_tree.specs.SplitTree.{size, subtree_at, path_at};
 ghost use Rattle.split_tree.specs.Rows.{HasBelow};
@@ -147,6 +147,14 @@ impl<'c> PartBoard<'c> {
         ensures { result ≡ Part self.now.part }
     {
         Place::Part(self.part)
+    }
+
+    /// Whether a node stands on the board.
+    pub fn takes(&self, node: NodeId) -> bool
+        ensures { IsTrue result ↔ HasBelow self.now.case.now.tree self.now.root node }
+    {
+        let end = self.case.tree().end_of(NodeId::new(self.root));
+        self.root <= node.number() && node.number() < end
     }
 
     /// What is posted of a node itself.

@@ -9,7 +9,7 @@ ghost use Rattle.split_tree.specs.Rows.{HasBelow};
 ghost use Rattle.split_tree.specs.Top.{top, top_nodes};
 ghost use Rattle.mark_board.specs.Marking.{AreRefuted, marked, open_weight};
 ghost use Rattle.mark_board.specs.Rows.{IsKept, refuted_by, mark_at};
-ghost use Rattle.mark_board.specs.Places.{part_count, part_place, part_root, top_node, worth_of, mark_as, IsOwnPlace, IsPlaceOf, IsPartAt};
+ghost use Rattle.mark_board.specs.Places.{part_count, part_place, part_root, top_node, worth_of, mark_as, IsOwnPlace, HasOwnPlace, IsPlaceOf, IsPartAt};
 
 use crate::mark::Mark;
 use crate::part::{PartVerdict, mark_for};
@@ -165,6 +165,17 @@ impl<'c> TopBoard<'c> {
             None => None,
             Some(Leaf::Missing(number)) => Some(number - 1),
             Some(Leaf::Cube(_)) => unreachable!(),
+        }
+    }
+
+    /// Whether a node is an inner node above the cut.
+    pub fn takes(&self, node: NodeId) -> bool
+        requires { node < size self.now.case.now.tree }
+        ensures { IsTrue result ↔ HasOwnPlace self.now.cut self.now.case.now.tree node }
+    {
+        match self.part_at(self.place_of(node)) {
+            None => true,
+            Some(_) => false,
         }
     }
 
