@@ -1,11 +1,18 @@
 -- The top board and the parts' boards as one list of marks, and what a post on one of them changes.
-use Rattle.std.proofs.Common.{◌≡◌, ◌≢◌, ◌↔◌, ℕ, zero, suc, ◌+◌, ◌-◌, ◌<◌, ◌≤◌, ◌⊎◌, List, [], ◌∷◌, ◌++◌, length, length-set, map, get_or, set, replicate, Bool, true, false, refl, sym, ap, subst, ◌∙◌, arith, inl, inr, add-zero, zero-add, get_or-set_other, get_or-set_same}
+use Rattle.std.proofs.Common.{◌≡◌, ◌≢◌, ◌↔◌, ℕ, zero, suc, ◌+◌, ◌-◌, ◌<◌, ◌≤◌, ◌⊎◌, List, [], ◌∷◌, ◌++◌, length, length-set, length-append, map, get_or, set, replicate, Bool, true, false, refl, sym, ap, subst, ◌∙◌, arith, inl, inr, add-zero, zero-add, get_or-set_other, get_or-set_same}
 use Rattle.std.proofs.lemmas.Bool.{cases_lt, cases_eq, cases_Bool}
-use Rattle.std.proofs.lemmas.List.{get_or-map, length-map, length-replicate, map-set}
-use Rattle.split_tree.specs.SplitTree.{SplitTree, missing, cube, split, size, subtrees, subtree_at, IsSplit}
+use Rattle.std.proofs.lemmas.List.{get_or_append_left, get_or-map, length-map, length-replicate, map-set}
+use Rattle.split_tree.specs.SplitTree.{SplitTree, missing, cube, split, size, subtrees, subtree_at, path_at, branch, IsSplit}
+use Rattle.split_tree.specs.Leaves.{missing_nodes, IsTargetAt}
+use Rattle.split_tree.specs.declared.node.Target.{Target}
+use Rattle.split_tree.specs.declared.node.Target.TheVariants.{Leaf as Named, Node as Inner}
+use Rattle.split_tree.specs.declared.node.Leaf.TheVariants.{Cube as CubeLeaf, Missing as MissingLeaf}
+use Rattle.split_tree.specs.Parts.{part_nodes}
 use Rattle.split_tree.specs.Top.{top}
+use Rattle.split_tree.proofs.Labels.{label-root}
+use Rattle.mark_board.proofs.PartPlaces.{parts_on_top}
 use Rattle.split_tree.proofs.Coding.{subtree-root, some_node, length-subtrees}
-use Rattle.split_tree.proofs.Leaves.{missing_found}
+use Rattle.split_tree.proofs.Leaves.{missing_found, missing_is}
 use Rattle.case_core.specs.Case.{CaseOf}
 use Rattle.mark_board.specs.declared.mark.Mark.{Mark}
 use Rattle.mark_board.specs.declared.mark.Mark.TheVariants.{Open, Refuted}
@@ -13,10 +20,10 @@ use Rattle.mark_board.specs.declared.place.Place.{Place}
 use Rattle.mark_board.specs.declared.place.Place.TheVariants.{Part, Top}
 use Rattle.mark_board.specs.Marking.{marked, open_weight}
 use Rattle.mark_board.specs.Rows.{is_refuted, mark_at, refuted_by}
-use Rattle.mark_board.specs.Places.{top_node, part_count, part_place, part_root, worth_of}
-use Rattle.mark_board.specs.Board.{BoardOf, board_tree, board_node, IsRow, HasTargets}
-use Rattle.mark_board.specs.Boards.{part_tree, part_marks, part_mark, joined_marks, marks_of, boards_of, BoardsOf, AreMarks, ArePosted, AreBoards, IsBoardAt, IsPlaceFor}
-use Rattle.mark_board.proofs.TopPlaces.{no_cube_above}
+use Rattle.mark_board.specs.Places.{top_node, part_count, part_place, part_root, worth_of, IsPlaceOf}
+use Rattle.mark_board.specs.Board.{BoardOf, IsRowOn, tree_on, board_tree, board_node, IsRow, HasTargets}
+use Rattle.mark_board.specs.Boards.{part_tree, part_marks, part_mark, joined_marks, marks_of, boards_of, BoardsOf, AreMarks, ArePosted, AreBoards, IsBoardAt, IsPlaceFor, IsNewPart, AreNewParts}
+use Rattle.mark_board.proofs.TopPlaces.{no_cube_above, top_first}
 use Rattle.mark_board.proofs.Joined.{LeafIsPart, PartAt, part_is, marks_in_part, marks_on_top, marks_of_part, posted_on_top, posted_in_part, posted_of_part, unposted, posted_at, agreed_below, marked_in_part, open_in_part, new_marks, new_posted}
 use Rattle.mark_board.proofs.Together.{AreLong, joined_is, marks_are_joined}
 
@@ -208,3 +215,103 @@ new_boards above parts low place marks count each =
     } in
     (b, marks_are_joined above.cut above.case.tree above.marks (map marks_of parts) (replicate (size above.case.tree) Open) (all_long_of above parts b)
     (new_marks above.cut above.case.tree above.marks (map marks_of parts) marks open_parts))
+
+-- ---- the board of a node
+
+pub place_in_part : (cut : ℕ) (tree : SplitTree) (node place part : ℕ) → IsPlaceOf cut tree node place → part < part_count cut tree →
+    part_place cut tree part ≡ place → IsPlaceFor cut tree node (Part part)
+place_in_part cut tree node place part p l e =
+    let root : part_root cut tree part ≡ top_node cut tree place = ap (top_node cut tree) e in
+    let reached : top_node cut tree place ≤ node = p.below.reached in
+    let ends : node < top_node cut tree place + size (subtree_at tree (top_node cut tree place)) = p.below.before_end in
+    record {
+      row = node - top_node cut tree place;
+      is_place = l;
+      is_row = record { within = rw root (omega arith); here = omega (arith, root) };
+      has_targets = tt;
+    }
+
+pub place_on_top : (cut : ℕ) (tree : SplitTree) (node place : ℕ) → IsPlaceOf cut tree node place → IsSplit (subtree_at (top cut tree) place) → IsPlaceFor cut tree node Top
+place_on_top cut tree node place p s = record { row = place; is_place = tt; is_row = record { within = p.within; here = p.own s }; has_targets = s }
+
+-- ---- what the calls of one board say of all
+
+-- a part that is listed is one of the cut's
+pub parts_listed : (cut : ℕ) (tree : SplitTree) (nodes : List ℕ) → nodes ≡ part_nodes cut 0 tree → length nodes ≡ part_count cut tree
+parts_listed cut tree nodes e = ap length (e ∙ parts_on_top cut tree) ∙ length-map (missing_nodes (top cut tree)) (top_node cut tree)
+
+pub part_listed : (cut : ℕ) (tree : SplitTree) (nodes : List ℕ) → nodes ≡ part_nodes cut 0 tree → (k : ℕ) → k < length nodes → k < part_count cut tree
+part_listed cut tree nodes e k l =
+    let c : length nodes ≡ part_count cut tree = ap length (e ∙ parts_on_top cut tree) ∙ length-map (missing_nodes (top cut tree)) (top_node cut tree) in
+    omega (arith, c)
+
+module _ (above : BoardOf) (parts : List BoardOf) (h : AreBoards above parts) where
+  pub mark_on_top : (target : Target) (node : ℕ) (mark : Mark) → IsPlaceFor above.cut above.case.tree node Top → IsTargetAt above.case.tree node target →
+      ((i row : ℕ) → IsTargetAt above.case.tree i target → IsRowOn above i row → mark ≡ mark_at above.marks row) → mark ≡ mark_at (boards_of above parts).marks node
+  mark_on_top target node mark p here is =
+      is node p.row here (rw h.at_top.place_is p.is_row) ∙ read_on_top above parts h node p.row p.is_row p.has_targets
+
+  pub part_is_there : (k : ℕ) (board : BoardOf) → k < part_count above.cut above.case.tree → board ≡ get_or parts k board → board ≡ get_or parts k above
+  part_is_there k board l e = e ∙ no_default parts k board above (omega (arith, h.count))
+
+  pub part_row_on : (k node row : ℕ) (board : BoardOf) → k < part_count above.cut above.case.tree → board ≡ get_or parts k board →
+      IsRow above.cut above.case.tree (Part k) node row → IsRowOn board node row
+  part_row_on k node row board l e at =
+      let b = h.at_part k l in
+      rw (part_is_there k board l e, b.case_is, b.cut_is, b.place_is) at
+
+  pub mark_in_part : (k : ℕ) (target : Target) (node : ℕ) (board : BoardOf) (mark : Mark) → IsPlaceFor above.cut above.case.tree node (Part k) → IsTargetAt above.case.tree node target →
+      board ≡ get_or parts k board →
+      ((i row : ℕ) → IsTargetAt board.case.tree i target → IsRowOn board i row → mark ≡ mark_at board.marks row) → mark ≡ mark_at (boards_of above parts).marks node
+  mark_in_part k target node board mark p here e is =
+      let b = h.at_part k p.is_place in
+      let same : board ≡ get_or parts k above = part_is_there k board p.is_place e in
+      let case : board.case ≡ above.case = ap (λ (x : BoardOf). x.case) same ∙ b.case_is in
+      is node p.row (rw case here) (part_row_on k node p.row board p.is_place e p.is_row)
+      ∙ (ap (λ (x : BoardOf). mark_at x.marks p.row) same ∙ read_in_part above parts h k node p.row p.is_place p.is_row)
+
+  pub root_on_top : (node : ℕ) (is_marked : Bool) → node ≡ 0 → ((row : ℕ) → IsRowOn above node row → is_marked ≡ marked (refuted_by above.marks) row (subtree_at (tree_on above) row)) →
+      is_marked ≡ marked (refuted_by (boards_of above parts).marks) 0 above.case.tree
+  root_on_top node is_marked e is =
+      let at : IsRow above.cut above.case.tree Top node 0 = record { within = omega (arith, some_node (top above.cut above.case.tree)); here = top_first above.cut 0 above.case.tree ∙ sym e } in
+      let t : tree_on above ≡ top above.cut above.case.tree = rw h.at_top.place_is refl in
+      is 0 (rw h.at_top.place_is at) ∙ (ap (marked (refuted_by above.marks) 0) (subtree-root (tree_on above) ∙ t) ∙ root_agrees above parts h)
+
+pub root_path : (tree : SplitTree) → path_at tree 0 ≡ []
+root_path tree = label-root branch [] [] tree
+
+-- ---- making the parts' boards
+
+pub no_parts : (case : CaseOf) (cut : ℕ) → AreNewParts case cut [] 0
+no_parts case cut = record { long = refl; each = λ other k l. absurd (omega arith) }
+
+last_is : (xs : List BoardOf) (x : BoardOf) (i : ℕ) (d : BoardOf) → length xs ≡ i → get_or (xs ++ x ∷ []) i d ≡ x
+last_is [] x zero d e = refl
+last_is [] x (suc i) d e = absurd (omega (arith, e))
+last_is (y ∷ ys) x zero d e = absurd (omega (arith, e))
+last_is (y ∷ ys) x (suc i) d e = last_is ys x i d (omega (arith, e))
+
+pub one_more_part : (case : CaseOf) (cut : ℕ) (boards : List BoardOf) (n : ℕ) (board : BoardOf) → AreNewParts case cut boards n → IsNewPart case cut n board →
+    AreNewParts case cut (boards ++ board ∷ []) (n + 1)
+one_more_part case cut boards n board h new = record {
+  long = length-append boards (board ∷ []) ∙ ap (λ (k : ℕ). k + 1) h.long;
+  each = λ other k l. elim (cases_eq k n) [
+    | inl same ↦ rw (same, last_is boards board n other h.long) new
+    | inr ne ↦ rw (get_or_append_left boards (board ∷ []) other k (omega (arith, h.long, ne))) (h.each other k (omega (arith, ne)))
+  ];
+}
+
+pub boards_new : (above : BoardOf) (parts : List BoardOf) (case : CaseOf) (cut : ℕ) → cut ≤ 6 → above.case ≡ case → above.cut ≡ cut → above.place ≡ Top →
+    above.marks ≡ replicate (size (top cut case.tree)) Open → AreNewParts case cut parts (part_count cut case.tree) →
+    AreBoards above parts × ((boards_of above parts).marks ≡ replicate (size case.tree) Open)
+boards_new above parts case cut low c d place marks h = let r = (new_boards above parts (rw d low) place (rw (c, d) marks) (rw (c, d) h.long)
+    (λ k l. let n = h.each above k (rw (c, d) at l) in (n.case_is ∙ sym c, n.cut_is ∙ sym d, n.place_is,
+    n.none ∙ (ap (λ (x : CaseOf). replicate (size (part_tree cut x.tree k)) Open) (sym c) ∙ ap (λ (x : ℕ). replicate (size (part_tree x above.case.tree k)) Open) (sym d))))) in (r.0, r.1 ∙ ap (λ (x : CaseOf). replicate (size x.tree) Open) c)
+
+-- a target stands at a node of the tree
+pub target_inside : (tree : SplitTree) (node : ℕ) (target : Target) → IsTargetAt tree node target → node < size tree
+target_inside tree node (Named (CubeLeaf k)) at = at.0
+target_inside tree node (Named (MissingLeaf j)) at =
+    let m = missing_is 0 (subtrees tree) (j - 1) (omega (arith, at.0, at.1)) in
+    rw (← length-subtrees tree) (omega (arith, at.2, m.1, m.2))
+target_inside tree node (Inner inner) at = at.1

@@ -14,3 +14,5 @@ pub mod Branches
 pub mod BoardRows
 pub mod Together
 pub mod Gathered
+pub mod GatheredPosts
+pub mod GatheredWeights

@@ -1,5 +1,5 @@
 -- The top board and all parts' boards of one case and one cut, together.
-use Rattle.std.specs.Prelude.{ℕ, zero, suc, ◌+◌, ◌<◌, ◌≤◌, ◌≡◌, Bool, if◌then◌else◌, List, [], ◌∷◌, ◌++◌, drop, length, get_or, map, slice_set}
+use Rattle.std.specs.Prelude.{ℕ, zero, suc, ◌+◌, ◌<◌, ◌≤◌, ◌≡◌, Bool, true, false, if◌then◌else◌, List, [], ◌∷◌, ◌++◌, drop, length, get_or, map, replicate, slice_set}
 use Rattle.split_tree.specs.SplitTree.{SplitTree, missing, cube, split, size, subtree_at, IsSplit}
 use Rattle.split_tree.specs.Leaves.{IsTargetAt}
 use Rattle.split_tree.specs.declared.node.Target.{Target}
@@ -7,6 +7,8 @@ use Rattle.split_tree.specs.Top.{top}
 use Rattle.case_core.specs.Case.{CaseOf}
 use Rattle.mark_board.specs.declared.mark.Mark.{Mark}
 use Rattle.mark_board.specs.declared.mark.Mark.TheVariants.{Open, Refuted}
+use Rattle.mark_board.specs.declared.rows.Answer.{Answer}
+use Rattle.mark_board.specs.declared.rows.Answer.TheVariants.{Marked, RootMarked, Already}
 use Rattle.mark_board.specs.declared.place.Place.{Place}
 use Rattle.mark_board.specs.declared.place.Place.TheVariants.{Part, Top}
 use Rattle.mark_board.specs.Board.{BoardOf, IsPlace, IsRow, HasTargets, board_tree}
@@ -83,9 +85,27 @@ pub record AreBoards (above : BoardOf) (parts : List BoardOf) : Type 0 where
   pub at_part : (part : ℕ) → part < part_count above.cut above.case.tree → IsBoardAt above.case above.cut (Part part) (get_or parts part above)
   pub posted : ArePosted above.cut above.case.tree above.marks (map marks_of parts)
 
+-- a board of a part with nothing marked
+pub record IsNewPart (case : CaseOf) (cut part : ℕ) (board : BoardOf) : Type 0 where
+  pub case_is : board.case ≡ case
+  pub cut_is : board.cut ≡ cut
+  pub place_is : board.place ≡ Part part
+  pub none : board.marks ≡ replicate (size (part_tree cut case.tree part)) Open
+
+-- these are the boards of the first parts, with nothing marked
+pub record AreNewParts (case : CaseOf) (cut : ℕ) (boards : List BoardOf) (count : ℕ) : Type 0 where
+  pub long : length boards ≡ count
+  pub each : (other : BoardOf) (part : ℕ) → part < count → IsNewPart case cut part (get_or boards part other)
+
 -- the marks after a finding was posted, or wasn't since its target had a mark
 abbrev pub marks_with : Bool → List Mark → ℕ → Mark → List Mark
 marks_with posted marks node mark = if posted then slice_set marks node mark else marks
+
+-- whether a post is new: its target had no mark
+abbrev pub is_new : Answer → Bool
+is_new Marked = true
+is_new RootMarked = true
+is_new Already = false
 
 -- the board on which a node's finding is posted
 pub record IsPlaceFor (cut : ℕ) (tree : SplitTree) (node : ℕ) (place : Place) : Type 0 where

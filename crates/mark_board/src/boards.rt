@@ -5,9 +5,10 @@ ghost use Rattle.cnf_text.specs.Formula.{IsRefuted};
 ghost use Rattle.split_tree.specs.SplitTree.{size, subtree_at, path_at};
 ghost use Rattle.split_tree.specs.Leaves.{HasTarget, IsTargetAt};
 ghost use Rattle.mark_board.specs.Marking.{marked, open_weight, open_branches};
-ghost use Rattle.mark_board.specs.Places.{worth_of, mark_as};
+ghost use Rattle.mark_board.specs.Places.{worth_of, mark_as, part_count};
 ghost use Rattle.mark_board.specs.Rows.{refuted_by, mark_at};
-ghost use Rattle.mark_board.specs.Boards.{AreTargetsAt};
+ghost use Rattle.mark_board.specs.BoardPosts.{posted_answer};
+ghost use Rattle.mark_board.specs.Boards.{AreTargetsAt, AreNewParts, IsPlaceFor, is_new};
 
 use crate::board::Board;
 use crate::mark::Mark;
@@ -26,6 +27,26 @@ fn target_at(tree: &Tree, node: NodeId) -> Target
         Some(leaf) => Target::Leaf(leaf),
         None => Target::Node(node),
     }
+}
+
+/// The boards of all parts of a cut of a case, with nothing marked.
+fn new_parts(alloc: Global, case: &Case, cut: u32) -> Result<Vec<Board<'_>>, AllocError>
+    requires { cut ≤ 6 }
+    ensures { IfOk result (λ parts. AreNewParts case.now cut parts.items (part_count cut case.now.tree)) }
+{
+    let count = case.tree().parts(alloc, cut)?.len() as u32;
+    let mut parts = Vec::new(alloc);
+    for part in 0..count {
+        parts.push(Board::new(alloc, case, cut, Place::Part(part))?)?;
+    }
+    Ok(parts)
+}
+
+/// Whether a finding was posted, and its target had none.
+fn is_new(posted: &Posted<'_>) -> bool
+    ensures { result ≡ is_new (posted_answer posted.now) }
+{
+    !matches!(posted, Posted::Already(_))
 }
 
 /// All boards of a cut of a case: that of each part, and the one above the parts.
@@ -61,11 +82,7 @@ impl<'c> Boards<'c> {
         ensures marks { IfOk result (λ boards. boards.marks ≡ replicate (size case.now.tree) Open) }
     {
         let above = Board::new(alloc, case, cut, Place::Top)?;
-        let count = case.tree().parts(alloc, cut)?.len() as u32;
-        let mut parts = Vec::new(alloc);
-        for part in 0..count {
-            parts.push(Board::new(alloc, case, cut, Place::Part(part))?)?;
-        }
+        let parts = new_parts(alloc, case, cut)?;
         Ok(Boards { above, parts })
     }
 
@@ -94,18 +111,27 @@ impl<'c> Boards<'c> {
         ensures marks { self.new.marks ≡ marks_with result self.old.marks finding.entry.node (mark_as finding.entry.judged) }
     {
         match self.above.place_for(finding.node()) {
-            Place::Top => match self.above.post(finding) {
-                Posted::Already(_) => false,
-                Posted::Marked | Posted::RootMarked(_) | Posted::TopMarked => true,
-            },
-            Place::Part(part) => match self.parts[part as usize].post(finding) {
-                Posted::Already(_) => false,
-                Posted::Marked | Posted::TopMarked => true,
-                Posted::RootMarked(verdict) => {
-                    let _ = self.above.post_part(verdict);
-                    true
-                }
-            },
+            Place::Top => is_new(&self.above.post(finding)),
+            Place::Part(part) => self.post_in(part, finding),
+        }
+    }
+
+    /// The post on the board of a part, and then of the part on the top board where it marked the part's root.
+    fn post_in(&mut self, part: u32, finding: Finding<'c>) -> bool
+        requires case { finding.case.now ≡ self.old.case }
+        requires place { IsPlaceFor self.old.cut self.old.case.tree finding.node (Place.Part part) }
+        ensures same { (self.new.case ≡ self.old.case) × (self.new.cut ≡ self.old.cut) }
+        ensures new { IsTrue result ↔ (mark_at self.old.marks finding.entry.node ≡ Open) }
+        ensures marks { self.new.marks ≡ marks_with result self.old.marks finding.entry.node (mark_as finding.entry.judged) }
+    {
+        match self.parts[part as usize].post(finding) {
+            Posted::Already(_) => false,
+            Posted::Marked => true,
+            Posted::RootMarked(verdict) => {
+                let _ = self.above.post_part(verdict);
+                true
+            }
+            Posted::TopMarked => unreachable!(),
         }
     }
 
