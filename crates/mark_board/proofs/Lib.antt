@@ -16,3 +16,4 @@ pub mod Together
 pub mod Gathered
 pub mod GatheredPosts
 pub mod GatheredWeights
+pub mod Walks

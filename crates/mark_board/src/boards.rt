@@ -193,10 +193,10 @@ impl<'c> Boards<'c> {
             let node = NodeId::new(number);
             let weight = self.open_under(node);
             let whole = tree.weight_under(node);
-            if weight == whole {
+            number = if weight == 0 {
+                tree.end_of(node)
+            } else if weight == whole {
                 targets.push(target_at(tree, node))?;
-            }
-            number = if weight == 0 || weight == whole {
                 tree.end_of(node)
             } else {
                 number + 1
