@@ -29,7 +29,12 @@ use case_core::{Case, Finding, NodeId, Target};
 use std::alloc::{AllocError, Global};
 use std::marker::Model;
 
-/// The board of a part of a cut of a case, or the one above the parts: what is posted of each of its nodes.
+/// The board of a part of a cut of a case, or the one above the parts. Of each of its nodes it has what is posted of it, and the
+/// weight of the leaves under it that are open. A node is marked where its proof refutes it or its part has a verdict, and an
+/// inner node also where both its branches are marked; a leaf is open while no node above it is marked, nor itself. So what is
+/// marked has no model together with the formula.
+///
+/// A post goes down one path of the tree. Only `new` takes memory.
 #[derive(Drop)]
 pub struct Board<'c> {
     kind: Kind<'c>,
@@ -50,7 +55,7 @@ impl<'c> Model for Board<'c> {
     ghost view = { λ b. board_of b.kind };
 }
 
-/// The node at the root of a part, by the part's number.
+/// The node at the root of a part, by the part's number from 0 in tree order. `AllocError` where a growth was refused.
 fn root_of_part(alloc: Global, case: &Case, cut: u32, part: u32) -> Result<NodeId, AllocError>
     requires cut { cut ≤ 6 }
     requires part { part < part_count cut case.now.tree }
@@ -99,7 +104,8 @@ fn post_on_top<'c>(board: &mut TopBoard<'c>, finding: Finding<'c>) -> Posted<'c>
 }
 
 impl<'c> Board<'c> {
-    /// The board at a place of a cut of a case, with nothing marked.
+    /// The board at a place of a cut of a case, with nothing posted. It asks for a cut from 0 to 6, and for the top or a part
+    /// that the cut makes. `AllocError` where a growth was refused.
     pub fn new(
         alloc: Global,
         case: &'c Case,
@@ -121,7 +127,8 @@ impl<'c> Board<'c> {
         Ok(Board { kind })
     }
 
-    /// The board without its case.
+    /// What to keep of the board while its case is lent to others: its cut, place, marks and open weights. `bind` makes the board
+    /// of it again.
     pub fn unbind(self) -> BoardData
         ensures case { IsDataOf self.entry.case result }
         ensures board { stored_board self.entry.case result ≡ self.entry }
@@ -133,7 +140,7 @@ impl<'c> Board<'c> {
         BoardData { kind }
     }
 
-    /// The board of a case of which this is stored.
+    /// The board of which this is kept. It asks for the case of that board.
     pub fn bind(case: &'c Case, stored: BoardData) -> Board<'c>
         requires { IsDataOf case.now stored }
         ensures { result ≡ stored_board case.now stored }
@@ -145,7 +152,11 @@ impl<'c> Board<'c> {
         Board { kind }
     }
 
-    /// Marks a finding's target as it says, if that has no finding yet.
+    /// Marks a finding's target as the finding says, if nothing was posted of that target itself: a target that merely lies under
+    /// a marked node is marked too. It asks for a finding of the board's case, of a node that the board takes.
+    ///
+    /// Answers whether this marked the root of the board, on a part's board with the part's verdict, and on the top board by
+    /// `TopMarked`; or `Already` with the finding, and then nothing changed.
     pub fn post(&mut self, finding: Finding<'c>) -> Posted<'c>
         requires case { finding.case.now ≡ self.old.case }
         requires within { TakesNode self.old finding.node }
@@ -162,7 +173,10 @@ impl<'c> Board<'c> {
         }
     }
 
-    /// Marks a part as refuted, if it has no mark yet. It asks for the top board.
+    /// Marks a part as refuted on the top board, if it has no verdict yet. It asks for the top board, and for a verdict of its case
+    /// and cut.
+    ///
+    /// Answers whether this marked the root of the tree; or `Already` with the verdict, and then nothing changed.
     pub fn post_part(&mut self, verdict: PartVerdict<'c>) -> PartPosted<'c>
         requires top { self.old.place ≡ Top }
         requires case { verdict.case.now ≡ self.old.case }
@@ -183,7 +197,7 @@ impl<'c> Board<'c> {
         }
     }
 
-    /// Its case.
+    /// The case that it is of.
     pub fn case(&self) -> &'c Case
         ensures { result.now ≡ self.now.case }
     {
@@ -193,7 +207,7 @@ impl<'c> Board<'c> {
         }
     }
 
-    /// Its place.
+    /// Where it stands: at the top, or at a part, by the part's number from 0 in tree order.
     pub fn place(&self) -> Place
         ensures { result ≡ self.now.place }
     {
@@ -203,9 +217,9 @@ impl<'c> Board<'c> {
         }
     }
 
-    /// Whether findings of a node are posted on this board. It asks for a node of the case's tree.
+    /// Whether findings of a node are posted on this board: on a part's those of the nodes from the part's root on, and on the top
+    /// board those of the inner nodes above the cut.
     pub fn takes(&self, node: NodeId) -> bool
-        requires { node < size self.now.case.tree }
         ensures { IsTrue result ↔ TakesNode self.now node }
     {
         match &self.kind {
@@ -214,7 +228,8 @@ impl<'c> Board<'c> {
         }
     }
 
-    /// The weight of the leaves under no marked node.
+    /// The weight of the open leaves: of those under no marked node. A leaf at depth d weighs 2 to the power 60 - d up to depth 60,
+    /// and 1 below. On the top board a part weighs what its leaves do, as long as neither it nor a node above it is marked.
     pub fn open_weight(&self) -> u64
         ensures { result ≡ open_weight (worth_on self.now) (refuted_by self.now.marks) 0 (tree_on self.now) }
     {
@@ -223,7 +238,9 @@ impl<'c> Board<'c> {
             Kind::Top(board) => board.open_weight(),
         }
     }
-    /// The weight of the leaves under a node that lie under no marked node from there on.
+
+    /// The weight of the open leaves under a node, whatever is marked above it. It asks for a node that stands on the board: on the
+    /// top board an inner node above the cut, or the root of a part.
     pub(crate) fn open_under(&self, node: NodeId) -> u64
         requires { HasNode self.now node }
         ensures { (row : ℕ) → IsRowOn self.now node row → result ≡ open_weight (worth_on self.now) (refuted_by self.now.marks) row (subtree_at (tree_on self.now) row) }
@@ -234,7 +251,8 @@ impl<'c> Board<'c> {
         }
     }
 
-    /// What is posted of a target.
+    /// What is posted of a target itself: `Open` where it merely lies under a marked node. It asks for a target whose findings are
+    /// posted on this board. A target that is refuted has no model together with the formula and its path.
     pub fn mark_of(&self, target: Target) -> Mark
         requires { TakesTarget self.now target }
         ensures mark { (node row : ℕ) → IsTargetAt self.now.case.tree node target → IsRowOn self.now node row → result ≡ mark_at self.now.marks row }
@@ -247,7 +265,9 @@ impl<'c> Board<'c> {
         }
     }
 
-    /// Whether a node is marked.
+    /// Whether a node is marked: refuted, or an inner node with both branches marked. It asks for a node that stands on the board:
+    /// on the top board an inner node above the cut, or the root of a part. A marked node has no model together with the formula
+    /// and its path.
     pub fn node_marked(&self, node: NodeId) -> bool
         requires { HasNode self.now node }
         ensures marked { (row : ℕ) → IsRowOn self.now node row → result ≡ marked (refuted_by self.now.marks) row (subtree_at (tree_on self.now) row) }

@@ -26,3 +26,6 @@ pub use part::PartVerdict;
 pub use place::Place;
 pub use posted::{PartPosted, Posted};
 pub use stored::BoardData;
+
+#[cfg(test)]
+mod tests;

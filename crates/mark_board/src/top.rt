@@ -170,9 +170,11 @@ impl<'c> TopBoard<'c> {
 
     /// Whether a node is an inner node above the cut.
     pub fn takes(&self, node: NodeId) -> bool
-        requires { node < size self.now.case.now.tree }
         ensures { IsTrue result ↔ HasOwnPlace self.now.cut self.now.case.now.tree node }
     {
+        if node.number() >= self.case.tree().size() {
+            return false;
+        }
         match self.part_at(self.place_of(node)) {
             None => true,
             Some(_) => false,
