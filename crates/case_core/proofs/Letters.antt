@@ -100,10 +100,6 @@ plain_rest text rest cut p =
 not_true : (b : Bool) → (b ≡ true → ⊥) → b ≡ false
 not_true b h = elim (cases_Bool b) [ inl t ↦ absurd (h t) | inr f ↦ f ]
 
--- no byte is the letter
-pub none_found : (text : List ℕ) → IsFirstByte (is_byte 108) text None → HasNoLetter text
-none_found text none = All-from_get_or (λ x. (x == 108) ≡ false) text 0 (λ k h. not_true _ (none k (omega arith) h))
-
 none_before : (text : List ℕ) (letter : ℕ) → IsFirstByte (is_byte 108) text (Some letter) → HasNoLetter (take letter text)
 none_before text letter first =
     let inside : letter < length text = first.0.high in
