@@ -7,3 +7,4 @@ pub mod Reading
 pub mod Bundles
 pub mod Unique
 pub mod Faults
+pub mod Letters

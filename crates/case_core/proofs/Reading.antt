@@ -1,19 +1,14 @@
 -- The sections of a bundle, read label line after label line.
-use Rattle.std.proofs.Common.{◌≡◌, ◌≢◌, ℕ, suc, ◌+◌, ◌<◌, List, [], ◌∷◌, ◌++◌, true, length, refl, sym, ◌∙◌, ap, subst, arith, append_assoc, length-append, Option, Bor, MatchOption, None, Some}
+use Rattle.std.proofs.Common.{◌≡◌, ℕ, suc, ◌+◌, ◌<◌, List, [], ◌∷◌, ◌++◌, true, length, refl, sym, ◌∙◌, ap, subst, arith, append_assoc, length-append, Option, Bor, MatchOption, None, Some}
 use Rattle.std.specs.Prelude.{IfSome}
 use Rattle.cnf_text.specs.Tokens.{words}
 use Rattle.split_tree.specs.SplitTree.{SplitTree}
-use Rattle.split_tree.specs.declared.node.Target.{Target}
-use Rattle.case_core.specs.declared.fault.CaseFault.TheVariants as faults
-use Rattle.case_core.specs.declared.label.LabelFault.{LabelFault}
-use Rattle.case_core.specs.declared.label.LabelFault.TheVariants.{BadForm, NoSuchTarget, Twice, Memory}
 use Rattle.case_core.specs.Bundle.{lines_of, is_label, text_before, Labelled, labelled, labels_of}
 use Rattle.case_core.specs.Cut.{HasNoLabel, BeginsWithLabel, FirstLabel, at_line, OneLabel, NextLabel}
 use Rattle.case_core.specs.Case.{SectionOf, AreSections}
-use Rattle.case_core.specs.Label.{Name, label_name, IsNamed, IsTargetOf}
-use Rattle.case_core.specs.Kept.{Refuses, GoesOn, LabelAt}
-use Rattle.case_core.specs.Told.{told}
-use Rattle.case_core.specs.Sections.{IsSectionOf, AreLabelled, AreSectionsOf, FaultAt, IsLabelFault}
+use Rattle.case_core.specs.Label.{Name, label_name}
+use Rattle.case_core.specs.Kept.{GoesOn, LabelAt}
+use Rattle.case_core.specs.Sections.{IsSectionOf, AreLabelled, AreSectionsOf}
 
 one_labelled : (number : ℕ) (line : List ℕ) (lines : List (List ℕ)) → is_label line ≡ true
     → labelled number (line ∷ lines) ≡ record { line = number; label = words line; section = text_before lines } ∷ labelled (number + 1) lines
@@ -106,40 +101,8 @@ nothing_read tree bundle sections (Some at) e first = record {
 
 -- ---- the label line that is refused
 
-other_name : (name : Option Name) (value : Name) → name ≡ Some value → name ≡ None → ⊥
-other_name name value a b = let e : Some value ≡ None = sym a ∙ b in cc
-
 same_name : (a b : Name) → Some a ≡ Some b → a ≡ b
 same_name a b e = cc
 
-no_target : (tree : SplitTree) (name : Option Name) (value : Name) (target : Target) → name ≡ Some value → ((t : Target) → IsNamed tree value t → ⊥) → IsTargetOf tree name target → ⊥
-no_target tree name value target is none t = none target (subst (λ (n : Name). IsNamed tree n target) (same_name t.value value (sym t.is ∙ is)) t.named)
-
-at_fault : (tree : SplitTree) (sections : List SectionOf) (label : Labelled) (line : ℕ) (fault : LabelFault) → line ≡ label.line → Refuses tree sections (label_name label.label) fault
-    → (told fault line ≢ faults.Memory) → FaultAt tree sections label (told fault line)
-at_fault tree sections label line BadForm e r some = (e, r)
-at_fault tree sections label line NoSuchTarget e r some = (e, other_name _ r.0 r.1, λ target t. no_target tree _ r.0 target r.1 r.2 t)
-at_fault tree sections label line Twice e r some = (e, r)
-at_fault tree sections label line Memory e r some = absurd (some refl)
-
-left_labels : (text line section : List ℕ) (number : ℕ) (next : Option (Bor (List ℕ))) → MatchOption next (OneLabel text line section) (λ at. NextLabel text line section at.now)
-    → (after : List Labelled) × (labelled number (lines_of text) ≡ at_line number line section ∷ after)
-left_labels text line section number None one = ([], one number)
-left_labels text line section number (Some at) n = (labelled (number + n.skipped) (lines_of at.now), n.labels number)
-
 same_number : (a b n m : ℕ) → a + n ≡ m → b + n ≡ m → a ≡ b
 same_number a b n m p q = omega arith
-
-pub read_fault : (tree : SplitTree) (bundle text line section : List ℕ) (old : List SectionOf) (next : Option (Bor (List ℕ))) (fault : LabelFault) (number : ℕ) → LabelAt tree bundle old text
-    → MatchOption next (OneLabel text line section) (λ at. NextLabel text line section at.now) → Refuses tree old (label_name (words line)) fault
-    → number + length (lines_of text) ≡ length (lines_of bundle) + 1 → (told fault number ≢ faults.Memory) → IsLabelFault tree (labels_of bundle) (told fault number)
-read_fault tree bundle text line section old next fault number at n r counted some =
-    let left = left_labels text line section at.number next n in record {
-      before = at.before;
-      label = at_line at.number line section;
-      after = left.0;
-      parts = at.parts ∙ ap (λ l. at.before ++ l) left.1;
-      sections = old;
-      so_far = at.so_far;
-      broken = at_fault tree old (at_line at.number line section) number fault (same_number number at.number _ _ counted at.counted) r some;
-    }

@@ -204,14 +204,6 @@ kept_more tree sections places s node k free within here only =
       counted = long ∙ ap (λ n. n + 1) k.counted ∙ sym (count_more places node (length sections) inside free);
     }
 
-some_place : (sections : List SectionOf) (place : ℕ) → place ≢ 0 → section_by sections place ≡ None → ⊥
-some_place sections place some e = let f : Some (section_at sections (place - 1)).proof ≡ None = rw (ne_eqb place 0 some) at e in cc
-
--- an earlier section of the target
-pub named_before : (tree : SplitTree) (sections : List SectionOf) (places : List ℕ) (target : Target) (node : ℕ) → AreKept tree sections places → IsTargetAt tree node target
-    → get_or places node 0 ≢ 0 → proof_for sections target ≢ None
-named_before tree sections places target node k here some none = some_place sections (get_or places node 0) some (sym (k.tabled.found target node here) ∙ none)
-
 zeros : (n at : ℕ) → ◌≡◌ {A = ℕ} (get_or (replicate {A = ℕ} n 0) at 0) 0
 zeros zero at = refl
 zeros (suc n) zero = refl

@@ -1,5 +1,5 @@
 -- Where a text is cut at its first label line, for the contracts of private functions.
-use Rattle.std.specs.Prelude.{◌≡◌, ℕ, ◌+◌, List, [], ◌∷◌, ◌++◌, length, true}
+use Rattle.std.specs.Prelude.{◌≡◌, ◌⊎◌, ℕ, ◌+◌, ◌==◌, List, [], ◌∷◌, ◌++◌, length, true, false, All}
 use Rattle.cnf_text.specs.Tokens.{words}
 use Rattle.case_core.specs.Bundle.{lines_of, is_label, Labelled, labelled}
 
@@ -11,6 +11,21 @@ pub record EndsWith (text end : List ℕ) : Type 0 where
 -- none of its lines is a label line
 abbrev pub HasNoLabel : List ℕ → Type 0
 HasNoLabel text = (number : ℕ) → labelled number (lines_of text) ≡ []
+
+-- no byte of it is the letter l
+abbrev pub HasNoLetter : List ℕ → Type 0
+HasNoLetter bytes = All (λ b. (b == 108) ≡ false) bytes
+
+-- it ends where a line begins
+abbrev pub EndsAtLine : List ℕ → Type 0
+EndsAtLine front = (front ≡ []) ⊎ ((lines : List ℕ) × (front ≡ lines ++ 10 ∷ []))
+
+-- the end of a text from the start of a line on, before which no byte is the letter l
+pub record AfterPlainLines (text end : List ℕ) : Type 0 where
+  pub front : List ℕ
+  pub parts : text ≡ front ++ end
+  pub plain : HasNoLetter front
+  pub at_line : EndsAtLine front
 
 -- the first line is a label line
 pub record BeginsWithLabel (text : List ℕ) : Type 0 where

@@ -5,7 +5,7 @@ ghost use Rattle.cnf_text.specs.Tokens.{is_line_end};
 ghost use Rattle.cnf_text.specs.Icnf.{Item, Within};
 ghost use Rattle.cnf_text.specs.Progress.{IsFileOf};
 ghost use Rattle.case_core.specs.Bundle.{lines_of, is_label, text_before, labels_of};
-ghost use Rattle.case_core.specs.Cut.{HasNoLabel, FirstLabel, EndsWith, BeginsWithLabel, OneLabel, NextLabel};
+ghost use Rattle.case_core.specs.Cut.{HasNoLabel, HasNoLetter, AfterPlainLines, FirstLabel, EndsWith, BeginsWithLabel, OneLabel, NextLabel};
 ghost use Rattle.case_core.specs.Case.{section_of, CaseOf};
 ghost use Rattle.case_core.specs.Naming.{IsLimited};
 ghost use Rattle.case_core.specs.Kept.{AreKept, LabelAt, HasTree, HasClash};
@@ -17,6 +17,7 @@ use crate::sections::Sections;
 use cnf_text::tokens::{first_word, split_line};
 use cnf_text::{IcnfFile, read_icnf};
 use hint_check::Base;
+use memchr::{memchr, memrchr};
 use split_tree::{Tree, build};
 use std::alloc::Global;
 
@@ -31,6 +32,19 @@ fn is_label(line: &[u8]) -> bool
     }
 }
 
+/// The text from the line on that holds the first byte `l`, or `None` where no byte is one. Only such a line can be a label line.
+fn line_of_letter(text: &[u8]) -> Option<&[u8]>
+    ensures found { MatchOption result (HasNoLetter text.now) (λ at. AfterPlainLines text.now at.now) }
+    ensures within { IfSome result (λ at. length at.now ≤ length text.now) }
+{
+    let letter = memchr(b'l', text)?;
+    let start = match memrchr(b'\n', &text[..letter]) {
+        Some(end) => end + 1,
+        None => 0,
+    };
+    Some(&text[start..])
+}
+
 /// The text before the first label line, and the text from that line on, if there is one.
 fn cut(text: &[u8]) -> (&[u8], Option<&[u8]>)
     ensures front { result.0.now ≡ text_before (lines_of text.now) }
@@ -38,9 +52,12 @@ fn cut(text: &[u8]) -> (&[u8], Option<&[u8]>)
 {
     let mut rest = text;
     'lines: loop {
-        let (line, below) = split_line(rest);
+        let Some(near) = line_of_letter(rest) else {
+            return (text, None);
+        };
+        let (line, below) = split_line(near);
         if is_label(line) {
-            return (&text[..text.len() - rest.len()], Some(rest));
+            return (&text[..text.len() - near.len()], Some(near));
         }
         let Some(next) = below else {
             return (text, None);
