@@ -1,16 +1,25 @@
 -- What a run answers for the bytes of a bundle.
-use Rattle.std.specs.Prelude.{◌≡◌, ◌≢◌, ℕ, Bool, List, [], ◌∷◌, ◌++◌, ◌⊎◌, codes}
+use Rattle.std.specs.Prelude.{◌≡◌, ℕ, Bool, List, ◌++◌, codes, length, MatchOption}
 use Rattle.cnf_text.specs.Literal.{Literal}
 use Rattle.cnf_text.specs.Formula.{HasNoModel}
-use Rattle.cnf_text.specs.Icnf.{Item, StandsFor, IsTextFault, clauses_of, cubes_of}
-use Rattle.cnf_text.specs.declared.icnf.TextFault.TheVariants as text
+use Rattle.cnf_text.specs.Icnf.{Item, StandsFor, clauses_of}
 use Rattle.lrat_text.specs.Proof.{proof_of}
 use Rattle.hint_check.specs.Judgement.{judgement}
-use Rattle.hint_check.specs.declared.Judged.{Judged}
+use Rattle.split_tree.specs.SplitTree.{SplitTree, size}
+use Rattle.split_tree.specs.Leaves.{IsTargetAt, IsPathOf}
+use Rattle.split_tree.specs.declared.node.Target.{Target}
+use Rattle.case_core.specs.Bundle.{icnf_text}
+use Rattle.case_core.specs.Case.{CaseOf, proof_for}
+use Rattle.case_core.specs.Sections as case_core
+use Rattle.case_core.specs.declared.fault.CaseFault.{CaseFault}
+use Rattle.mark_board.specs.declared.mark.Mark.{Mark}
+use Rattle.mark_board.specs.declared.mark.Mark.TheVariants.{Open}
+use Rattle.mark_board.specs.Marking.{marked}
+use Rattle.mark_board.specs.Rows.{mark_at, refuted_by}
+use Rattle.mark_board.specs.Places.{mark_as}
 use Rattle.cubeboard.specs.declared.fault.Fault.{Fault}
-use Rattle.cubeboard.specs.declared.fault.Fault.TheVariants.{Header, Token, Unfinished, TooLarge, Limit, Memory, Device, NotYet}
-use Rattle.cubeboard.specs.Bundle.{icnf_text, labels_of, IsOneLabel}
-use Rattle.cubeboard.specs.Report.{leaf_report, is_refuted}
+use Rattle.cubeboard.specs.Faults.{fault_of_case}
+use Rattle.cubeboard.specs.Report.{report_text}
 
 -- the formula of a bundle: all clauses of its iCNF text
 abbrev pub IsFormulaOf : List ℕ → List (List Literal) → Type 0
@@ -20,45 +29,41 @@ IsFormulaOf bundle formula = (items : List Item) × StandsFor (icnf_text bundle)
 abbrev pub IsUnsatisfiable : List ℕ → Type 0
 IsUnsatisfiable bundle = (formula : List (List Literal)) → IsFormulaOf bundle formula → HasNoModel formula
 
--- the bundle has this formula, one empty cube, and for it this one section
-abbrev pub IsCase : List ℕ → List (List Literal) → List ℕ → Type 0
-IsCase bundle formula section =
-    (items : List Item) × StandsFor (icnf_text bundle) items × (formula ≡ clauses_of items) × (cubes_of items ≡ [] ∷ []) × IsOneLabel (labels_of bundle) section
+-- the mark of a target's finding: open where it has no section, otherwise as the section's proof is judged from the formula and the
+-- target's path
+abbrev pub IsMarkOf : CaseOf → Target → Mark → Type 0
+IsMarkOf case target mark = MatchOption (proof_for case.sections target) (mark ≡ Open)
+    (λ proof. (path : List Literal) → IsPathOf case.tree target path → mark ≡ mark_as (judgement case.formula path (proof_of proof)))
 
--- the bundle stands for a case whose one leaf is judged so: its path has no literal
-abbrev pub IsJudgedOn : List ℕ → Judged → Type 0
-IsJudgedOn bundle judged =
-    (formula : List (List Literal)) × (section : List ℕ) × IsCase bundle formula section × (judged ≡ judgement formula [] (proof_of section))
+-- each node has the mark of its finding
+pub record AreFindings (case : CaseOf) (marks : List Mark) : Type 0 where
+  pub long : length marks ≡ size case.tree
+  pub each : (node : ℕ) (target : Target) → IsTargetAt case.tree node target → IsMarkOf case target (mark_at marks node)
+
+-- the bundle stands for this case, whose nodes' findings have these marks
+pub record IsJudged (bundle : List ℕ) (case : CaseOf) (marks : List Mark) : Type 0 where
+  pub case_is : case_core.IsCaseOf bundle case
+  pub findings : AreFindings case marks
 
 -- the text is the report on the case that the bundle stands for
 abbrev pub IsReportOn : List ℕ → List ℕ → Type 0
-IsReportOn bundle report = (judged : Judged) × IsJudgedOn bundle judged × (report ≡ leaf_report judged)
+IsReportOn bundle report = (case : CaseOf) × (marks : List Mark) × IsJudged bundle case marks × (report ≡ report_text case marks)
 
--- the case that the bundle stands for is refuted exactly where the answer is true
+-- the root of the case that the bundle stands for is marked exactly where the answer is true
 abbrev pub IsAnswerOn : List ℕ → Bool → Type 0
-IsAnswerOn bundle answer = (judged : Judged) × IsJudgedOn bundle judged × (answer ≡ is_refuted judged)
+IsAnswerOn bundle answer = (case : CaseOf) × (marks : List Mark) × IsJudged bundle case marks × (answer ≡ marked (refuted_by marks) 0 case.tree)
 
 -- both at once
-abbrev pub IsOutcomeOn : List ℕ → List ℕ → Bool → Type 0
-IsOutcomeOn bundle report answer =
-    (judged : Judged) × IsJudgedOn bundle judged × (report ≡ leaf_report judged) × (answer ≡ is_refuted judged)
-
--- the iCNF text has no fault, but its cubes aren't one empty cube, or the label lines aren't one of cube 1
-abbrev pub IsNotYet : List ℕ → Type 0
-IsNotYet bundle =
-    (items : List Item) × StandsFor (icnf_text bundle) items
-    × ((cubes_of items ≢ [] ∷ []) ⊎ ((section : List ℕ) → IsOneLabel (labels_of bundle) section → ⊥))
+pub record IsOutcomeOn (bundle report : List ℕ) (answer : Bool) : Type 0 where
+  pub case : CaseOf
+  pub marks : List Mark
+  pub judged : IsJudged bundle case marks
+  pub text : report ≡ report_text case marks
+  pub refuted : answer ≡ marked (refuted_by marks) 0 case.tree
 
 -- the first fault of the bundle
 abbrev pub IsFaultOn : List ℕ → Fault → Type 0
-IsFaultOn bundle Header = IsTextFault (icnf_text bundle) text.Header
-IsFaultOn bundle (Token line) = IsTextFault (icnf_text bundle) (text.Token line)
-IsFaultOn bundle Unfinished = IsTextFault (icnf_text bundle) text.Unfinished
-IsFaultOn bundle (TooLarge line) = IsTextFault (icnf_text bundle) (text.TooLarge line)
-IsFaultOn bundle Limit = IsTextFault (icnf_text bundle) text.Limit
-IsFaultOn bundle NotYet = IsNotYet bundle
-IsFaultOn bundle Memory = ⊥
-IsFaultOn bundle Device = ⊥
+IsFaultOn bundle fault = (kind : CaseFault) × (fault ≡ fault_of_case kind) × case_core.IsFaultOf bundle kind
 
 -- the report says in its last line that the formula is refuted
 abbrev pub SaysRefuted : List ℕ → Type 0
