@@ -1,63 +1,170 @@
 //! The text of a report.
 
-ghost use Rattle.std.specs.Prelude.{◌≡◌, ◌++◌, OnOk, IfOk};
+ghost use Rattle.std.specs.Prelude.{◌≡◌, ◌++◌, length, OnOk, IfOk};
 ghost use Rattle.std.specs.List.{flat_map};
-ghost use Rattle.cubeboard.specs.Report.{number_field, literal_field, reason_field, status_fields, total_line, cube_line, open_line, weight_line, answer_line, is_refuted, leaf_report};
+ghost use Rattle.split_tree.specs.SplitTree.{subtrees, total};
+ghost use Rattle.split_tree.specs.Leaves.{cube_count, missing_nodes, IsTargetAt};
+ghost use Rattle.split_tree.specs.declared.node.Target.TheVariants.{Node};
+ghost use Rattle.mark_board.specs.Marking.{open_branches};
+ghost use Rattle.mark_board.specs.Rows.{refuted_by};
+ghost use Rattle.cubeboard.specs.Report.{number_field, literal_field, reason_field, status_fields, total_line, cube_line, missing_line, node_line, open_line, weight_line, answer_line, cube_lines, missing_lines, node_lines, open_lines, section_line, report_text};
 
-use cnf_text::Lit;
-use hint_check::{Judged, Reason};
+use case_core::{Leaf, Lit, NodeId, Reason, Target};
 use itoa::Buffer;
+use mark_board::{Boards, Mark};
 use std::alloc::{AllocError, Global};
 
-/// The weight of a leaf at depth 0, `2^60`.
-const ROOT_WEIGHT: u64 = 1_152_921_504_606_846_976;
-
-/// Whether a proof is accepted.
-pub fn is_refuted(judged: Judged) -> bool
-    ensures { result ≡ is_refuted judged }
-{
-    match judged {
-        Judged::Refuted => true,
-        Judged::Rejected { .. } => false,
-    }
-}
-
-/// The report on a tree of one leaf, which is that of the empty cube 1: its totals, the leaf's status, the open branch
-/// where it isn't refuted, the open weight, and the answer.
-pub fn report_of(alloc: Global, judged: Judged) -> Result<Vec<u8>, AllocError>
-    ensures { IfOk result (λ text. text.items ≡ leaf_report judged) }
+/// The report by the boards' own marks: the totals, each cube, each missing leaf, each inner node with a section, each open
+/// branch, the open weight, and the answer. `AllocError` where a growth was refused.
+pub fn report_of(alloc: Global, boards: &Boards<'_>) -> Result<Vec<u8>, AllocError>
+    ensures { IfOk result (λ text. text.items ≡ report_text boards.now.case boards.now.marks) }
 {
     let mut text = Vec::new(alloc);
-    write_totals(&mut text, 1, 0, ROOT_WEIGHT)?;
-    write_cube(&mut text, 1, judged)?;
-    if is_refuted(judged) {
-        write_closing(&mut text, 0, true)?;
-    } else {
-        write_open(&mut text, &[])?;
-        write_closing(&mut text, ROOT_WEIGHT, false)?;
-    }
+    write_totals(&mut text, boards)?;
+    write_cubes(&mut text, boards)?;
+    write_missing_leaves(alloc, &mut text, boards)?;
+    write_nodes(alloc, &mut text, boards)?;
+    write_open_branches(alloc, &mut text, boards)?;
+    write_closing(&mut text, boards.open_weight(), boards.root_marked())?;
     Ok(text)
 }
 
 #[tactic(auto, unfolding(crate::specs::Report::total_line))]
-fn write_totals(text: &mut Vec<u8>, cubes: u64, missing: u64, weight: u64) -> Result<(), AllocError>
-    ensures { OnOk result (text.new.items ≡ text.old.items ++ total_line cubes missing weight) }
+fn write_totals(text: &mut Vec<u8>, boards: &Boards<'_>) -> Result<(), AllocError>
+    ensures { OnOk result (text.new.items ≡ text.old.items
+        ++ total_line (cube_count boards.now.case.tree) (length (missing_nodes boards.now.case.tree)) (total 0 boards.now.case.tree)) }
 {
+    let tree = boards.case().tree();
     text.extend_from_slice(b"t")?;
-    write_number(text, cubes)?;
-    write_number(text, missing)?;
-    write_number(text, weight)?;
+    write_number(text, tree.cube_count() as u64)?;
+    write_number(text, tree.missing_count() as u64)?;
+    write_number(text, tree.total())?;
     text.extend_from_slice(b"\n")?;
     Ok(())
 }
 
+/// The line of each cube, in order.
+fn write_cubes(text: &mut Vec<u8>, boards: &Boards<'_>) -> Result<(), AllocError>
+    ensures { OnOk result (text.new.items ≡ text.old.items ++ cube_lines boards.now.case.tree boards.now.marks 1 (cube_count boards.now.case.tree)) }
+{
+    for before in 0..boards.case().tree().cube_count() {
+        let number = before + 1;
+        let mark = boards.mark_of(Target::Leaf(Leaf::Cube(number)));
+        write_cube(text, number as u64, mark)?;
+    }
+    Ok(())
+}
+
+/// The line of each missing leaf, in order.
+fn write_missing_leaves(
+    alloc: Global,
+    text: &mut Vec<u8>,
+    boards: &Boards<'_>,
+) -> Result<(), AllocError>
+    ensures { OnOk result (text.new.items ≡ text.old.items ++ missing_lines boards.now.case.tree boards.now.marks 1 (missing_nodes boards.now.case.tree)) }
+{
+    let tree = boards.case().tree();
+    for before in 0..tree.missing_count() {
+        let number = before + 1;
+        let leaf = Leaf::Missing(number);
+        let path = tree.path_of(alloc, Target::Leaf(leaf))?;
+        let mark = boards.mark_of(Target::Leaf(leaf));
+        write_missing(text, number as u64, &path, mark)?;
+    }
+    Ok(())
+}
+
+/// The line of each inner node that has a section, in tree order.
+fn write_nodes(
+    alloc: Global,
+    text: &mut Vec<u8>,
+    boards: &Boards<'_>,
+) -> Result<(), AllocError>
+    ensures { OnOk result (text.new.items ≡ text.old.items ++ node_lines boards.now.case boards.now.marks 0 (subtrees boards.now.case.tree)) }
+{
+    let tree = boards.case().tree();
+    for number in 0..tree.size() {
+        let node = NodeId::new(number);
+        if let Some((_, _)) = tree.branches(node) {
+            write_section(alloc, text, boards, node)?;
+        }
+    }
+    Ok(())
+}
+
+/// The line of an inner node, if it has a section.
+fn write_section(
+    alloc: Global,
+    text: &mut Vec<u8>,
+    boards: &Boards<'_>,
+    node: NodeId,
+) -> Result<(), AllocError>
+    requires { IsTargetAt boards.now.case.tree node (Node node) }
+    ensures { OnOk result (text.new.items ≡ text.old.items ++ section_line boards.now.case boards.now.marks node) }
+{
+    let case = boards.case();
+    if case.proof_for(Target::Node(node)).is_some() {
+        let path = case.tree().path_of(alloc, Target::Node(node))?;
+        let mark = boards.mark_of(Target::Node(node));
+        write_node(text, &path, mark)?;
+    }
+    Ok(())
+}
+
+/// The line of each open branch, in tree order.
+fn write_open_branches(
+    alloc: Global,
+    text: &mut Vec<u8>,
+    boards: &Boards<'_>,
+) -> Result<(), AllocError>
+    ensures { OnOk result (text.new.items ≡ text.old.items
+        ++ open_lines boards.now.case.tree (open_branches (refuted_by boards.now.marks) 0 boards.now.case.tree)) }
+{
+    let tree = boards.case().tree();
+    for target in boards.open_branches(alloc)? {
+        let path = tree.path_of(alloc, target)?;
+        write_open(text, &path)?;
+    }
+    Ok(())
+}
+
 #[tactic(auto, unfolding(crate::specs::Report::cube_line))]
-fn write_cube(text: &mut Vec<u8>, number: u64, judged: Judged) -> Result<(), AllocError>
-    ensures { OnOk result (text.new.items ≡ text.old.items ++ cube_line number judged) }
+fn write_cube(text: &mut Vec<u8>, number: u64, mark: Mark) -> Result<(), AllocError>
+    ensures { OnOk result (text.new.items ≡ text.old.items ++ cube_line number mark) }
 {
     text.extend_from_slice(b"a")?;
     write_number(text, number)?;
-    write_status(text, judged)?;
+    write_status(text, mark)?;
+    text.extend_from_slice(b"\n")?;
+    Ok(())
+}
+
+#[tactic(auto, unfolding(crate::specs::Report::missing_line))]
+fn write_missing(
+    text: &mut Vec<u8>,
+    number: u64,
+    path: &[Lit],
+    mark: Mark,
+) -> Result<(), AllocError>
+    ensures { OnOk result (text.new.items ≡ text.old.items ++ missing_line number path.now mark) }
+{
+    text.extend_from_slice(b"m")?;
+    write_number(text, number)?;
+    write_path(text, path)?;
+    text.extend_from_slice(b" 0")?;
+    write_status(text, mark)?;
+    text.extend_from_slice(b"\n")?;
+    Ok(())
+}
+
+#[tactic(auto, unfolding(crate::specs::Report::node_line))]
+fn write_node(text: &mut Vec<u8>, path: &[Lit], mark: Mark) -> Result<(), AllocError>
+    ensures { OnOk result (text.new.items ≡ text.old.items ++ node_line path.now mark) }
+{
+    text.extend_from_slice(b"n")?;
+    write_path(text, path)?;
+    text.extend_from_slice(b" 0")?;
+    write_status(text, mark)?;
     text.extend_from_slice(b"\n")?;
     Ok(())
 }
@@ -90,12 +197,13 @@ fn write_literal(text: &mut Vec<u8>, lit: Lit) -> Result<(), AllocError>
     Ok(())
 }
 
-fn write_status(text: &mut Vec<u8>, judged: Judged) -> Result<(), AllocError>
-    ensures { OnOk result (text.new.items ≡ text.old.items ++ status_fields judged) }
+fn write_status(text: &mut Vec<u8>, mark: Mark) -> Result<(), AllocError>
+    ensures { OnOk result (text.new.items ≡ text.old.items ++ status_fields mark) }
 {
-    match judged {
-        Judged::Refuted => text.extend_from_slice(b" refuted")?,
-        Judged::Rejected { step, reason } => {
+    match mark {
+        Mark::Open => text.extend_from_slice(b" open")?,
+        Mark::Refuted => text.extend_from_slice(b" refuted")?,
+        Mark::Rejected { step, reason } => {
             text.extend_from_slice(b" rejected")?;
             write_number(text, step)?;
             text.extend_from_slice(reason_name(reason))?;
