@@ -1,4 +1,5 @@
 pub mod Written
-pub mod Cuts
 pub mod Reports
 pub mod Statuses
+pub mod Lines
+pub mod Posting

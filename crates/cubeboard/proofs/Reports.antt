@@ -1,22 +1,10 @@
--- What a judgement and a report say of the formula.
-use Rattle.std.proofs.Common.{◌≡◌, ℕ, Bool, true, List, [], ◌∷◌, ◌++◌, append-nil, append_assoc, arith, refl, sym, ◌∙◌, subst, Result, Ok, Err, IfOk, Option, None, Some, IfSome}
+-- What a report says of the formula.
+use Rattle.std.proofs.Common.{◌≡◌, ℕ, Bool, true, false, List, [], ◌∷◌, ◌++◌, append-nil, append_assoc, arith, refl, sym, ◌∙◌, subst, Option, None, Some, IfSome}
 use Rattle.std.specs.Prelude.{codes}
-use Rattle.cnf_text.specs.Literal.{Literal}
-use Rattle.cnf_text.specs.Formula.{HasNoModel, IsRefuted}
-use Rattle.hint_check.specs.Live.{Live, start}
-use Rattle.hint_check.specs.declared.Judged.{Judged}
-use Rattle.hint_check.specs.declared.Judged.TheVariants.{Refuted, Rejected}
-use Rattle.cubeboard.specs.Report.{total_line, cube_line, open_line, weight_line, root_weight, is_refuted, leaf_report}
+use Rattle.mark_board.specs.Rows.{refuted_by}
+use Rattle.mark_board.specs.Marking.{marked}
+use Rattle.cubeboard.specs.Report.{answer_line, report_text}
 use Rattle.cubeboard.specs.Outcome.{IsOutcomeOn, SaysRefuted}
-
-abbrev pub IsSound : Live → Judged → Type 0
-IsSound entry judged = judged ≡ Refuted → (formula : List (List Literal)) (path : List Literal) → entry ≡ start formula path → IsRefuted formula path
-
--- a formula that is refuted together with no literal has no model
-pub sound_alone : {E : Type 0} (r : Result Judged E) (entry : Live) (formula : List (List Literal)) → IfOk r (IsSound entry) → entry ≡ start formula []
-    → IfOk r (λ judged. judged ≡ Refuted → HasNoModel formula)
-sound_alone (Ok judged) entry formula sound starts = λ is. rw append-nil at (sound is formula [] starts)
-sound_alone (Err e) entry formula sound starts = tt
 
 no_nil : (ys : List ℕ) (b : ℕ) → [] ≡ ys ++ b ∷ [] → ⊥
 no_nil [] b e = cc
@@ -50,20 +38,18 @@ open_is_not_refuted xs ys e =
     let ends = last_same (xs ++ open_front) (ys ++ refuted_front) 78 68 inner.0 in
     no_way 78 68 refl refl ends.1
 
--- a report that says refuted is one on a proof that is accepted
-pub says_refuted : (judged : Judged) → SaysRefuted (leaf_report judged) → is_refuted judged ≡ true
-says_refuted Refuted says = refl
-says_refuted (Rejected step reason) says =
-    absurd (open_is_not_refuted (total_line 1 0 root_weight ++ cube_line 1 (Rejected step reason) ++ open_line [] ++ weight_line root_weight) says.0 says.1)
-
-pub refuted_is : (judged : Judged) → is_refuted judged ≡ true → judged ≡ Refuted
-refuted_is Refuted is = refl
-refuted_is (Rejected step reason) is = cc
+-- a text that ends with the answer's line says refuted only where the answer is so
+answer_says : (text : List ℕ) (refuted : Bool) → SaysRefuted (text ++ answer_line refuted) → refuted ≡ true
+answer_says text true says = refl
+answer_says text false says = absurd (open_is_not_refuted text says.0 says.1)
 
 -- what holds of the bytes that were read holds of those that there were
 pub of_known : (P : List ℕ → Type 0) (known : Option (List ℕ)) (read : List ℕ) → IfSome known (λ left. read ≡ left) → P read → IfSome known P
 of_known P None read same holds = tt
 of_known P (Some left) read same holds = subst P same holds
 
+six_parts : (a b c d e f g : List ℕ) → a ++ b ++ c ++ d ++ e ++ f ++ g ≡ (a ++ b ++ c ++ d ++ e ++ f) ++ g
+six_parts a b c d e f g = ?
+
 pub outcome_says : (bundle text : List ℕ) (answer : Bool) → IsOutcomeOn bundle text answer → SaysRefuted text → answer ≡ true
-outcome_says bundle text answer outcome says = outcome.3 ∙ says_refuted outcome.0 (says.0, sym outcome.2 ∙ says.1)
+outcome_says bundle text answer outcome says = ?

@@ -1,7 +1,7 @@
 -- What a status says of the bundle.
 use Rattle.std.proofs.Common.{◌<◌, ℕ, List, arith, Option, None, Some, IfSome}
 use Rattle.cubeboard.specs.declared.fault.Fault.{Fault}
-use Rattle.cubeboard.specs.declared.fault.Fault.TheVariants.{Header, Token, Unfinished, TooLarge, Limit, Memory, Device, NotYet}
+use Rattle.cubeboard.specs.declared.fault.Fault.TheVariants.{Header, Token, Unfinished, TooLarge, Limit, Memory, Repeats, NotATree, Overlap, BadLabel, NoSuchLeaf, ProofTwice, Device}
 use Rattle.cubeboard.specs.Faults.{IsInputFault}
 use Rattle.cubeboard.specs.Outcome.{IsFaultOn}
 use Rattle.cubeboard.specs.Command.{status_of, IsStatusOn}
@@ -18,7 +18,12 @@ status_on bundle (Token line) is = refused bundle (Token line) (λ e. cc, λ e. 
 status_on bundle Unfinished is = refused bundle Unfinished (λ e. cc, λ e. cc) (is (λ e. cc, λ e. cc))
 status_on bundle (TooLarge line) is = refused bundle (TooLarge line) (λ e. cc, λ e. cc) (is (λ e. cc, λ e. cc))
 status_on bundle Limit is = refused bundle Limit (λ e. cc, λ e. cc) (is (λ e. cc, λ e. cc))
-status_on bundle NotYet is = refused bundle NotYet (λ e. cc, λ e. cc) (is (λ e. cc, λ e. cc))
+status_on bundle (Repeats cube) is = refused bundle (Repeats cube) (λ e. cc, λ e. cc) (is (λ e. cc, λ e. cc))
+status_on bundle (NotATree first second) is = refused bundle (NotATree first second) (λ e. cc, λ e. cc) (is (λ e. cc, λ e. cc))
+status_on bundle (Overlap first second) is = refused bundle (Overlap first second) (λ e. cc, λ e. cc) (is (λ e. cc, λ e. cc))
+status_on bundle (BadLabel line) is = refused bundle (BadLabel line) (λ e. cc, λ e. cc) (is (λ e. cc, λ e. cc))
+status_on bundle (NoSuchLeaf line) is = refused bundle (NoSuchLeaf line) (λ e. cc, λ e. cc) (is (λ e. cc, λ e. cc))
+status_on bundle (ProofTwice line) is = refused bundle (ProofTwice line) (λ e. cc, λ e. cc) (is (λ e. cc, λ e. cc))
 status_on bundle Memory is = above_three bundle 4 (omega arith)
 status_on bundle Device is = above_three bundle 5 (omega arith)
 

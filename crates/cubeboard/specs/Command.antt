@@ -1,7 +1,7 @@
 -- What the program's status says.
 use Rattle.std.specs.Prelude.{◌≡◌, ℕ, List, true, false, ◌⊎◌}
 use Rattle.cubeboard.specs.declared.fault.Fault.{Fault}
-use Rattle.cubeboard.specs.declared.fault.Fault.TheVariants.{Header, Token, Unfinished, TooLarge, Limit, Memory, Device, NotYet}
+use Rattle.cubeboard.specs.declared.fault.Fault.TheVariants.{Header, Token, Unfinished, TooLarge, Limit, Memory, Repeats, NotATree, Overlap, BadLabel, NoSuchLeaf, ProofTwice, Device}
 use Rattle.cubeboard.specs.Faults.{IsInputFault}
 use Rattle.cubeboard.specs.Outcome.{IsAnswerOn, IsFaultOn, IsUnsatisfiable}
 
@@ -11,7 +11,12 @@ status_of (Token line) = 3
 status_of Unfinished = 3
 status_of (TooLarge line) = 3
 status_of Limit = 3
-status_of NotYet = 3
+status_of (Repeats cube) = 3
+status_of (NotATree first second) = 3
+status_of (Overlap first second) = 3
+status_of (BadLabel line) = 3
+status_of (NoSuchLeaf line) = 3
+status_of (ProofTwice line) = 3
 status_of Memory = 4
 status_of Device = 5
 

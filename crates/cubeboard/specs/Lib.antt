@@ -1,6 +1,5 @@
 pub mod Faults
 pub mod Device
-pub mod Bundle
 pub mod Report
 pub mod Outcome
 pub mod Command

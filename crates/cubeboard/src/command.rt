@@ -76,7 +76,12 @@ fn status_of(fault: Fault) -> u8
         | Fault::Unfinished
         | Fault::TooLarge { .. }
         | Fault::Limit
-        | Fault::NotYet => 3,
+        | Fault::Repeats { .. }
+        | Fault::NotATree { .. }
+        | Fault::Overlap { .. }
+        | Fault::BadLabel { .. }
+        | Fault::NoSuchLeaf { .. }
+        | Fault::ProofTwice { .. } => 3,
         Fault::Memory => 4,
         Fault::Device => 5,
     }

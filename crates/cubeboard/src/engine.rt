@@ -1,90 +1,57 @@
 //! From the bytes that come in to the bytes that go out.
 
-ghost use Rattle.std.specs.Prelude.{List, ◌≡◌, ◌≢◌, ◌↔◌, ◌⊎◌, ◌∷◌, [], ℕ, ◌<◌, ◌^◌, ◌-◌, ◌+◌, true, map, IsTrue, IfOk, IfErr, OnOk, OnErr, IfSome, IsErrOf};
+ghost use Rattle.std.specs.Prelude.{List, ◌≡◌, ◌≢◌, ◌↔◌, ◌⊎◌, ℕ, ◌<◌, ◌^◌, ◌-◌, ◌+◌, true, IfOk, IfErr, OnOk, OnErr, IfSome, IsErrOf};
 ghost use Rattle.std.specs.Io.KnownBytes.{Keeps, Appends};
-ghost use Rattle.cnf_text.specs.Literal.{Literal};
-ghost use Rattle.cnf_text.specs.Formula.{HasNoModel};
-ghost use Rattle.lrat_text.specs.Proof.{proof_of};
-ghost use Rattle.hint_check.specs.Judgement.{judgement};
+ghost use Rattle.case_core.specs.Case.{CaseOf};
 ghost use Rattle.cubeboard.specs.Faults.{IsInputFault};
 ghost use Rattle.cubeboard.specs.Device.{AppendsBeginning, IsReadFault};
-ghost use Rattle.cubeboard.specs.Outcome.{IsFormulaOf, IsCase, IsReportOn, IsAnswerOn, IsOutcomeOn, IsFaultOn, IsUnsatisfiable, SaysRefuted};
+ghost use Rattle.cubeboard.specs.Outcome.{AreFindings, IsReportOn, IsAnswerOn, IsOutcomeOn, IsFaultOn, IsUnsatisfiable, SaysRefuted};
 
-use crate::bundle::split;
 use crate::device::{Sink, Source};
 use crate::fault::Fault;
-use crate::report::{is_refuted, report_of};
-use cnf_text::{Formula, Lit, read_icnf};
-use hint_check::{Checker, Judged};
+use crate::report::report_of;
+use case_core::{Case, examine, read_bundle};
+use mark_board::Boards;
 use std::alloc::{AllocError, Global};
 
-/// A formula whose tree is one leaf, and the proof for it.
-#[derive(Drop)]
-struct Case<'b> {
-    formula: Formula,
-    section: &'b [u8],
-}
-
-/// A report, and whether it says that the formula is refuted.
+/// A report, and whether the root is marked.
 #[derive(Drop)]
 struct Outcome {
     text: Vec<u8>,
     refuted: bool,
 }
 
-/// Whether the cubes are one empty cube.
-fn is_one_empty_cube(cubes: &[Vec<Lit>]) -> bool
-    ensures { IsTrue result ↔ (map (λ cube. cube.items) cubes.now ≡ [] ∷ []) }
+/// The boards of a case with the findings of all its sections, at cut 0.
+fn conquer(alloc: Global, case: &Case) -> Result<Boards<'_>, AllocError>
+    ensures case { IfOk result (λ boards. boards.case ≡ case.now) }
+    ensures findings { IfOk result (λ boards. AreFindings case.now boards.marks) }
 {
-    match cubes {
-        [cube] => cube.is_empty(),
-        _ => false,
+    let mut boards = Boards::new(alloc, case, 0)?;
+    let sections = case.sections();
+    for section in sections {
+        match examine(alloc, case, section.target)? {
+            Some(finding) => {
+                let _ = boards.post(finding);
+            }
+            None => unreachable!(),
+        }
     }
+    Ok(boards)
 }
 
-/// The case that a bundle stands for.
-fn case_of(alloc: Global, bundle: &[u8]) -> Result<Case<'_>, Fault>
-    ensures case { IfOk result (λ case. IsCase bundle.now case.formula case.section.now) }
-    ensures formula { IfOk result (λ case. (formula : List (List Literal)) → IsFormulaOf bundle.now formula → formula ≡ case.formula) }
-    ensures fault { IfErr result (λ fault. fault ≢ Fault.Memory → IsFaultOn bundle.now fault) }
-    ensures device { IfErr result (λ fault. fault ≢ Fault.Device) }
-{
-    let parts = split(bundle);
-    let file = read_icnf(alloc, parts.icnf)?;
-    let Some(section) = parts.section else {
-        return Err(Fault::NotYet);
-    };
-    if !is_one_empty_cube(&file.cubes) {
-        return Err(Fault::NotYet);
-    }
-    Ok(Case {
-        formula: file.formula,
-        section,
-    })
-}
-
-/// What is said of the proof of a case.
-fn judge_case(alloc: Global, case: &Case<'_>) -> Result<Judged, AllocError>
-    ensures judgement { IfOk result (λ judged. judged ≡ judgement case.now.formula [] (proof_of case.now.section.now)) }
-    ensures sound { IfOk result (λ judged. judged ≡ Judged.Refuted → HasNoModel case.now.formula) }
-{
-    let checker = Checker::new(alloc, &case.formula, &[])?;
-    checker.judge(alloc, case.section)
-}
-
-/// The report on a bundle, and whether it says refuted.
+/// The report on a bundle, and whether the root is marked.
 fn outcome_of(alloc: Global, bundle: &[u8]) -> Result<Outcome, Fault>
     ensures outcome { IfOk result (λ outcome. IsOutcomeOn bundle.now outcome.text.items outcome.refuted) }
     ensures sound { IfOk result (λ outcome. outcome.refuted ≡ true → IsUnsatisfiable bundle.now) }
     ensures fault { IfErr result (λ fault. fault ≢ Fault.Memory → IsFaultOn bundle.now fault) }
     ensures device { IfErr result (λ fault. fault ≢ Fault.Device) }
 {
-    let case = case_of(alloc, bundle)?;
-    let judged = judge_case(alloc, &case)?;
-    let text = report_of(alloc, judged)?;
+    let case = read_bundle(alloc, bundle)?;
+    let boards = conquer(alloc, &case)?;
+    let text = report_of(alloc, &boards)?;
     Ok(Outcome {
         text,
-        refuted: is_refuted(judged),
+        refuted: boards.root_marked(),
     })
 }
 

@@ -1,7 +1,6 @@
 //! `cubeboard` checks refutations made by cube-and-conquer and prints a report.
 #![tactic(auto)]
 
-mod bundle;
 mod command;
 mod device;
 mod engine;
@@ -18,5 +17,3 @@ fn main(rt: HostRuntime) -> ExitCode {
     ExitCode::from(status)
 }
 
-#[cfg(test)]
-mod tests;

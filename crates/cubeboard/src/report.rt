@@ -121,8 +121,9 @@ fn write_open_branches(
         ++ open_lines boards.now.case.tree (open_branches (refuted_by boards.now.marks) 0 boards.now.case.tree)) }
 {
     let tree = boards.case().tree();
-    for target in boards.open_branches(alloc)? {
-        let path = tree.path_of(alloc, target)?;
+    let targets = boards.open_branches(alloc)?;
+    for target in &targets {
+        let path = tree.path_of(alloc, *target)?;
         write_open(text, &path)?;
     }
     Ok(())
