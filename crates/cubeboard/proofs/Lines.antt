@@ -2,6 +2,7 @@
 use Rattle.std.proofs.Common.{◌≡◌, ℕ, zero, suc, ◌+◌, ◌-◌, ◌<◌, ◌≤◌, List, [], ◌∷◌, ◌++◌, length, take, get_or, Bool, true, false, refl, sym, ap, subst, ◌∙◌, arith, append-nil, append_assoc, inl, inr}
 use Rattle.mark_board.proofs.Marks.{test_same, test_other}
 use Rattle.std.proofs.lemmas.Bool.{cases_Bool, cases_eq, cases_lt}
+use Rattle.std.proofs.lemmas.List.{take_all}
 use Rattle.std.specs.Prelude.{is_some}
 use Rattle.std.specs.List.{flat_map}
 use Rattle.cnf_text.specs.Literal.{Literal}
@@ -10,6 +11,7 @@ use Rattle.split_tree.specs.Leaves.{missing_nodes, cube_count, HasLeaf, IsLeafAt
 use Rattle.split_tree.specs.declared.node.Leaf.TheVariants.{Cube as CubeLeaf, Missing as MissingLeaf}
 use Rattle.split_tree.specs.declared.node.Target.{Target}
 use Rattle.split_tree.specs.declared.node.Target.TheVariants.{Leaf as Named, Node}
+use Rattle.split_tree.specs.Rows.{AreBranches}
 use Rattle.split_tree.proofs.Coding.{length-subtrees}
 use Rattle.case_core.specs.Case.{CaseOf, proof_for}
 use Rattle.mark_board.specs.declared.mark.Mark.{Mark}
@@ -102,6 +104,12 @@ split_part case marks node missing s = absurd s
 split_part case marks node (cube k) s = absurd s
 split_part case marks node (split v p n) s = refl
 
+splits : (t : SplitTree) (v : ℕ) (p n : SplitTree) → t ≡ split v p n → IsSplit t
+splits t v p n e = rw e tt
+
+pub is_split : (tree : SplitTree) (node first second : ℕ) → AreBranches tree node first second → IsSplit (subtree_at tree node)
+is_split tree node first second b = splits (subtree_at tree node) b.variable b.positive b.negative b.is
+
 pub leaf_part : (case : CaseOf) (marks : List Mark) (node : ℕ) (t : SplitTree) → IsLeaf t → node_part case marks node t ≡ []
 leaf_part case marks node missing s = refl
 leaf_part case marks node (cube k) s = refl
@@ -134,3 +142,69 @@ open_more tree (p ∷ places) (suc i) place l =
 
 pub goes_on : (first text next before line after : List ℕ) → text ≡ first ++ before → next ≡ text ++ line → after ≡ before ++ line → next ≡ first ++ after
 goes_on first text next before line after e f g = rw (f, e, g) (append_assoc first before line)
+
+-- ---- one turn of each loop
+
+pub cube_turn : (tree : SplitTree) (marks : List Mark) (first text next : List ℕ) (b : ℕ) (mark : Mark) → text ≡ first ++ cube_lines tree marks 1 b →
+    next ≡ text ++ cube_line (b + 1) mark → HasLeaf tree (CubeLeaf (b + 1)) →
+    ((node : ℕ) → IsTargetAt tree node (Named (CubeLeaf (b + 1))) → mark ≡ mark_at marks node) → next ≡ first ++ cube_lines tree marks 1 (b + 1)
+cube_turn tree marks first text next b mark e f has is =
+    let q : b + 1 ≡ suc b = omega arith in
+    let r : 1 + b ≡ b + 1 = omega arith in
+    let m : mark ≡ mark_at marks (cube_node (b + 1) 0 (subtrees tree)) = is (cube_node (b + 1) 0 (subtrees tree)) (cube_stands tree (b + 1) has) in
+    let more : cube_lines tree marks 1 (b + 1) ≡ cube_lines tree marks 1 b ++ cube_line (b + 1) mark =
+    ap (cube_lines tree marks 1) q ∙ (cube_more tree marks 1 b ∙ (ap (λ (k : ℕ). cube_lines tree marks 1 b ++ cube_line k (mark_at marks (cube_node k 0 (subtrees tree)))) r
+    ∙ ap (λ (x : Mark). cube_lines tree marks 1 b ++ cube_line (b + 1) x) (sym m))) in
+    goes_on first text next (cube_lines tree marks 1 b) (cube_line (b + 1) mark) (cube_lines tree marks 1 (b + 1)) e f more
+
+pub missing_turn : (tree : SplitTree) (marks : List Mark) (first text next : List ℕ) (b : ℕ) (path : List Literal) (mark : Mark) → b < length (missing_nodes tree) →
+    text ≡ first ++ missing_lines tree marks 1 (take b (missing_nodes tree)) → next ≡ text ++ missing_line (b + 1) path mark →
+    IsPathOf tree (Named (MissingLeaf (b + 1))) path → ((node : ℕ) → IsTargetAt tree node (Named (MissingLeaf (b + 1))) → mark ≡ mark_at marks node) →
+    next ≡ first ++ missing_lines tree marks 1 (take (b + 1) (missing_nodes tree))
+missing_turn tree marks first text next b path mark l e f of is =
+    let q : b + 1 ≡ suc b = omega arith in
+    let r : 1 + b ≡ b + 1 = omega arith in
+    let n : ℕ = get_or (missing_nodes tree) b 0 in
+    let m : mark ≡ mark_at marks (get_or (missing_nodes tree) b 0) = is (get_or (missing_nodes tree) b 0) (missing_stands tree b l) in
+    let p : path ≡ path_at tree (get_or (missing_nodes tree) b 0) = missing_path tree b path of in
+    let more : missing_lines tree marks 1 (take (b + 1) (missing_nodes tree)) ≡ missing_lines tree marks 1 (take b (missing_nodes tree)) ++ missing_line (b + 1) path mark =
+    ap (λ (k : ℕ). missing_lines tree marks 1 (take k (missing_nodes tree))) q ∙ (missing_more tree marks 1 (missing_nodes tree) b l
+    ∙ (ap (λ (k : ℕ). missing_lines tree marks 1 (take b (missing_nodes tree)) ++ missing_line k (path_at tree (get_or (missing_nodes tree) b 0)) (mark_at marks (get_or (missing_nodes tree) b 0))) r
+    ∙ (ap (λ (x : List Literal). missing_lines tree marks 1 (take b (missing_nodes tree)) ++ missing_line (b + 1) x (mark_at marks (get_or (missing_nodes tree) b 0))) (sym p)
+    ∙ ap (λ (x : Mark). missing_lines tree marks 1 (take b (missing_nodes tree)) ++ missing_line (b + 1) path x) (sym m)))) in
+    goes_on first text next (missing_lines tree marks 1 (take b (missing_nodes tree))) (missing_line (b + 1) path mark) (missing_lines tree marks 1 (take (b + 1) (missing_nodes tree))) e f more
+
+pub node_turn : (case : CaseOf) (marks : List Mark) (first text next : List ℕ) (b : ℕ) → b < size case.tree → text ≡ first ++ node_lines case marks 0 (take b (subtrees case.tree)) →
+    next ≡ text ++ node_part case marks b (subtree_at case.tree b) → next ≡ first ++ node_lines case marks 0 (take (b + 1) (subtrees case.tree))
+node_turn case marks first text next b l e f =
+    let q : b + 1 ≡ suc b = omega arith in
+    let r : 0 + b ≡ b = omega arith in
+    let more : node_lines case marks 0 (take (b + 1) (subtrees case.tree)) ≡ node_lines case marks 0 (take b (subtrees case.tree)) ++ node_part case marks b (subtree_at case.tree b) =
+    ap (λ (k : ℕ). node_lines case marks 0 (take k (subtrees case.tree))) q ∙ (node_more case marks 0 (subtrees case.tree) b (rw (length-subtrees case.tree) l)
+    ∙ ap (λ (k : ℕ). node_lines case marks 0 (take b (subtrees case.tree)) ++ node_part case marks k (subtree_at case.tree b)) r) in
+    goes_on first text next (node_lines case marks 0 (take b (subtrees case.tree))) (node_part case marks b (subtree_at case.tree b)) (node_lines case marks 0 (take (b + 1) (subtrees case.tree))) e f more
+
+some_place : Place
+some_place = record { node = 0; tree = missing }
+
+pub open_turn : (tree : SplitTree) (targets : List Target) (places : List Place) (first text next : List ℕ) (b : ℕ) (target : Target) (path : List Literal) → AreTargetsAt tree targets places →
+    b < length targets → target ≡ get_or targets b target → text ≡ first ++ open_lines tree (take b places) → next ≡ text ++ open_line path → IsPathOf tree target path →
+    ((i j : ℕ) → IsTargetAt tree i target → IsTargetAt tree j target → i ≡ j) → next ≡ first ++ open_lines tree (take (b + 1) places)
+open_turn tree targets places first text next b target path are l item e f of once =
+    let q : b + 1 ≡ suc b = omega arith in
+    let here : IsTargetAt tree (get_or places b some_place).node target = rw (← item) at (target_stands tree targets places b target some_place are l) in
+    let p : path ≡ path_at tree (get_or places b some_place).node = of.2 ∙ ap (path_at tree) (once of.0 (get_or places b some_place).node of.1 here) in
+    let long : b < length places = rw (same_long tree targets places are) at l in
+    let more : open_lines tree (take (b + 1) places) ≡ open_lines tree (take b places) ++ open_line path =
+    ap (λ (k : ℕ). open_lines tree (take k places)) q ∙ (open_more tree places b some_place long ∙ ap (λ (x : List Literal). open_lines tree (take b places) ++ open_line x) (sym p)) in
+    goes_on first text next (open_lines tree (take b places)) (open_line path) (open_lines tree (take (b + 1) places)) e f more
+
+pub all_open : (tree : SplitTree) (targets : List Target) (places : List Place) (first text : List ℕ) (b : ℕ) → AreTargetsAt tree targets places → length targets ≤ b →
+    text ≡ first ++ open_lines tree (take b places) → text ≡ first ++ open_lines tree places
+all_open tree targets places first text b are l e =
+    e ∙ ap (λ (xs : List Place). first ++ open_lines tree xs) (take_all b places (omega (arith, same_long tree targets places are)))
+
+pub branch_stands : (tree : SplitTree) (targets : List Target) (places : List Place) (i : ℕ) (target : Target) → AreTargetsAt tree targets places → i < length targets →
+    target ≡ get_or targets i target → (node : ℕ) × IsTargetAt tree node target
+branch_stands tree targets places i target are l item =
+    ((get_or places i some_place).node, rw (← item) at (target_stands tree targets places i target some_place are l))

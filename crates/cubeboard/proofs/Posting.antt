@@ -1,7 +1,7 @@
 -- The marks while the findings of a case's sections are posted, one after the other.
-use Rattle.std.proofs.Common.{◌≡◌, ◌≢◌, ◌↔◌, ℕ, zero, suc, ◌+◌, ◌<◌, ◌≤◌, List, [], ◌∷◌, ◌++◌, length, length-set, take, map, get_or, set, replicate, Bool, true, false, refl, sym, ap, subst, ◌∙◌, arith, inl, inr, get_or-set_other, get_or-set_same, Option, None, Some}
+use Rattle.std.proofs.Common.{◌≡◌, ◌≢◌, ◌↔◌, ℕ, zero, suc, ◌+◌, ◌<◌, ◌≤◌, List, [], ◌∷◌, ◌++◌, length, length-set, take, drop, map, get_or, set, replicate, Bool, true, false, refl, sym, ap, subst, ◌∙◌, arith, inl, inr, get_or-set_other, get_or-set_same, Option, None, Some}
 use Rattle.std.proofs.lemmas.Bool.{cases_Bool, cases_eq}
-use Rattle.std.proofs.lemmas.List.{length-replicate}
+use Rattle.std.proofs.lemmas.List.{length-replicate, take-append-drop, map-append, drop_more, take_more}
 use Rattle.std.specs.Prelude.{MatchOption}
 use Rattle.cnf_text.specs.Literal.{Literal}
 use Rattle.lrat_text.specs.Proof.{proof_of}
@@ -10,7 +10,9 @@ use Rattle.hint_check.specs.declared.Judged.{Judged}
 use Rattle.split_tree.specs.SplitTree.{SplitTree, size}
 use Rattle.split_tree.specs.Leaves.{IsTargetAt, IsPathOf, HasTarget}
 use Rattle.split_tree.specs.declared.node.Target.{Target}
-use Rattle.case_core.specs.Case.{CaseOf, SectionOf, AreSections, section_at, proof_for, same_target}
+use Rattle.case_core.specs.declared.case.Section.{Section}
+use Rattle.mark_board.proofs.Gathered.{target_inside}
+use Rattle.case_core.specs.Case.{CaseOf, SectionOf, section_of, AreSections, section_at, proof_for, same_target}
 use Rattle.case_core.specs.Finding.{IsFinding}
 use Rattle.case_core.proofs.Tables.{same_target-true, same_target-self, one_target, none_from, proof_added, proof_kept}
 use Rattle.mark_board.specs.declared.mark.Mark.{Mark}
@@ -93,3 +95,56 @@ one_more_posted case front s rest old new node judged posted whole none p here o
             rw (proof_kept front s target apart, mark_is) (p.each i target at)
       ];
     }
+
+-- ---- the section at an index of the case's list
+
+pub record SectionHere (case : CaseOf) (sections : List Section) (i : ℕ) (section : Section) : Type 0 where
+  pub rest : List SectionOf
+  pub whole : case.sections ≡ map section_of (take i sections) ++ section_of section ∷ rest
+  pub more : map section_of (take (i + 1) sections) ≡ map section_of (take i sections) ++ section_of section ∷ []
+
+pub section_here : (case : CaseOf) (sections : List Section) (i : ℕ) (section : Section) → map section_of sections ≡ case.sections → i < length sections →
+    section ≡ get_or sections i section → SectionHere case sections i section
+section_here case sections i section e l item = record {
+  rest = map section_of (drop (i + 1) sections);
+  whole = sym e ∙ (ap (map section_of) (sym (take-append-drop i sections)) ∙ (map-append section_of (take i sections) (drop i sections)
+      ∙ ap (λ (xs : List Section). map section_of (take i sections) ++ map section_of xs) (drop_here sections i section l item)));
+  more = ap (map section_of) (take_here sections i section l item) ∙ map-append section_of (take i sections) (section ∷ []);
+}
+  where
+  drop_here : (xs : List Section) (i : ℕ) (x : Section) → i < length xs → x ≡ get_or xs i x → drop i xs ≡ x ∷ drop (i + 1) xs
+  drop_here xs i x l item = drop_more xs i x l ∙ ap (λ (y : Section). y ∷ drop (i + 1) xs) (sym item)
+  take_here : (xs : List Section) (i : ℕ) (x : Section) → i < length xs → x ≡ get_or xs i x → take (i + 1) xs ≡ take i xs ++ x ∷ []
+  take_here xs i x l item = take_more xs i x l ∙ ap (λ (y : Section). take i xs ++ y ∷ []) (sym item)
+
+new_here : (case : CaseOf) (sections : List Section) (i : ℕ) (section : Section) → SectionHere case sections i section → AreSections case.tree case.sections →
+    HasTarget case.tree section.target × (proof_for (map section_of (take i sections)) section.target ≡ None)
+new_here case sections i section h are =
+    new_target case.tree (map section_of (take i sections)) (section_of section) h.rest (rw h.whole at are) (front_shorter (map section_of (take i sections)) (section_of section) h.rest)
+  where
+  front_shorter : (front : List SectionOf) (s : SectionOf) (rest : List SectionOf) → length front < length (front ++ s ∷ rest)
+  front_shorter [] s rest = omega arith
+  front_shorter (x ∷ front) s rest = let r = front_shorter front s rest in omega (arith, r)
+
+pub section_target : (case : CaseOf) (sections : List Section) (i : ℕ) (section : Section) → map section_of sections ≡ case.sections → AreSections case.tree case.sections →
+    i < length sections → section ≡ get_or sections i section → HasTarget case.tree section.target
+section_target case sections i section e are l item = (new_here case sections i section (section_here case sections i section e l item) are).0
+
+-- a section's target has a proof
+pub section_none : (case : CaseOf) (sections : List Section) (i : ℕ) (section : Section) → map section_of sections ≡ case.sections → AreSections case.tree case.sections →
+    i < length sections → section ≡ get_or sections i section → proof_for case.sections section.target ≡ None → ⊥
+section_none case sections i section e are l item none =
+    let h = section_here case sections i section e l item in
+    let found : proof_for case.sections section.target ≡ Some section.proof.items =
+    rw h.whole (its_proof (map section_of (take i sections)) (section_of section) h.rest (new_here case sections i section h are).1) in
+    let clash : Some section.proof.items ≡ None = sym found ∙ none in cc
+
+pub one_turn : (case : CaseOf) (sections : List Section) (i : ℕ) (section : Section) → map section_of sections ≡ case.sections → AreSections case.tree case.sections →
+    i < length sections → section ≡ get_or sections i section → (old new : List Mark) (node : ℕ) (target : Target) (judged : Judged) (posted : Bool) →
+    ArePostedOf case (map section_of (take i sections)) old → target ≡ section.target → IsTargetAt case.tree node target → ((j : ℕ) → IsTargetAt case.tree j target → j ≡ node) →
+    IsFinding case target judged → ((posted ≡ true) ↔ (mark_at old node ≡ Open)) → new ≡ marks_with posted old node (mark_as judged) →
+    ArePostedOf case (map section_of (take (i + 1) sections)) new
+one_turn case sections i section e are l item old new node target judged posted p same here only is free marks =
+    let h = section_here case sections i section e l item in
+    rw h.more (one_more_posted case (map section_of (take i sections)) (section_of section) h.rest old new node judged posted h.whole (new_here case sections i section h are).1 p
+    (rw same at here) (rw same at only) (target_inside case.tree node target here) (rw same at is) free marks)

@@ -1,10 +1,21 @@
 -- What a report says of the formula.
-use Rattle.std.proofs.Common.{◌≡◌, ℕ, Bool, true, false, List, [], ◌∷◌, ◌++◌, append-nil, append_assoc, arith, refl, sym, ◌∙◌, subst, Option, None, Some, IfSome}
+use Rattle.std.proofs.Common.{◌≡◌, ℕ, Bool, true, false, List, [], ◌∷◌, ◌++◌, length, append-nil, append_assoc, arith, refl, sym, ap, ◌∙◌, subst, Option, None, Some, IfSome, Result, Ok, Err, IfErr, IsErrAnd}
 use Rattle.std.specs.Prelude.{codes}
+use Rattle.cnf_text.specs.Literal.{Literal}
+use Rattle.cnf_text.specs.Formula.{HasNoModel, IsRefuted}
+use Rattle.cnf_text.specs.Icnf.{clauses_of}
+use Rattle.cnf_text.proofs.Unique.{one_text}
+use Rattle.split_tree.specs.SplitTree.{subtrees, total}
+use Rattle.split_tree.specs.Leaves.{missing_nodes, cube_count}
+use Rattle.case_core.specs.Bundle.{icnf_text}
+use Rattle.case_core.specs.Case.{CaseOf}
+use Rattle.case_core.specs.Sections.{IsCaseOf}
 use Rattle.mark_board.specs.Rows.{refuted_by}
-use Rattle.mark_board.specs.Marking.{marked}
-use Rattle.cubeboard.specs.Report.{answer_line, report_text}
-use Rattle.cubeboard.specs.Outcome.{IsOutcomeOn, SaysRefuted}
+use Rattle.mark_board.specs.Places.{worth_of}
+use Rattle.mark_board.specs.Marking.{marked, open_weight, open_branches}
+use Rattle.cubeboard.specs.declared.fault.Fault.{Fault}
+use Rattle.cubeboard.specs.Report.{answer_line, report_text, total_line, cube_lines, missing_lines, node_lines, open_lines, weight_line}
+use Rattle.cubeboard.specs.Outcome.{IsOutcomeOn, IsFormulaOf, SaysRefuted}
 
 no_nil : (ys : List ℕ) (b : ℕ) → [] ≡ ys ++ b ∷ [] → ⊥
 no_nil [] b e = cc
@@ -43,13 +54,33 @@ answer_says : (text : List ℕ) (refuted : Bool) → SaysRefuted (text ++ answer
 answer_says text true says = refl
 answer_says text false says = absurd (open_is_not_refuted text says.0 says.1)
 
+-- the text before its last part
+last_part : (a b c d e f g : List ℕ) → (front : List ℕ) × (a ++ b ++ c ++ d ++ e ++ f ++ g ≡ front ++ g)
+last_part a b c d e f g = (a ++ b ++ c ++ d ++ e ++ f, sym (simp append_assoc refl))
+
 -- what holds of the bytes that were read holds of those that there were
 pub of_known : (P : List ℕ → Type 0) (known : Option (List ℕ)) (read : List ℕ) → IfSome known (λ left. read ≡ left) → P read → IfSome known P
 of_known P None read same holds = tt
 of_known P (Some left) read same holds = subst P same holds
 
-six_parts : (a b c d e f g : List ℕ) → a ++ b ++ c ++ d ++ e ++ f ++ g ≡ (a ++ b ++ c ++ d ++ e ++ f) ++ g
-six_parts a b c d e f g = ?
-
 pub outcome_says : (bundle text : List ℕ) (answer : Bool) → IsOutcomeOn bundle text answer → SaysRefuted text → answer ≡ true
-outcome_says bundle text answer outcome says = ?
+outcome_says bundle text answer outcome says =
+    let ends = last_part (total_line (cube_count outcome.case.tree) (length (missing_nodes outcome.case.tree)) (total 0 outcome.case.tree))
+    (cube_lines outcome.case.tree outcome.marks 1 (cube_count outcome.case.tree))
+    (missing_lines outcome.case.tree outcome.marks 1 (missing_nodes outcome.case.tree))
+    (node_lines outcome.case outcome.marks 0 (subtrees outcome.case.tree))
+    (open_lines outcome.case.tree (open_branches (refuted_by outcome.marks) 0 outcome.case.tree))
+    (weight_line (open_weight (worth_of outcome.case.tree) (refuted_by outcome.marks) 0 outcome.case.tree))
+    (answer_line (marked (refuted_by outcome.marks) 0 outcome.case.tree)) in
+    outcome.refuted ∙ answer_says ends.0 (marked (refuted_by outcome.marks) 0 outcome.case.tree) (says.0, sym ends.1 ∙ (sym outcome.text ∙ says.1))
+
+-- a fault that is told is this one
+pub told : {X : Type 0} (r : Result X Fault) (P : Fault → Type 0) (fault : Fault) → IsErrAnd r (λ e. e ≡ fault) → P fault → IfErr r P
+told (Ok x) P fault h p = tt
+told (Err e) P fault h p = subst P (sym h) p
+
+-- the formula of a case that is refuted without any literal has no model, and it is the bundle's
+pub unsatisfiable : (bundle : List ℕ) (case : CaseOf) (formula : List (List Literal)) → IsCaseOf bundle case → IsFormulaOf bundle formula → IsRefuted case.formula [] → HasNoModel formula
+unsatisfiable bundle case formula is stands refuted =
+    let same : formula ≡ case.formula = stands.2 ∙ (ap clauses_of (one_text (icnf_text bundle) stands.0 is.items stands.1 is.text) ∙ sym is.formula) in
+    rw same (rw append-nil at refuted)

@@ -123,6 +123,7 @@ fn write_open_branches(
     let tree = boards.case().tree();
     let targets = boards.open_branches(alloc)?;
     for target in &targets {
+        let _only = tree.node_of_target(*target);
         let path = tree.path_of(alloc, *target)?;
         write_open(text, &path)?;
     }
