@@ -2,3 +2,4 @@ pub mod Written
 pub mod Cuts
 pub mod Reports
 pub mod Statuses
+pub mod Requests

@@ -76,7 +76,7 @@ fn statuses(rt: HostRuntime) -> Result<(), Fail> {
     ] {
         let mut output = Vec::new(rt.alloc());
         let mut errors = Vec::new(rt.alloc());
-        let answer = command(rt.alloc(), &none, bundle, &mut output, &mut errors);
+        let answer = command(&rt, &none, bundle, &mut output, &mut errors);
         assert_eq!(rt; answer, status);
         assert_eq!(rt; output.as_slice(), report);
         assert_eq!(rt; errors.as_slice(), line);
@@ -84,7 +84,7 @@ fn statuses(rt: HostRuntime) -> Result<(), Fail> {
     let mut output = Vec::new(rt.alloc());
     let mut errors = Vec::new(rt.alloc());
     assert_eq!(rt;
-        command(rt.alloc(), &["--help"], REFUTED, &mut output, &mut errors),
+        command(&rt, &["--help"], REFUTED, &mut output, &mut errors),
         2
     );
     assert!(rt; output.is_empty() && !errors.is_empty());
