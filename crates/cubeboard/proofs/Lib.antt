@@ -3,3 +3,4 @@ pub mod Reports
 pub mod Statuses
 pub mod Lines
 pub mod Posting
+pub mod Requests

@@ -1,10 +1,10 @@
 -- What a status says of the bundle.
-use Rattle.std.proofs.Common.{◌<◌, ℕ, List, arith, Option, None, Some, IfSome}
+use Rattle.std.proofs.Common.{◌<◌, ℕ, List, arith, Option, None, Some, Err, Ok, true, refl, IfSome}
 use Rattle.cubeboard.specs.declared.fault.Fault.{Fault}
 use Rattle.cubeboard.specs.declared.fault.Fault.TheVariants.{Header, Token, Unfinished, TooLarge, Limit, Memory, Repeats, NotATree, Overlap, BadLabel, NoSuchLeaf, ProofTwice, Device}
 use Rattle.cubeboard.specs.Faults.{IsInputFault}
 use Rattle.cubeboard.specs.Outcome.{IsFaultOn}
-use Rattle.cubeboard.specs.Command.{status_of, IsStatusOn}
+use Rattle.cubeboard.specs.Command.{status_of, IsRunOn, IsStatusOn}
 
 refused : (bundle : List ℕ) (fault : Fault) → IsInputFault fault → IsFaultOn bundle fault → IsStatusOn bundle 3
 refused bundle fault input is = (λ e. absurd (omega arith), λ e. absurd (omega arith), λ _. (fault, input, is))
@@ -28,6 +28,11 @@ status_on bundle Memory is = above_three bundle 4 (omega arith)
 status_on bundle Device is = above_three bundle 5 (omega arith)
 
 -- the status of a fault says of what was read what the fault says
-pub status_of-on : (known : Option (List ℕ)) (fault : Fault) → (IsInputFault fault → IfSome known (λ bundle. IsFaultOn bundle fault)) → IfSome known (λ bundle. IsStatusOn bundle (status_of fault))
+pub status_of-on : (known : Option (List ℕ)) (fault : Fault) → IfSome known (λ bundle. IsRunOn bundle (Err fault)) → IfSome known (λ bundle. IsStatusOn bundle (status_of fault))
 status_of-on None fault is = tt
 status_of-on (Some bundle) fault is = status_on bundle fault is
+
+-- the status of an answer says of what was read what the answer says
+pub refuted-on : (known : Option (List ℕ)) → IfSome known (λ bundle. IsRunOn bundle (Ok true)) → IfSome known (λ bundle. IsStatusOn bundle 0)
+refuted-on None is = tt
+refuted-on (Some bundle) is = (λ _. (is.0, is.1 refl), λ e. absurd (omega arith), λ e. absurd (omega arith))

@@ -1,45 +1,188 @@
-//! The program: its words, its streams, its texts and its status.
+//! The program: its words, its files, its streams, its texts and its status.
 
-ghost use Rattle.std.specs.Prelude.{◌≡◌, ◌<◌, ◌⊎◌, ◌↔◌, length, IfSome, IfErr};
-ghost use Rattle.cubeboard.specs.Command.{IsStatus, IsStatusOn, status_of};
+ghost use Rattle.std.specs.Prelude.{◌≡◌, ◌⊎◌, ◌<◌, length, None, IfSome, IfErr, MatchResult};
+ghost use Rattle.cubeboard.specs.Command.{IsStatus, IsStatusOn, IsRunOn, status_of};
 
 use crate::device::Counted;
 use crate::engine::run_io;
 use crate::fault::Fault;
+use crate::words::{Request, request_of};
+use case_core::{CaseFault, read_bundle};
+use clap::error::ErrorKind as WordsFault;
 use std::alloc::Global;
-use std::env;
+use std::convert::AsStr;
 use std::env::Env;
 use std::io::{ErrorKind, Read, Write};
+use std::rt::Files;
+use std::{env, fs, io};
 
-/// The program on these words, which are those after its name: it reads a bundle from `input`, writes the report to
-/// `output` and, where there is none, one line to `errors`. Both writers have to write at once, without a buffer of
-/// their own.
+/// The program on these words, which are those after its name: `[--proofs DIR] [FILE]`. It reads a bundle from FILE, or
+/// from `input` where there is none, and writes the report to `output` or, where there is no report, one line to
+/// `errors`. Both writers have to write at once, without a buffer of their own.
 ///
-/// Answers the status: 0 for a report that says refuted, 1 for one that says open, 2 where there are words, since the
-/// program takes none, 3 where the input is refused, 4 where memory is refused, 5 where a device failed. A failed write
-/// to `errors` doesn't change it.
-pub fn command<S, I: Read + Drop, O: Write + Drop, E: Write + Drop>(
-    alloc: Global,
-    words: &[S],
-    input: I,
-    output: O,
-    mut errors: E,
-) -> u8
+/// With `--proofs DIR` the bundle's case is read first, and then, for each cube K and after that for each missing leaf J,
+/// in order, the file `DIR/K.lrat` or `DIR/mJ.lrat`, where it is there, is added to the bundle as the section of its leaf.
+///
+/// Answers the status: 0 for a report that says refuted, 1 for one that says open, 2 where the words can't be taken or ask
+/// for help, after the parser's text on `errors`, 3 where the input is refused, 4 where memory is refused, 5 where a
+/// device failed: also where FILE can't be opened, and where a file of DIR is there and can't be read. A failed write to
+/// `errors` doesn't change it.
+pub fn command<R, S, I, O, E>(rt: &R, words: &[S], input: I, output: O, mut errors: E) -> u8
+where
+    R: Files + AllocGlobal,
+    S: AsStr,
+    I: Read + Drop,
+    O: Write + Drop,
+    E: Write + Drop,
     ensures status { IsStatus result }
-    ensures usage { (result ≡ 2) ↔ (0 < length words.now) }
-    ensures answer { IfSome (I.remaining input) (λ bundle. IsStatusOn bundle result) }
+    // Words are refused only where there are some.
+    ensures usage { result ≡ 2 → 0 < length words.now }
+    // Without words, the status is that of the input.
+    ensures answer { length words.now ≡ 0 → IfSome (I.remaining input) (λ bundle. IsStatusOn bundle result) }
 {
-    if !words.is_empty() {
-        let _ = errors.write_all(b"cubeboard: usage: cubeboard < BUNDLE\n");
-        return 2;
-    }
-    match run_io(alloc, &mut Counted::new(input), &mut Counted::new(output)) {
+    let request = match request_of(rt.alloc(), words) {
+        Ok(request) => request,
+        Err(error) if error.kind() == WordsFault::OutOfMemory => {
+            return fail(&mut errors, Fault::Memory);
+        }
+        Err(error) => {
+            let _ = write!(errors, "{error}");
+            return 2;
+        }
+    };
+    match run_request(rt, &request, input, output) {
         Ok(true) => 0,
         Ok(false) => 1,
-        Err(fault) => {
-            let _ = writeln!(errors, "cubeboard: {fault}");
-            status_of(fault)
-        }
+        Err(fault) => fail(&mut errors, fault),
+    }
+}
+
+/// Says what went wrong, and answers the status.
+fn fail<E: Write>(errors: &mut E, fault: Fault) -> u8
+    ensures { result ≡ status_of fault }
+{
+    let _ = writeln!(errors, "cubeboard: {fault}");
+    status_of(fault)
+}
+
+/// What the request asks for: whether the report that was written says refuted, or why there is none.
+fn run_request<R, I, O>(rt: &R, request: &Request<'_>, input: I, output: O) -> Result<bool, Fault>
+where
+    R: Files + AllocGlobal,
+    I: Read + Drop,
+    O: Write + Drop,
+    ensures { request.now.proofs ≡ None → request.now.file ≡ None → IfSome (I.remaining input) (λ bundle. IsRunOn bundle result) }
+{
+    match (request.proofs, request.file) {
+        (None, None) => run(rt.alloc(), input, output),
+        (None, Some(path)) => run(rt.alloc(), open(rt, path)?, output),
+        (Some(folder), None) => run_with_proofs(rt, folder, input, output),
+        (Some(folder), Some(path)) => run_with_proofs(rt, folder, open(rt, path)?, output),
+    }
+}
+
+/// One run, over streams whose failed calls are counted.
+fn run<I: Read + Drop, O: Write + Drop>(alloc: Global, input: I, output: O) -> Result<bool, Fault>
+    ensures { IfSome (I.remaining input) (λ bundle. IsRunOn bundle result) }
+{
+    run_io(alloc, &mut Counted::new(input), &mut Counted::new(output))
+}
+
+/// One run over the bundle that `input` gives, with the proofs of this folder.
+fn run_with_proofs<R, I, O>(rt: &R, folder: &str, mut input: I, output: O) -> Result<bool, Fault>
+where
+    R: Files + AllocGlobal,
+    I: Read + Drop,
+    O: Write + Drop,
+{
+    let mut bundle = Vec::new(rt.alloc());
+    input
+        .read_to_end(&mut bundle)
+        .map_err(|error| device_fault(&error))?;
+    add_proofs(rt, folder, &mut bundle)?;
+    run(rt.alloc(), bundle.as_slice(), output)
+}
+
+/// How many cubes and how many missing leaves a tree has.
+#[derive(Clone, Copy)]
+struct Leaves {
+    cubes: u32,
+    missing: u32,
+}
+
+/// The leaves of the bundle's tree. A bundle with a fault has none: no proof is looked for, and the run tells the fault.
+fn leaves_of(alloc: Global, bundle: &[u8]) -> Result<Leaves, Fault> {
+    match read_bundle(alloc, bundle) {
+        Ok(case) => Ok(Leaves {
+            cubes: case.tree().cube_count(),
+            missing: case.tree().missing_count(),
+        }),
+        Err(CaseFault::Memory) => Err(Fault::Memory),
+        Err(_) => Ok(Leaves {
+            cubes: 0,
+            missing: 0,
+        }),
+    }
+}
+
+/// Adds the section of each leaf whose proof is in the folder.
+fn add_proofs<R>(rt: &R, folder: &str, bundle: &mut Vec<u8>) -> Result<(), Fault>
+where
+    R: Files + AllocGlobal,
+{
+    let leaves = leaves_of(rt.alloc(), bundle)?;
+    add_sections(rt, folder, "", leaves.cubes, bundle)?;
+    add_sections(rt, folder, "m", leaves.missing, bundle)
+}
+
+/// Adds the sections of the leaves 1 to `count` whose names begin so.
+fn add_sections<R>(
+    rt: &R,
+    folder: &str,
+    kind: &str,
+    count: u32,
+    bundle: &mut Vec<u8>,
+) -> Result<(), Fault>
+where
+    R: Files + AllocGlobal,
+{
+    for number in 1..=count {
+        let name = format!(in rt.alloc(); "{kind}{number}")?;
+        add_section(rt, folder, name.as_str(), bundle)?;
+    }
+    Ok(())
+}
+
+/// Adds the section of one leaf, where its file is there.
+fn add_section<R>(rt: &R, folder: &str, name: &str, bundle: &mut Vec<u8>) -> Result<(), Fault>
+where
+    R: Files + AllocGlobal,
+{
+    let path = format!(in rt.alloc(); "{folder}/{name}.lrat")?;
+    let mut file = match fs::open(rt, path.as_str()) {
+        Ok(file) => file,
+        Err(error) if error.kind() == ErrorKind::NotFound => return Ok(()),
+        Err(error) => return Err(device_fault(&error)),
+    };
+    bundle.extend_from_slice(b"\nl ")?;
+    bundle.extend_from_slice(name.as_bytes())?;
+    bundle.push(b'\n')?;
+    match file.read_to_end(bundle) {
+        Ok(_) => Ok(()),
+        Err(error) => Err(device_fault(&error)),
+    }
+}
+
+/// Opens the bundle's file.
+fn open<R: Files>(rt: &R, path: &str) -> Result<R::File, Fault> {
+    fs::open(rt, path).map_err(|error| device_fault(&error))
+}
+
+/// What a fault of the system is to the run.
+fn device_fault(error: &io::Error) -> Fault {
+    match error.kind() {
+        ErrorKind::OutOfMemory => Fault::Memory,
+        _ => Fault::Device,
     }
 }
 

@@ -6,14 +6,19 @@ mod device;
 mod engine;
 mod fault;
 mod report;
+mod words;
 
 use std::process::ExitCode;
 
 fn main(rt: HostRuntime) -> ExitCode {
     let status = match command::own_words(&rt) {
-        Ok(words) => command::command(rt.alloc(), &words, rt.stdin(), rt.stdout(), rt.stderr()),
+        Ok(words) => command::command(&rt, &words, rt.stdin(), rt.stdout(), rt.stderr()),
         Err(status) => status,
     };
     ExitCode::from(status)
 }
 
+#[cfg(test)]
+mod program_tests;
+#[cfg(test)]
+mod tests;
