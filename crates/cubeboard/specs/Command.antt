@@ -1,7 +1,6 @@
 -- What the program's status says.
-use Rattle.std.specs.Prelude.{◌≡◌, ℕ, Bool, List, [], true, false, ◌⊎◌, codes, Result, Ok, Err, None}
-use Rattle.clap.specs.declared.builder.command.Command.{Command}
-use Rattle.clap.specs.Words.{app_of, first_of, is_simple, matches_of, takes}
+use Rattle.std.specs.Prelude.{◌≡◌, ℕ, Bool, List, [], true, false, ◌⊎◌, codes, Option, Some, Result, Ok, Err}
+use Rattle.clap.specs.Words.{App, Rule, Text, fault_of, first_of, matches_of, new_app, new_rule, with_rule}
 use Rattle.cubeboard.specs.declared.fault.Fault.{Fault}
 use Rattle.cubeboard.specs.declared.fault.Fault.TheVariants.{Header, Token, Unfinished, TooLarge, Limit, Memory, Repeats, NotATree, Overlap, BadLabel, NoSuchLeaf, ProofTwice, Device}
 use Rattle.cubeboard.specs.Faults.{IsInputFault}
@@ -40,9 +39,23 @@ abbrev pub IsRunOn : List ℕ → Result Bool Fault → Type 0
 IsRunOn bundle (Ok answer) = IsAnswerOn bundle answer × (answer ≡ true → IsUnsatisfiable bundle)
 IsRunOn bundle (Err fault) = IsInputFault fault → IsFaultOn bundle fault
 
--- the parser takes no words at all, and finds nothing in them
-abbrev pub IsParserOfWords : Command → Type 0
-IsParserOfWords parser =
-    (is_simple (app_of parser) ≡ true) × (takes (app_of parser) [] ≡ true)
-    × (first_of (codes "proofs") (matches_of (app_of parser) []) ≡ None)
-    × (first_of (codes "file") (matches_of (app_of parser) []) ≡ None)
+-- the words that the program takes: `--proofs` with one value, and one value without a name
+abbrev pub proofs_word : Rule
+proofs_word = record (new_rule (codes "proofs")) { long = Some (codes "proofs"); value_names = 1 }
+
+abbrev pub file_word : Rule
+file_word = record (new_rule (codes "file")) { value_names = 1 }
+
+abbrev pub without_program : App → App
+without_program parser = record { top = record parser.top { no_binary_name = true }; subs = parser.subs }
+
+abbrev pub words_taken : App
+words_taken = with_rule (with_rule (without_program (new_app (codes "cubeboard"))) proofs_word) file_word
+
+-- these words fit that: `clap` finds no fault in them, and they don't ask for help
+abbrev pub AreTaken : List Text → Type 0
+AreTaken words = fault_of words_taken words ≡ []
+
+-- the value that `clap` finds in these words
+abbrev pub asked_for : Text → List Text → Option Text
+asked_for name words = first_of name (matches_of words_taken words)

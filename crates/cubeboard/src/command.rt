@@ -1,7 +1,8 @@
 //! The program: its words, its files, its streams, its texts and its status.
 
-ghost use Rattle.std.specs.Prelude.{◌≡◌, ◌⊎◌, ◌<◌, length, None, IfSome, IfErr, MatchResult};
-ghost use Rattle.cubeboard.specs.Command.{IsStatus, IsStatusOn, IsRunOn, status_of};
+ghost use Rattle.std.specs.Prelude.{◌≡◌, ◌≢◌, ◌⊎◌, length, map, Ok, Err, None, Some, IfSome, IfErr, IsErr, MatchResult};
+ghost use Rattle.std.specs.IoError.{error_kind};
+ghost use Rattle.cubeboard.specs.Command.{IsStatus, IsStatusOn, IsRunOn, AreTaken, status_of};
 
 use crate::device::Counted;
 use crate::engine::run_io;
@@ -35,8 +36,10 @@ where
     O: Write + Drop,
     E: Write + Drop,
     ensures status { IsStatus result }
-    // Words are refused only where there are some.
-    ensures usage { result ≡ 2 → 0 < length words.now }
+    // Words are refused exactly where they can't be taken, unless memory is refused; no words can be taken.
+    ensures usage { AreTaken (map S.text words.now) → result ≢ 2 }
+    ensures taken { result ≢ 2 → result ≢ 4 → AreTaken (map S.text words.now) }
+    ensures none { length words.now ≡ 0 → result ≢ 2 }
     // Without words, the status is that of the input.
     ensures answer { length words.now ≡ 0 → IfSome (I.remaining input) (λ bundle. IsStatusOn bundle result) }
 {
@@ -159,10 +162,8 @@ where
     R: Files + AllocGlobal,
 {
     let path = format!(in rt.alloc(); "{folder}/{name}.lrat")?;
-    let mut file = match fs::open(rt, path.as_str()) {
-        Ok(file) => file,
-        Err(error) if error.kind() == ErrorKind::NotFound => return Ok(()),
-        Err(error) => return Err(device_fault(&error)),
+    let Some(mut file) = found(fs::open(rt, path.as_str()))? else {
+        return Ok(());
     };
     bundle.extend_from_slice(b"\nl ")?;
     bundle.extend_from_slice(name.as_bytes())?;
@@ -173,13 +174,29 @@ where
     }
 }
 
+/// A file that was opened, or `None` where the system says that it isn't there.
+fn found<F: Drop>(opened: io::Result<F>) -> Result<Option<F>, Fault>
+    ensures { MatchResult opened (λ file. result ≡ Ok (Some file)) (λ error.
+        (error_kind error ≡ ErrorKind.NotFound → result ≡ Ok None)
+        × (error_kind error ≢ ErrorKind.NotFound → IsErr result)) }
+{
+    match opened {
+        Ok(file) => Ok(Some(file)),
+        Err(error) if error.kind() == ErrorKind::NotFound => Ok(None),
+        Err(error) => Err(device_fault(&error)),
+    }
+}
+
 /// Opens the bundle's file.
 fn open<R: Files>(rt: &R, path: &str) -> Result<R::File, Fault> {
     fs::open(rt, path).map_err(|error| device_fault(&error))
 }
 
 /// What a fault of the system is to the run.
-fn device_fault(error: &io::Error) -> Fault {
+fn device_fault(error: &io::Error) -> Fault
+    ensures memory { error_kind error.now ≡ ErrorKind.OutOfMemory → result ≡ Fault.Memory }
+    ensures device { error_kind error.now ≢ ErrorKind.OutOfMemory → result ≡ Fault.Device }
+{
     match error.kind() {
         ErrorKind::OutOfMemory => Fault::Memory,
         _ => Fault::Device,

@@ -1,0 +1,85 @@
+#!/bin/sh
+# Runs the built program on a few rows with its Nth request for memory refused, for each N from 1 until a run meets no
+# refusal. Each run has to write the row's exact report with its status, or no report, the status 4 and
+# `cubeboard: F6 memory`. It needs a C compiler; where there is none, it says so and tries nothing. The last line counts.
+root=$(CDPATH= cd -- "$(dirname -- "$0")/.." && pwd) || exit 1
+compiler=
+for word in cc gcc clang; do
+    if command -v "$word" > /dev/null 2>&1; then compiler=$word; break; fi
+done
+if [ -z "$compiler" ]; then
+    echo "refused: skipped, since there is no C compiler"
+    exit 0
+fi
+here=$(mktemp -d) || exit 1
+trap 'rm -rf "$here"' EXIT
+if ! "$compiler" -O1 -shared -fPIC -o "$here/refuse.so" "$root/scripts/refuse.c" -ldl > "$here/log" 2>&1; then
+    cat "$here/log"
+    echo "refused: 0 passed, 1 failed"
+    exit 1
+fi
+# The launcher builds the program where that is needed; the runs below call the program itself.
+"$root/cubeboard" < /dev/null > /dev/null 2>&1
+program=$root/crates/cubeboard/out/cubeboard
+passed=0
+failed=0
+echo "cubeboard: F6 memory" > "$here/memory"
+limit=10000
+
+# One run with this request refused: the row's files without the ending, the request, the words.
+run() {
+    row=$1
+    request=$2
+    shift 2
+    rm -f "$here/mark"
+    (cd "$here/run" && REFUSE=$request REFUSED_MARK=$here/mark LD_PRELOAD=$here/refuse.so "$program" "$@") \
+        < "$row.in" > "$here/out" 2> "$here/err"
+    echo $? > "$here/status"
+}
+
+# Whether the last run said that memory was refused, and nothing else.
+says_memory() {
+    [ "$(cat "$here/status")" = 4 ] && [ ! -s "$here/out" ] && cmp -s "$here/err" "$here/memory"
+}
+
+# Whether the last run is the row's own: its files without the ending.
+is_exact() {
+    cmp -s "$here/out" "$1.out" && cmp -s "$here/err" "$1.err" && cmp -s "$here/status" "$1.status"
+}
+
+# All requests of one row.
+row() {
+    base=$root/tests/rows/$1
+    rm -rf "$here/run"
+    mkdir "$here/run"
+    [ -f "$base.icnf" ] && cp "$base.icnf" "$here/run/case.icnf"
+    [ -d "$base.proofs" ] && cp -r "$base.proofs" "$here/run/proofs"
+    set --
+    if [ -f "$base.args" ]; then
+        while IFS= read -r word; do set -- "$@" "$word"; done < "$base.args"
+    fi
+    request=1
+    refused=0
+    while [ "$request" -le "$limit" ]; do
+        run "$base" "$request" "$@"
+        if is_exact "$base" || { [ -f "$here/mark" ] && says_memory; }; then
+            passed=$((passed + 1))
+        else
+            failed=$((failed + 1))
+            echo "refused: $(basename "$base"), request $request: status $(cat "$here/status"), $(head -c 200 "$here/err")"
+        fi
+        [ -f "$here/mark" ] || break
+        refused=$((refused + 1))
+        request=$((request + 1))
+    done
+    if [ "$refused" -eq 0 ] || [ "$request" -gt "$limit" ]; then
+        failed=$((failed + 1))
+        echo "refused: $(basename "$base"): $refused requests were refused"
+    fi
+}
+
+for name in two_cubes_refuted missing_leaf_open proof_for_an_inner_node folder_of_proofs second_section_of_a_cube; do
+    row "$name"
+done
+echo "refused: $passed passed, $failed failed"
+[ "$failed" -eq 0 ]
