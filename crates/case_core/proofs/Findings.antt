@@ -59,3 +59,8 @@ pub found_of : (case : CaseOf) (target other : Target) (node : ℕ) (judged : Ju
 found_of case target other node judged same found here =
     subst (λ (t : Target). IsTargetAt case.tree node t × HasSection case t × IsFinding case t judged × IsSound case t judged) (sym same)
     (here, found.0, found.1, found.2)
+
+-- a target that stands at one node of one tree does so under its other name and in the same tree
+pub only_there : (a b : SplitTree) (target named : Target) (node number : ℕ) → a ≡ b → number ≡ node → named ≡ target →
+    ((i : ℕ) → IsTargetAt a i target → i ≡ node) → (i : ℕ) → IsTargetAt b i named → i ≡ number
+only_there a b target named node number e f g only i at = only i (rw (e, ← g) at) ∙ sym f

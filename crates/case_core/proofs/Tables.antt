@@ -102,14 +102,14 @@ none_from [] target apart = refl
 none_from (s ∷ sections) target apart =
     proof_past s sections target (apart 0 (omega arith)) ∙ none_from sections target (λ j l. apart (suc j) (omega arith))
 
-proof_added : (sections : List SectionOf) (s : SectionOf) → proof_for sections s.target ≡ None → proof_for (sections ++ s ∷ []) s.target ≡ Some s.proof
+pub proof_added : (sections : List SectionOf) (s : SectionOf) → proof_for sections s.target ≡ None → proof_for (sections ++ s ∷ []) s.target ≡ Some s.proof
 proof_added [] s none = proof_here s [] s.target (same_target-self s.target)
 proof_added (t ∷ sections) s none = elim (cases_Bool (same_target t.target s.target)) [
   | inl h ↦ absurd (some_is_none t.proof _ (proof_here t sections s.target h) none)
   | inr h ↦ proof_past t (sections ++ s ∷ []) s.target h ∙ proof_added sections s (sym (proof_past t sections s.target h) ∙ none)
 ]
 
-proof_kept : (sections : List SectionOf) (s : SectionOf) (target : Target) → same_target s.target target ≡ false → proof_for (sections ++ s ∷ []) target ≡ proof_for sections target
+pub proof_kept : (sections : List SectionOf) (s : SectionOf) (target : Target) → same_target s.target target ≡ false → proof_for (sections ++ s ∷ []) target ≡ proof_for sections target
 proof_kept [] s target other = proof_past s [] target other
 proof_kept (t ∷ sections) s target other = elim (cases_Bool (same_target t.target target)) [
   | inl h ↦ proof_here t (sections ++ s ∷ []) target h ∙ sym (proof_here t sections target h)

@@ -67,7 +67,7 @@ impl Case {
     }
 
     /// The proof of the section for a target, or `None` where it has none. It asks for a target of the tree.
-    pub(crate) fn proof_for(&self, target: Target) -> Option<&[u8]>
+    pub fn proof_for(&self, target: Target) -> Option<&[u8]>
         requires { HasTarget self.now.tree target }
         ensures found { MatchOption result (proof_for self.now.sections target ≡ None) (λ proof. proof_for self.now.sections target ≡ Some proof.now) }
         ensures one_place { (i j : ℕ) → IsTargetAt self.now.tree i target → IsTargetAt self.now.tree j target → i ≡ j }

@@ -37,7 +37,8 @@ impl Tree {
 
     /// How many cubes it has. Their leaves are `Cube(1)` to `Cube` of this number.
     pub fn cube_count(&self) -> u32
-        ensures { result ≡ cube_count self.now }
+        ensures count { result ≡ cube_count self.now }
+        ensures leaves { (k : ℕ) → 1 ≤ k → k ≤ result → HasLeaf self.now (Leaf.Cube k) }
     {
         self.cube_nodes.len() as u32
     }

@@ -1,5 +1,5 @@
 use Rattle.std.proofs.Common.{refl}
-use Rattle.case_core.proofs.Findings.{stands_there, found_of}
+use Rattle.case_core.proofs.Findings.{stands_there, found_of, only_there}
 use Rattle.case_core.proofs.finding.examine.Goals as goal
 
 pub invariant_of-result : goal.invariant_of-result
@@ -7,7 +7,7 @@ invariant_of-result c =
     let here = stands_there _ _ _ c.number-node.result c.args.target c.tree.ensures.tree c.number-node.ensures c.node_of_target.ensures.here in
     let found = found_of c.args.case.now c.args.target _ c.number-node.result c.in-Some.judged (c.leaf_of.ensures _ _ here)
     (rw c.in-Some.is at c.in_ok-judged.ensures) here in
-    record { here = found.0; has_section = found.1; is = found.2; sound = found.3 }
+    record { here = found.0; only = only_there _ _ c.args.target _ c.node_of_target.result c.number-node.result c.tree.ensures.tree c.number-node.ensures (c.leaf_of.ensures _ _ here) c.node_of_target.ensures.only; has_section = found.1; is = found.2; sound = found.3 }
 
 pub returns : goal.returns
 returns c =

@@ -1,12 +1,15 @@
-use Rattle.std.proofs.Common.{◌≡◌, ◌≤◌, ◌+◌, length, ap, arith}
-use Rattle.split_tree.specs.SplitTree.{size}
-use Rattle.split_tree.specs.Leaves.{missing_nodes, cube_count, leaf_count}
+use Rattle.std.proofs.Common.{◌≡◌, ℕ, ◌-◌, ◌≤◌, ◌∙◌, ap, sym, get_or, length, arith}
+use Rattle.split_tree.specs.SplitTree.{SplitTree, subtree_at}
 use Rattle.split_tree.proofs.Leaves.{count_leaves, few_leaves}
 use Rattle.split_tree.proofs.tree.Tree.cube_count.Goals as goal
 
 pub overflow_cast-result : goal.overflow_cast-result
 overflow_cast-result c =
-    let counted : length (missing_nodes c.self.inside.nodes) + cube_count c.self.inside.nodes ≡ leaf_count c.self.inside.nodes = count_leaves c.self.inside.nodes in
-    let few : leaf_count c.self.inside.nodes ≤ size c.self.inside.nodes = few_leaves c.self.inside.nodes in
-    let listed : length c.self.inside.missing_nodes.items ≡ length (missing_nodes c.self.inside.nodes) = ap length c.self.invariant.missing_are in
-    omega (arith, c.self.invariant.cubes_are.count)
+    let count = c.self.invariant.cubes_are.count in
+    let few = c.self.invariant.few in
+    omega (arith, count, few, count_leaves c.self.inside.nodes, few_leaves c.self.inside.nodes, c.len.ensures, c.self.inside.cube_nodes.ok)
+
+pub returns-clause-leaves : goal.returns-clause-leaves
+returns-clause-leaves c = λ k some few.
+    let l : k ≤ length c.self.inside.cube_nodes.items = omega (arith, few, c.len.ensures, c.self.inside.cube_nodes.ok) in
+    rw (← c.self.view_is) (get_or c.self.inside.cube_nodes.items (k - 1) 0, (c.self.invariant.cubes_are.within k some l, c.self.invariant.cubes_are.each k some l))
