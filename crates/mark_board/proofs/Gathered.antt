@@ -1,6 +1,6 @@
 -- The top board and the parts' boards as one list of marks, and what a post on one of them changes.
-use Rattle.std.proofs.Common.{◌≡◌, ◌≢◌, ◌↔◌, ℕ, zero, suc, ◌+◌, ◌-◌, ◌<◌, ◌≤◌, ◌⊎◌, List, [], ◌∷◌, ◌++◌, length, length-set, length-append, map, get_or, set, replicate, Bool, true, false, refl, sym, ap, subst, ◌∙◌, arith, inl, inr, add-zero, zero-add, get_or-set_other, get_or-set_same}
-use Rattle.std.proofs.lemmas.Bool.{cases_lt, cases_eq, cases_Bool}
+use Rattle.std.proofs.Common.{◌≡◌, ℕ, zero, suc, ◌+◌, ◌-◌, ◌<◌, ◌≤◌, List, [], ◌∷◌, ◌++◌, length, length-set, length-append, map, get_or, set, replicate, Bool, true, false, refl, sym, ap, subst, ◌∙◌, arith, inl, inr, add-zero, zero-add, get_or-set_other, get_or-set_same}
+use Rattle.std.proofs.lemmas.Bool.{cases_eq}
 use Rattle.std.proofs.lemmas.List.{get_or_append_left, get_or-map, length-map, length-replicate, map-set}
 use Rattle.split_tree.specs.SplitTree.{SplitTree, missing, cube, split, size, subtrees, subtree_at, path_at, branch, IsSplit}
 use Rattle.split_tree.specs.Leaves.{missing_nodes, IsTargetAt}
@@ -21,10 +21,10 @@ use Rattle.mark_board.specs.declared.place.Place.TheVariants.{Part, Top}
 use Rattle.mark_board.specs.Marking.{marked, open_weight}
 use Rattle.mark_board.specs.Rows.{is_refuted, mark_at, refuted_by}
 use Rattle.mark_board.specs.Places.{top_node, part_count, part_place, part_root, worth_of, IsPlaceOf}
-use Rattle.mark_board.specs.Board.{BoardOf, IsRowOn, tree_on, board_tree, board_node, IsRow, HasTargets}
-use Rattle.mark_board.specs.Boards.{part_tree, part_marks, part_mark, joined_marks, marks_of, boards_of, BoardsOf, AreMarks, ArePosted, AreBoards, IsBoardAt, IsPlaceFor, IsNewPart, AreNewParts}
+use Rattle.mark_board.specs.Board.{BoardOf, IsRowOn, tree_on, IsRow}
+use Rattle.mark_board.specs.Boards.{part_tree, part_marks, part_mark, marks_of, boards_of, AreMarks, AreBoards, IsBoardAt, IsPlaceFor, IsNewPart, AreNewParts}
 use Rattle.mark_board.proofs.TopPlaces.{no_cube_above, top_first}
-use Rattle.mark_board.proofs.Joined.{LeafIsPart, PartAt, part_is, marks_in_part, marks_on_top, marks_of_part, posted_on_top, posted_in_part, posted_of_part, unposted, posted_at, agreed_below, marked_in_part, open_in_part, new_marks, new_posted}
+use Rattle.mark_board.proofs.Joined.{LeafIsPart, marks_in_part, marks_on_top, marks_of_part, posted_on_top, posted_in_part, posted_of_part, posted_at, agreed_below, marked_in_part, open_in_part, new_marks, new_posted}
 use Rattle.mark_board.proofs.Together.{AreLong, joined_is, marks_are_joined}
 
 -- a board by its parts
@@ -212,9 +212,11 @@ new_boards above parts low place marks count each =
         long = ap length (each k l).3 ∙ length-replicate (size (part_tree above.cut above.case.tree k)) Open;
       };
       posted = new_posted above.cut above.case.tree above.marks (map marks_of parts) marks open_parts;
-    } in
-    (b, marks_are_joined above.cut above.case.tree above.marks (map marks_of parts) (replicate (size above.case.tree) Open) (all_long_of above parts b)
-    (new_marks above.cut above.case.tree above.marks (map marks_of parts) marks open_parts))
+    } in (
+      b,
+      marks_are_joined above.cut above.case.tree above.marks (map marks_of parts) (replicate (size above.case.tree) Open) (all_long_of above parts b)
+          (new_marks above.cut above.case.tree above.marks (map marks_of parts) marks open_parts),
+    )
 
 -- ---- the board of a node
 
@@ -305,8 +307,12 @@ pub boards_new : (above : BoardOf) (parts : List BoardOf) (case : CaseOf) (cut :
     above.marks ≡ replicate (size (top cut case.tree)) Open → AreNewParts case cut parts (part_count cut case.tree) →
     AreBoards above parts × ((boards_of above parts).marks ≡ replicate (size case.tree) Open)
 boards_new above parts case cut low c d place marks h = let r = (new_boards above parts (rw d low) place (rw (c, d) marks) (rw (c, d) h.long)
-    (λ k l. let n = h.each above k (rw (c, d) at l) in (n.case_is ∙ sym c, n.cut_is ∙ sym d, n.place_is,
-    n.none ∙ (ap (λ (x : CaseOf). replicate (size (part_tree cut x.tree k)) Open) (sym c) ∙ ap (λ (x : ℕ). replicate (size (part_tree x above.case.tree k)) Open) (sym d))))) in (r.0, r.1 ∙ ap (λ (x : CaseOf). replicate (size x.tree) Open) c)
+    (λ k l. let n = h.each above k (rw (c, d) at l) in (
+      n.case_is ∙ sym c,
+      n.cut_is ∙ sym d,
+      n.place_is,
+      n.none ∙ (ap (λ (x : CaseOf). replicate (size (part_tree cut x.tree k)) Open) (sym c) ∙ ap (λ (x : ℕ). replicate (size (part_tree x above.case.tree k)) Open) (sym d)),
+    ))) in (r.0, r.1 ∙ ap (λ (x : CaseOf). replicate (size x.tree) Open) c)
 
 -- a target stands at a node of the tree
 pub target_inside : (tree : SplitTree) (node : ℕ) (target : Target) → IsTargetAt tree node target → node < size tree

@@ -14,8 +14,8 @@ mod stored;
 mod top;
 mod walk;
 
-pub use boards::Boards;
 pub use board::Board;
+pub use boards::Boards;
 pub use laws::{
     marked_has_no_model, marked_stays_marked, open_after_post, open_branches_add_up,
     open_branches_are_apart, open_parts_add_up, parts_stand_on_top,
