@@ -233,9 +233,6 @@ place_in_part cut tree node place part p l e =
       has_targets = tt;
     }
 
-pub place_on_top : (cut : ℕ) (tree : SplitTree) (node place : ℕ) → IsPlaceOf cut tree node place → IsSplit (subtree_at (top cut tree) place) → IsPlaceFor cut tree node Top
-place_on_top cut tree node place p s = record { row = place; is_place = tt; is_row = record { within = p.within; here = p.own s }; has_targets = s }
-
 -- ---- what the calls of one board say of all
 
 -- a part that is listed is one of the cut's
@@ -283,25 +280,6 @@ pub root_path : (tree : SplitTree) → path_at tree 0 ≡ []
 root_path tree = label-root branch [] [] tree
 
 -- ---- making the parts' boards
-
-pub no_parts : (case : CaseOf) (cut : ℕ) → AreNewParts case cut [] 0
-no_parts case cut = record { long = refl; each = λ other k l. absurd (omega arith) }
-
-last_is : (xs : List BoardOf) (x : BoardOf) (i : ℕ) (d : BoardOf) → length xs ≡ i → get_or (xs ++ x ∷ []) i d ≡ x
-last_is [] x zero d e = refl
-last_is [] x (suc i) d e = absurd (omega (arith, e))
-last_is (y ∷ ys) x zero d e = absurd (omega (arith, e))
-last_is (y ∷ ys) x (suc i) d e = last_is ys x i d (omega (arith, e))
-
-pub one_more_part : (case : CaseOf) (cut : ℕ) (boards : List BoardOf) (n : ℕ) (board : BoardOf) → AreNewParts case cut boards n → IsNewPart case cut n board →
-    AreNewParts case cut (boards ++ board ∷ []) (n + 1)
-one_more_part case cut boards n board h new = record {
-  long = length-append boards (board ∷ []) ∙ ap (λ (k : ℕ). k + 1) h.long;
-  each = λ other k l. elim (cases_eq k n) [
-    | inl same ↦ rw (same, last_is boards board n other h.long) new
-    | inr ne ↦ rw (get_or_append_left boards (board ∷ []) other k (omega (arith, h.long, ne))) (h.each other k (omega (arith, ne)))
-  ];
-}
 
 pub boards_new : (above : BoardOf) (parts : List BoardOf) (case : CaseOf) (cut : ℕ) → cut ≤ 6 → above.case ≡ case → above.cut ≡ cut → above.place ≡ Top →
     above.marks ≡ replicate (size (top cut case.tree)) Open → AreNewParts case cut parts (part_count cut case.tree) →

@@ -134,9 +134,6 @@ long_second : (cut v : ℕ) (p n : SplitTree) (parts : List (List Mark)) → Are
 long_second cut v p n parts h k l =
     ap length (marks_behind parts (part_count cut p) k) ∙ (h (part_count cut p + k) (omega (arith, count_split cut v p n)) ∙ ap size (tree_second cut v p n k l))
 
-one_part : (cut : ℕ) (t : SplitTree) → top cut t ≡ missing → part_count cut t ≡ 1
-one_part cut t e = rw e refl
-
 pub joined_long : (cut : ℕ) (t : SplitTree) (above : List Mark) (parts : List (List Mark)) → AreLong cut t parts → length (joined_marks cut t above parts) ≡ size t
 joined_long zero t above parts h = h 0 (omega arith) ∙ ap size (subtree-root t)
 joined_long (suc cut) missing above parts h = h 0 (omega arith)
@@ -188,9 +185,6 @@ joined_own (suc cut) (split v p n) above parts h (suc i) l s = elim (cases_lt i 
       ∙ (ap (λ (k : ℕ). mark_at (joined_marks (suc cut) (split v p n) above parts) k) (sym (own_second cut v p n j m))
       ∙ ap (λ (k : ℕ). mark_at (joined_marks (suc cut) (split v p n) above parts) (top_node (suc cut) (split v p n) (suc k))) (sym e)))))
 ]
-
-part_zero : (cut : ℕ) (t : SplitTree) → top cut t ≡ missing → part_root cut t 0 ≡ 0
-part_zero cut t e = ap (λ (x : SplitTree). top_node cut t (get_or (missing_nodes x) 0 0)) e ∙ top_first cut 0 t
 
 pub joined_part : (cut : ℕ) (t : SplitTree) (above : List Mark) (parts : List (List Mark)) → AreLong cut t parts → (k row : ℕ) → k < part_count cut t →
     row < size (part_tree cut t k) → mark_at (part_marks parts k) row ≡ mark_at (joined_marks cut t above parts) (part_root cut t k + row)

@@ -28,4 +28,6 @@ pub use posted::{PartPosted, Posted};
 pub use stored::BoardData;
 
 #[cfg(test)]
+mod boards_tests;
+#[cfg(test)]
 mod tests;
