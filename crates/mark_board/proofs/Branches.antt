@@ -1,14 +1,14 @@
 -- The walk that lists the open branches: over the nodes in tree order, past each marked and each wholly open one.
-use Rattle.std.proofs.Common.{◌≡◌, ◌≢◌, ℕ, zero, suc, ◌+◌, ◌-◌, ◌<◌, ◌≤◌, ◌⊎◌, ◌&&◌, List, [], ◌∷◌, ◌++◌, Bool, true, false, cond, leb, refl, sym, ap, ◌∙◌, arith, inl, inr, add-zero, zero-add, append-nil, append_assoc}
+use Rattle.std.proofs.Common.{◌≡◌, ℕ, suc, ◌+◌, ◌<◌, ◌≤◌, List, [], ◌∷◌, ◌++◌, Bool, true, false, cond, leb, refl, sym, ap, ◌∙◌, arith, inl, inr, append-nil, append_assoc}
 use Rattle.std.proofs.lemmas.Bool.{cases_lt, cases_eq, cases_Bool}
 use Rattle.std.proofs.lemmas.Bool.Decides.{nat_tests}
 use Rattle.split_tree.specs.SplitTree.{SplitTree, missing, cube, split, size, subtree_at}
 use Rattle.split_tree.specs.Rows.{HasBelow}
 use Rattle.split_tree.proofs.Coding.{branches_at, subtree-root, some_node}
-use Rattle.split_tree.proofs.Labels.{nested, inside}
+use Rattle.split_tree.proofs.Labels.{nested}
 use Rattle.mark_board.specs.Marking.{Place, marked, open_weight, whole_weight, wholly_open, open_branches, Weighs}
 use Rattle.mark_board.specs.Places.{worth_of}
-use Rattle.mark_board.proofs.Marks.{marked_open, open_marked, whole_is_open, wholly_open-weight, open_sum, root_covered}
+use Rattle.mark_board.proofs.Marks.{marked_open, open_marked, whole_is_open, wholly_open-weight}
 use Rattle.mark_board.proofs.Worths.{whole_adds_up, whole_at, total_some}
 
 module _ (refuted : ℕ → Bool) where
@@ -81,15 +81,20 @@ module _ (refuted : ℕ → Bool) where
               nested whole (suc node) k (omega arith) (rw b.positive (omega arith)) (omega (arith, some_node n)) in
               let ends : k + size (subtree_at whole k) ≤ suc node + size p = rw b.positive at below_it in
               let r = from_node whole (suc node) p (omega (arith, some_node n)) b.positive k (omega arith) (omega arith) c in
-              rw (r, split_up (k + size (subtree_at whole k)) (omega arith),
+              rw (
+                r,
+                split_up (k + size (subtree_at whole k)) (omega arith),
                 from_here k (suc (node + size p)) n (omega arith),
-                from_here (k + size (subtree_at whole k)) (suc (node + size p)) n (omega arith))
+                from_here (k + size (subtree_at whole k)) (suc (node + size p)) n (omega arith),
+              )
               (append_assoc (open_branches refuted k (subtree_at whole k)) (branches_from (k + size (subtree_at whole k)) (suc node) p) (open_branches refuted (suc (node + size p)) n))
           | inr second ↦
               let r = from_node whole (suc (node + size p)) n (omega (arith, some_node n)) b.negative k second (omega arith) c in
-              rw (split_up (k + size (subtree_at whole k)) (omega arith),
+              rw (
+                split_up (k + size (subtree_at whole k)) (omega arith),
                 from_end k (suc node) p (omega arith),
-                from_end (k + size (subtree_at whole k)) (suc node) p (omega arith)) r
+                from_end (k + size (subtree_at whole k)) (suc node) p (omega arith),
+              ) r
         ])
   ]
 

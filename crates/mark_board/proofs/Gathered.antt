@@ -1,6 +1,6 @@
 -- The top board and the parts' boards as one list of marks, and what a post on one of them changes.
-use Rattle.std.proofs.Common.{◌≡◌, ◌≢◌, ◌↔◌, ℕ, zero, suc, ◌+◌, ◌-◌, ◌<◌, ◌≤◌, ◌⊎◌, List, [], ◌∷◌, ◌++◌, length, length-set, length-append, map, get_or, set, replicate, Bool, true, false, refl, sym, ap, subst, ◌∙◌, arith, inl, inr, add-zero, zero-add, get_or-set_other, get_or-set_same}
-use Rattle.std.proofs.lemmas.Bool.{cases_lt, cases_eq, cases_Bool}
+use Rattle.std.proofs.Common.{◌≡◌, ℕ, zero, suc, ◌+◌, ◌-◌, ◌<◌, ◌≤◌, List, [], ◌∷◌, ◌++◌, length, length-set, length-append, map, get_or, set, replicate, Bool, true, false, refl, sym, ap, subst, ◌∙◌, arith, inl, inr, add-zero, zero-add, get_or-set_other, get_or-set_same}
+use Rattle.std.proofs.lemmas.Bool.{cases_eq}
 use Rattle.std.proofs.lemmas.List.{get_or_append_left, get_or-map, length-map, length-replicate, map-set}
 use Rattle.split_tree.specs.SplitTree.{SplitTree, missing, cube, split, size, subtrees, subtree_at, path_at, branch, IsSplit}
 use Rattle.split_tree.specs.Leaves.{missing_nodes, IsTargetAt}
@@ -21,10 +21,10 @@ use Rattle.mark_board.specs.declared.place.Place.TheVariants.{Part, Top}
 use Rattle.mark_board.specs.Marking.{marked, open_weight}
 use Rattle.mark_board.specs.Rows.{is_refuted, mark_at, refuted_by}
 use Rattle.mark_board.specs.Places.{top_node, part_count, part_place, part_root, worth_of, IsPlaceOf}
-use Rattle.mark_board.specs.Board.{BoardOf, IsRowOn, tree_on, board_tree, board_node, IsRow, HasTargets}
-use Rattle.mark_board.specs.Boards.{part_tree, part_marks, part_mark, joined_marks, marks_of, boards_of, BoardsOf, AreMarks, ArePosted, AreBoards, IsBoardAt, IsPlaceFor, IsNewPart, AreNewParts}
+use Rattle.mark_board.specs.Board.{BoardOf, IsRowOn, tree_on, IsRow}
+use Rattle.mark_board.specs.Boards.{part_tree, part_marks, part_mark, marks_of, boards_of, AreMarks, AreBoards, IsBoardAt, IsPlaceFor, IsNewPart, AreNewParts}
 use Rattle.mark_board.proofs.TopPlaces.{no_cube_above, top_first}
-use Rattle.mark_board.proofs.Joined.{LeafIsPart, PartAt, part_is, marks_in_part, marks_on_top, marks_of_part, posted_on_top, posted_in_part, posted_of_part, unposted, posted_at, agreed_below, marked_in_part, open_in_part, new_marks, new_posted}
+use Rattle.mark_board.proofs.Joined.{LeafIsPart, marks_in_part, marks_on_top, marks_of_part, posted_on_top, posted_in_part, posted_of_part, posted_at, agreed_below, marked_in_part, open_in_part, new_marks, new_posted}
 use Rattle.mark_board.proofs.Together.{AreLong, joined_is, marks_are_joined}
 
 -- a board by its parts
@@ -212,9 +212,11 @@ new_boards above parts low place marks count each =
         long = ap length (each k l).3 ∙ length-replicate (size (part_tree above.cut above.case.tree k)) Open;
       };
       posted = new_posted above.cut above.case.tree above.marks (map marks_of parts) marks open_parts;
-    } in
-    (b, marks_are_joined above.cut above.case.tree above.marks (map marks_of parts) (replicate (size above.case.tree) Open) (all_long_of above parts b)
-    (new_marks above.cut above.case.tree above.marks (map marks_of parts) marks open_parts))
+    } in (
+      b,
+      marks_are_joined above.cut above.case.tree above.marks (map marks_of parts) (replicate (size above.case.tree) Open) (all_long_of above parts b)
+          (new_marks above.cut above.case.tree above.marks (map marks_of parts) marks open_parts),
+    )
 
 -- ---- the board of a node
 
@@ -230,9 +232,6 @@ place_in_part cut tree node place part p l e =
       is_row = record { within = rw root (omega arith); here = omega (arith, root) };
       has_targets = tt;
     }
-
-pub place_on_top : (cut : ℕ) (tree : SplitTree) (node place : ℕ) → IsPlaceOf cut tree node place → IsSplit (subtree_at (top cut tree) place) → IsPlaceFor cut tree node Top
-place_on_top cut tree node place p s = record { row = place; is_place = tt; is_row = record { within = p.within; here = p.own s }; has_targets = s }
 
 -- ---- what the calls of one board say of all
 
@@ -282,31 +281,16 @@ root_path tree = label-root branch [] [] tree
 
 -- ---- making the parts' boards
 
-pub no_parts : (case : CaseOf) (cut : ℕ) → AreNewParts case cut [] 0
-no_parts case cut = record { long = refl; each = λ other k l. absurd (omega arith) }
-
-last_is : (xs : List BoardOf) (x : BoardOf) (i : ℕ) (d : BoardOf) → length xs ≡ i → get_or (xs ++ x ∷ []) i d ≡ x
-last_is [] x zero d e = refl
-last_is [] x (suc i) d e = absurd (omega (arith, e))
-last_is (y ∷ ys) x zero d e = absurd (omega (arith, e))
-last_is (y ∷ ys) x (suc i) d e = last_is ys x i d (omega (arith, e))
-
-pub one_more_part : (case : CaseOf) (cut : ℕ) (boards : List BoardOf) (n : ℕ) (board : BoardOf) → AreNewParts case cut boards n → IsNewPart case cut n board →
-    AreNewParts case cut (boards ++ board ∷ []) (n + 1)
-one_more_part case cut boards n board h new = record {
-  long = length-append boards (board ∷ []) ∙ ap (λ (k : ℕ). k + 1) h.long;
-  each = λ other k l. elim (cases_eq k n) [
-    | inl same ↦ rw (same, last_is boards board n other h.long) new
-    | inr ne ↦ rw (get_or_append_left boards (board ∷ []) other k (omega (arith, h.long, ne))) (h.each other k (omega (arith, ne)))
-  ];
-}
-
 pub boards_new : (above : BoardOf) (parts : List BoardOf) (case : CaseOf) (cut : ℕ) → cut ≤ 6 → above.case ≡ case → above.cut ≡ cut → above.place ≡ Top →
     above.marks ≡ replicate (size (top cut case.tree)) Open → AreNewParts case cut parts (part_count cut case.tree) →
     AreBoards above parts × ((boards_of above parts).marks ≡ replicate (size case.tree) Open)
 boards_new above parts case cut low c d place marks h = let r = (new_boards above parts (rw d low) place (rw (c, d) marks) (rw (c, d) h.long)
-    (λ k l. let n = h.each above k (rw (c, d) at l) in (n.case_is ∙ sym c, n.cut_is ∙ sym d, n.place_is,
-    n.none ∙ (ap (λ (x : CaseOf). replicate (size (part_tree cut x.tree k)) Open) (sym c) ∙ ap (λ (x : ℕ). replicate (size (part_tree x above.case.tree k)) Open) (sym d))))) in (r.0, r.1 ∙ ap (λ (x : CaseOf). replicate (size x.tree) Open) c)
+    (λ k l. let n = h.each above k (rw (c, d) at l) in (
+      n.case_is ∙ sym c,
+      n.cut_is ∙ sym d,
+      n.place_is,
+      n.none ∙ (ap (λ (x : CaseOf). replicate (size (part_tree cut x.tree k)) Open) (sym c) ∙ ap (λ (x : ℕ). replicate (size (part_tree x above.case.tree k)) Open) (sym d)),
+    ))) in (r.0, r.1 ∙ ap (λ (x : CaseOf). replicate (size x.tree) Open) c)
 
 -- a target stands at a node of the tree
 pub target_inside : (tree : SplitTree) (node : ℕ) (target : Target) → IsTargetAt tree node target → node < size tree

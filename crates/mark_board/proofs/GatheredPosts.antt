@@ -1,12 +1,11 @@
 -- What a post on one of the boards changes of all of them.
-use Rattle.std.proofs.Common.{◌≡◌, ◌≢◌, ◌↔◌, ℕ, ◌+◌, ◌<◌, ◌≤◌, ◌⊎◌, List, length, map, get_or, set, Bool, true, false, refl, sym, ap, subst, ◌∙◌, arith, inl, inr, get_or-set_other, get_or-set_same, length-set}
+use Rattle.std.proofs.Common.{◌≡◌, ◌≢◌, ◌↔◌, ℕ, ◌<◌, ◌⊎◌, List, length, map, get_or, set, true, false, refl, sym, ap, ◌∙◌, inl, inr, get_or-set_other, length-set}
 use Rattle.std.proofs.lemmas.List.{set-get_or}
 use Rattle.std.proofs.lemmas.Bool.{cases_Bool, cases_eq}
 use Rattle.split_tree.specs.SplitTree.{SplitTree, size, subtree_at, IsSplit}
 use Rattle.split_tree.specs.Top.{top}
 use Rattle.mark_board.specs.declared.mark.Mark.{Mark}
 use Rattle.mark_board.specs.declared.mark.Mark.TheVariants.{Open, Refuted, Rejected}
-use Rattle.mark_board.specs.declared.place.Place.{Place}
 use Rattle.mark_board.specs.declared.place.Place.TheVariants.{Part, Top}
 use Rattle.mark_board.specs.declared.rows.Answer.{Answer}
 use Rattle.mark_board.specs.declared.rows.Answer.TheVariants.{Marked, RootMarked, Already}
@@ -14,8 +13,8 @@ use Rattle.mark_board.specs.Marking.{marked, IsWithin}
 use Rattle.mark_board.specs.Rows.{is_refuted, mark_at, refuted_by}
 use Rattle.mark_board.specs.Answers.{marks_after, MarksRoot}
 use Rattle.mark_board.specs.Places.{part_count, part_place}
-use Rattle.mark_board.specs.Board.{BoardOf, IsRow, IsRowOn, tree_on, board_tree}
-use Rattle.mark_board.specs.Boards.{part_tree, part_marks, marks_of, boards_of, BoardsOf, AreBoards, IsBoardAt, IsPlaceFor, marks_with, is_new}
+use Rattle.mark_board.specs.Board.{BoardOf, IsRow, IsRowOn, tree_on}
+use Rattle.mark_board.specs.Boards.{part_tree, marks_of, boards_of, BoardsOf, AreBoards, IsBoardAt, IsPlaceFor, marks_with, is_new}
 use Rattle.mark_board.proofs.Marks.{marked_more}
 use Rattle.mark_board.proofs.Joined.{unposted}
 use Rattle.mark_board.proofs.Gathered.{part_is_there, with_marks, board_is, part_boards, root_boards, top_boards, part_marks_after, root_marks_after, top_marks_after, read_in_part, read_on_top, listed}
@@ -84,9 +83,11 @@ module _ (above : BoardOf) (parts : List BoardOf) (h : AreBoards above parts) (k
   part_already p =
       let e : new.marks ≡ (get_or parts k above).marks = p.marks row row_on in
       let same : new ≡ get_or parts k above = board_is new _ _ _ _ p.case p.cut p.place e in
-      let parts_same : set parts k new ≡ parts = ap (set parts k) same ∙ set-get_or parts k above in
-      (rw parts_same h, ap (λ (xs : List BoardOf). (boards_of above xs).marks) parts_same,
-        λ none. (p.already row row_on).0 refl (read_in_part above parts h k node row l at ∙ none))
+      let parts_same : set parts k new ≡ parts = ap (set parts k) same ∙ set-get_or parts k above in (
+        rw parts_same h,
+        ap (λ (xs : List BoardOf). (boards_of above xs).marks) parts_same,
+        λ none. (p.already row row_on).0 refl (read_in_part above parts h k node row l at ∙ none),
+      )
 
   pub part_marked : IsPost (get_or parts k above) new node mark Marked →
       AreBoards above (set parts k new) × ((boards_of above (set parts k new)).marks ≡ set (boards_of above parts).marks node mark) × (mark_at (boards_of above parts).marks node ≡ Open)
@@ -104,9 +105,10 @@ module _ (above : BoardOf) (parts : List BoardOf) (h : AreBoards above parts) (k
       (mark_at (boards_of above parts).marks node ≡ Open) × (mark_at above.marks (part_place above.cut above.case.tree k) ≡ Open)
   part_root_marked p =
       let none : mark_at (get_or parts k above).marks row ≡ Open = no_mark RootMarked _ (p.already row row_on) (λ q. cc) in
-      let m : MarksRoot (part_tree above.cut above.case.tree k) (get_or parts k above).marks new.marks = rw tree_is at (p.root.0 refl) in
-      (sym (read_in_part above parts h k node row l at) ∙ none,
-        unposted above.cut above.case.tree above.marks (map marks_of parts) k h.posted l (rw (listed above parts h k l) m.was))
+      let m : MarksRoot (part_tree above.cut above.case.tree k) (get_or parts k above).marks new.marks = rw tree_is at (p.root.0 refl) in (
+        sym (read_in_part above parts h k node row l at) ∙ none,
+        unposted above.cut above.case.tree above.marks (map marks_of parts) k h.posted l (rw (listed above parts h k l) m.was),
+      )
 
   -- and then on the top board
   pub part_then_top : IsPost (get_or parts k above) new node mark RootMarked → (there : BoardOf) (answer : Answer) → there.case ≡ above.case → there.cut ≡ above.cut →
@@ -122,10 +124,10 @@ module _ (above : BoardOf) (parts : List BoardOf) (h : AreBoards above parts) (k
       let b = root_boards above parts h k new l (set_at RootMarked p long) m.is in
       rw is (b, root_marks_after above parts h k node row mark new l at e b)
     where
-    set_when : (answer : Answer) → (answer ≡ Already → ⊥) → marks_after answer above.marks (part_place above.cut above.case.tree k) Refuted ≡ set above.marks (part_place above.cut above.case.tree k) Refuted
-    set_when Marked ne = refl
-    set_when RootMarked ne = refl
-    set_when Already ne = absurd (ne refl)
+      set_when : (answer : Answer) → (answer ≡ Already → ⊥) → marks_after answer above.marks (part_place above.cut above.case.tree k) Refuted ≡ set above.marks (part_place above.cut above.case.tree k) Refuted
+      set_when Marked ne = refl
+      set_when RootMarked ne = refl
+      set_when Already ne = absurd (ne refl)
 
 -- ---- on the top board
 

@@ -1,21 +1,21 @@
 -- The open weight below a node, by the boards.
-use Rattle.std.proofs.Common.{◌≡◌, ◌≢◌, ℕ, suc, ◌+◌, ◌<◌, ◌≤◌, ◌^◌, ◌⊎◌, List, get_or, Bool, true, false, refl, sym, ap, subst, ◌∙◌, arith}
-use Rattle.split_tree.specs.SplitTree.{SplitTree, missing, cube, split, size, total, subtree_at, depth_at, IsSplit, IsLeaf}
+use Rattle.std.proofs.Common.{◌≡◌, ℕ, suc, ◌+◌, ◌<◌, ◌≤◌, ◌^◌, List, get_or, Bool, false, refl, sym, ap, subst, ◌∙◌, arith}
+use Rattle.split_tree.specs.SplitTree.{SplitTree, missing, cube, split, size, total, subtree_at, IsSplit, IsLeaf}
 use Rattle.split_tree.specs.Top.{top}
 use Rattle.split_tree.specs.Rows.{AreBranches}
 use Rattle.split_tree.proofs.Totals.{total_at}
 use Rattle.mark_board.specs.declared.mark.Mark.{Mark}
 use Rattle.mark_board.specs.declared.mark.Mark.TheVariants.{Open, Refuted, Rejected}
 use Rattle.mark_board.specs.declared.place.Place.TheVariants.{Part, Top}
-use Rattle.mark_board.specs.Marking.{marked, open_weight}
+use Rattle.mark_board.specs.Marking.{open_weight}
 use Rattle.mark_board.specs.Rows.{is_refuted, mark_at, refuted_by}
-use Rattle.mark_board.specs.Places.{part_root, top_node, worth_of}
-use Rattle.mark_board.specs.Board.{BoardOf, IsRow, IsRowOn, HasTargets, IsTargetRow, tree_on, worth_on}
-use Rattle.mark_board.specs.Boards.{part_tree, boards_of, BoardsOf, AreBoards, IsPlaceFor}
+use Rattle.mark_board.specs.Places.{top_node, worth_of}
+use Rattle.mark_board.specs.Board.{BoardOf, IsRow, IsRowOn, IsTargetRow, tree_on, worth_on}
+use Rattle.mark_board.specs.Boards.{boards_of, BoardsOf, AreBoards, IsPlaceFor}
 use Rattle.mark_board.proofs.Marks.{open_sum, open_whole, marked_open, root_covered}
-use Rattle.mark_board.proofs.TopPlaces.{split_at_top, node_within}
+use Rattle.mark_board.proofs.TopPlaces.{split_at_top}
 use Rattle.mark_board.proofs.Branches.{worth_whole}
-use Rattle.mark_board.proofs.Gathered.{board_is, part_is_there, part_row_on, open_part_below, read_on_top}
+use Rattle.mark_board.proofs.Gathered.{board_is, part_is_there, part_row_on, open_part_below}
 
 -- ---- an inner node above the cut
 

@@ -1,19 +1,16 @@
 -- The marks of the top board and of all parts' boards together.
-use Rattle.std.proofs.Common.{◌≡◌, ◌≢◌, ℕ, zero, suc, ◌+◌, ◌-◌, ◌<◌, ◌≤◌, ◌⊎◌, List, [], ◌∷◌, length, length-set, get_or, set, replicate, Bool, true, false, cond, refl, sym, ap, ◌∙◌, arith, inl, inr, get_or-set_other, get_or-set_same, add-zero, zero-add}
-use Rattle.std.proofs.lemmas.Bool.{cases_lt, cases_eq, cases_Bool}
+use Rattle.std.proofs.Common.{◌≡◌, ◌≢◌, ℕ, zero, suc, ◌+◌, ◌-◌, ◌<◌, ◌≤◌, List, [], length, length-set, get_or, set, replicate, Bool, true, false, refl, sym, ap, ◌∙◌, arith, inl, inr, get_or-set_other, get_or-set_same, add-zero, zero-add}
+use Rattle.std.proofs.lemmas.Bool.{cases_eq}
 use Rattle.std.proofs.lemmas.List.{length-replicate, get_or_append_left, get_or-append_right}
 use Rattle.split_tree.specs.SplitTree.{SplitTree, missing, cube, split, size, subtrees, subtree_at, IsSplit}
-use Rattle.split_tree.specs.Rows.{HasBelow}
-use Rattle.split_tree.specs.Leaves.{missing_nodes}
 use Rattle.split_tree.specs.Top.{top, top_nodes}
-use Rattle.split_tree.proofs.Coding.{length-subtrees, branches_at, subtree-root, some_node, in_positive, in_negative}
+use Rattle.split_tree.proofs.Coding.{length-subtrees, branches_at, some_node, in_positive, in_negative}
 use Rattle.split_tree.proofs.Labels.{below, inside}
 use Rattle.split_tree.proofs.Leaves.{missing_is}
 use Rattle.mark_board.specs.declared.mark.Mark.{Mark}
-use Rattle.mark_board.specs.declared.mark.Mark.TheVariants.{Open, Refuted, Rejected}
+use Rattle.mark_board.specs.declared.mark.Mark.TheVariants.{Open, Refuted}
 use Rattle.mark_board.specs.Marking.{marked, open_weight}
 use Rattle.mark_board.specs.Rows.{is_refuted, mark_at, refuted_by}
-use Rattle.mark_board.specs.Answers.{MarksRoot}
 use Rattle.mark_board.specs.Places.{top_node, part_count, part_place, part_root, IsPlaceOf}
 use Rattle.mark_board.specs.Boards.{part_tree, part_marks, part_mark, AreMarks, ArePosted}
 use Rattle.mark_board.proofs.Marks.{marked_same, open_same}
@@ -279,21 +276,21 @@ agreed_below whole refuted own base (suc cut) node (split v p n) h s at =
     let here : own base ≡ refuted node = ap own (sym (add-zero base)) ∙ at 0 (omega arith) in
     let first : marked own (suc base) (top cut p) ≡ marked refuted (suc node) p =
     agreed_below whole refuted own (suc base) cut (suc node) p (omega (arith, some_node p)) b.positive (λ i l.
-        let q : base + suc i ≡ suc base + i = omega arith in
-        let k : i < length (top_nodes cut (suc node) p) = rw (length-top_nodes cut (suc node) p) l in
-        let e = at (suc i) (omega arith) in
-        sym (ap own q) ∙ rw (in_positive v (top cut p) (top cut n) i l, get_or_append_left (top_nodes cut (suc node) p) (top_nodes cut (suc (node + size p)) n) 0 i k) at e) in
+    let q : base + suc i ≡ suc base + i = omega arith in
+    let k : i < length (top_nodes cut (suc node) p) = rw (length-top_nodes cut (suc node) p) l in
+    let e = at (suc i) (omega arith) in
+    sym (ap own q) ∙ rw (in_positive v (top cut p) (top cut n) i l, get_or_append_left (top_nodes cut (suc node) p) (top_nodes cut (suc (node + size p)) n) 0 i k) at e) in
     let second : marked own (suc (base + size (top cut p))) (top cut n) ≡ marked refuted (suc (node + size p)) n =
     agreed_below whole refuted own (suc (base + size (top cut p))) cut (suc (node + size p)) n (omega (arith, some_node n)) b.negative (λ i l.
-        let q : base + suc (size (top cut p) + i) ≡ suc (base + size (top cut p)) + i = omega arith in
-        let m : (size (top cut p) + i) - size (top cut p) ≡ i = omega arith in
-        let e = at (suc (size (top cut p) + i)) (omega arith) in
-        sym (ap own q) ∙ rw (
-          in_negative v (top cut p) (top cut n) (size (top cut p) + i) i refl,
-          get_or-append_right (top_nodes cut (suc node) p) (top_nodes cut (suc (node + size p)) n) (size (top cut p)) (size (top cut p) + i) 0
+    let q : base + suc (size (top cut p) + i) ≡ suc (base + size (top cut p)) + i = omega arith in
+    let m : (size (top cut p) + i) - size (top cut p) ≡ i = omega arith in
+    let e = at (suc (size (top cut p) + i)) (omega arith) in
+    sym (ap own q) ∙ rw (
+      in_negative v (top cut p) (top cut n) (size (top cut p) + i) i refl,
+      get_or-append_right (top_nodes cut (suc node) p) (top_nodes cut (suc (node + size p)) n) (size (top cut p)) (size (top cut p) + i) 0
           (length-top_nodes cut (suc node) p) (omega arith),
-          m,
-        ) at e) in
+      m,
+    ) at e) in
     rw (here, first, second) refl
 
 -- each leaf of the top board is a part

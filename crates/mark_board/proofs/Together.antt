@@ -1,23 +1,21 @@
 -- The list of all marks that the boards have together.
-use Rattle.std.proofs.Common.{◌≡◌, ◌≢◌, ℕ, zero, suc, ◌+◌, ◌-◌, ◌<◌, ◌≤◌, ◌⊎◌, List, [], ◌∷◌, ◌++◌, length, length-append, length-drop, get_or, drop, refl, sym, ap, ◌∙◌, arith, inl, inr, add-zero, zero-add, get_or-drop, ext_get_or}
-use Rattle.std.proofs.lemmas.Bool.{cases_lt, cases_eq}
+use Rattle.std.proofs.Common.{◌≡◌, ℕ, zero, suc, ◌+◌, ◌-◌, ◌<◌, ◌≤◌, List, [], ◌∷◌, ◌++◌, length, length-append, get_or, drop, refl, sym, ap, ◌∙◌, arith, inl, inr, zero-add, get_or-drop, ext_get_or}
+use Rattle.std.proofs.lemmas.Bool.{cases_lt}
 use Rattle.std.proofs.lemmas.List.{get_or_append_left, get_or-append_right}
 use Rattle.split_tree.specs.SplitTree.{SplitTree, missing, cube, split, size, subtrees, subtree_at, IsSplit}
-use Rattle.split_tree.specs.Rows.{HasBelow}
 use Rattle.split_tree.specs.Leaves.{missing_from, missing_nodes}
 use Rattle.split_tree.specs.Top.{top, top_nodes}
-use Rattle.split_tree.proofs.Coding.{length-subtrees, subtree-root, some_node, in_positive, in_negative}
+use Rattle.split_tree.proofs.Coding.{length-subtrees, subtree-root, in_positive, in_negative}
 use Rattle.split_tree.proofs.Labels.{inside}
-use Rattle.split_tree.proofs.Leaves.{missing_found}
 use Rattle.mark_board.specs.declared.mark.Mark.{Mark}
 use Rattle.mark_board.specs.declared.mark.Mark.TheVariants.{Open}
 use Rattle.mark_board.specs.Rows.{mark_at}
-use Rattle.mark_board.specs.Places.{top_node, part_count, part_place, part_root, IsPlaceOf}
+use Rattle.mark_board.specs.Places.{top_node, part_count, part_place, part_root}
 use Rattle.mark_board.specs.Boards.{part_tree, part_marks, joined_marks, AreMarks}
 use Rattle.mark_board.proofs.Tops.{length-top_nodes}
 use Rattle.mark_board.proofs.TopPlaces.{top_first, node_within}
 use Rattle.mark_board.proofs.PartPlaces.{missing_append}
-use Rattle.mark_board.proofs.Joined.{PartAt, part_is}
+use Rattle.mark_board.proofs.Joined.{part_is}
 
 -- ---- the places and nodes of a split, by those of its branches
 
@@ -36,12 +34,20 @@ top_shift a (suc cut) node (split v p n) (suc i) l =
       | inl less ↦
           let k : i < length (top_nodes cut (suc node) p) = rw (length-top_nodes cut (suc node) p) less in
           let k2 : i < length (top_nodes cut (a + suc node) p) = rw (length-top_nodes cut (a + suc node) p) less in
-          rw (q, r, get_or_append_left (top_nodes cut (suc node) p) (top_nodes cut (suc (node + size p)) n) 0 i k,
-            get_or_append_left (top_nodes cut (a + suc node) p) (top_nodes cut (a + suc (node + size p)) n) 0 i k2)
+          rw (
+            q,
+            r,
+            get_or_append_left (top_nodes cut (suc node) p) (top_nodes cut (suc (node + size p)) n) 0 i k,
+            get_or_append_left (top_nodes cut (a + suc node) p) (top_nodes cut (a + suc (node + size p)) n) 0 i k2,
+          )
           (top_shift a cut (suc node) p i less)
       | inr more ↦
-          rw (q, r, get_or-append_right (top_nodes cut (suc node) p) (top_nodes cut (suc (node + size p)) n) (size (top cut p)) i 0 (length-top_nodes cut (suc node) p) more,
-            get_or-append_right (top_nodes cut (a + suc node) p) (top_nodes cut (a + suc (node + size p)) n) (size (top cut p)) i 0 (length-top_nodes cut (a + suc node) p) more)
+          rw (
+            q,
+            r,
+            get_or-append_right (top_nodes cut (suc node) p) (top_nodes cut (suc (node + size p)) n) (size (top cut p)) i 0 (length-top_nodes cut (suc node) p) more,
+            get_or-append_right (top_nodes cut (a + suc node) p) (top_nodes cut (a + suc (node + size p)) n) (size (top cut p)) i 0 (length-top_nodes cut (a + suc node) p) more,
+          )
           (top_shift a cut (suc (node + size p)) n (i - size (top cut p)) (omega arith))
     ]
 
@@ -128,9 +134,6 @@ long_second : (cut v : ℕ) (p n : SplitTree) (parts : List (List Mark)) → Are
 long_second cut v p n parts h k l =
     ap length (marks_behind parts (part_count cut p) k) ∙ (h (part_count cut p + k) (omega (arith, count_split cut v p n)) ∙ ap size (tree_second cut v p n k l))
 
-one_part : (cut : ℕ) (t : SplitTree) → top cut t ≡ missing → part_count cut t ≡ 1
-one_part cut t e = rw e refl
-
 pub joined_long : (cut : ℕ) (t : SplitTree) (above : List Mark) (parts : List (List Mark)) → AreLong cut t parts → length (joined_marks cut t above parts) ≡ size t
 joined_long zero t above parts h = h 0 (omega arith) ∙ ap size (subtree-root t)
 joined_long (suc cut) missing above parts h = h 0 (omega arith)
@@ -182,9 +185,6 @@ joined_own (suc cut) (split v p n) above parts h (suc i) l s = elim (cases_lt i 
       ∙ (ap (λ (k : ℕ). mark_at (joined_marks (suc cut) (split v p n) above parts) k) (sym (own_second cut v p n j m))
       ∙ ap (λ (k : ℕ). mark_at (joined_marks (suc cut) (split v p n) above parts) (top_node (suc cut) (split v p n) (suc k))) (sym e)))))
 ]
-
-part_zero : (cut : ℕ) (t : SplitTree) → top cut t ≡ missing → part_root cut t 0 ≡ 0
-part_zero cut t e = ap (λ (x : SplitTree). top_node cut t (get_or (missing_nodes x) 0 0)) e ∙ top_first cut 0 t
 
 pub joined_part : (cut : ℕ) (t : SplitTree) (above : List Mark) (parts : List (List Mark)) → AreLong cut t parts → (k row : ℕ) → k < part_count cut t →
     row < size (part_tree cut t k) → mark_at (part_marks parts k) row ≡ mark_at (joined_marks cut t above parts) (part_root cut t k + row)

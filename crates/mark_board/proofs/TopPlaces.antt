@@ -3,7 +3,7 @@ use Rattle.std.proofs.Common.{◌≡◌, ℕ, zero, suc, ◌+◌, ◌-◌, ◌<�
 use Rattle.std.proofs.lemmas.Bool.{cases_lt}
 use Rattle.std.proofs.lemmas.List.{get_or_append_left, get_or-append_right, get_or_read}
 use Rattle.cnf_text.specs.Literal.{Literal}
-use Rattle.split_tree.specs.SplitTree.{SplitTree, missing, cube, split, size, subtree_at, depth_at, labels, branch, path_at, IsLeaf, IsSplit}
+use Rattle.split_tree.specs.SplitTree.{SplitTree, missing, cube, split, size, subtree_at, depth_at, labels, branch, path_at}
 use Rattle.split_tree.specs.Top.{top, top_nodes}
 use Rattle.split_tree.specs.Rows.{HasBelow, AreBranches}
 use Rattle.split_tree.proofs.Tops.{no_cubes}

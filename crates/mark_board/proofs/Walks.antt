@@ -1,11 +1,11 @@
 -- What is kept by the walk that lists the open branches.
-use Rattle.std.proofs.Common.{◌≡◌, ◌≢◌, ℕ, zero, suc, ◌+◌, ◌-◌, ◌<◌, ◌≤◌, List, [], ◌∷◌, ◌++◌, Bool, true, false, refl, sym, ap, ◌∙◌, arith, append-nil, append_assoc}
+use Rattle.std.proofs.Common.{◌≡◌, ℕ, suc, ◌+◌, ◌-◌, ◌<◌, ◌≤◌, List, [], ◌∷◌, ◌++◌, Bool, sym, ap, ◌∙◌, arith, append-nil, append_assoc}
 use Rattle.split_tree.specs.SplitTree.{SplitTree, size, subtree_at}
 use Rattle.split_tree.specs.Leaves.{IsTargetAt}
 use Rattle.split_tree.specs.declared.node.Target.{Target}
 use Rattle.split_tree.proofs.Coding.{some_node}
 use Rattle.split_tree.proofs.Labels.{inside}
-use Rattle.mark_board.specs.Marking.{Place, marked, open_weight, wholly_open, open_branches}
+use Rattle.mark_board.specs.Marking.{Place, open_weight, open_branches}
 use Rattle.mark_board.specs.Places.{worth_of}
 use Rattle.mark_board.specs.Boards.{AreTargetsAt}
 use Rattle.mark_board.proofs.Branches.{branches_from, IsClear, from_start, clear_start, from_none, past_marked, past_open, clear_past, clear_into, into_node, zero_is_marked, some_not_marked, all_is_open, less_not_whole}

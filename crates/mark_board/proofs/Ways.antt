@@ -1,10 +1,9 @@
 -- Ways down a tree, by places from a root.
-use Rattle.std.proofs.Common.{◌≡◌, ◌≢◌, ℕ, ◌+◌, ◌-◌, ◌<◌, ◌≤◌, ◌^◌, List, length, get_or, set, refl, sym, ap, ◌∙◌, arith, inl, inr, length-set, get_or-set_same, get_or-set_other}
-use Rattle.std.proofs.lemmas.Bool.{cases_lt, cases_eq}
+use Rattle.std.proofs.Common.{◌≡◌, ℕ, ◌+◌, ◌-◌, ◌<◌, ◌≤◌, ◌^◌, List, length, get_or, sym, ap, ◌∙◌, arith}
 use Rattle.split_tree.specs.SplitTree.{SplitTree, size, subtree_at}
 use Rattle.split_tree.specs.Rows.{IsBelow, StepsToward, HasBelow}
 use Rattle.split_tree.proofs.Labels.{below, inside}
-use Rattle.mark_board.specs.Rows.{StepsDown, Takes}
+use Rattle.mark_board.specs.Rows.{StepsDown}
 
 -- ---- from places to nodes of the whole tree and back
 

@@ -14,8 +14,8 @@ mod stored;
 mod top;
 mod walk;
 
-pub use boards::Boards;
 pub use board::Board;
+pub use boards::Boards;
 pub use laws::{
     marked_has_no_model, marked_stays_marked, open_after_post, open_branches_add_up,
     open_branches_are_apart, open_parts_add_up, parts_stand_on_top,
@@ -27,5 +27,7 @@ pub use place::Place;
 pub use posted::{PartPosted, Posted};
 pub use stored::BoardData;
 
+#[cfg(test)]
+mod boards_tests;
 #[cfg(test)]
 mod tests;

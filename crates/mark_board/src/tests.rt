@@ -48,6 +48,7 @@ struct Seen {
     open: u64,
     first: Option<Mark>,
     second: Option<Mark>,
+    root: Option<bool>,
 }
 
 /// What an answer says.
@@ -130,6 +131,15 @@ fn mark_of(board: &Board, cube: u32) -> Option<Mark> {
     Some(board.mark_of(Target::Leaf(leaf)))
 }
 
+/// Whether the root of the tree is marked, where the board takes it.
+fn root_marked(board: &Board) -> Option<bool> {
+    let root = board.case().tree().root();
+    if !board.takes(root) {
+        return None;
+    }
+    Some(board.node_marked(root))
+}
+
 /// Posts findings one after another, where the board takes them all, and says how the last one leaves the board.
 fn posted(alloc: Global, board: &mut Board, posts: &[Post]) -> Option<Seen> {
     let mut became = None;
@@ -141,6 +151,7 @@ fn posted(alloc: Global, board: &mut Board, posts: &[Post]) -> Option<Seen> {
         open: board.open_weight(),
         first: mark_of(board, 1),
         second: mark_of(board, 2),
+        root: root_marked(board),
     })
 }
 
@@ -169,6 +180,7 @@ fn posted_and_stored(alloc: Global, bundle: &[u8], posts: &[Post]) -> Option<See
         open: again.open_weight(),
         first: mark_of(&again, 1),
         second: mark_of(&again, 2),
+        root: root_marked(&again),
     })
 }
 
@@ -229,6 +241,7 @@ fn seen_with(became: Became, open: u64, first: Mark, second: Mark) -> Option<See
         open,
         first: Some(first),
         second: Some(second),
+        root: Some(open == 0),
     })
 }
 
@@ -291,6 +304,7 @@ fn targets_at_cut_one(rt: HostRuntime) {
         open: 0,
         first: None,
         second: None,
+        root: Some(true),
     });
     assert_eq!(rt; posted_on_top(rt.alloc(), ROOT, &[Post::Root]), above);
     assert_eq!(rt; posted_on_top(rt.alloc(), LEAVES, &[Post::Cube(1)]), None);
@@ -299,6 +313,7 @@ fn targets_at_cut_one(rt: HostRuntime) {
         open: 0,
         first: None,
         second: Some(Mark::Refuted),
+        root: None,
     });
     for (part, cube, want) in [(1, 2, part), (0, 2, None), (2, 2, None)] {
         let seen = posted_in_part(rt.alloc(), LEAVES, 1, part, &[Post::Cube(cube)]);

@@ -2,14 +2,13 @@
 
 ghost use Rattle.std.specs.Prelude.{◌≡◌, ◌≢◌, ◌≤◌, ◌<◌, ◌↔◌, ◌+◌, ℕ, IfOk, IsTrue, [], map, length, slice_index};
 ghost use Rattle.std.specs.Coded.{Coded-set};
-ghost use Rattle.cnf_text.specs.Formula.{IsRefuted};
 ghost use Rattle.split_tree.specs.Code.{tree_code};
 ghost use Rattle.split_tree.specs.SplitTree.{size, subtree_at, path_at, IsSplit};
 ghost use Rattle.split_tree.specs.Rows.{HasBelow};
 ghost use Rattle.split_tree.specs.Top.{top, top_nodes};
 ghost use Rattle.mark_board.specs.Marking.{AreRefuted, marked, open_weight};
 ghost use Rattle.mark_board.specs.Rows.{IsKept, refuted_by, mark_at};
-ghost use Rattle.mark_board.specs.Places.{part_count, part_place, part_root, top_node, worth_of, mark_as, IsOwnPlace, HasOwnPlace, IsPlaceOf, IsPartAt};
+ghost use Rattle.mark_board.specs.Places.{part_count, part_place, top_node, worth_of, mark_as, IsOwnPlace, HasOwnPlace, IsPlaceOf, IsPartAt};
 
 use crate::mark::Mark;
 use crate::part::{PartVerdict, mark_for};
@@ -124,16 +123,6 @@ impl<'c> TopBoard<'c> {
         self.above.tree.missing_count()
     }
 
-    /// The node at the root of a part, by the part's number, from 0 in tree order.
-    pub fn root_of_part(&self, part: u32) -> NodeId
-        requires { part < part_count self.now.cut self.now.case.now.tree }
-        ensures value { result ≡ part_root self.now.cut self.now.case.now.tree part }
-        ensures within { result < size self.now.case.now.tree }
-    {
-        let place = self.place_of_part(part);
-        self.above.nodes[place]
-    }
-
     /// The place of a node of the tree: its own, where it is an inner node above the cut, and otherwise that of its part.
     pub fn place_of(&self, node: NodeId) -> usize
         requires { node < size self.now.case.now.tree }
@@ -221,14 +210,6 @@ impl<'c> TopBoard<'c> {
         ensures { result ≡ marked (refuted_by self.now.rows.marks.items) place (subtree_at (top self.now.cut self.now.case.now.tree) place) }
     {
         self.rows.weight_of(place) == 0
-    }
-
-    /// Whether the tree's root is marked: then the formula has no model.
-    pub fn root_marked(&self) -> bool
-        ensures marked { result ≡ marked (refuted_by self.now.rows.marks.items) 0 (top self.now.cut self.now.case.now.tree) }
-        ensures no_model { IsTrue result → IsRefuted self.now.case.now.formula [] }
-    {
-        self.rows.weight_of(0) == 0
     }
 
     /// The weights of the parts under the node at a place that lie under no marked node from there on.

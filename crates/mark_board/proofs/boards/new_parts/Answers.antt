@@ -1,6 +1,5 @@
-use Rattle.std.proofs.Common.{◌≡◌, ℕ, ◌∙◌, ap, subst, arith}
+use Rattle.std.proofs.Common.{◌≡◌, ◌∙◌, ap, arith}
 use Rattle.split_tree.specs.Parts.{part_nodes}
-use Rattle.mark_board.specs.Boards.{AreNewParts}
 use Rattle.mark_board.specs.Places.{part_count}
 use Rattle.mark_board.proofs.Gathered.{part_listed, parts_listed}
 use Rattle.mark_board.proofs.boards.new_parts.Goals as goal

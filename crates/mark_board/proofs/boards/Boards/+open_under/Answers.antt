@@ -1,7 +1,5 @@
-use Rattle.std.proofs.Common.{◌≡◌, ℕ, ◌+◌, ◌<◌, ◌∙◌, sym, ap, arith, refl}
-use Rattle.split_tree.specs.SplitTree.{SplitTree, size}
+use Rattle.std.proofs.Common.{◌≡◌, ◌∙◌, ap, arith, refl}
 use Rattle.split_tree.specs.declared.node.Target.TheVariants.{Node}
-use Rattle.split_tree.specs.Rows.{AreBranches}
 use Rattle.mark_board.specs.Rows.{refuted_by}
 use Rattle.mark_board.specs.Boards.{boards_of}
 use Rattle.mark_board.proofs.Gathered.{mark_on_top}

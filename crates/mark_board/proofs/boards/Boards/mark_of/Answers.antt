@@ -1,8 +1,4 @@
-use Rattle.std.proofs.Common.{◌≡◌, ℕ, sym, ap, ◌∙◌}
-use Rattle.std.proofs.lemmas.List.{get_or_read}
-use Rattle.split_tree.specs.SplitTree.{SplitTree}
-use Rattle.split_tree.specs.Leaves.{IsTargetAt}
-use Rattle.mark_board.specs.Board.{BoardOf}
+use Rattle.std.proofs.Common.{◌≡◌, ap, ◌∙◌}
 use Rattle.mark_board.specs.Boards.{boards_of}
 use Rattle.mark_board.proofs.Gathered.{mark_on_top, mark_in_part}
 use Rattle.mark_board.proofs.boards.Boards.mark_of.Goals as goal

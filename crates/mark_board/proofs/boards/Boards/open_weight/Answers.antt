@@ -1,5 +1,3 @@
-use Rattle.std.proofs.Common.{◌≡◌, ap, ◌∙◌}
-use Rattle.split_tree.specs.SplitTree.{SplitTree, subtree_at}
 use Rattle.split_tree.proofs.Coding.{subtree-root}
 use Rattle.mark_board.proofs.boards.Boards.open_weight.Goals as goal
 

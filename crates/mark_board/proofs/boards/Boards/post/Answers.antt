@@ -1,10 +1,9 @@
-use Rattle.std.proofs.Common.{◌≡◌, ℕ, ◌<◌, ◌∙◌, sym, ap}
-use Rattle.split_tree.specs.SplitTree.{SplitTree, size}
+use Rattle.std.proofs.Common.{◌≡◌, ap}
 use Rattle.mark_board.specs.Places.{mark_as}
 use Rattle.mark_board.specs.BoardPosts.{posted_answer}
 use Rattle.mark_board.specs.Boards.{boards_of}
 use Rattle.mark_board.proofs.Gathered.{target_inside}
-use Rattle.mark_board.proofs.GatheredPosts.{IsPost, after_top}
+use Rattle.mark_board.proofs.GatheredPosts.{after_top}
 use Rattle.mark_board.proofs.boards.Boards.post.Goals as goal
 
 pub place_for-requires-clause-node : goal.place_for-requires-clause-node

@@ -1,9 +1,7 @@
-use Rattle.std.proofs.Common.{◌≡◌, ℕ, ◌∙◌, sym, ap}
 use Rattle.mark_board.specs.declared.rows.Answer.TheVariants.{Marked, RootMarked, Already}
 use Rattle.mark_board.specs.Places.{mark_as}
-use Rattle.mark_board.specs.BoardPosts.{posted_answer, part_posted_answer}
-use Rattle.mark_board.specs.Boards.{boards_of}
-use Rattle.mark_board.proofs.GatheredPosts.{IsPost, post_in, in_already, in_marked, in_root_marked}
+use Rattle.mark_board.specs.BoardPosts.{part_posted_answer}
+use Rattle.mark_board.proofs.GatheredPosts.{post_in, in_already, in_marked, in_root_marked}
 use Rattle.mark_board.proofs.boards.Boards.post_in.Goals as goal
 
 pub invariant_of-self : goal.invariant_of-self
@@ -71,4 +69,3 @@ returns-in-RootMarked-clause-new c =
     c.index_mut.result.now c.post.new.self RootMarked c.requires.place c.index_mut.ensures.value
     (record { case = c.in-RootMarked.ensures.same.0; cut = c.in-RootMarked.ensures.same.1; place = c.in-RootMarked.ensures.same.2; marks = c.in-RootMarked.ensures.marks; already = c.in-RootMarked.ensures.already; root = c.in-RootMarked.ensures.root })) c.index_mut.ensures.value c.in-RootMarked.verdict.part c.in-RootMarked.ensures.verdict.place c.post_part.new.self (part_posted_answer c.post_part.result)
     c.post_part.ensures.same.0 c.post_part.ensures.same.1 c.post_part.ensures.same.2 c.post_part.ensures.marks c.post_part.ensures.already).2
-
