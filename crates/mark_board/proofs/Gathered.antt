@@ -1,7 +1,7 @@
 -- The top board and the parts' boards as one list of marks, and what a post on one of them changes.
-use Rattle.std.proofs.Common.{◌≡◌, ℕ, zero, suc, ◌+◌, ◌-◌, ◌<◌, ◌≤◌, List, [], ◌∷◌, ◌++◌, length, length-set, length-append, map, get_or, set, replicate, Bool, true, false, refl, sym, ap, subst, ◌∙◌, arith, inl, inr, add-zero, zero-add, get_or-set_other, get_or-set_same}
+use Rattle.std.proofs.Common.{◌≡◌, ℕ, zero, suc, ◌+◌, ◌-◌, ◌<◌, ◌≤◌, List, [], ◌∷◌, length, length-set, map, get_or, set, replicate, Bool, true, false, refl, sym, ap, subst, ◌∙◌, arith, inl, inr, add-zero, zero-add, get_or-set_other, get_or-set_same}
 use Rattle.std.proofs.lemmas.Bool.{cases_eq}
-use Rattle.std.proofs.lemmas.List.{get_or_append_left, get_or-map, length-map, length-replicate, map-set}
+use Rattle.std.proofs.lemmas.List.{get_or-map, length-map, length-replicate, map-set}
 use Rattle.split_tree.specs.SplitTree.{SplitTree, missing, cube, split, size, subtrees, subtree_at, path_at, branch, IsSplit}
 use Rattle.split_tree.specs.Leaves.{missing_nodes, IsTargetAt}
 use Rattle.split_tree.specs.declared.node.Target.{Target}
@@ -22,7 +22,7 @@ use Rattle.mark_board.specs.Marking.{marked, open_weight}
 use Rattle.mark_board.specs.Rows.{is_refuted, mark_at, refuted_by}
 use Rattle.mark_board.specs.Places.{top_node, part_count, part_place, part_root, worth_of, IsPlaceOf}
 use Rattle.mark_board.specs.Board.{BoardOf, IsRowOn, tree_on, IsRow}
-use Rattle.mark_board.specs.Boards.{part_tree, part_marks, part_mark, marks_of, boards_of, AreMarks, AreBoards, IsBoardAt, IsPlaceFor, IsNewPart, AreNewParts}
+use Rattle.mark_board.specs.Boards.{part_tree, part_marks, part_mark, marks_of, boards_of, AreMarks, AreBoards, IsBoardAt, IsPlaceFor, AreNewParts}
 use Rattle.mark_board.proofs.TopPlaces.{no_cube_above, top_first}
 use Rattle.mark_board.proofs.Joined.{LeafIsPart, marks_in_part, marks_on_top, marks_of_part, posted_on_top, posted_in_part, posted_of_part, posted_at, agreed_below, marked_in_part, open_in_part, new_marks, new_posted}
 use Rattle.mark_board.proofs.Together.{AreLong, joined_is, marks_are_joined}

@@ -13,7 +13,7 @@ use Rattle.mark_board.specs.Rows.{mark_at}
 use Rattle.mark_board.specs.Places.{top_node, part_count, part_place, part_root}
 use Rattle.mark_board.specs.Boards.{part_tree, part_marks, joined_marks, AreMarks}
 use Rattle.mark_board.proofs.Tops.{length-top_nodes}
-use Rattle.mark_board.proofs.TopPlaces.{top_first, node_within}
+use Rattle.mark_board.proofs.TopPlaces.{node_within}
 use Rattle.mark_board.proofs.PartPlaces.{missing_append}
 use Rattle.mark_board.proofs.Joined.{part_is}
 

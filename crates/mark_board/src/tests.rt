@@ -2,7 +2,6 @@ ghost use Rattle.std.specs.Prelude.{◌≡◌, ◌≤◌, IfSome};
 ghost use Rattle.mark_board.specs.BoardPosts.{IsPostedOn};
 ghost use Rattle.mark_board.specs.declared.place.Place.TheVariants.{Top};
 
-use crate::top::TopBoard;
 use crate::{Board, Mark, PartPosted, Place, Posted};
 use case_core::{Case, Finding, Leaf, Reason, Target, examine, read_bundle};
 use std::alloc::Global;
@@ -66,10 +65,10 @@ fn part_board<'c>(alloc: Global, case: &'c Case, cut: u32, part: u32) -> Option<
     requires { cut ≤ 6 }
     ensures { IfSome result (λ board. (board.case ≡ case.now) × (board.cut ≡ cut)) }
 {
-    let Ok(above) = TopBoard::new(alloc, case, cut) else {
+    let Ok(parts) = case.tree().parts(alloc, cut) else {
         return None;
     };
-    if part >= above.count_parts() {
+    if part as usize >= parts.len() {
         return None;
     }
     match Board::new(alloc, case, cut, Place::Part(part)) {

@@ -116,13 +116,6 @@ impl<'c> TopBoard<'c> {
         self.case
     }
 
-    /// How many parts the cut makes.
-    pub fn count_parts(&self) -> u32
-        ensures { result ≡ part_count self.now.cut self.now.case.now.tree }
-    {
-        self.above.tree.missing_count()
-    }
-
     /// The place of a node of the tree: its own, where it is an inner node above the cut, and otherwise that of its part.
     pub fn place_of(&self, node: NodeId) -> usize
         requires { node < size self.now.case.now.tree }
