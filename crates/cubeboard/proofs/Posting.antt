@@ -83,7 +83,7 @@ one_more_posted case front s rest old new node judged posted whole none p here o
         | inl same ↦
             let target_is : target ≡ s.target = one_target case.tree node target s.target (rw same at at) here in
             let mark_is : mark_at new i ≡ mark_as judged = ap (λ (xs : List Mark). mark_at xs i) set_there
-                ∙ (ap (mark_at (set old node (mark_as judged))) same ∙ get_or-set_same old node (mark_as judged) Open (omega (arith, p.long))) in
+            ∙ (ap (mark_at (set old node (mark_as judged))) same ∙ get_or-set_same old node (mark_as judged) Open (omega (arith, p.long))) in
             let proof : proof_for case.sections s.target ≡ Some s.proof = rw whole (its_proof front s rest none) in
             rw (target_is, proof_added front s none) (λ path of. mark_is ∙ ap mark_as (is path s.proof of proof))
         | inr other ↦
@@ -112,19 +112,20 @@ section_here case sections i section e l item = record {
   more = ap (map section_of) (take_here sections i section l item) ∙ map-append section_of (take i sections) (section ∷ []);
 }
   where
-  drop_here : (xs : List Section) (i : ℕ) (x : Section) → i < length xs → x ≡ get_or xs i x → drop i xs ≡ x ∷ drop (i + 1) xs
-  drop_here xs i x l item = drop_more xs i x l ∙ ap (λ (y : Section). y ∷ drop (i + 1) xs) (sym item)
-  take_here : (xs : List Section) (i : ℕ) (x : Section) → i < length xs → x ≡ get_or xs i x → take (i + 1) xs ≡ take i xs ++ x ∷ []
-  take_here xs i x l item = take_more xs i x l ∙ ap (λ (y : Section). take i xs ++ y ∷ []) (sym item)
+    drop_here : (xs : List Section) (i : ℕ) (x : Section) → i < length xs → x ≡ get_or xs i x → drop i xs ≡ x ∷ drop (i + 1) xs
+    drop_here xs i x l item = drop_more xs i x l ∙ ap (λ (y : Section). y ∷ drop (i + 1) xs) (sym item)
+
+    take_here : (xs : List Section) (i : ℕ) (x : Section) → i < length xs → x ≡ get_or xs i x → take (i + 1) xs ≡ take i xs ++ x ∷ []
+    take_here xs i x l item = take_more xs i x l ∙ ap (λ (y : Section). take i xs ++ y ∷ []) (sym item)
 
 new_here : (case : CaseOf) (sections : List Section) (i : ℕ) (section : Section) → SectionHere case sections i section → AreSections case.tree case.sections →
     HasTarget case.tree section.target × (proof_for (map section_of (take i sections)) section.target ≡ None)
 new_here case sections i section h are =
     new_target case.tree (map section_of (take i sections)) (section_of section) h.rest (rw h.whole at are) (front_shorter (map section_of (take i sections)) (section_of section) h.rest)
   where
-  front_shorter : (front : List SectionOf) (s : SectionOf) (rest : List SectionOf) → length front < length (front ++ s ∷ rest)
-  front_shorter [] s rest = omega arith
-  front_shorter (x ∷ front) s rest = let r = front_shorter front s rest in omega (arith, r)
+    front_shorter : (front : List SectionOf) (s : SectionOf) (rest : List SectionOf) → length front < length (front ++ s ∷ rest)
+    front_shorter [] s rest = omega arith
+    front_shorter (x ∷ front) s rest = let r = front_shorter front s rest in omega (arith, r)
 
 pub section_target : (case : CaseOf) (sections : List Section) (i : ℕ) (section : Section) → map section_of sections ≡ case.sections → AreSections case.tree case.sections →
     i < length sections → section ≡ get_or sections i section → HasTarget case.tree section.target

@@ -63,10 +63,7 @@ fn faults(rt: HostRuntime) -> Result<(), Fail> {
             b"p inccnf\na 0\nl one\n".as_slice(),
             Fault::BadLabel { line: 3 },
         ),
-        (
-            b"p inccnf\nl 1\n".as_slice(),
-            Fault::NoSuchLeaf { line: 2 },
-        ),
+        (b"p inccnf\nl 1\n".as_slice(), Fault::NoSuchLeaf { line: 2 }),
         (
             b"p inccnf\na 0\nl 1\nl 1\n".as_slice(),
             Fault::ProofTwice { line: 4 },
