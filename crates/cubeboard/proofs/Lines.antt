@@ -1,24 +1,22 @@
 -- Lines that are written one after the other.
-use Rattle.std.proofs.Common.{◌≡◌, ℕ, zero, suc, ◌+◌, ◌-◌, ◌<◌, ◌≤◌, List, [], ◌∷◌, ◌++◌, length, take, get_or, Bool, true, false, refl, sym, ap, subst, ◌∙◌, arith, append-nil, append_assoc, inl, inr}
+use Rattle.std.proofs.Common.{◌≡◌, ℕ, zero, suc, ◌+◌, ◌-◌, ◌<◌, ◌≤◌, List, [], ◌∷◌, ◌++◌, length, take, get_or, refl, sym, ap, ◌∙◌, arith, append-nil, append_assoc, inl, inr}
 use Rattle.mark_board.proofs.Marks.{test_same, test_other}
-use Rattle.std.proofs.lemmas.Bool.{cases_Bool, cases_eq, cases_lt}
+use Rattle.std.proofs.lemmas.Bool.{cases_eq}
 use Rattle.std.proofs.lemmas.List.{take_all}
-use Rattle.std.specs.Prelude.{is_some}
-use Rattle.std.specs.List.{flat_map}
 use Rattle.cnf_text.specs.Literal.{Literal}
 use Rattle.split_tree.specs.SplitTree.{SplitTree, missing, cube, split, size, subtrees, subtree_at, path_at, IsSplit, IsLeaf}
-use Rattle.split_tree.specs.Leaves.{missing_nodes, cube_count, HasLeaf, IsLeafAt, IsTargetAt, IsPathOf}
+use Rattle.split_tree.specs.Leaves.{missing_nodes, HasLeaf, IsTargetAt, IsPathOf}
 use Rattle.split_tree.specs.declared.node.Leaf.TheVariants.{Cube as CubeLeaf, Missing as MissingLeaf}
 use Rattle.split_tree.specs.declared.node.Target.{Target}
-use Rattle.split_tree.specs.declared.node.Target.TheVariants.{Leaf as Named, Node}
+use Rattle.split_tree.specs.declared.node.Target.TheVariants.{Leaf as Named}
 use Rattle.split_tree.specs.Rows.{AreBranches}
 use Rattle.split_tree.proofs.Coding.{length-subtrees}
-use Rattle.case_core.specs.Case.{CaseOf, proof_for}
+use Rattle.case_core.specs.Case.{CaseOf}
 use Rattle.mark_board.specs.declared.mark.Mark.{Mark}
 use Rattle.mark_board.specs.Marking.{Place}
 use Rattle.mark_board.specs.Rows.{mark_at}
 use Rattle.mark_board.specs.Boards.{AreTargetsAt}
-use Rattle.cubeboard.specs.Report.{cube_line, missing_line, node_line, open_line, cube_node, cube_lines, missing_lines, section_line, node_lines, open_lines}
+use Rattle.cubeboard.specs.Report.{cube_line, missing_line, open_line, cube_node, cube_lines, missing_lines, section_line, node_lines, open_lines}
 
 -- ---- cubes
 

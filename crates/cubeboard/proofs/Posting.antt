@@ -1,5 +1,5 @@
 -- The marks while the findings of a case's sections are posted, one after the other.
-use Rattle.std.proofs.Common.{◌≡◌, ◌≢◌, ◌↔◌, ℕ, zero, suc, ◌+◌, ◌<◌, ◌≤◌, List, [], ◌∷◌, ◌++◌, length, length-set, take, drop, map, get_or, set, replicate, Bool, true, false, refl, sym, ap, subst, ◌∙◌, arith, inl, inr, get_or-set_other, get_or-set_same, Option, None, Some}
+use Rattle.std.proofs.Common.{◌≡◌, ◌↔◌, ℕ, zero, suc, ◌+◌, ◌<◌, List, [], ◌∷◌, ◌++◌, length, length-set, take, drop, map, get_or, set, replicate, Bool, true, false, refl, sym, ap, ◌∙◌, arith, inl, inr, get_or-set_other, get_or-set_same, None, Some}
 use Rattle.std.proofs.lemmas.Bool.{cases_Bool, cases_eq}
 use Rattle.std.proofs.lemmas.List.{length-replicate, take-append-drop, map-append, drop_more, take_more}
 use Rattle.std.specs.Prelude.{MatchOption}

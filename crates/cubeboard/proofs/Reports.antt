@@ -14,7 +14,7 @@ use Rattle.mark_board.specs.Rows.{refuted_by}
 use Rattle.mark_board.specs.Places.{worth_of}
 use Rattle.mark_board.specs.Marking.{marked, open_weight, open_branches}
 use Rattle.cubeboard.specs.declared.fault.Fault.{Fault}
-use Rattle.cubeboard.specs.Report.{answer_line, report_text, total_line, cube_lines, missing_lines, node_lines, open_lines, weight_line}
+use Rattle.cubeboard.specs.Report.{answer_line, total_line, cube_lines, missing_lines, node_lines, open_lines, weight_line}
 use Rattle.cubeboard.specs.Outcome.{IsOutcomeOn, IsFormulaOf, SaysRefuted}
 
 no_nil : (ys : List ℕ) (b : ℕ) → [] ≡ ys ++ b ∷ [] → ⊥

@@ -5,7 +5,7 @@ use Rattle.cnf_text.specs.Formula.{HasNoModel}
 use Rattle.cnf_text.specs.Icnf.{Item, StandsFor, clauses_of}
 use Rattle.lrat_text.specs.Proof.{proof_of}
 use Rattle.hint_check.specs.Judgement.{judgement}
-use Rattle.split_tree.specs.SplitTree.{SplitTree, size}
+use Rattle.split_tree.specs.SplitTree.{size}
 use Rattle.split_tree.specs.Leaves.{IsTargetAt, IsPathOf}
 use Rattle.split_tree.specs.declared.node.Target.{Target}
 use Rattle.case_core.specs.Bundle.{icnf_text}

@@ -1,5 +1,4 @@
-use Rattle.std.proofs.Common.{◌≡◌, ◌≢◌, ℕ, ◌+◌, ◌<◌, ◌++◌, List, ◌∷◌, ◌∙◌, sym, ap, map, take, drop, length, arith, None}
-use Rattle.case_core.specs.Case.{section_of, proof_for}
+use Rattle.std.proofs.Common.{◌≡◌, ◌∙◌}
 use Rattle.cubeboard.proofs.Posting.{section_target, section_none, one_turn}
 use Rattle.cubeboard.proofs.engine.conquer.Goals as goal
 

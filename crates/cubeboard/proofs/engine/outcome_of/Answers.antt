@@ -1,8 +1,5 @@
-use Rattle.std.proofs.Common.{◌≡◌, ◌≢◌, List, ℕ, refl, ap, ◌∙◌, append-nil}
-use Rattle.cnf_text.specs.Literal.{Literal}
-use Rattle.cnf_text.specs.Formula.{HasNoModel}
+use Rattle.std.proofs.Common.{◌≢◌, refl, ap}
 use Rattle.cubeboard.proofs.Reports.{told, unsatisfiable}
-use Rattle.cubeboard.specs.declared.fault.Fault.{Fault}
 use Rattle.cubeboard.specs.declared.fault.Fault.TheVariants.{Memory}
 use Rattle.cubeboard.specs.Faults.{fault_of_case}
 use Rattle.cubeboard.specs.Outcome.{IsFaultOn}

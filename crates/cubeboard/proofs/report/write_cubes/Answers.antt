@@ -1,5 +1,4 @@
-use Rattle.std.proofs.Common.{◌≡◌, ℕ, ◌+◌, ◌≤◌, ◌∙◌, ap, arith}
-use Rattle.split_tree.specs.SplitTree.{SplitTree}
+use Rattle.std.proofs.Common.{◌≡◌, ◌+◌, ◌∙◌, ap, arith}
 use Rattle.cubeboard.proofs.Lines.{cube_turn}
 use Rattle.cubeboard.proofs.report.write_cubes.Goals as goal
 

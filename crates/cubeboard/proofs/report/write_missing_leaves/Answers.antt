@@ -1,6 +1,4 @@
-use Rattle.std.proofs.Common.{◌≡◌, ℕ, ◌+◌, ◌<◌, ◌∙◌, ap, arith}
-use Rattle.split_tree.specs.SplitTree.{SplitTree}
-use Rattle.split_tree.specs.Leaves.{IsPathOf}
+use Rattle.std.proofs.Common.{◌≡◌, ◌∙◌, ap}
 use Rattle.cubeboard.proofs.Lines.{missing_turn}
 use Rattle.cubeboard.proofs.report.write_missing_leaves.Goals as goal
 

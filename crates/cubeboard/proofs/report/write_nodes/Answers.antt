@@ -1,9 +1,9 @@
-use Rattle.std.proofs.Common.{◌≡◌, ℕ, ◌+◌, ◌<◌, ◌≤◌, ◌++◌, ◌∙◌, sym, ap, append-nil, arith}
+use Rattle.std.proofs.Common.{◌≡◌, ◌<◌, ◌≤◌, ◌++◌, ◌∙◌, sym, ap, append-nil}
 use Rattle.std.proofs.lemmas.List.{take_all}
-use Rattle.split_tree.specs.SplitTree.{SplitTree, subtrees, subtree_at, size}
+use Rattle.split_tree.specs.SplitTree.{subtrees, size}
 use Rattle.split_tree.proofs.Coding.{length-subtrees}
 use Rattle.cubeboard.specs.Report.{node_lines}
-use Rattle.cubeboard.proofs.Lines.{node_turn, is_split, split_part, leaf_part, node_part}
+use Rattle.cubeboard.proofs.Lines.{node_turn, is_split, split_part, leaf_part}
 use Rattle.cubeboard.proofs.report.write_nodes.Goals.{in-Some+in_ok-write_section, in_default}
 use Rattle.cubeboard.proofs.report.write_nodes.Goals as goal
 

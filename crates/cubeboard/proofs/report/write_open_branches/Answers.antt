@@ -1,6 +1,5 @@
-use Rattle.std.proofs.Common.{◌≡◌, ℕ, ◌+◌, ◌<◌, ◌∙◌, sym, ap, arith, length}
-use Rattle.split_tree.specs.SplitTree.{SplitTree, missing}
-use Rattle.split_tree.specs.Leaves.{IsPathOf, IsTargetAt, HasTarget}
+use Rattle.std.proofs.Common.{◌≡◌, ℕ, ◌∙◌, sym, ap}
+use Rattle.split_tree.specs.Leaves.{IsTargetAt}
 use Rattle.mark_board.specs.Marking.{open_branches}
 use Rattle.mark_board.specs.Rows.{refuted_by}
 use Rattle.cubeboard.proofs.Lines.{branch_stands, open_turn, all_open}
