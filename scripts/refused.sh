@@ -1,7 +1,8 @@
 #!/bin/sh
 # Runs the built program on a few rows with its Nth request for memory refused, for each N from 1 until a run meets no
 # refusal. Each run has to write the row's exact report with its status, or no report, the status 4 and
-# `cubeboard: F6 memory`. It needs a C compiler; where there is none, it says so and tries nothing. The last line counts.
+# `cubeboard: F6 memory`. A test of the reader of proof steps is run the same way. It needs a C compiler; where there is
+# none, it says so and tries nothing. The last line counts.
 root=$(CDPATH= cd -- "$(dirname -- "$0")/.." && pwd) || exit 1
 compiler=
 for word in cc gcc clang; do
@@ -81,5 +82,32 @@ row() {
 for name in two_cubes_refuted missing_leaf_open proof_for_an_inner_node folder_of_proofs second_section_of_a_cube; do
     row "$name"
 done
+
+# The reader of proof steps, by a test of its crate that the gate has left: a refused call changes nothing, so the next one gives
+# the step that it would have given.
+tests=$root/crates/lrat_text/out/lrat_text_tests
+if [ -x "$tests" ]; then
+    request=1
+    refused=0
+    while [ "$request" -le "$limit" ]; do
+        rm -f "$here/mark"
+        if REFUSE=$request REFUSED_MARK=$here/mark LD_PRELOAD=$here/refuse.so "$tests" tests::step_after_refused_memory \
+            > "$here/out" 2> "$here/err"; then
+            passed=$((passed + 1))
+        else
+            failed=$((failed + 1))
+            echo "refused: the next step, request $request: $(tail -n 3 "$here/out")"
+        fi
+        [ -f "$here/mark" ] || break
+        refused=$((refused + 1))
+        request=$((request + 1))
+    done
+    if [ "$refused" -eq 0 ]; then
+        failed=$((failed + 1))
+        echo "refused: the next step: no request was refused"
+    fi
+else
+    echo "refused: the test of the next step is skipped, since rt ci hasn't built it"
+fi
 echo "refused: $passed passed, $failed failed"
 [ "$failed" -eq 0 ]
