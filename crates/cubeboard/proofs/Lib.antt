@@ -3,3 +3,4 @@ pub mod Cuts
 pub mod Reports
 pub mod Statuses
 pub mod Requests
+pub mod Sections
