@@ -4,3 +4,4 @@ pub mod Statuses
 pub mod Lines
 pub mod Posting
 pub mod Requests
+pub mod Sections

@@ -1,5 +1,5 @@
 -- What a status says of the bundle.
-use Rattle.std.proofs.Common.{◌<◌, ℕ, List, arith, Option, None, Some, Err, Ok, true, refl, IfSome}
+use Rattle.std.proofs.Common.{◌<◌, ℕ, List, arith, Option, None, Some, Err, Ok, true, false, refl, IfSome}
 use Rattle.cubeboard.specs.declared.fault.Fault.{Fault}
 use Rattle.cubeboard.specs.declared.fault.Fault.TheVariants.{Header, Token, Unfinished, TooLarge, Limit, Memory, Repeats, NotATree, Overlap, BadLabel, NoSuchLeaf, ProofTwice, Device}
 use Rattle.cubeboard.specs.Faults.{IsInputFault}
@@ -36,3 +36,7 @@ status_of-on (Some bundle) fault is = status_on bundle fault is
 pub refuted-on : (known : Option (List ℕ)) → IfSome known (λ bundle. IsRunOn bundle (Ok true)) → IfSome known (λ bundle. IsStatusOn bundle 0)
 refuted-on None is = tt
 refuted-on (Some bundle) is = (λ _. (is.0, is.1 refl), λ e. absurd (omega arith), λ e. absurd (omega arith))
+
+pub open-on : (known : Option (List ℕ)) → IfSome known (λ bundle. IsRunOn bundle (Ok false)) → IfSome known (λ bundle. IsStatusOn bundle 1)
+open-on None is = tt
+open-on (Some bundle) is = (λ e. absurd (omega arith), λ _. is.0, λ e. absurd (omega arith))

@@ -1,5 +1,6 @@
 -- What the program's status says.
-use Rattle.std.specs.Prelude.{◌≡◌, ℕ, Bool, List, [], true, false, ◌⊎◌, codes, Option, Some, Result, Ok, Err}
+use Rattle.std.specs.Prelude.{◌≡◌, ℕ, Bool, List, [], ◌++◌, true, false, ◌⊎◌, codes, Option, Some, Result, Ok, Err}
+use Rattle.std.specs.List.{flat_map}
 use Rattle.clap.specs.Words.{App, Rule, Text, fault_of, first_of, matches_of, new_app, new_rule, with_rule}
 use Rattle.cubeboard.specs.declared.fault.Fault.{Fault}
 use Rattle.cubeboard.specs.declared.fault.Fault.TheVariants.{Header, Token, Unfinished, TooLarge, Limit, Memory, Repeats, NotATree, Overlap, BadLabel, NoSuchLeaf, ProofTwice, Device}
@@ -59,3 +60,23 @@ AreTaken words = fault_of words_taken words ≡ []
 -- the value that `clap` finds in these words
 abbrev pub asked_for : Text → List Text → Option Text
 asked_for name words = first_of name (matches_of words_taken words)
+
+-- a section that is added: a line end, the label line with this name, and the bytes of the proof
+abbrev pub section_text : List ℕ × List ℕ → List ℕ
+section_text section = codes "\nl " ++ section.0 ++ codes "\n" ++ section.1
+
+-- the whole is the bundle, and then sections that were added
+abbrev pub IsWithSections : List ℕ → List ℕ → Type 0
+IsWithSections bundle whole = (sections : List (List ℕ × List ℕ)) × (whole ≡ bundle ++ flat_map section_text sections)
+
+-- the whole is the bundle, and then the section of this name, or nothing
+abbrev pub IsWithSection : List ℕ → List ℕ → List ℕ → Type 0
+IsWithSection bundle name whole = (whole ≡ bundle) ⊎ ((proof : List ℕ) × (whole ≡ bundle ++ section_text (name, proof)))
+
+-- what is said of a run on the bundle with sections added to it
+abbrev pub IsRunWithSections : List ℕ → Result Bool Fault → Type 0
+IsRunWithSections bundle result = (whole : List ℕ) × IsWithSections bundle whole × IsRunOn whole result
+
+-- the same of the program's status
+abbrev pub IsStatusWithSections : List ℕ → ℕ → Type 0
+IsStatusWithSections bundle status = (whole : List ℕ) × IsWithSections bundle whole × IsStatusOn whole status

@@ -1,8 +1,9 @@
 //! The program: its words, its files, its streams, its texts and its status.
 
-ghost use Rattle.std.specs.Prelude.{◌≡◌, ◌≢◌, ◌⊎◌, length, map, Ok, Err, None, Some, IfSome, IfErr, IsErr, MatchResult};
+ghost use Rattle.std.specs.Prelude.{◌≡◌, ◌≢◌, ◌⊎◌, length, map, codes, Ok, Err, None, Some, IfSome, IfOk, IfErr, IsErr, OnOk, MatchResult};
 ghost use Rattle.std.specs.IoError.{error_kind};
-ghost use Rattle.cubeboard.specs.Command.{IsStatus, IsStatusOn, IsRunOn, AreTaken, status_of};
+ghost use Rattle.cubeboard.specs.Command.{IsStatus, IsStatusOn, IsStatusWithSections, IsRunOn, IsRunWithSections, IsWithSection, IsWithSections, AreTaken, asked_for, status_of};
+ghost use Rattle.cubeboard.specs.Faults.{IsInputFault};
 
 use crate::device::Counted;
 use crate::engine::run_io;
@@ -42,6 +43,9 @@ where
     ensures none { length words.now ≡ 0 → result ≢ 2 }
     // Without words, the status is that of the input.
     ensures answer { length words.now ≡ 0 → IfSome (I.remaining input) (λ bundle. IsStatusOn bundle result) }
+    // Without FILE, it is that of the input with sections added to it.
+    ensures proofs { asked_for (codes "file") (map S.text words.now) ≡ None
+        → IfSome (I.remaining input) (λ bundle. IsStatusWithSections bundle result) }
 {
     let request = match request_of(rt.alloc(), words) {
         Ok(request) => request,
@@ -74,7 +78,8 @@ where
     R: Files + AllocGlobal,
     I: Read + Drop,
     O: Write + Drop,
-    ensures { request.now.proofs ≡ None → request.now.file ≡ None → IfSome (I.remaining input) (λ bundle. IsRunOn bundle result) }
+    ensures alone { request.now.proofs ≡ None → request.now.file ≡ None → IfSome (I.remaining input) (λ bundle. IsRunOn bundle result) }
+    ensures proofs { request.now.file ≡ None → IfSome (I.remaining input) (λ bundle. IsRunWithSections bundle result) }
 {
     match (request.proofs, request.file) {
         (None, None) => run(rt.alloc(), input, output),
@@ -92,18 +97,28 @@ fn run<I: Read + Drop, O: Write + Drop>(alloc: Global, input: I, output: O) -> R
 }
 
 /// One run over the bundle that `input` gives, with the proofs of this folder.
-fn run_with_proofs<R, I, O>(rt: &R, folder: &str, mut input: I, output: O) -> Result<bool, Fault>
+fn run_with_proofs<R, I, O>(rt: &R, folder: &str, input: I, output: O) -> Result<bool, Fault>
 where
     R: Files + AllocGlobal,
     I: Read + Drop,
     O: Write + Drop,
+    ensures { IfSome (I.remaining input) (λ bundle. IsRunWithSections bundle result) }
 {
-    let mut bundle = Vec::new(rt.alloc());
-    input
-        .read_to_end(&mut bundle)
-        .map_err(|error| device_fault(&error))?;
+    let mut bundle = read_whole(rt.alloc(), input)?;
     add_proofs(rt, folder, &mut bundle)?;
     run(rt.alloc(), bundle.as_slice(), output)
+}
+
+/// All bytes up to the reader's end.
+fn read_whole<I: Read + Drop>(alloc: Global, mut input: I) -> Result<Vec<u8>, Fault>
+    ensures bytes { IfOk result (λ bytes. IfSome (I.remaining input) (λ left. bytes.items ≡ left)) }
+    ensures fault { IfErr result (λ fault. IsInputFault fault → ⊥) }
+{
+    let mut bytes = Vec::new(alloc);
+    match input.read_to_end(&mut bytes) {
+        Ok(_) => Ok(bytes),
+        Err(error) => Err(device_fault(&error)),
+    }
 }
 
 /// How many cubes and how many missing leaves a tree has.
@@ -114,7 +129,9 @@ struct Leaves {
 }
 
 /// The leaves of the bundle's tree. A bundle with a fault has none: no proof is looked for, and the run tells the fault.
-fn leaves_of(alloc: Global, bundle: &[u8]) -> Result<Leaves, Fault> {
+fn leaves_of(alloc: Global, bundle: &[u8]) -> Result<Leaves, Fault>
+    ensures { IfErr result (λ fault. IsInputFault fault → ⊥) }
+{
     match read_bundle(alloc, bundle) {
         Ok(case) => Ok(Leaves {
             cubes: case.tree().cube_count(),
@@ -132,6 +149,8 @@ fn leaves_of(alloc: Global, bundle: &[u8]) -> Result<Leaves, Fault> {
 fn add_proofs<R>(rt: &R, folder: &str, bundle: &mut Vec<u8>) -> Result<(), Fault>
 where
     R: Files + AllocGlobal,
+    ensures ok { OnOk result (IsWithSections bundle.old.items bundle.new.items) }
+    ensures fault { IfErr result (λ fault. IsInputFault fault → ⊥) }
 {
     let leaves = leaves_of(rt.alloc(), bundle)?;
     add_sections(rt, folder, "", leaves.cubes, bundle)?;
@@ -148,6 +167,8 @@ fn add_sections<R>(
 ) -> Result<(), Fault>
 where
     R: Files + AllocGlobal,
+    ensures ok { OnOk result (IsWithSections bundle.old.items bundle.new.items) }
+    ensures fault { IfErr result (λ fault. IsInputFault fault → ⊥) }
 {
     for number in 1..=count {
         let name = format!(in rt.alloc(); "{kind}{number}")?;
@@ -160,6 +181,8 @@ where
 fn add_section<R>(rt: &R, folder: &str, name: &str, bundle: &mut Vec<u8>) -> Result<(), Fault>
 where
     R: Files + AllocGlobal,
+    ensures ok { OnOk result (IsWithSection bundle.old.items name.now bundle.new.items) }
+    ensures fault { IfErr result (λ fault. IsInputFault fault → ⊥) }
 {
     let path = format!(in rt.alloc(); "{folder}/{name}.lrat")?;
     let Some(mut file) = found(fs::open(rt, path.as_str()))? else {
@@ -176,7 +199,8 @@ where
 
 /// A file that was opened, or `None` where the system says that it isn't there.
 fn found<F: Drop>(opened: io::Result<F>) -> Result<Option<F>, Fault>
-    ensures { MatchResult opened (λ file. result ≡ Ok (Some file)) (λ error.
+    ensures fault { IfErr result (λ fault. IsInputFault fault → ⊥) }
+    ensures file { MatchResult opened (λ file. result ≡ Ok (Some file)) (λ error.
         (error_kind error ≡ ErrorKind.NotFound → result ≡ Ok None)
         × (error_kind error ≢ ErrorKind.NotFound → IsErr result)) }
 {
