@@ -1,6 +1,6 @@
 -- Sections that are added to a bundle, and the runs on it.
 use Rattle.std.proofs.Common.{◌≡◌, ◌∙◌, sym, ap, refl, ℕ, Bool, List, [], ◌∷◌, ◌++◌, drop, length, codes, append_assoc, append-nil, arith}
-use Rattle.std.proofs.Common.{Option, None, Some, Result, Ok, Err, IfSome, OnOk, IsErrAnd, option_map, inl, inr, subst, true}
+use Rattle.std.proofs.Common.{Option, None, Some, Result, Ok, Err, IfSome, OnOk, IsErrAnd, option_map, inl, inr, subst, true, false}
 use Rattle.std.proofs.lemmas.Grind.{flat_map-append}
 use Rattle.std.proofs.lemmas.List.{take-append-drop}
 use Rattle.std.specs.Borrow.{Bor}
@@ -8,7 +8,7 @@ use Rattle.std.specs.Io.{StartsWith}
 use Rattle.std.specs.List.{flat_map}
 use Rattle.cubeboard.specs.declared.fault.Fault.{Fault}
 use Rattle.cubeboard.specs.Faults.{IsInputFault}
-use Rattle.cubeboard.proofs.Statuses.{refuted-on, status_of-on}
+use Rattle.cubeboard.proofs.Statuses.{refuted-on, open-on, status_of-on}
 use Rattle.cubeboard.specs.Command.{IsRunOn, status_of, IsRunWithSections, IsStatusWithSections, IsWithSection, IsWithSections, section_text}
 
 pub nothing_added : (bundle : List ℕ) → IsWithSections bundle bundle
@@ -68,6 +68,11 @@ pub refuted_with : (known : Option (List ℕ)) → IfSome known (λ bundle. IsRu
     → IfSome known (λ bundle. IsStatusWithSections bundle 0)
 refuted_with None is = tt
 refuted_with (Some bundle) is = (is.0, is.1, refuted-on (Some is.0) is.2)
+
+pub open_with : (known : Option (List ℕ)) → IfSome known (λ bundle. IsRunWithSections bundle (Ok false))
+    → IfSome known (λ bundle. IsStatusWithSections bundle 1)
+open_with None is = tt
+open_with (Some bundle) is = (is.0, is.1, open-on (Some is.0) is.2)
 
 pub fault_with : (known : Option (List ℕ)) (fault : Fault) → IfSome known (λ bundle. IsRunWithSections bundle (Err fault))
     → IfSome known (λ bundle. IsStatusWithSections bundle (status_of fault))
