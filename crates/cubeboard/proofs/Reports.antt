@@ -1,5 +1,5 @@
 -- What a report says of the formula.
-use Rattle.std.proofs.Common.{◌≡◌, ℕ, Bool, true, false, List, [], ◌∷◌, ◌++◌, length, append-nil, append_assoc, arith, refl, sym, ap, ◌∙◌, subst, Option, None, Some, IfSome, Result, Ok, Err, IfErr, IsErrAnd}
+use Rattle.std.proofs.Common.{◌≡◌, ℕ, Bool, true, false, List, [], ◌∷◌, ◌++◌, length, append-nil, append_assoc, arith, refl, sym, ap, ◌∙◌, subst, Option, None, Some, IfSome, Result, Ok, Err, IfOk, IfErr, IsErrAnd}
 use Rattle.std.specs.Prelude.{codes}
 use Rattle.cnf_text.specs.Literal.{Literal}
 use Rattle.cnf_text.specs.Formula.{HasNoModel, IsRefuted}
@@ -14,8 +14,9 @@ use Rattle.mark_board.specs.Rows.{refuted_by}
 use Rattle.mark_board.specs.Places.{worth_of}
 use Rattle.mark_board.specs.Marking.{marked, open_weight, open_branches}
 use Rattle.cubeboard.specs.declared.fault.Fault.{Fault}
+use Rattle.cubeboard.specs.Faults.{IsInputFault}
 use Rattle.cubeboard.specs.Report.{answer_line, total_line, cube_lines, missing_lines, node_lines, open_lines, weight_line}
-use Rattle.cubeboard.specs.Outcome.{IsOutcomeOn, IsFormulaOf, SaysRefuted}
+use Rattle.cubeboard.specs.Outcome.{IsOutcomeOn, IsFormulaOf, SaysRefuted, IsUnsatisfiable, IsFaultOn}
 
 no_nil : (ys : List ℕ) (b : ℕ) → [] ≡ ys ++ b ∷ [] → ⊥
 no_nil [] b e = cc
@@ -84,3 +85,14 @@ pub unsatisfiable : (bundle : List ℕ) (case : CaseOf) (formula : List (List Li
 unsatisfiable bundle case formula is stands refuted =
     let same : formula ≡ case.formula = stands.2 ∙ (ap clauses_of (one_text (icnf_text bundle) stands.0 is.items stands.1 is.text) ∙ sym is.formula) in
     rw same (rw append-nil at refuted)
+
+-- what a run answers for bytes is what it answers for the bytes that were read
+pub sound_of : (known : Option (List ℕ)) (bundle read : List ℕ) (result : Result Bool Fault) → IfSome known (λ left. read ≡ left) → bundle ≡ read
+    → IfOk result (λ answer. answer ≡ true → IsUnsatisfiable bundle) → IfOk result (λ answer. answer ≡ true → IfSome known IsUnsatisfiable)
+sound_of known bundle read (Ok answer) is same h = λ says. of_known IsUnsatisfiable known read is (rw same at (h says))
+sound_of known bundle read (Err fault) is same h = tt
+
+pub fault_of : (known : Option (List ℕ)) (bundle read : List ℕ) (result : Result Bool Fault) → IfSome known (λ left. read ≡ left) → bundle ≡ read
+    → IfErr result (λ fault. IsInputFault fault → IsFaultOn bundle fault) → IfErr result (λ fault. IsInputFault fault → IfSome known (λ input. IsFaultOn input fault))
+fault_of known bundle read (Ok answer) is same h = tt
+fault_of known bundle read (Err fault) is same h = λ input. of_known (λ b. IsFaultOn b fault) known read is (rw same at (h input))

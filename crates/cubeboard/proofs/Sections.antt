@@ -1,6 +1,6 @@
 -- Sections that are added to a bundle, and the runs on it.
 use Rattle.std.proofs.Common.{◌≡◌, ◌∙◌, sym, ap, refl, ℕ, Bool, List, [], ◌∷◌, ◌++◌, drop, length, codes, append_assoc, append-nil, arith}
-use Rattle.std.proofs.Common.{Option, None, Some, Result, Ok, Err, IfSome, OnOk, IsErrAnd, option_map, inl, inr, subst, true, false}
+use Rattle.std.proofs.Common.{Option, None, Some, Result, Ok, Err, IfSome, IfOk, IfErr, OnOk, IsErrAnd, option_map, inl, inr, subst, true, false}
 use Rattle.std.proofs.lemmas.Grind.{flat_map-append}
 use Rattle.std.proofs.lemmas.List.{take-append-drop}
 use Rattle.std.specs.Borrow.{Bor}
@@ -9,6 +9,7 @@ use Rattle.std.specs.List.{flat_map}
 use Rattle.cubeboard.specs.declared.fault.Fault.{Fault}
 use Rattle.cubeboard.specs.Faults.{IsInputFault}
 use Rattle.cubeboard.proofs.Statuses.{refuted-on, open-on, status_of-on}
+use Rattle.cubeboard.specs.Outcome.{IsAnswerOn, IsUnsatisfiable, IsFaultOn}
 use Rattle.cubeboard.specs.Command.{IsRunOn, status_of, IsRunWithSections, IsStatusWithSections, IsWithSection, IsWithSections, section_text}
 
 pub nothing_added : (bundle : List ℕ) → IsWithSections bundle bundle
@@ -96,3 +97,11 @@ pub then_added : {T E : Type 0} (result : Result T E) (first bundle whole : List
     → OnOk result (IsWithSections bundle whole) → OnOk result (IsWithSections first whole)
 then_added (Ok value) first bundle whole before after = added_more first bundle whole before after
 then_added (Err error) first bundle whole before after = tt
+
+-- a run on bytes, by what is said of its answer and of its fault
+pub run_said : (bundle whole : List ℕ) (result : Result Bool Fault) → whole ≡ bundle → IfOk result (λ answer. IsAnswerOn whole answer)
+    → IfOk result (λ answer. answer ≡ true → IsUnsatisfiable whole) → IfErr result (λ fault. IsInputFault fault → IsFaultOn whole fault) → IsRunOn bundle result
+run_said bundle whole (Ok answer) same is sound fault =
+    let both : IsRunOn whole (Ok answer) = (is, sound) in
+    subst (λ (b : List ℕ). IsRunOn b (Ok answer)) same both
+run_said bundle whole (Err e) same is sound fault = subst (λ (b : List ℕ). IsRunOn b (Err e)) same fault

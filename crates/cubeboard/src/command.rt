@@ -6,7 +6,7 @@ ghost use Rattle.cubeboard.specs.Command.{IsStatus, IsStatusOn, IsStatusWithSect
 ghost use Rattle.cubeboard.specs.Faults.{IsInputFault};
 
 use crate::device::Counted;
-use crate::engine::run_io;
+use crate::engine::{run_io, write_report};
 use crate::fault::Fault;
 use crate::words::{Request, request_of};
 use case_core::{CaseFault, read_bundle};
@@ -106,7 +106,7 @@ where
 {
     let mut bundle = read_whole(rt.alloc(), input)?;
     add_proofs(rt, folder, &mut bundle)?;
-    run(rt.alloc(), bundle.as_slice(), output)
+    write_report(rt.alloc(), &bundle, &mut Counted::new(output))
 }
 
 /// All bytes up to the reader's end.

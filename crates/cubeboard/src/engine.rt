@@ -104,7 +104,28 @@ pub fn run_io<R: Source, W: Sink>(
         (R.failures reader.old < R.failures reader.new ⊎ W.failures writer.old < W.failures writer.new) }
 {
     let input = read_all(alloc, reader)?;
-    let outcome = outcome_of(alloc, &input)?;
+    write_report(alloc, &input, writer)
+}
+
+/// Writes the report on a bundle; answers whether the formula is refuted. Nothing is written before all is judged.
+/// `Device` where a write failed in this call, and then a beginning of the report was written.
+pub(crate) fn write_report<W: Sink>(
+    alloc: Global,
+    bundle: &[u8],
+    writer: &mut W,
+) -> Result<bool, Fault>
+    requires { W.failures writer.old < 2 ^ 64 - 1 }
+    ensures written { OnOk result ((text : List ℕ) × IsReportOn bundle.now text × Appends (W.contents writer.old) (W.contents writer.new) text) }
+    ensures answer { IfOk result (λ answer. IsAnswerOn bundle.now answer) }
+    ensures sound { IfOk result (λ answer. answer ≡ true → IsUnsatisfiable bundle.now) }
+    ensures fault { IfErr result (λ fault. IsInputFault fault → IsFaultOn bundle.now fault) }
+    ensures nothing { OnErr result (W.failures writer.new ≡ W.failures writer.old →
+        Keeps (W.contents writer.old) (W.contents writer.new)) }
+    ensures beginning { OnErr result (W.failures writer.new ≢ W.failures writer.old →
+        (text : List ℕ) × IsReportOn bundle.now text × AppendsBeginning (W.contents writer.old) (W.contents writer.new) text) }
+    ensures device { IsErrOf result Fault.Device ↔ (W.failures writer.old < W.failures writer.new) }
+{
+    let outcome = outcome_of(alloc, bundle)?;
     write_all(writer, &outcome.text)?;
     Ok(outcome.refuted)
 }
@@ -117,7 +138,7 @@ fn read_all<R: Source>(alloc: Global, reader: &mut R) -> Result<Vec<u8>, Fault>
     ensures err { IfErr result (λ fault. IsReadFault (R.failures reader.old) (R.failures reader.new) fault) }
 {
     let mut input = Vec::new(alloc);
-    let mut buffer = [0u8; 8192];
+    let mut buffer = [0u8; 65536];
     loop {
         let Ok(count) = reader.read(&mut buffer) else {
             return Err(Fault::Device);
