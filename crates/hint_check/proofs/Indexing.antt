@@ -125,6 +125,17 @@ module _ (own own' : List (ℕ × List Literal)) (id : ℕ) where
   MayIndex-take None h taken = tt
   MayIndex-take (Some rows) h taken = Indexes-take rows h taken
 
+Indexes-more : (before after : List (ℕ × List ℕ)) (own : List (ℕ × List Literal)) (id : ℕ) (clause : List Literal) → Indexes before own → Lists before after clause id → Indexes after own
+unfolding Indexes Lists
+Indexes-more before after own id clause h lists q l =
+    IfSome-weaker (fin.find nat_cmp q own) (h q l) (λ c was holds. lists l q (or_left (is_listed before l q) (has clause l && (id == q)) (was holds)))
+
+-- an index that names more than the entries is an index of them still
+pub MayIndex-more : (own : List (ℕ × List Literal)) (id : ℕ) (index after : Option (List (ℕ × List ℕ))) (clause : List Literal) → IfSome index (λ rows. Indexes rows own) → MayList index after clause id → IfSome after (λ rows. Indexes rows own)
+MayIndex-more own id index None clause h lists = tt
+MayIndex-more own id None (Some after) clause h lists = absurd lists
+MayIndex-more own id (Some before) (Some after) clause h lists = Indexes-more before after own id clause h lists
+
 -- ---- an index made one entry after another
 
 abbrev pub still_has : List (ℕ × List Literal) → Literal → ℕ → Bool

@@ -1,44 +1,65 @@
--- Stamps in pages, and the literals that they say are set.
-use Rattle.std.proofs.Common.{◌≡◌, ◌==◌, ◌+◌, ◌-◌, ◌<◌, ◌≤◌, ◌/◌, ◌%◌, ℕ, zero, suc, Bool, true, false, ◌||◌, List, [], ◌∷◌, ◌++◌, length, get_or, take, replicate, slice_index, min, subst, refl, sym, ap, ◌∙◌, arith, inl, inr}
-use Rattle.std.proofs.lemmas.Bool.{cases_lt, ne_eqb, or_left, eqb-true, eq-eqb}
-use Rattle.std.specs.Prelude.{if◌then◌else◌}
-use Rattle.std.proofs.lemmas.List.{take_at, take_all, take-append-le, take-take, length_push, length-take, length-take-le}
+-- Stamps, and the literals that they say are set.
+use Rattle.std.proofs.Common.{◌≡◌, ◌==◌, ◌+◌, ◌-◌, ◌<◌, ◌≤◌, ◌/◌, ◌%◌, ℕ, zero, suc, Bool, true, false, ◌||◌, List, [], ◌∷◌, ◌++◌, length, get_or, take, slice_index, min, subst, refl, sym, ap, ◌∙◌, arith, inl, inr}
+use Rattle.std.proofs.lemmas.Bool.{cases_Bool, cases_lt, both_ways, cond-true, cond-false, lt-ltb, le-ltb, ne_eqb, or_left, eqb-true, eq-eqb}
+use Rattle.std.specs.Prelude.{if◌then◌else◌, nat_lt, slice_set}
+use Rattle.std.proofs.lemmas.List.{get_or-set_same, get_or-set_other, take_at, take_all, take-append-le, take-take, length_push, length-take, length-take-le}
 use Rattle.cnf_text.specs.Literal.{Literal, number_of, same}
 use Rattle.hint_check.specs.Literals.{has, with_literal}
-use Rattle.hint_check.specs.Stamps.{stamp_at, HasPage, StampsAre, NoneAbove, NoRepeats, Extends}
+use Rattle.hint_check.specs.Stamps.{Marks, stamp_at, paged_at, HasRoom, StampsAre, NoneAbove, NoRepeats, Extends}
 use Rattle.hint_check.proofs.Literals.{number-same, same-true, same-refl, has-push}
 
-get_or-zeros : (n i : ℕ) → slice_index (replicate n 0) i ≡ 0
-get_or-zeros zero i = refl
-get_or-zeros (suc n) zero = refl
-get_or-zeros (suc n) (suc i) = get_or-zeros n i
+-- ---- near numbers and others
 
--- zeros behind a page change no stamp
-pub zeros-behind : (stamps : List ℕ) (n i : ℕ) → slice_index (stamps ++ replicate n 0) i ≡ slice_index stamps i
-zeros-behind [] n i = get_or-zeros n i
-zeros-behind (stamp ∷ stamps) n zero = refl
-zeros-behind (stamp ∷ stamps) n (suc i) = zeros-behind stamps n i
+pub near-at : (marks : Marks) (n : ℕ) → n < 65536 → stamp_at marks n ≡ slice_index marks.0 n
+near-at marks n near = cond-true (nat_lt n 65536) (slice_index marks.0 n) (paged_at marks.1 n) (lt-ltb n 65536 near)
 
--- a page with no stamps behind the others is as none
-pub empty-behind : (pages : List (List ℕ)) (i : ℕ) → get_or (pages ++ [] ∷ []) i [] ≡ get_or pages i []
-empty-behind [] zero = refl
-empty-behind [] (suc i) = refl
-empty-behind (page ∷ pages) zero = refl
-empty-behind (page ∷ pages) (suc i) = empty-behind pages i
+pub far-at : (marks : Marks) (n : ℕ) → 65536 ≤ n → stamp_at marks n ≡ paged_at marks.1 n
+far-at marks n far = cond-false (nat_lt n 65536) (slice_index marks.0 n) (paged_at marks.1 n) (le-ltb n 65536 far)
 
-pub stamp_at-empty : (pages : List (List ℕ)) (n : ℕ) → stamp_at (pages ++ [] ∷ []) n ≡ stamp_at pages n
-stamp_at-empty pages n = ap (λ page. get_or page (n % 1024) 0) (empty-behind pages (n / 1024))
+-- where both parts answer alike, so do both together
+pub same-parts : (marks after : Marks) → ((n : ℕ) → slice_index after.0 n ≡ slice_index marks.0 n) → ((n : ℕ) → paged_at after.1 n ≡ paged_at marks.1 n) → (n : ℕ) → stamp_at after n ≡ stamp_at marks n
+same-parts marks after near far n = elim (nat_lt n 65536) as (λ b. (if b then slice_index after.0 n else paged_at after.1 n) ≡ (if b then slice_index marks.0 n else paged_at marks.1 n)) [ true ↦ near n | false ↦ far n ]
 
--- ---- one stamp written
+set_one : (stamps : List ℕ) (number stamp n : ℕ) → number < length stamps → slice_index (slice_set stamps number stamp) n ≡ (if number == n then stamp else slice_index stamps n)
+set_one stamps number stamp n room =
+    elim (cases_Bool (number == n)) [
+      | inl here ↦ let e : number ≡ n = eqb-true number n here in
+          ap (slice_index (slice_set stamps number stamp)) (sym e) ∙ get_or-set_same stamps number stamp 0 room
+          ∙ sym (cond-true (number == n) stamp (slice_index stamps n) here)
+      | inr apart ↦ get_or-set_other stamps number n stamp 0 (λ e. both_ways (number == n) apart (eq-eqb number n (sym e)))
+          ∙ sym (cond-false (number == n) stamp (slice_index stamps n) apart)
+    ]
+
+unset_other : (number n stamp old : ℕ) → (number ≡ n → ⊥) → old ≡ (if number == n then stamp else old)
+unset_other number n stamp old apart = sym (cond-false (number == n) stamp old (ne_eqb number n apart))
+
+-- one near stamp set
+pub near-set : (marks : Marks) (after : List ℕ) (number stamp : ℕ) → number < 65536 → number < length marks.0 → after ≡ slice_set marks.0 number stamp → (n : ℕ) → stamp_at (after, marks.1) n ≡ (if number == n then stamp else stamp_at marks n)
+near-set marks after number stamp near room is n =
+    elim (cases_lt n 65536) [
+      | inl low ↦ near-at (after, marks.1) n low ∙ ap (λ stamps. slice_index stamps n) is ∙ set_one marks.0 number stamp n room
+          ∙ ap (λ old. if number == n then stamp else old) (sym (near-at marks n low))
+      | inr high ↦ far-at (after, marks.1) n high ∙ sym (far-at marks n high)
+          ∙ unset_other number n stamp (stamp_at marks n) (λ e. omega (arith, e, near, high))
+    ]
+
+-- one other stamp set
+pub far-set : (marks : Marks) (after : List (List ℕ)) (number stamp : ℕ) → 65536 ≤ number → ((n : ℕ) → paged_at after n ≡ (if number == n then stamp else paged_at marks.1 n)) → (n : ℕ) → stamp_at (marks.0, after) n ≡ (if number == n then stamp else stamp_at marks n)
+far-set marks after number stamp far set n =
+    elim (cases_lt n 65536) [
+      | inl low ↦ near-at (marks.0, after) n low ∙ sym (near-at marks n low)
+          ∙ unset_other number n stamp (stamp_at marks n) (λ e. omega (arith, e, far, low))
+      | inr high ↦ far-at (marks.0, after) n high ∙ set n ∙ ap (λ old. if number == n then stamp else old) (sym (far-at marks n high))
+    ]
 
 -- ---- the literals that are set
 
-abbrev pub Sound : List (List ℕ) → ℕ → List Literal → Type 0
-Sound pages epoch trail = (1 ≤ epoch) × StampsAre pages epoch trail × NoneAbove pages epoch × NoRepeats trail
+abbrev pub Sound : Marks → ℕ → List Literal → Type 0
+Sound marks epoch trail = (1 ≤ epoch) × StampsAre marks epoch trail × NoneAbove marks epoch × NoRepeats trail
 
-pub Sound-parts : (pages : List (List ℕ)) (epoch : ℕ) (trail : List Literal) → Sound pages epoch trail → (l : Literal) → (stamp_at pages (number_of l) == epoch) ≡ has trail l
+pub Sound-parts : (marks : Marks) (epoch : ℕ) (trail : List Literal) → Sound marks epoch trail → (l : Literal) → (stamp_at marks (number_of l) == epoch) ≡ has trail l
 unfolding StampsAre
-Sound-parts pages epoch trail h = h.1
+Sound-parts marks epoch trail h = h.1
 
 none-NoRepeats : NoRepeats []
 unfolding NoRepeats
@@ -48,25 +69,28 @@ low-apart : (stamp epoch : ℕ) → stamp < epoch → (stamp == epoch) ≡ false
 low-apart stamp epoch low = ne_eqb stamp epoch (λ e. omega (arith, low, e))
 
 -- nothing is set where no stamp is as high as the epoch
-pub Sound-none : (pages : List (List ℕ)) (epoch : ℕ) (trail : List Literal) → trail ≡ [] → ((n : ℕ) → stamp_at pages n < epoch) → Sound pages epoch trail
+pub Sound-none : (marks : Marks) (epoch : ℕ) (trail : List Literal) → trail ≡ [] → ((n : ℕ) → stamp_at marks n < epoch) → Sound marks epoch trail
 unfolding StampsAre NoneAbove has
-Sound-none pages epoch trail none low = (
+Sound-none marks epoch trail none low = (
   let h = low 0 in omega (arith, h),
-  λ l. low-apart (stamp_at pages (number_of l)) epoch (low (number_of l)) ∙ ap (λ t. has t l) (sym none),
+  λ l. low-apart (stamp_at marks (number_of l)) epoch (low (number_of l)) ∙ ap (λ t. has t l) (sym none),
   λ n. let h = low n in omega (arith, h),
   subst NoRepeats (sym none) none-NoRepeats,
 )
 
-pub Sound-next : (pages : List (List ℕ)) (epoch : ℕ) (trail after : List Literal) → Sound pages epoch trail → after ≡ [] → Sound pages (epoch + 1) after
+pub Sound-next : (marks : Marks) (epoch : ℕ) (trail after : List Literal) → Sound marks epoch trail → after ≡ [] → Sound marks (epoch + 1) after
 unfolding NoneAbove
-Sound-next pages epoch trail after h none = Sound-none pages (epoch + 1) after none (λ n. let low = h.2 n in omega (arith, low))
+Sound-next marks epoch trail after h none = Sound-none marks (epoch + 1) after none (λ n. let low = h.2 n in omega (arith, low))
 
-pub Sound-start : (pages : List (List ℕ)) (trail : List Literal) → pages ≡ [] → trail ≡ [] → Sound pages 1 trail
-Sound-start pages trail empty none = Sound-none pages 1 trail none (λ n. let zero_there = ap (λ ps. stamp_at ps n) empty in omega (arith, zero_there))
+stamp_at-none : (n : ℕ) → stamp_at ([], []) n ≡ 0
+stamp_at-none n = elim (nat_lt n 65536) as (λ b. (if b then slice_index [] n else paged_at [] n) ≡ 0) [ true ↦ refl | false ↦ refl ]
 
-pub Sound-same : (pages after : List (List ℕ)) (epoch : ℕ) (trail : List Literal) → Sound pages epoch trail → ((n : ℕ) → stamp_at after n ≡ stamp_at pages n) → Sound after epoch trail
+pub Sound-start : (marks : Marks) (trail : List Literal) → marks ≡ ([], []) → trail ≡ [] → Sound marks 1 trail
+Sound-start marks trail empty none = Sound-none marks 1 trail none (λ n. let zero_there = ap (λ ms. stamp_at ms n) empty ∙ stamp_at-none n in omega (arith, zero_there))
+
+pub Sound-same : (marks after : Marks) (epoch : ℕ) (trail : List Literal) → Sound marks epoch trail → ((n : ℕ) → stamp_at after n ≡ stamp_at marks n) → Sound after epoch trail
 unfolding StampsAre NoneAbove
-Sound-same pages after epoch trail h same =
+Sound-same marks after epoch trail h same =
     (h.0, λ l. ap (λ s. s == epoch) (same (number_of l)) ∙ h.1 l, λ n. let low = h.2 n in let e = same n in omega (arith, low, e), h.3)
 
 at_end : (xs : List Literal) (y d : Literal) → get_or (xs ++ y ∷ []) (length xs) d ≡ y
@@ -115,29 +139,29 @@ no-higher : (b : Bool) (new old epoch : ℕ) → new ≤ epoch → old ≤ epoch
 no-higher true new old epoch h k = h
 no-higher false new old epoch h k = k
 
-module _ (pages after : List (List ℕ)) (epoch : ℕ) (trail : List Literal) (l : Literal) where
-  pub Sound-push : Sound pages epoch trail → has trail l ≡ false → ((n : ℕ) → stamp_at after n ≡ (if number_of l == n then epoch else stamp_at pages n)) → Sound after epoch (trail ++ l ∷ [])
+module _ (marks after : Marks) (epoch : ℕ) (trail : List Literal) (l : Literal) where
+  pub Sound-push : Sound marks epoch trail → has trail l ≡ false → ((n : ℕ) → stamp_at after n ≡ (if number_of l == n then epoch else stamp_at marks n)) → Sound after epoch (trail ++ l ∷ [])
   unfolding StampsAre NoneAbove with_literal
   Sound-push h new set = (
     h.0,
-    λ m. ap (λ s. s == epoch) (set (number_of m)) ∙ stamped (number_of l == number_of m) (stamp_at pages (number_of m)) epoch
-        ∙ ap (λ b. b || (stamp_at pages (number_of m) == epoch)) (number-same l m)
+    λ m. ap (λ s. s == epoch) (set (number_of m)) ∙ stamped (number_of l == number_of m) (stamp_at marks (number_of m)) epoch
+        ∙ ap (λ b. b || (stamp_at marks (number_of m) == epoch)) (number-same l m)
         ∙ ap (λ b. same l m || b) (h.1 m) ∙ sym (ap (λ s. s m) (has-push trail l)),
-    λ n. rw (set n) (no-higher (number_of l == n) epoch (stamp_at pages n) epoch (omega arith) (h.2 n)),
+    λ n. rw (set n) (no-higher (number_of l == n) epoch (stamp_at marks n) epoch (omega arith) (h.2 n)),
     NoRepeats-push trail l h.3 new,
   )
 
-  unset : (m : Literal) (b : Bool) → same l m ≡ b → 1 ≤ epoch → has trail l ≡ false → (stamp_at pages (number_of m) == epoch) ≡ (b || has trail m) → ((if b then 0 else stamp_at pages (number_of m)) == epoch) ≡ has trail m
+  unset : (m : Literal) (b : Bool) → same l m ≡ b → 1 ≤ epoch → has trail l ≡ false → (stamp_at marks (number_of m) == epoch) ≡ (b || has trail m) → ((if b then 0 else stamp_at marks (number_of m)) == epoch) ≡ has trail m
   unset m true here some new old = low-apart 0 epoch (omega (arith, some)) ∙ sym (ap (has trail) (sym (same-true l m here)) ∙ new)
   unset m false here some new old = old
 
-  pub Sound-pop : Sound pages epoch (trail ++ l ∷ []) → ((n : ℕ) → stamp_at after n ≡ (if number_of l == n then 0 else stamp_at pages n)) → Sound after epoch trail
+  pub Sound-pop : Sound marks epoch (trail ++ l ∷ []) → ((n : ℕ) → stamp_at after n ≡ (if number_of l == n then 0 else stamp_at marks n)) → Sound after epoch trail
   unfolding StampsAre NoneAbove with_literal
   Sound-pop h set = (
     h.0,
-    λ m. ap (λ s. s == epoch) (set (number_of m)) ∙ ap (λ b. (if b then 0 else stamp_at pages (number_of m)) == epoch) (number-same l m)
+    λ m. ap (λ s. s == epoch) (set (number_of m)) ∙ ap (λ b. (if b then 0 else stamp_at marks (number_of m)) == epoch) (number-same l m)
         ∙ unset m (same l m) refl h.0 (NoRepeats-last trail l h.3) (h.1 m ∙ ap (λ s. s m) (has-push trail l)),
-    λ n. rw (set n) (no-higher (number_of l == n) 0 (stamp_at pages n) epoch (omega arith) (h.2 n)),
+    λ n. rw (set n) (no-higher (number_of l == n) 0 (stamp_at marks n) epoch (omega arith) (h.2 n)),
     NoRepeats-pop trail l h.3,
   )
 
@@ -146,18 +170,28 @@ past [] i h = refl
 past (x ∷ xs) zero h = absurd (omega arith)
 past (x ∷ xs) (suc i) h = past xs i (omega arith)
 
--- the last literal that was set has a page
-pub Sound-page : (pages : List (List ℕ)) (epoch : ℕ) (trail : List Literal) (l : Literal) → Sound pages epoch (trail ++ l ∷ []) → HasPage pages (number_of l)
-unfolding StampsAre with_literal
-Sound-page pages epoch trail l h =
-    let page = get_or pages (number_of l / 1024) [] in
-    let here : (stamp_at pages (number_of l) == epoch) ≡ true = h.1 l ∙ ap (λ s. s l) (has-push trail l) ∙ or_left (same l l) (has trail l) (same-refl l) in
-    let is = eqb-true (stamp_at pages (number_of l)) epoch here in
-    let some = h.0 in
-    elim (cases_lt (number_of l % 1024) (length page)) [
+-- a stamp other than 0 has room
+room-of_stamp : (marks : Marks) (number : ℕ) → 1 ≤ stamp_at marks number → HasRoom marks number
+room-of_stamp marks number some = (
+    λ near. elim (cases_lt number (length marks.0)) [
       | inl within ↦ within
-      | inr beyond ↦ let none = past page (number_of l % 1024) beyond in absurd (omega (arith, is, none, some))
-    ]
+      | inr beyond ↦ let none = near-at marks number near ∙ past marks.0 number beyond in absurd (omega (arith, none, some))
+    ],
+    λ far. let page = get_or marks.1 (number / 1024) [] in
+    elim (cases_lt (number % 1024) (length page)) [
+      | inl within ↦ within
+      | inr beyond ↦ let none = far-at marks number far ∙ past page (number % 1024) beyond in absurd (omega (arith, none, some))
+    ],
+)
+
+-- the last literal that was set has room
+pub Sound-room : (marks : Marks) (epoch : ℕ) (trail : List Literal) (l : Literal) → Sound marks epoch (trail ++ l ∷ []) → HasRoom marks (number_of l)
+unfolding StampsAre with_literal
+Sound-room marks epoch trail l h =
+    let here : (stamp_at marks (number_of l) == epoch) ≡ true = h.1 l ∙ ap (λ s. s l) (has-push trail l) ∙ or_left (same l l) (has trail l) (same-refl l) in
+    let is = eqb-true (stamp_at marks (number_of l)) epoch here in
+    let some = h.0 in
+    room-of_stamp marks (number_of l) (omega (arith, is, some))
 
 there : (b c : Bool) → (b ≡ true → c ≡ true) → c ≡ (b || c)
 there true c h = h refl

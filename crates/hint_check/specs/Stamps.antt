@@ -1,11 +1,11 @@
--- Numbers stamped in pages, for the contracts of private functions.
-use Rattle.std.specs.Prelude.{◌≡◌, ℕ, ◌/◌, ◌%◌, ◌<◌, ◌≤◌, ◌==◌, false, List, [], length, take, slice_index, slice_index_or}
+-- Numbers stamped in lists, for the contracts of private functions.
+use Rattle.std.specs.Prelude.{◌≡◌, ℕ, ◌/◌, ◌%◌, ◌<◌, ◌≤◌, ◌==◌, nat_lt, if◌then◌else◌, false, List, [], length, take, slice_index, slice_index_or}
 use Rattle.cnf_text.specs.Literal.{Literal, number_of}
 use Rattle.hint_check.specs.Literals.{has}
 
--- the stamp of a number, and 0 where it has no page
-abbrev pub stamp_at : List (List ℕ) → ℕ → ℕ
-stamp_at pages number = slice_index (slice_index_or pages (number / 1024) []) (number % 1024)
+-- the stamp of a number in its page, and 0 where it has none
+abbrev pub paged_at : List (List ℕ) → ℕ → ℕ
+paged_at pages number = slice_index (slice_index_or pages (number / 1024) []) (number % 1024)
 
 abbrev pub page_of : List (List ℕ) → ℕ → List ℕ
 page_of pages number = slice_index_or pages (number / 1024) []
@@ -14,13 +14,25 @@ page_of pages number = slice_index_or pages (number / 1024) []
 abbrev pub HasPage : List (List ℕ) → ℕ → Type 0
 HasPage pages number = number % 1024 < length (page_of pages number)
 
+-- the stamps of the near numbers, and the pages of the others
+abbrev pub Marks : Type 0
+Marks = List ℕ × List (List ℕ)
+
+-- the stamp of a number, and 0 where it has no room
+abbrev pub stamp_at : Marks → ℕ → ℕ
+stamp_at marks number = if nat_lt number 65536 then slice_index marks.0 number else paged_at marks.1 number
+
+-- there is room for the stamp of the number
+abbrev pub HasRoom : Marks → ℕ → Type 0
+HasRoom marks number = (number < 65536 → number < length marks.0) × (65536 ≤ number → HasPage marks.1 number)
+
 -- the literals that have this stamp are those of the list
-unfoldable pub StampsAre : List (List ℕ) → ℕ → List Literal → Type 0
-StampsAre pages stamp literals = (l : Literal) → (stamp_at pages (number_of l) == stamp) ≡ has literals l
+unfoldable pub StampsAre : Marks → ℕ → List Literal → Type 0
+StampsAre marks stamp literals = (l : Literal) → (stamp_at marks (number_of l) == stamp) ≡ has literals l
 
 -- no stamp is above this one
-unfoldable pub NoneAbove : List (List ℕ) → ℕ → Type 0
-NoneAbove pages stamp = (number : ℕ) → stamp_at pages number ≤ stamp
+unfoldable pub NoneAbove : Marks → ℕ → Type 0
+NoneAbove marks stamp = (number : ℕ) → stamp_at marks number ≤ stamp
 
 -- no literal stands twice
 unfoldable pub NoRepeats : List Literal → Type 0

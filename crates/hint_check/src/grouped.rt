@@ -2,14 +2,27 @@
 ghost use Rattle.std.specs.Prelude.{◌≡◌, ◌==◌, nat_eq, IfOk};
 ghost use Rattle.std.specs.HashSet.{contains};
 ghost use Rattle.std.specs.List.{list_any};
-ghost use Rattle.hint_check.specs.Grouped.{Names};
+ghost use Rattle.std.specs.Option.{IfSome};
+ghost use Rattle.hint_check.specs.Grouped.{Names, has_group};
 
 use lrat_text::StepBuffer;
 use std::alloc::{AllocError, Global};
 use std::collections::HashSet;
 
-/// The candidates of a step's groups, each looked up in one step.
-pub fn candidates(alloc: Global, step: &StepBuffer) -> Result<HashSet<u64>, AllocError>
+/// Up to this many groups are looked at one by one, with no set.
+const FEW: usize = 8;
+
+/// The candidates of a step's groups, to be looked up in one step each, and no set where the groups are few.
+pub fn candidates(alloc: Global, step: &StepBuffer) -> Result<Option<HashSet<u64>>, AllocError>
+    ensures { IfOk result (λ ids. IfSome ids (λ set. Names set step.now.groups)) }
+{
+    if step.group_count() <= FEW {
+        return Ok(None);
+    }
+    Ok(Some(candidate_set(alloc, step)?))
+}
+
+fn candidate_set(alloc: Global, step: &StepBuffer) -> Result<HashSet<u64>, AllocError>
     ensures { IfOk result (λ ids. Names ids step.now.groups) }
 {
     let mut ids = HashSet::new(alloc);
@@ -18,4 +31,27 @@ pub fn candidates(alloc: Global, step: &StepBuffer) -> Result<HashSet<u64>, Allo
         ids.insert(candidate)?;
     }
     Ok(ids)
+}
+
+/// Whether a step has a group for an id. The set is that of the step's candidates.
+pub fn has_group(grouped: &Option<HashSet<u64>>, step: &StepBuffer, id: u64) -> bool
+    requires { IfSome grouped.now (λ set. Names set step.now.groups) }
+    ensures { result ≡ has_group step.now.groups id }
+{
+    match grouped {
+        Some(set) => set.contains(&id),
+        None => is_among(step, id),
+    }
+}
+
+fn is_among(step: &StepBuffer, id: u64) -> bool
+    ensures { result ≡ has_group step.now.groups id }
+{
+    for place in 0..step.group_count() {
+        let (candidate, _) = step.group(place);
+        if candidate == id {
+            return true;
+        }
+    }
+    false
 }

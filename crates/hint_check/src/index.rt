@@ -1,7 +1,8 @@
 //! For each literal the ids of the clauses that may hold it.
-ghost use Rattle.std.specs.Prelude.{◌≡◌, ℕ, ◌++◌, ◌∷◌, [], IfOk, OnOk};
+ghost use Rattle.std.specs.Prelude.{◌≡◌, ℕ, ◌++◌, ◌∷◌, [], IfOk, OnOk, OnErr};
 ghost use Rattle.cnf_text.specs.Literal.{number_of};
 ghost use Rattle.std.specs.List.{enumerate_from};
+ghost use Rattle.std.specs.Option.{IfSome, unwrap_or};
 ghost use Rattle.hint_check.specs.Index.{ids_at, Adds, Lists, Indexes, MayList};
 
 use cnf_text::formula::Clause;
@@ -127,7 +128,7 @@ pub fn index_of(alloc: Global, clauses: &[Clause]) -> Result<Index, AllocError>
 }
 
 /// The index of clauses by their ids.
-pub fn index_of_entries(alloc: Global, clauses: &HashMap<u64, Clause>) -> Result<Index, AllocError>
+fn index_of_entries(alloc: Global, clauses: &HashMap<u64, Clause>) -> Result<Index, AllocError>
     ensures { IfOk result (λ index. Indexes index clauses.now.entries) }
 {
     let mut index = Index::new(alloc);
@@ -137,24 +138,61 @@ pub fn index_of_entries(alloc: Global, clauses: &HashMap<u64, Clause>) -> Result
     Ok(index)
 }
 
-/// Lists an id for each of these literals, where there is an index. One that names far more than the literals that are
-/// held is given up, since most of what it names is gone.
-pub fn listed(
-    index: Option<Index>,
+/// Makes the index of clauses by their ids where there is none.
+pub fn make_index(
+    alloc: Global,
+    index: &mut Option<Index>,
+    clauses: &HashMap<u64, Clause>,
+) -> Result<(), AllocError>
+    requires { IfSome index.old (λ rows. Indexes rows clauses.now.entries) }
+    ensures made { OnOk result (Indexes (unwrap_or index.new []) clauses.now.entries) }
+    ensures kept { IfSome index.new (λ rows. Indexes rows clauses.now.entries) }
+{
+    if index.is_none() {
+        *index = Some(index_of_entries(alloc, clauses)?);
+    }
+    Ok(())
+}
+
+/// The ids listed for a literal, and none where there is no index.
+pub fn listed_ids(index: &Option<Index>, lit: Lit) -> &[u64]
+    ensures { result.now ≡ ids_at (unwrap_or index.now []) (number_of lit) }
+{
+    match index {
+        Some(rows) => rows.ids(lit),
+        None => &[],
+    }
+}
+
+/// Whether an index names far more than the literals that are held, since most of what it names is gone.
+fn is_stale(index: &Option<Index>, held: usize) -> bool {
+    match index {
+        Some(rows) => rows.listed / 4 > held,
+        None => false,
+    }
+}
+
+/// Lists an id for each of these literals, where there is an index. A stale one is given up instead, and so is one that
+/// could not grow, since it may lack some of what it should name.
+pub fn note(
+    index: &mut Option<Index>,
     held: usize,
     lits: &[Lit],
     id: u64,
-) -> Result<Option<Index>, AllocError>
-    ensures { IfOk result (λ after. MayList index after lits.now id) }
+) -> Result<(), AllocError>
+    ensures listed { OnOk result (MayList index.old index.new lits.now id) }
+    ensures given_up { OnErr result (index.new ≡ None) }
 {
-    match index {
-        None => Ok(None),
-        Some(mut rows) => {
-            if rows.listed / 4 > held {
-                return Ok(None);
-            }
-            rows.push_all(lits, id)?;
-            Ok(Some(rows))
-        }
+    if is_stale(index, held) {
+        *index = None;
+        return Ok(());
     }
+    let noted = match index {
+        Some(rows) => rows.push_all(lits, id),
+        None => Ok(()),
+    };
+    if noted.is_err() {
+        *index = None;
+    }
+    noted
 }

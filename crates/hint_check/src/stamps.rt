@@ -1,133 +1,117 @@
-//! A stamp for each number, in pages that are made when they are first needed.
-ghost use Rattle.std.specs.Prelude.{◌≡◌, ℕ, ◌<◌, ◌≤◌, ◌==◌, if◌then◌else◌, [], length, slice_index, slice_set, OnOk};
-ghost use Rattle.hint_check.specs.Stamps.{stamp_at, HasPage};
+//! A stamp for each number: in one list for the near numbers, which are most, and in pages for the others.
+ghost use Rattle.std.specs.Prelude.{◌≡◌, ℕ, ◌<◌, ◌≤◌, ◌==◌, if◌then◌else◌, IsTrue, [], OnOk};
+ghost use Rattle.hint_check.specs.Stamps.{stamp_at, HasRoom};
 
+use crate::pages::{Page, Pages};
 use std::alloc::{AllocError, Global};
 use std::marker::Model;
 
-/// The numbers of a page.
-const PAGE: u32 = 1024;
+/// The near numbers are those below this.
+const NEAR: u32 = 65536;
 
-/// The stamps of a run of numbers, or none.
-#[derive(Drop)]
-struct Page {
-    stamps: Vec<u32>,
-}
-
-impl Model for Page {
-    ghost use Rattle.std.specs.Prelude.{ℕ, List};
-
-    ghost Value = { List ℕ };
-
-    ghost view = { λ p. p.stamps.items };
-}
-
-impl Page {
-    fn none(alloc: Global) -> Page
-        ensures { result ≡ [] }
-    {
-        Page {
-            stamps: Vec::new(alloc),
-        }
-    }
-
-    /// Makes room for all its numbers, and changes no stamp.
-    fn widen(&mut self) -> Result<(), AllocError>
-        ensures room { OnOk result (1024 ≤ length self.new) }
-        ensures same { (n : ℕ) → slice_index self.new n ≡ slice_index self.old n }
-    {
-        if self.stamps.len() < PAGE as usize {
-            self.stamps.resize(PAGE as usize, 0)?;
-        }
-        Ok(())
-    }
-
-    fn get(&self, place: usize) -> u32
-        ensures { result ≡ slice_index self.now place }
-    {
-        match self.stamps.get(place) {
-            Some(stamp) => *stamp,
-            None => 0,
-        }
-    }
-
-    fn set(&mut self, place: usize, stamp: u32)
-        requires { place < length self.old }
-        ensures { self.new ≡ slice_set self.old place stamp }
-    {
-        self.stamps[place] = stamp;
-    }
-}
+/// The near numbers have room for so many at least, once one of them was set.
+const FIRST: usize = 256;
 
 /// A stamp for each number, 0 where none was set.
 #[derive(Drop)]
 pub struct Stamps {
-    alloc: Global,
-    pages: Vec<Page>,
+    near: Page,
+    far: Pages,
 }
 
 impl Model for Stamps {
-    ghost use Rattle.std.specs.Prelude.{ℕ, List};
+    ghost use Rattle.hint_check.specs.Stamps.{Marks};
 
-    ghost Value = { List (List ℕ) };
+    ghost Value = { Marks };
 
-    ghost view = { λ s. s.pages.items };
+    ghost view = { λ s. (s.near, s.far) };
 }
 
 impl Stamps {
     /// No stamp is set. It takes no memory yet.
     pub fn new(alloc: Global) -> Stamps
-        ensures { result ≡ [] }
+        ensures { result ≡ ([], []) }
     {
         Stamps {
-            alloc,
-            pages: Vec::new(alloc),
+            near: Page::none(alloc),
+            far: Pages::new(alloc),
         }
     }
 
     /// The stamp of a number.
+    #[inline(always)]
     pub fn get(&self, number: u32) -> u32
         ensures { result ≡ stamp_at self.now number }
     {
-        match self.pages.get((number / PAGE) as usize) {
-            Some(page) => page.get((number % PAGE) as usize),
-            None => 0,
+        if number < NEAR {
+            self.near.get(number as usize)
+        } else {
+            self.far.get(number)
         }
     }
 
-    /// Makes the page of a number, and changes no stamp.
-    pub fn make_page(&mut self, number: u32) -> Result<(), AllocError>
-        ensures made { OnOk result (HasPage self.new number) }
+    /// Whether a near number has room.
+    #[inline(always)]
+    fn is_at_hand(&self, number: u32) -> bool
+        ensures { IsTrue result → HasRoom self.now number }
+    {
+        number < NEAR && (number as usize) < self.near.len()
+    }
+
+    /// Makes room for a number, and changes no stamp.
+    #[inline(always)]
+    pub fn make_room(&mut self, number: u32) -> Result<(), AllocError>
+        ensures made { OnOk result (HasRoom self.new number) }
         ensures same { (n : ℕ) → stamp_at self.new n ≡ stamp_at self.old n }
     {
-        let index = (number / PAGE) as usize;
-        grow(self.alloc, &mut self.pages, index + 1)?;
-        self.pages[index].widen()
+        if self.is_at_hand(number) {
+            return Ok(());
+        }
+        self.grow(number)
     }
 
-    /// Sets the stamp of a number that has a page.
+    /// Makes room for a number. The list of the near ones at least doubles, so that few growths make all of it.
+    #[inline(never)]
+    fn grow(&mut self, number: u32) -> Result<(), AllocError>
+        ensures made { OnOk result (HasRoom self.new number) }
+        ensures same { (n : ℕ) → stamp_at self.new n ≡ stamp_at self.old n }
+    {
+        if number < NEAR {
+            let room = near_room(number as usize, self.near.len());
+            self.near.widen(room)
+        } else {
+            self.far.make_page(number)
+        }
+    }
+
+    /// Sets the stamp of a number that has room.
+    #[inline(always)]
     pub fn set(&mut self, number: u32, stamp: u32)
-        requires { HasPage self.old number }
+        requires { HasRoom self.old number }
         ensures { (n : ℕ) → stamp_at self.new n ≡ (if number == n then stamp else stamp_at self.old n) }
     {
-        self.pages[(number / PAGE) as usize].set((number % PAGE) as usize, stamp);
+        if number < NEAR {
+            self.near.set(number as usize, stamp);
+        } else {
+            self.far.set(number, stamp);
+        }
     }
 
-    /// Gives all pages up.
+    /// Gives all stamps up.
     pub fn clear(&mut self)
-        ensures { self.new ≡ [] }
+        ensures { self.new ≡ ([], []) }
     {
-        self.pages.clear();
+        self.near.clear();
+        self.far.clear();
     }
 }
 
-/// Adds pages with no stamps until there are this many.
-fn grow(alloc: Global, pages: &mut Vec<Page>, count: usize) -> Result<(), AllocError>
-    ensures long { OnOk result (count ≤ length pages.new.items) }
-    ensures same { (n : ℕ) → stamp_at pages.new.items n ≡ stamp_at pages.old.items n }
+/// How many near numbers are given room where one has none and so many had it.
+fn near_room(number: usize, had: usize) -> usize
+    requires { number < NEAR }
+    ensures more { number < result }
+    ensures bounded { result ≤ NEAR }
 {
-    for _ in pages.len()..count {
-        pages.push(Page::none(alloc))?;
-    }
-    Ok(())
+    let doubled = had.saturating_mul(2).max(FIRST);
+    doubled.max(number + 1).min(NEAR as usize)
 }

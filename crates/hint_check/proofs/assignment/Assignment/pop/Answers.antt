@@ -1,14 +1,14 @@
 use Rattle.std.proofs.Common.{◌==◌, sym, ap, ◌∙◌, subst}
 use Rattle.std.specs.Prelude.{if◌then◌else◌}
-use Rattle.hint_check.specs.Stamps.{stamp_at, HasPage}
-use Rattle.hint_check.proofs.Stamping.{Sound, Sound-page, Sound-pop}
+use Rattle.hint_check.specs.Stamps.{stamp_at, HasRoom}
+use Rattle.hint_check.proofs.Stamping.{Sound, Sound-room, Sound-pop}
 use Rattle.hint_check.proofs.assignment.Assignment.pop.Goals as goal
 
 pub set-requires : goal.set-requires
 set-requires c =
     let inside = c.self.inside in
-    subst (HasPage inside.stamps) (sym c.number.ensures.value)
-    (Sound-page inside.stamps inside.epoch c.pop.new.self.items c.in-Some.lit (subst (Sound inside.stamps inside.epoch) c.in-Some.ensures.items c.self.invariant))
+    subst (HasRoom inside.stamps) (sym c.number.ensures.value)
+    (Sound-room inside.stamps inside.epoch c.pop.new.self.items c.in-Some.lit (subst (Sound inside.stamps inside.epoch) c.in-Some.ensures.items c.self.invariant))
 
 pub invariant_of-self : goal.invariant_of-self
 invariant_of-self c =
