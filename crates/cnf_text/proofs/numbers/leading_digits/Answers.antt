@@ -1,12 +1,14 @@
-use Rattle.std.proofs.Common.{refl, sym, ◌∙◌}
-use Rattle.cnf_text.proofs.Digits.{no_digits, digits_more, digits_step}
+use Rattle.std.proofs.Common.{◌∙◌, ap, arith, take, sym}
+use Rattle.std.specs.List.{list_all}
+use Rattle.std.specs.Char.{is_ascii_digit}
+use Rattle.cnf_text.specs.Numbers.{digits_value}
+use Rattle.cnf_text.proofs.Digits.{front_of_front}
 use Rattle.cnf_text.proofs.numbers.leading_digits.Goals as goal
 
-pub loop-index-init : goal.loop-index-init
-loop-index-init c = record { digits = refl; value = sym no_digits }
+pub returns-then-digits-lt-FRONT-clause-digits : goal.returns-then-digits-lt-FRONT-clause-digits
+returns-then-digits-lt-FRONT-clause-digits c =
+    ap (list_all is_ascii_digit) (sym (front_of_front c.args.text.now 9 c.digits_at_front-digits.result.count (omega arith))) ∙ c.digits_at_front-digits.ensures.digits
 
-pub loop-index-preserved : goal.loop-index-preserved
-loop-index-preserved c = record {
-  digits = digits_more c.args.text.now c.loop-index.index c.loop-index-test.true c.loop-index.invariant.digits (sym c.is_ascii_digit.ensures.value ∙ c.if-not-is_ascii_digit.false);
-  value = rw (c.from.ensures, c.loop-index.invariant.value) (digits_step c.args.text.now c.loop-index.index c.loop-index-test.true);
-}
+pub returns-then-digits-lt-FRONT-clause-value : goal.returns-then-digits-lt-FRONT-clause-value
+returns-then-digits-lt-FRONT-clause-value c =
+    c.digits_at_front-digits.ensures.value ∙ ap digits_value (front_of_front c.args.text.now 9 c.digits_at_front-digits.result.count (omega arith))
