@@ -120,26 +120,13 @@ const NAMED_IDS: [&[u8]; 16] = [
 
 /// Literals, most of them of the formulas.
 const LITERALS: [&[u8]; 16] = [
-    b"1",
-    b"-1",
-    b"2",
-    b"-2",
-    b"3",
-    b"-3",
-    b"1",
-    b"-1",
-    b"2",
-    b"-2",
-    b"3",
-    b"-3",
-    b"4",
-    b"-4",
-    b"5",
-    b"-1300",
+    b"1", b"-1", b"2", b"-2", b"3", b"-3", b"1", b"-1", b"2", b"-2", b"3", b"-3", b"4", b"-4",
+    b"5", b"-1300",
 ];
 
 /// The steps that are tried on each formula and path, and the length after which a proof is begun anew.
 const TRIES: u32 = 60;
+
 const LONGEST: usize = 300;
 
 /// How often a step was taken into a proof, and each way in which a step was refused.
