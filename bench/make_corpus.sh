@@ -1,0 +1,80 @@
+#!/bin/bash
+# make_corpus.sh [smoke|medium|all]      builds the tools into bin/ and the bundles into corpus/, one after another.
+# Needs cadical, python3, rustc and gcc. A bundle that is there is kept; remove it to make it again.
+set -eu
+cd "$(dirname "$0")"
+mkdir -p bin corpus/smoke corpus/medium
+
+build() { # TOOL SOURCE COMMAND..: where a source in its folder is newer
+    if [ -z "$(find "bin/$1" -newer "$2" 2> /dev/null)" ] || [ -n "$(find "${2%/*}" -newer "bin/$1" -name '*.rs')" ]; then
+        "${@:3}" -o "bin/$1" "$2"
+    fi
+}
+build measure tools/measure.c gcc -O2
+for tool in cubesplit drat2lrat; do build "$tool" "tools/$tool.rs" rustc -O --edition 2024; done
+build lratref anchor/lratref.rs rustc -O --edition 2024
+
+gen() { python3 tools/gen.py "$@"; }
+split() { # FORMULA LEAVES
+    gen $1 > corpus/formula.cnf
+    bin/cubesplit corpus/formula.cnf "$2" > corpus/cubes
+}
+corpus() { # SET NAME LEAVES FORMULA OPTIONS..
+    local out=corpus/$1/$2.icnf
+    if [ -s "$out" ]; then return; fi
+    echo "making $out"
+    split "$4" "$3"
+    python3 tools/bundle.py corpus/new.icnf corpus/formula.cnf corpus/cubes "${@:5}"
+    mv corpus/new.icnf "$out"
+}
+resolution() { gen php_er "$1" > corpus/resolution.drat; }
+
+smoke() {
+    corpus smoke php6 16 "php 6"
+    corpus smoke php6-trim 16 "php 6" --trim
+    resolution 5
+    corpus smoke php5-er 8 "php 5" --drat corpus/resolution.drat
+    corpus smoke tseitin10 16 "tseitin 10 4 1" --trim
+    corpus smoke schur14 16 "schur 14 3" --trim --renumber
+    corpus smoke vdw32-deep 64 "vdw2 32 3 6" --shuffle 3
+    corpus smoke rand3-90 16 "rand3 90 420 3"
+    corpus smoke sparse 8 "sparse 60 290 150 210 1" --pure
+    corpus smoke sparse-trim 8 "sparse 60 290 150 210 2" --pure --trim
+    corpus smoke sparse-lead 8 "sparse 60 290 150 210 3" --pure --lead
+    corpus smoke mul4 16 "miter_mul 4" --trim --renumber
+    corpus smoke bmc4 16 "bmc 4 6 6 1" --trim
+    corpus smoke squares 32 "squares 120 1009"
+    # what stays open: cubes without a proof, branches without a cube, leaves that have a model
+    corpus smoke open-noproof 16 "php 6" --noproof 3,7,8
+    corpus smoke open-missing 32 "vdw2 32 3 6" --drop 5,6,19 --trim
+    corpus smoke open-sat 16 "rand3 60 240 8"
+    if [ ! -d corpus/smoke/folder ]; then
+        split "php 6" 16
+        mkdir corpus/smoke/folder
+        python3 tools/bundle.py corpus/smoke/folder/case.icnf corpus/formula.cnf corpus/cubes \
+            --folder corpus/smoke/folder/proofs --noproof 4
+    fi
+    python3 tools/stride.py corpus/smoke/php6.icnf corpus/smoke/php6-stride.icnf 997
+    python3 tools/stride.py corpus/smoke/sparse.icnf corpus/smoke/sparse-far.icnf 1000003 4611686015000000000
+    python3 tools/spoil.py corpus/smoke/php6.icnf corpus/smoke/sparse.icnf corpus/smoke/sparse-lead.icnf
+}
+
+medium() {
+    corpus medium php9 32 "php 9"
+    corpus medium tseitin25-trim 64 "tseitin 25 4 1" --trim
+    corpus medium sparse-rat 256 "sparse 200 900 4000 5500 1" --pure
+    resolution 20
+    corpus medium php20-er 16 "php 20" --drat corpus/resolution.drat
+}
+
+case "${1:-smoke}" in
+    smoke) smoke ;;
+    medium) medium ;;
+    all)
+        smoke
+        medium
+        ;;
+    *) echo "make_corpus.sh [smoke|medium|all]" >&2 && exit 2 ;;
+esac
+rm -f corpus/formula.cnf corpus/cubes corpus/resolution.drat corpus/new.icnf
+du -sh corpus/smoke corpus/medium

@@ -1,0 +1,115 @@
+#!/usr/bin/env python3
+"""Runs a program and the anchor in turn on bundles and compares reports, times and memory: bench.py PROGRAM [SET|FILE]..."""
+import glob
+import math
+import os
+import statistics
+import subprocess
+import sys
+from typing import NamedTuple
+
+ANCHOR = os.path.abspath(os.environ.get("ANCHOR", "bin/lratref"))
+RUNS = int(os.environ.get("RUNS", "5"))
+# Without WORKERS the program is run as it is, on one thread, and the anchor with one worker. With it, both get the option.
+WORKERS = os.environ.get("WORKERS", "").split()
+
+
+class Run(NamedTuple):
+    wall: float
+    processor: float
+    megabytes: float
+    status: int
+    report: bytes
+
+
+def cases_of(words):
+    """The program's words for each bundle of these sets, and for each of these files."""
+    cases = []
+    for word in words:
+        if not os.path.isdir(f"corpus/{word}"):
+            cases.append([word])
+            continue
+        cases += [[name] for name in sorted(glob.glob(f"corpus/{word}/*.icnf"))]
+        folder = f"corpus/{word}/folder"
+        if os.path.isdir(folder):
+            cases.append(["--proofs", f"{folder}/proofs", f"{folder}/case.icnf"])
+    return cases
+
+
+def run(program, words):
+    out = f"corpus/out.{os.getpid()}"
+    told = subprocess.run(["bin/measure", out, program] + words, capture_output=True, text=True, check=True)
+    wall, processor, kilobytes, status = map(int, told.stdout.split())
+    with open(out, "rb") as file:
+        report = file.read()
+    os.remove(out)
+    return Run(wall / 1e9, processor / 1e6, kilobytes * 1024 / 1e6, status, report)
+
+
+def facts(words):
+    """Megabytes, leaves and steps of a case, the last two as the anchor counts them."""
+    told = subprocess.run([ANCHOR, "--workers", "1", "--stats"] + words, capture_output=True, text=True)
+    counts = told.stderr.split()
+    steps = dict(zip(counts[::2], counts[1::2])).get("steps", "0") if len(counts) % 2 == 0 else "0"
+    first = (told.stdout.split("\n")[0].split() + ["0", "0", "0"])[1:3]
+    size = os.path.getsize(words[-1])
+    if "--proofs" in words:
+        size += sum(os.path.getsize(name) for name in glob.glob(words[1] + "/*"))
+    return size / 1e6, int(first[0]) + int(first[1]), int(steps)
+
+
+def compare(program, words, workers):
+    """The runs of the anchor and those of the program, in turn, after one that warms the page cache."""
+    anchor_words = ["--workers", workers or "1"] + words
+    program_words = (["--workers", workers] if workers else []) + words
+    run(ANCHOR, anchor_words)
+    anchor, other = [], []
+    for turn in range(RUNS):
+        for first in (turn % 2 == 0, turn % 2 != 0):
+            if first:
+                anchor.append(run(ANCHOR, anchor_words))
+            else:
+                other.append(run(program, program_words))
+    return anchor, other
+
+
+def geometric_mean(ratios):
+    return math.exp(sum(map(math.log, ratios)) / len(ratios)) if ratios else float("nan")
+
+
+def show(words, workers, anchor, other):
+    """One line of the table; whether the reports are equal, and the ratios of wall time and processor time."""
+    name = words[-1].removeprefix("corpus/").removesuffix(".icnf")
+    size, leaves, steps = facts(words)
+    same = len({(r.status, r.report) for r in anchor + other}) == 1
+    seconds = [statistics.median(r.wall for r in runs) for runs in (anchor, other)]
+    busy = [max(statistics.median(r.processor for r in runs), 1e-6) for runs in (anchor, other)]
+    memory = [max(r.megabytes for r in runs) for runs in (anchor, other)]
+    print(
+        f"{name:<28}{size:>8.1f}{leaves:>7}{steps:>10}{workers or '1':>4}{seconds[0]:>10.3f}{seconds[1]:>10.3f}"
+        f"{seconds[1] / seconds[0]:>7.2f}{busy[1] / busy[0]:>7.2f}{memory[0]:>10.0f}{memory[1]:>10.0f}"
+        f"  {'equal' if same else 'DIFFERS'}",
+        flush=True,
+    )
+    return same, seconds[1] / seconds[0], busy[1] / busy[0]
+
+
+def main():
+    program = os.path.abspath(sys.argv[1])
+    print(
+        f"{'bundle':<28}{'MB':>8}{'leaves':>7}{'steps':>10}{'w':>4}{'anchor s':>10}{'program s':>10}{'ratio':>7}{'cpu':>7}"
+        f"{'anchor MB':>10}{'prog. MB':>10}  reports"
+    )
+    lines = []
+    for words in cases_of(sys.argv[2:] or ["smoke", "medium"]):
+        for workers in WORKERS or [None]:
+            lines.append(show(words, workers, *compare(program, words, workers)))
+    differ = sum(not same for same, _, _ in lines)
+    print(f"reports that differ: {differ}")
+    print(f"geometric mean of the ratios of processor time: {geometric_mean([cpu for _, _, cpu in lines]):.3f}")
+    print(f"geometric mean of the ratios of wall time: {geometric_mean([wall for _, wall, _ in lines]):.3f}")
+    return 1 if differ else 0
+
+
+if __name__ == "__main__":
+    sys.exit(main())

@@ -1,0 +1,322 @@
+//! The judge and the plain judge on proofs that are made up step by step, by a linear congruential generator.
+use crate::plain_tests::{FOUR, REPEATED, formula, lits};
+use crate::{Base, Checker, Judged, Reason, plain};
+use cnf_text::formula::Formula;
+use cnf_text::literal::Lit;
+use std::alloc::{AllocError, Global};
+use std::test::Fail;
+
+/// Clauses of two and three literals over five variables.
+const PAIRS: &[&[i32]] = &[
+    &[1, 2],
+    &[-1, -2],
+    &[2, 3],
+    &[-2, -3],
+    &[1, 3, 4],
+    &[-1, -3, 4],
+    &[-4, 5],
+    &[-5, -4, 1],
+];
+
+/// Steps over the four clauses that can follow one another, in some orders.
+const FOUR_STEPS: [&[u8]; 16] = [
+    b"9 1 0 1 2 0",
+    b"10 0 9 3 4 0",
+    b"11 -3 1 0 0",
+    b"12 3 0 -11 1 2 0",
+    b"13 2 0 1 3 0",
+    b"14 -2 0 2 4 0",
+    b"15 0 13 14 0",
+    b"0 d 9 0",
+    b"0 d 1 3 0",
+    b"9 -1 0 3 4 0",
+    b"1 2 0 9 3 0",
+    b"18 1 0 -3 1 -4 1 0",
+    b"16 4 -3 2 0 0",
+    b"17 -4 -4 0 1 -16 12 14 2 0",
+    b"18 1 0 -3 3 -4 4 0",
+    b"18 1 0 1 -4 2 -11 12 0",
+];
+
+/// The same over the clauses that repeat literals.
+const REPEATED_STEPS: [&[u8]; 16] = [
+    b"10 1 0 -1 99 -3 2 4 0",
+    b"11 2 0 5 3 2 0",
+    b"12 0 11 5 4 0",
+    b"13 -1 0 5 3 0",
+    b"14 -2 -2 0 5 4 0",
+    b"15 3 0 3 4 2 0",
+    b"12 0 5 15 0",
+    b"15 4 -1 4 0 0",
+    b"16 -4 -4 0 -15 5 3 0",
+    b"0 d 5 1 0",
+    b"0 d 15 0",
+    b"0 d 3 0",
+    b"5 -3 -3 0 13 0",
+    b"17 5 -5 0 0",
+    b"18 -5 0 -17 0",
+    b"3 3 -1 0 5 13 0",
+];
+
+/// The same over the clauses of two and three literals.
+const PAIRS_STEPS: [&[u8]; 16] = [
+    b"13 1 0 1 4 5 7 8 0",
+    b"14 0 9 13 0",
+    b"15 0 10 3 2 9 7 8 0",
+    b"16 6 -4 0 0",
+    b"17 -6 1 0 -16 1 4 5 0",
+    b"18 4 0 5 6 0",
+    b"18 4 1 0 1 4 5 0",
+    b"19 4 -1 0 2 3 6 0",
+    b"20 4 0 18 19 0",
+    b"0 d 7 0",
+    b"0 d 16 17 0",
+    b"0 d 9 10 0",
+    b"7 5 0 0",
+    b"7 5 -4 0 -8 20 13 0",
+    b"21 7 -7 0 0",
+    b"22 -4 5 0 7 -18 7 -19 13 7 -20 7 0",
+];
+
+/// Ids of additions: some of the formula and of the path, small ones, and ids far apart.
+const NEW_IDS: [&[u8]; 16] = [
+    b"1",
+    b"5",
+    b"6",
+    b"7",
+    b"8",
+    b"9",
+    b"10",
+    b"11",
+    b"12",
+    b"13",
+    b"14",
+    b"15",
+    b"16",
+    b"17",
+    b"1000003",
+    b"4611686018427387904",
+];
+
+/// Ids that hints, groups and deletions name.
+const NAMED_IDS: [&[u8]; 16] = [
+    b"1",
+    b"2",
+    b"3",
+    b"4",
+    b"1",
+    b"2",
+    b"3",
+    b"4",
+    b"5",
+    b"5",
+    b"6",
+    b"7",
+    b"8",
+    b"9",
+    b"1000003",
+    b"4611686018427387904",
+];
+
+/// Literals, most of them of the formulas.
+const LITERALS: [&[u8]; 16] = [
+    b"1", b"-1", b"2", b"-2", b"3", b"-3", b"1", b"-1", b"2", b"-2", b"3", b"-3", b"4", b"-4",
+    b"5", b"-1300",
+];
+
+/// The steps that are tried on each formula and path, and the length after which a proof is begun anew.
+const TRIES: u32 = 60;
+
+const LONGEST: usize = 300;
+
+/// How often a step was taken into a proof, and each way in which a step was refused.
+#[derive(Clone, Copy, Debug, PartialEq, Eq)]
+struct Tally {
+    good: u32,
+    refuted: u32,
+    id: u32,
+    hint: u32,
+    unit: u32,
+    empty: u32,
+    group: u32,
+    candidate: u32,
+}
+
+/// A linear congruential generator modulo 2^64, of which the upper bits are taken.
+#[derive(Drop)]
+struct Generator {
+    state: u64,
+}
+
+impl Generator {
+    fn next(&mut self) -> u64 {
+        self.state = self
+            .state
+            .wrapping_mul(6_364_136_223_846_793_005)
+            .wrapping_add(1_442_695_040_888_963_407);
+        self.state >> 33
+    }
+
+    /// One of sixteen words.
+    fn word(&mut self, words: &[&'static [u8]; 16]) -> &'static [u8] {
+        words[(self.next() % 16) as usize]
+    }
+
+    /// A number from 0 to 3, and seldom 3.
+    fn few(&mut self) -> u64 {
+        match self.next() % 8 {
+            0 | 1 => 0,
+            2 | 3 | 4 => 1,
+            5 | 6 => 2,
+            _ => 3,
+        }
+    }
+}
+
+fn push(text: &mut Vec<u8>, word: &[u8]) -> Result<(), AllocError> {
+    text.extend_from_slice(word)?;
+    text.push(b' ')?;
+    Ok(())
+}
+
+fn push_words(
+    random: &mut Generator,
+    text: &mut Vec<u8>,
+    words: &[&'static [u8]; 16],
+) -> Result<(), AllocError> {
+    for _ in 0..random.few() {
+        push(text, random.word(words))?;
+    }
+    Ok(())
+}
+
+/// A random step: one of two is among those given, and one of eight of the others deletes.
+fn push_step(
+    random: &mut Generator,
+    text: &mut Vec<u8>,
+    given: &[&'static [u8]; 16],
+) -> Result<(), AllocError> {
+    if random.next() % 2 == 0 {
+        push(text, random.word(given))?;
+        text.push(b'\n')?;
+        return Ok(());
+    }
+    if random.next() % 8 == 0 {
+        push(text, b"0 d")?;
+        push_words(random, text, &NAMED_IDS)?;
+        return push(text, b"0\n");
+    }
+    push(text, random.word(&NEW_IDS))?;
+    push_words(random, text, &LITERALS)?;
+    push(text, b"0")?;
+    push_words(random, text, &NAMED_IDS)?;
+    for _ in 0..random.few() {
+        text.push(b'-')?;
+        push(text, random.word(&NAMED_IDS))?;
+        push_words(random, text, &NAMED_IDS)?;
+    }
+    push(text, b"0\n")
+}
+
+fn count(tally: &mut Tally, judged: Judged) {
+    let counter = match judged {
+        Judged::Refuted => &mut tally.refuted,
+        Judged::Rejected { step: _, reason } => match reason {
+            Reason::Id => &mut tally.id,
+            Reason::Hint => &mut tally.hint,
+            Reason::Unit => &mut tally.unit,
+            Reason::Empty => &mut tally.empty,
+            Reason::Group => &mut tally.group,
+            Reason::Candidate => &mut tally.candidate,
+            Reason::End | Reason::Unreadable => &mut tally.good,
+        },
+    };
+    *counter = counter.saturating_add(1);
+}
+
+/// Random steps after one another. A step that isn't good is taken back, so that the proofs grow; after a refutation, and
+/// where it is long, a proof is begun anew. Each text that is tried goes to both judges; the answer is the number of texts on
+/// which they differ.
+fn differences(
+    alloc: Global,
+    base: &Base,
+    path: &[Lit],
+    given: &[&'static [u8]; 16],
+    random: &mut Generator,
+    tally: &mut Tally,
+) -> Result<u32, AllocError> {
+    let mut text = Vec::new(alloc);
+    let mut differ = 0u32;
+    for _ in 0..TRIES {
+        let before = text.len();
+        push_step(random, &mut text, given)?;
+        let slow = plain::judge(alloc, base.formula(), path, &text)?;
+        let fast = Checker::over(alloc, base, path)?.judge(alloc, &text)?;
+        count(tally, slow);
+        if slow != fast {
+            differ = differ.saturating_add(1);
+        }
+        match slow {
+            Judged::Rejected {
+                step: _,
+                reason: Reason::End,
+            } if text.len() < LONGEST => {}
+            Judged::Rejected { step: _, reason } if reason != Reason::End => text.truncate(before),
+            _ => text.clear(),
+        }
+    }
+    Ok(differ)
+}
+
+/// The proofs of all paths over one base.
+fn differences_over(
+    alloc: Global,
+    formula: &Formula,
+    given: &[&'static [u8]; 16],
+    random: &mut Generator,
+    tally: &mut Tally,
+) -> Result<u32, AllocError> {
+    let base = Base::new(alloc, formula)?;
+    let mut differ = 0u32;
+    for numbers in [[].as_slice(), &[1], &[-1, 2], &[4, -3, 4]] {
+        let path = lits(alloc, numbers)?;
+        let more = differences(alloc, &base, &path, given, random, tally)?;
+        differ = differ.saturating_add(more);
+    }
+    Ok(differ)
+}
+
+const NOTHING_YET: Tally = Tally {
+    good: 0,
+    refuted: 0,
+    id: 0,
+    hint: 0,
+    unit: 0,
+    empty: 0,
+    group: 0,
+    candidate: 0,
+};
+
+/// The least of its counters: what shows whether each kind of step came up.
+fn least(tally: Tally) -> u32 {
+    let first = tally.good.min(tally.refuted).min(tally.id);
+    let second = tally.hint.min(tally.unit).min(tally.empty);
+    first.min(second).min(tally.group).min(tally.candidate)
+}
+
+#[test]
+fn both_judges_agree(rt: HostRuntime) -> Result<(), Fail> {
+    let mut random = Generator { state: 22 };
+    let mut tally = NOTHING_YET;
+    for (clauses, given) in [
+        (FOUR, &FOUR_STEPS),
+        (REPEATED, &REPEATED_STEPS),
+        (PAIRS, &PAIRS_STEPS),
+    ] {
+        let formula = formula(rt.alloc(), clauses)?;
+        let differ = differences_over(rt.alloc(), &formula, given, &mut random, &mut tally)?;
+        assert_eq!(rt; differ, 0);
+    }
+    assert!(rt; least(tally) > 0, "{tally:?}");
+    Ok(())
+}
