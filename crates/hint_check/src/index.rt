@@ -1,9 +1,9 @@
 //! For each literal the ids of the clauses that may hold it.
-ghost use Rattle.std.specs.Prelude.{◌≡◌, ℕ, ◌++◌, ◌∷◌, [], IfOk, OnOk, OnErr};
+ghost use Rattle.std.specs.Prelude.{◌≡◌, ℕ, ◌≤◌, ◌++◌, ◌∷◌, [], length, slice_index_or, IfOk, OnOk, OnErr};
 ghost use Rattle.cnf_text.specs.Literal.{number_of};
 ghost use Rattle.std.specs.List.{enumerate_from};
 ghost use Rattle.std.specs.Option.{IfSome, unwrap_or};
-ghost use Rattle.hint_check.specs.Index.{ids_at, Adds, Lists, Indexes, MayList};
+ghost use Rattle.hint_check.specs.Index.{row_at, ids_at, AddsNear, AddsFar, Adds, Lists, Indexes, MayList};
 
 use cnf_text::formula::Clause;
 use cnf_text::literal::Lit;
@@ -48,32 +48,37 @@ impl Row {
     }
 }
 
-/// For each literal a row of ids, by the literal's number.
+/// The near numbers are those below this.
+const NEAR: u32 = 65536;
+
+/// For each literal a row of ids, by the literal's number: the rows of near numbers stand in a list.
 #[derive(Drop)]
 pub struct Index {
     alloc: Global,
     /// How often an id was listed.
     listed: usize,
-    rows: HashMap<u32, Row>,
+    near: Vec<Row>,
+    far: HashMap<u32, Row>,
 }
 
 impl Model for Index {
-    ghost use Rattle.std.specs.Prelude.{ℕ, List};
+    ghost use Rattle.hint_check.specs.Index.{Rows};
 
-    ghost Value = { List (ℕ × List ℕ) };
+    ghost Value = { Rows };
 
-    ghost view = { λ i. i.rows.entries };
+    ghost view = { λ i. (i.near.items, i.far.entries) };
 }
 
 impl Index {
     /// No id is listed. It takes no memory yet.
     pub fn new(alloc: Global) -> Index
-        ensures { result ≡ [] }
+        ensures { result ≡ ([], []) }
     {
         Index {
             alloc,
             listed: 0,
-            rows: HashMap::new(alloc),
+            near: Vec::new(alloc),
+            far: HashMap::new(alloc),
         }
     }
 
@@ -81,9 +86,11 @@ impl Index {
     pub fn ids(&self, lit: Lit) -> &[u64]
         ensures { result.now ≡ ids_at self.now (number_of lit) }
     {
-        match self.rows.get(&lit.number()) {
-            Some(row) => row.ids(),
-            None => &[],
+        let number = lit.number();
+        if number < NEAR {
+            near_ids(&self.near, number)
+        } else {
+            far_ids(&self.far, number)
         }
     }
 
@@ -93,14 +100,11 @@ impl Index {
     {
         let number = lit.number();
         self.listed = self.listed.saturating_add(1);
-        if let Some(row) = self.rows.get_mut(&number) {
-            row.push(id)?;
-            return Ok(());
+        if number < NEAR {
+            push_near(self.alloc, &mut self.near, number, id)
+        } else {
+            push_far(self.alloc, &mut self.far, number, id)
         }
-        let mut row = Row::new(self.alloc);
-        row.push(id)?;
-        self.rows.insert(number, row)?;
-        Ok(())
     }
 
     /// Lists an id for each of these literals. After an error some ids may be missing.
@@ -112,6 +116,68 @@ impl Index {
         }
         Ok(())
     }
+}
+
+/// The ids in the row of this number.
+#[inline(always)]
+fn near_ids(rows: &[Row], number: u32) -> &[u64]
+    ensures { result.now ≡ slice_index_or rows.now number [] }
+{
+    match rows.get(number as usize) {
+        Some(row) => row.ids(),
+        None => &[],
+    }
+}
+
+fn far_ids(rows: &HashMap<u32, Row>, number: u32) -> &[u64]
+    ensures { result.now ≡ row_at rows.now.entries number }
+{
+    match rows.get(&number) {
+        Some(row) => row.ids(),
+        None => &[],
+    }
+}
+
+/// Adds rows with no ids until there are this many.
+fn make_rows(alloc: Global, rows: &mut Vec<Row>, count: usize) -> Result<(), AllocError>
+    ensures long { OnOk result (count ≤ length rows.new.items) }
+    ensures same { (n : ℕ) → slice_index_or rows.new.items n [] ≡ slice_index_or rows.old.items n [] }
+{
+    for _ in rows.len()..count {
+        rows.push(Row::new(alloc))?;
+    }
+    Ok(())
+}
+
+/// Lists an id in the row of this number.
+fn push_near(
+    alloc: Global,
+    rows: &mut Vec<Row>,
+    number: u32,
+    id: u64,
+) -> Result<(), AllocError>
+    ensures { OnOk result (AddsNear rows.old.items rows.new.items number id) }
+{
+    make_rows(alloc, rows, number as usize + 1)?;
+    rows[number as usize].push(id)
+}
+
+fn push_far(
+    alloc: Global,
+    rows: &mut HashMap<u32, Row>,
+    number: u32,
+    id: u64,
+) -> Result<(), AllocError>
+    ensures { OnOk result (AddsFar rows.old.entries rows.new.entries number id) }
+{
+    if let Some(row) = rows.get_mut(&number) {
+        row.push(id)?;
+        return Ok(());
+    }
+    let mut row = Row::new(alloc);
+    row.push(id)?;
+    rows.insert(number, row)?;
+    Ok(())
 }
 
 /// The index of clauses that have the ids from 1 on.
@@ -145,7 +211,7 @@ pub fn make_index(
     clauses: &HashMap<u64, Clause>,
 ) -> Result<(), AllocError>
     requires { IfSome index.old (λ rows. Indexes rows clauses.now.entries) }
-    ensures made { OnOk result (Indexes (unwrap_or index.new []) clauses.now.entries) }
+    ensures made { OnOk result (Indexes (unwrap_or index.new ([], [])) clauses.now.entries) }
     ensures kept { IfSome index.new (λ rows. Indexes rows clauses.now.entries) }
 {
     if index.is_none() {
@@ -156,7 +222,7 @@ pub fn make_index(
 
 /// The ids listed for a literal, and none where there is no index.
 pub fn listed_ids(index: &Option<Index>, lit: Lit) -> &[u64]
-    ensures { result.now ≡ ids_at (unwrap_or index.now []) (number_of lit) }
+    ensures { result.now ≡ ids_at (unwrap_or index.now ([], [])) (number_of lit) }
 {
     match index {
         Some(rows) => rows.ids(lit),
