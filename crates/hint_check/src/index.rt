@@ -180,11 +180,47 @@ fn push_far(
     Ok(())
 }
 
+/// Counts the literals with near numbers.
+fn count_literals(counts: &mut Vec<usize>, lits: &[Lit]) -> Result<(), AllocError> {
+    for lit in lits {
+        let number = lit.number() as usize;
+        if number < NEAR as usize {
+            if counts.len() <= number {
+                counts.resize(number + 1, 0)?;
+            }
+            counts[number] = counts[number].saturating_add(1);
+        }
+    }
+    Ok(())
+}
+
+/// How many of the clauses' literals have each near number.
+fn literal_counts(alloc: Global, clauses: &[Clause]) -> Result<Vec<usize>, AllocError> {
+    let mut counts = Vec::new(alloc);
+    for clause in clauses {
+        count_literals(&mut counts, clause.lits())?;
+    }
+    Ok(counts)
+}
+
+/// An index that lists nothing yet. It has room for what these clauses will have listed, so that the ids of near numbers
+/// stand in memory in the numbers' order, in which proofs often go through them.
+fn index_with_room(alloc: Global, clauses: &[Clause]) -> Result<Index, AllocError> {
+    let mut index = Index::new(alloc);
+    let counts = literal_counts(alloc, clauses)?;
+    for count in &counts {
+        index.near.push(Row {
+            ids: Vec::with_capacity(alloc, *count)?,
+        })?;
+    }
+    Ok(index)
+}
+
 /// The index of clauses that have the ids from 1 on.
 pub fn index_of(alloc: Global, clauses: &[Clause]) -> Result<Index, AllocError>
     ensures { IfOk result (λ index. Indexes index (enumerate_from 1 clauses.now)) }
 {
-    let mut index = Index::new(alloc);
+    let mut index = index_with_room(alloc, clauses)?;
     let mut id = 1;
     for clause in clauses {
         index.push_all(clause.lits(), id)?;
