@@ -150,12 +150,7 @@ fn make_rows(alloc: Global, rows: &mut Vec<Row>, count: usize) -> Result<(), All
 }
 
 /// Lists an id in the row of this number.
-fn push_near(
-    alloc: Global,
-    rows: &mut Vec<Row>,
-    number: u32,
-    id: u64,
-) -> Result<(), AllocError>
+fn push_near(alloc: Global, rows: &mut Vec<Row>, number: u32, id: u64) -> Result<(), AllocError>
     ensures { OnOk result (AddsNear rows.old.items rows.new.items number id) }
 {
     make_rows(alloc, rows, number as usize + 1)?;
@@ -240,12 +235,7 @@ fn is_stale(index: &Option<Index>, held: usize) -> bool {
 
 /// Lists an id for each of these literals, where there is an index. A stale one is given up instead, and so is one that
 /// could not grow, since it may lack some of what it should name.
-pub fn note(
-    index: &mut Option<Index>,
-    held: usize,
-    lits: &[Lit],
-    id: u64,
-) -> Result<(), AllocError>
+pub fn note(index: &mut Option<Index>, held: usize, lits: &[Lit], id: u64) -> Result<(), AllocError>
     ensures listed { OnOk result (MayList index.old index.new lits.now id) }
     ensures given_up { OnErr result (index.new ≡ None) }
 {
