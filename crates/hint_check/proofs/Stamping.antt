@@ -173,15 +173,15 @@ past (x ∷ xs) (suc i) h = past xs i (omega arith)
 -- a stamp other than 0 has room
 room-of_stamp : (marks : Marks) (number : ℕ) → 1 ≤ stamp_at marks number → HasRoom marks number
 room-of_stamp marks number some = (
-    λ near. elim (cases_lt number (length marks.0)) [
-      | inl within ↦ within
-      | inr beyond ↦ let none = near-at marks number near ∙ past marks.0 number beyond in absurd (omega (arith, none, some))
-    ],
-    λ far. let page = get_or marks.1 (number / 1024) [] in
-    elim (cases_lt (number % 1024) (length page)) [
-      | inl within ↦ within
-      | inr beyond ↦ let none = far-at marks number far ∙ past page (number % 1024) beyond in absurd (omega (arith, none, some))
-    ],
+  λ near. elim (cases_lt number (length marks.0)) [
+    | inl within ↦ within
+    | inr beyond ↦ let none = near-at marks number near ∙ past marks.0 number beyond in absurd (omega (arith, none, some))
+  ],
+  λ far. let page = get_or marks.1 (number / 1024) [] in
+      elim (cases_lt (number % 1024) (length page)) [
+        | inl within ↦ within
+        | inr beyond ↦ let none = far-at marks number far ∙ past page (number % 1024) beyond in absurd (omega (arith, none, some))
+      ],
 )
 
 -- the last literal that was set has room
