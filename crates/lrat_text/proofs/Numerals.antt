@@ -1,15 +1,15 @@
 -- Numbers as symbols.
-use Rattle.std.proofs.Common.{◌≡◌, ℕ, ◌≤◌, ◌<◌, List, [], ◌∷◌, drop, refl, sym, ◌∙◌, ap, arith, Bool, true, false, not, Option, Some, None, inl, inr}
+use Rattle.std.proofs.Common.{◌≡◌, ℕ, ◌≤◌, ◌<◌, List, [], ◌∷◌, drop, refl, sym, ◌∙◌, ap, arith, Bool, true, false, Option, Some, None, inl, inr}
 use Rattle.std.specs.Prelude.{min, codes, slice_index, ◌==◌}
 use Rattle.std.specs.Option.{option_map}
 use Rattle.std.specs.Str.{bytes_eq}
 use Rattle.std.proofs.lemmas.Slice.Eq.{bytes_eq-Decides}
-use Rattle.std.proofs.lemmas.Bool.{cases_Bool, false≢true, eqb-true, eqb-false}
+use Rattle.std.proofs.lemmas.Bool.{cases_Bool, false≢true, eqb-false}
 use Rattle.cnf_text.specs.declared.numbers.Number as code
 use Rattle.cnf_text.specs.Numbers.{Number, number_of, negative_of, unsigned_of, decimal, capped}
 use Rattle.lrat_text.specs.declared.steps.Word.TheVariants as words
-use Rattle.lrat_text.specs.Lrat.{symbol_of, symbol_of_number, Numeral, DeleteMark, positive, negative, end_mark, IsId}
-use Rattle.lrat_text.specs.Runs.{Means, HasId}
+use Rattle.lrat_text.specs.Lrat.{symbol_of, Numeral, DeleteMark}
+use Rattle.lrat_text.specs.Runs.{Means}
 
 some_none : {A : Type 0} (a : A) → None ≡ Some a → ⊥
 some_none a e = cc
@@ -87,12 +87,11 @@ same_parts n sign size signs sizes = λ i. record { negative = signs i; magnitud
 pub too_large : (bytes : List ℕ) (told : code.Number) → option_map capped (number_of bytes) ≡ Some told → 4611686018427387904 < told.magnitude → Means words.Stray (symbol_of bytes)
 too_large bytes told h large =
     let is = is_numeral bytes told h in
-    let size : min is.number.magnitude 18446744073709551615 ≡ told.magnitude = capped_size is.number told is.told_is in
-    (
+    let size : min is.number.magnitude 18446744073709551615 ≡ told.magnitude = capped_size is.number told is.told_is in (
       λ number bound e. (
-        let sizes : is.number.magnitude ≡ number.magnitude = ap (λ (m : Number). m.magnitude) (same_numeral _ _ (sym is.symbol ∙ e)) in
-        omega arith
-      ),
+          let sizes : is.number.magnitude ≡ number.magnitude = ap (λ (m : Number). m.magnitude) (same_numeral _ _ (sym is.symbol ∙ e)) in
+          omega arith
+          ),
       λ e. no_numeral is.number (sym is.symbol ∙ e),
     )
 

@@ -1,5 +1,4 @@
-use Rattle.std.proofs.Common.{◌∙◌, ap, arith, refl}
-use Rattle.lrat_text.specs.Lrat.{Numeral}
+use Rattle.std.proofs.Common.{◌∙◌, arith, refl}
 use Rattle.lrat_text.proofs.Numerals.{too_large, within, some_below_zero}
 use Rattle.lrat_text.proofs.steps.numeral.Goals as goal
 
