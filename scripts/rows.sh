@@ -25,7 +25,7 @@ count() {
 run() {
     input=$1
     shift
-    (cd "$here/run" && "$root/cubeboard" "$@") < "$input" > "$here/out" 2> "$here/err"
+    (cd "$here/run" && "$program" "$@") < "$input" > "$here/out" 2> "$here/err"
     echo $? > "$here/status"
 }
 
@@ -56,13 +56,16 @@ row() {
     compare "$(basename "$base")" "$base.out" "$base.err" "$base.status"
 }
 
+# The launcher first, which builds the program where that is needed; all other runs are of the program itself.
 clear_folder
+program=$root/cubeboard
 run /dev/null
 if [ "$(cat "$here/status")" != 3 ]; then
     cat "$here/err"
     echo "rows: 0 passed, 1 failed"
     exit 1
 fi
+program=$root/crates/cubeboard/out/cubeboard
 for input in "$root"/tests/rows/*.in; do
     row "${input%.in}"
 done
@@ -98,11 +101,11 @@ count "a folder in the place of a proof" $?
 
 # A report that can't be written, and an error that can't be written.
 if [ -w /dev/full ]; then
-    "$root/cubeboard" < "$root/tests/rows/unit_then_empty_clause.in" > /dev/full 2> "$here/err"
+    "$program" < "$root/tests/rows/unit_then_empty_clause.in" > /dev/full 2> "$here/err"
     echo $? > "$here/status"
     [ "$(cat "$here/status")" = 5 ] && [ "$(cat "$here/err")" = "cubeboard: F13 device" ]
     count "a full device" $?
-    "$root/cubeboard" < /dev/null > "$here/out" 2> /dev/full
+    "$program" < /dev/null > "$here/out" 2> /dev/full
     echo $? > "$here/status"
     [ "$(cat "$here/status")" = 3 ] && [ ! -s "$here/out" ]
     count "a full device for the error" $?

@@ -1,0 +1,20 @@
+use Rattle.std.proofs.Common.{◌≡◌, ◌∙◌, map}
+use Rattle.clap.specs.Words.{kind_of}
+use Rattle.clap.specs.declared.error.kind.ErrorKind.TheVariants.{OutOfMemory}
+use Rattle.cube_command.specs.Program.{AreTaken}
+use Rattle.cube_command.proofs.Requests.{found_asked, handed_on, parsed_taken, taken_fails}
+use Rattle.cube_command.proofs.words.request_of.Goals as goal
+
+pub returns-in_err-matches-clause-refused : goal.returns-in_err-matches-clause-refused
+returns-in_err-matches-clause-refused g c =
+    handed_on c.from_residual-in_err-matches.result
+    (λ error. AreTaken (map g.S.AsStr.text c.args.words.now) → kind_of error ≡ OutOfMemory) c.in_err-matches.field-0.0
+    (λ taken. taken_fails _ _ c.in_err-matches.field-0.0 c.in_ok-parser.ensures c.in_err-matches.ensures.kinds taken) c.from_residual-in_err-matches.ensures.1
+
+pub returns : goal.returns
+returns g c = record {
+  proofs = c.get_str.ensures ∙ found_asked _ _ _ _ c.in_ok-parser.ensures c.in_ok-matches.ensures.matches;
+  file = c.get_str-2.ensures ∙ found_asked _ _ _ _ c.in_ok-parser.ensures c.in_ok-matches.ensures.matches;
+  taken = parsed_taken _ _ c.in_ok-parser.ensures c.in_ok-matches.ensures.kinds;
+  refused = tt;
+}

@@ -1,0 +1,73 @@
+-- The main statements: what a run says of the bytes of a bundle.
+use Rattle.std.specs.Prelude.{◌≡◌, ℕ, Bool, List, ◌++◌, true, codes, length, MatchOption}
+use Rattle.cnf_text.specs.Literal.{Literal}
+use Rattle.cnf_text.specs.Formula.{HasNoModel}
+use Rattle.cnf_text.specs.Icnf.{Item, StandsFor, clauses_of}
+use Rattle.lrat_text.specs.Proof.{proof_of}
+use Rattle.hint_check.specs.Judgement.{judgement}
+use Rattle.split_tree.specs.SplitTree.{size}
+use Rattle.split_tree.specs.Leaves.{IsTargetAt, IsPathOf}
+use Rattle.split_tree.specs.declared.node.Target.{Target}
+use Rattle.case_core.specs.Bundle.{icnf_text}
+use Rattle.case_core.specs.Case.{CaseOf, proof_for}
+use Rattle.case_core.specs.Sections as case_core
+use Rattle.case_core.specs.declared.fault.CaseFault.{CaseFault}
+use Rattle.mark_board.specs.declared.mark.Mark.{Mark}
+use Rattle.mark_board.specs.declared.mark.Mark.TheVariants.{Open}
+use Rattle.mark_board.specs.Marking.{marked}
+use Rattle.mark_board.specs.Rows.{mark_at, refuted_by}
+use Rattle.mark_board.specs.Places.{mark_as}
+use Rattle.cube_report.specs.declared.fault.Fault.{Fault}
+use Rattle.cube_report.specs.Faults.{fault_of_case}
+use Rattle.cube_report.specs.Report.{report_text}
+
+-- the formula of a bundle: all clauses of its iCNF text
+abbrev pub IsFormulaOf : List ℕ → List (List Literal) → Type 0
+IsFormulaOf bundle formula = (items : List Item) × StandsFor (icnf_text bundle) items × (formula ≡ clauses_of items)
+
+-- the formula of the bundle has no model
+abbrev pub IsUnsatisfiable : List ℕ → Type 0
+IsUnsatisfiable bundle = (formula : List (List Literal)) → IsFormulaOf bundle formula → HasNoModel formula
+
+-- the mark of a target's finding: open where it has no section, otherwise as the section's proof is judged from the formula and the
+-- target's path
+abbrev pub IsMarkOf : CaseOf → Target → Mark → Type 0
+IsMarkOf case target mark = MatchOption (proof_for case.sections target) (mark ≡ Open)
+    (λ proof. (path : List Literal) → IsPathOf case.tree target path → mark ≡ mark_as (judgement case.formula path (proof_of proof)))
+
+-- each node has the mark of its finding
+pub record AreFindings (case : CaseOf) (marks : List Mark) : Type 0 where
+  pub long : length marks ≡ size case.tree
+  pub each : (node : ℕ) (target : Target) → IsTargetAt case.tree node target → IsMarkOf case target (mark_at marks node)
+
+-- the bundle stands for this case, whose nodes' findings have these marks
+pub record IsJudged (bundle : List ℕ) (case : CaseOf) (marks : List Mark) : Type 0 where
+  pub case_is : case_core.IsCaseOf bundle case
+  pub findings : AreFindings case marks
+
+-- the text is the report on the case that the bundle stands for
+abbrev pub IsReportOn : List ℕ → List ℕ → Type 0
+IsReportOn bundle report = (case : CaseOf) × (marks : List Mark) × IsJudged bundle case marks × (report ≡ report_text case marks)
+
+-- the root of the case that the bundle stands for is marked exactly where the answer is true
+abbrev pub IsAnswerOn : List ℕ → Bool → Type 0
+IsAnswerOn bundle answer = (case : CaseOf) × (marks : List Mark) × IsJudged bundle case marks × (answer ≡ marked (refuted_by marks) 0 case.tree)
+
+-- the report says in its last line that the formula is refuted
+abbrev pub SaysRefuted : List ℕ → Type 0
+SaysRefuted report = (before : List ℕ) × (report ≡ before ++ codes "s REFUTED\n")
+
+-- What a run on a bundle promises of its report and of the answer that goes with it: there is one case, which the bundle stands
+-- for, and each of whose nodes has the mark of its finding; the report is the text by these marks; the answer is true exactly
+-- where they mark the root; and then the formula of the bundle has no model.
+pub record IsCorrect (bundle report : List ℕ) (answer : Bool) : Type 0 where
+  pub case : CaseOf
+  pub marks : List Mark
+  pub judged : IsJudged bundle case marks
+  pub text : report ≡ report_text case marks
+  pub refuted : answer ≡ marked (refuted_by marks) 0 case.tree
+  pub sound : answer ≡ true → IsUnsatisfiable bundle
+
+-- the first fault of the bundle
+abbrev pub IsFaultOn : List ℕ → Fault → Type 0
+IsFaultOn bundle fault = (kind : CaseFault) × (fault ≡ fault_of_case kind) × case_core.IsFaultOf bundle kind

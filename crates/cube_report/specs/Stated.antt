@@ -1,0 +1,17 @@
+-- What is said of a case on the way to the report on its bundle.
+use Rattle.std.specs.Prelude.{◌≡◌, ℕ, Bool, List, [], true}
+use Rattle.cnf_text.specs.Formula.{IsRefuted}
+use Rattle.case_core.specs.Case.{CaseOf}
+use Rattle.mark_board.specs.declared.mark.Mark.{Mark}
+use Rattle.mark_board.specs.Marking.{marked}
+use Rattle.mark_board.specs.Rows.{refuted_by}
+use Rattle.cube_report.specs.Report.{report_text}
+use Rattle.cube_report.specs.Correct.{AreFindings}
+
+-- the report on the case, and the answer that goes with it
+pub record IsStated (case : CaseOf) (report : List ℕ) (answer : Bool) : Type 0 where
+  pub marks : List Mark
+  pub findings : AreFindings case marks
+  pub text : report ≡ report_text case marks
+  pub refuted : answer ≡ marked (refuted_by marks) 0 case.tree
+  pub sound : answer ≡ true → IsRefuted case.formula []

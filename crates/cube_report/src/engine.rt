@@ -1,0 +1,206 @@
+//! From the bytes that come in to the bytes that go out.
+
+ghost use Rattle.std.specs.Prelude.{Bool, List, replicate, ◌≡◌, ◌≢◌, ◌↔◌, ◌⊎◌, ℕ, ◌<◌, ◌^◌, ◌-◌, ◌+◌, true, IfOk, IfErr, OnOk, OnErr, IfSome, IsErrOf};
+ghost use Rattle.std.specs.Io.KnownBytes.{Keeps, Appends};
+ghost use Rattle.split_tree.specs.SplitTree.{size};
+ghost use Rattle.mark_board.specs.declared.mark.Mark.TheVariants.{Open};
+ghost use Rattle.cube_report.specs.Faults.{IsInputFault};
+ghost use Rattle.cube_report.specs.Device.{AppendsBeginning, IsReadFault};
+ghost use Rattle.cube_report.specs.Stated.{IsStated};
+ghost use Rattle.cube_report.specs.Correct.{AreFindings, IsReportOn, IsAnswerOn, IsCorrect, IsFaultOn, IsUnsatisfiable, SaysRefuted};
+
+use crate::device::{Sink, Source};
+use crate::fault::Fault;
+use crate::report::report_of;
+use case_core::{Case, examine, read_bundle};
+use mark_board::Boards;
+use std::alloc::{AllocError, Global};
+
+/// A report, and whether the root is marked.
+#[derive(Drop)]
+struct Outcome {
+    text: Vec<u8>,
+    refuted: bool,
+}
+
+/// Posts the finding of each section of the case to its boards, on which nothing is posted yet.
+fn post_findings<'c>(
+    alloc: Global,
+    case: &'c Case,
+    boards: &mut Boards<'c>,
+) -> Result<(), AllocError>
+    requires case { boards.old.case ≡ case.now }
+    requires open { boards.old.marks ≡ replicate (size case.now.tree) Open }
+    ensures case { OnOk result (boards.new.case ≡ case.now) }
+    ensures findings { OnOk result (AreFindings case.now boards.new.marks) }
+{
+    let sections = case.sections();
+    for section in sections {
+        match examine(alloc, case, section.target)? {
+            Some(finding) => {
+                let _ = boards.post(finding);
+            }
+            None => unreachable!(),
+        }
+    }
+    Ok(())
+}
+
+/// The boards of a case with the findings of all its sections, at cut 0.
+fn conquer(alloc: Global, case: &Case) -> Result<Boards<'_>, AllocError>
+    ensures case { IfOk result (λ boards. boards.case ≡ case.now) }
+    ensures findings { IfOk result (λ boards. AreFindings case.now boards.marks) }
+{
+    let mut boards = Boards::new(alloc, case, 0)?;
+    post_findings(alloc, case, &mut boards)?;
+    Ok(boards)
+}
+
+/// The report by the boards' own marks, which are those of the findings, and whether it says refuted.
+fn outcome_by(alloc: Global, boards: &Boards<'_>) -> Result<Outcome, AllocError>
+    requires { AreFindings boards.now.case boards.now.marks }
+    ensures { IfOk result (λ outcome. IsStated boards.now.case outcome.text.items outcome.refuted) }
+{
+    let text = report_of(alloc, boards)?;
+    Ok(Outcome {
+        text,
+        refuted: boards.root_marked(),
+    })
+}
+
+/// The report on a case, and whether it says refuted.
+fn outcome_on(alloc: Global, case: &Case) -> Result<Outcome, AllocError>
+    ensures { IfOk result (λ outcome. IsStated case.now outcome.text.items outcome.refuted) }
+{
+    let boards = conquer(alloc, case)?;
+    outcome_by(alloc, &boards)
+}
+
+/// The report on a bundle, and whether it says refuted.
+fn outcome_of(alloc: Global, bundle: &[u8]) -> Result<Outcome, Fault>
+    ensures outcome { IfOk result (λ outcome. IsCorrect bundle.now outcome.text.items outcome.refuted) }
+    ensures fault { IfErr result (λ fault. fault ≢ Fault.Memory → IsFaultOn bundle.now fault) }
+    ensures device { IfErr result (λ fault. fault ≢ Fault.Device) }
+{
+    let case = read_bundle(alloc, bundle)?;
+    Ok(outcome_on(alloc, &case)?)
+}
+
+/// The report on a bundle, by one thread, or the bundle's first fault; `Memory` may stand in the place of any other
+/// answer where a growth is refused.
+pub fn run_one(alloc: Global, bundle: &[u8]) -> Result<Vec<u8>, Fault>
+    // The text is the report on the case that the bundle stands for.
+    ensures text { IfOk result (λ text. IsReportOn bundle.now text.items) }
+    // With the answer of its last line, it is all that a run promises.
+    ensures correct { IfOk result (λ text. (answer : Bool) × IsCorrect bundle.now text.items answer) }
+    // It says refuted only where the formula has no model.
+    ensures sound { IfOk result (λ text. SaysRefuted text.items → IsUnsatisfiable bundle.now) }
+    // Another bundle is refused for its first fault.
+    ensures fault { IfErr result (λ fault. fault ≢ Fault.Memory → IsFaultOn bundle.now fault) }
+{
+    let outcome = outcome_of(alloc, bundle)?;
+    Ok(outcome.text)
+}
+
+/// Reads a bundle to the reader's end, and writes the report on it; answers whether the formula is refuted.
+///
+/// Nothing is written before all is read and judged. A read of 0 bytes is the reader's end. `Device` where a read or a
+/// write failed in this call, and where a write failed, a beginning of the report was written.
+pub fn run_io<R: Source, W: Sink>(
+    alloc: Global,
+    reader: &mut R,
+    writer: &mut W,
+) -> Result<bool, Fault>
+    requires reader { R.failures reader.old < 2 ^ 64 - 1 }
+    requires writer { W.failures writer.old < 2 ^ 64 - 1 }
+
+    // What is written is the report on what was read, and the answer tells whether it says refuted: both of one case.
+    ensures correct { IfOk result (λ answer. IfSome (R.remaining reader.old) (λ input. (text : List ℕ)
+        × IsCorrect input text answer × Appends (W.contents writer.old) (W.contents writer.new) text)) }
+    ensures written { OnOk result (IfSome (R.remaining reader.old) (λ input.
+        (text : List ℕ) × IsReportOn input text × Appends (W.contents writer.old) (W.contents writer.new) text)) }
+    ensures answer { IfOk result (λ answer. IfSome (R.remaining reader.old) (λ input. IsAnswerOn input answer)) }
+
+    // It is true only where the formula has no model.
+    ensures sound { IfOk result (λ answer. answer ≡ true → IfSome (R.remaining reader.old) IsUnsatisfiable) }
+
+    // A fault of the input is that of what was read.
+    ensures fault { IfErr result (λ fault. IsInputFault fault →
+        IfSome (R.remaining reader.old) (λ input. IsFaultOn input fault)) }
+
+    // Where no write failed, a fault has written nothing, and otherwise a beginning of the report was written.
+    ensures nothing { OnErr result (W.failures writer.new ≡ W.failures writer.old →
+        Keeps (W.contents writer.old) (W.contents writer.new)) }
+    ensures beginning { OnErr result (IfSome (R.remaining reader.old) (λ input. W.failures writer.new ≢ W.failures writer.old →
+        (text : List ℕ) × IsReportOn input text × AppendsBeginning (W.contents writer.old) (W.contents writer.new) text)) }
+
+    // The device is at fault exactly where a call failed.
+    ensures device { IsErrOf result Fault.Device ↔
+        (R.failures reader.old < R.failures reader.new ⊎ W.failures writer.old < W.failures writer.new) }
+{
+    let input = read_all(alloc, reader)?;
+    write_report(alloc, &input, writer)
+}
+
+/// Writes the report on a bundle; answers whether the formula is refuted. Nothing is written before all is judged.
+/// `Device` where a write failed in this call, and then a beginning of the report was written.
+pub fn write_report<W: Sink>(
+    alloc: Global,
+    bundle: &[u8],
+    writer: &mut W,
+) -> Result<bool, Fault>
+    requires { W.failures writer.old < 2 ^ 64 - 1 }
+    ensures correct { IfOk result (λ answer. (text : List ℕ)
+        × IsCorrect bundle.now text answer × Appends (W.contents writer.old) (W.contents writer.new) text) }
+    ensures written { OnOk result ((text : List ℕ) × IsReportOn bundle.now text × Appends (W.contents writer.old) (W.contents writer.new) text) }
+    ensures answer { IfOk result (λ answer. IsAnswerOn bundle.now answer) }
+    ensures sound { IfOk result (λ answer. answer ≡ true → IsUnsatisfiable bundle.now) }
+    ensures fault { IfErr result (λ fault. IsInputFault fault → IsFaultOn bundle.now fault) }
+    ensures nothing { OnErr result (W.failures writer.new ≡ W.failures writer.old →
+        Keeps (W.contents writer.old) (W.contents writer.new)) }
+    ensures beginning { OnErr result (W.failures writer.new ≢ W.failures writer.old →
+        (text : List ℕ) × IsReportOn bundle.now text × AppendsBeginning (W.contents writer.old) (W.contents writer.new) text) }
+    ensures device { IsErrOf result Fault.Device ↔ (W.failures writer.old < W.failures writer.new) }
+{
+    let outcome = outcome_of(alloc, bundle)?;
+    write_all(writer, &outcome.text)?;
+    Ok(outcome.refuted)
+}
+
+/// All bytes up to the reader's end.
+fn read_all<R: Source>(alloc: Global, reader: &mut R) -> Result<Vec<u8>, Fault>
+    requires { R.failures reader.old < 2 ^ 64 - 1 }
+    ensures bytes { IfOk result (λ input. IfSome (R.remaining reader.old) (λ left. input.items ≡ left)) }
+    ensures ok { OnOk result (R.failures reader.new ≡ R.failures reader.old) }
+    ensures err { IfErr result (λ fault. IsReadFault (R.failures reader.old) (R.failures reader.new) fault) }
+{
+    let mut input = Vec::new(alloc);
+    let mut buffer = [0u8; 65536];
+    loop {
+        let Ok(count) = reader.read(&mut buffer) else {
+            return Err(Fault::Device);
+        };
+        if count == 0 {
+            return Ok(input);
+        }
+        input.extend_from_slice(&buffer[..count])?;
+    }
+}
+
+/// Writes all of the text.
+fn write_all<W: Sink>(writer: &mut W, text: &[u8]) -> Result<(), Fault>
+    requires { W.failures writer.old < 2 ^ 64 - 1 }
+    ensures ok { OnOk result (Appends (W.contents writer.old) (W.contents writer.new) text.now) }
+    ensures same { OnOk result (W.failures writer.new ≡ W.failures writer.old) }
+    ensures beginning { OnErr result (AppendsBeginning (W.contents writer.old) (W.contents writer.new) text.now) }
+    ensures err { IfErr result (λ fault. (fault ≡ Fault.Device) × (W.failures writer.new ≡ W.failures writer.old + 1)) }
+{
+    let mut done = 0;
+    while done < text.len() {
+        let Ok(count) = writer.write(&text[done..]) else {
+            return Err(Fault::Device);
+        };
+        done += count;
+    }
+    Ok(())
+}

@@ -1,0 +1,12 @@
+//! What is said of a bundle: its report or its first fault, and the run from a reader to a writer.
+#![tactic(auto)]
+
+mod device;
+mod engine;
+mod fault;
+mod report;
+
+pub use device::{Counted, Sink, Source};
+pub use engine::{run_io, run_one, write_report};
+pub use fault::Fault;
+pub use report::report_of;

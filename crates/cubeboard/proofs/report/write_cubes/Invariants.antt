@@ -1,6 +1,0 @@
-use Rattle.std.proofs.Common.{◌≡◌, ◌++◌}
-use Rattle.cubeboard.specs.Report.{cube_lines}
-use Rattle.cubeboard.proofs.report.write_cubes.Given as goal
-
-abbrev pub invariant-loop-before : goal.invariant-loop-before
-invariant-loop-before l = l.text.items ≡ l.initial.text.items ++ cube_lines l.boards.case.tree l.boards.marks 1 l.before

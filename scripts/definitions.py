@@ -1,0 +1,505 @@
+#!/usr/bin/env python3
+"""Writes docs/DEFINITIONS.md: for each claim, the definitions of specs/ that its clauses stand on.
+
+    python3 scripts/definitions.py            writes the document
+    python3 scripts/definitions.py --check    writes nothing; exits 1 where the document isn't what would be written
+    python3 scripts/definitions.py --count    prints how many definitions and lines each claim stands on
+    --root DIR                                the repository, by default the folder above this script's
+
+It stops where a clause of a claim isn't in the code, or where a name in one, or in a definition, can't be resolved.
+"""
+import argparse
+import re
+import sys
+from collections import namedtuple
+from pathlib import Path
+
+# The claims: a title, what it says, and its clauses, each by file, function (or type) and names; - is a clause without one.
+CLAIMS = [
+    ("`s REFUTED` means that the formula has no model", """
+Where the report on a bundle ends with the line `s REFUTED`, or `run_io` answers true, no assignment makes all clauses of
+the bundle's formula true. To say that, no definition of trees, proofs or marks is needed.""",
+     ["cube_report/engine.rt run_one sound",
+      "cube_report/engine.rt run_io sound"]),
+    ("A refusal names the first fault", """
+Where a bundle is refused for its own sake, not for want of memory or a failed device, the fault is its first one.""",
+     ["cube_report/engine.rt run_one fault",
+      "cube_report/engine.rt run_io fault"]),
+    ("Every line of the report is the definition's", """
+The report is one text, fixed by the case that the bundle stands for and by the mark of each node: what its section's
+proof is judged to be from the formula and the node's path, or open where it has no section.""",
+     ["cube_report/engine.rt run_one text correct",
+      "cube_report/engine.rt run_io written answer correct",
+      "cube_report/report.rt report_of -"]),
+    ("Streams and status", """
+What `run_io` has written where something fails, and what the program's status says of its input.""",
+     ["cube_report/engine.rt run_io nothing beginning device",
+      "cube_command/program.rt command status usage taken none answer proofs"]),
+    ("cnf_text: the iCNF text", """
+The file that is read is what the text stands for, or the fault is the text's first one.""",
+     ["cnf_text/icnf.rt read_icnf ok only err"]),
+    ("lrat_text: the steps of a proof", """
+A reader starts with all whole steps of its text; each call takes the next of them, or says that the rest is blank, or
+that it is unreadable.""",
+     ["lrat_text/steps.rt Steps::new value",
+      "lrat_text/steps.rt Steps::next_into step end err"]),
+    ("hint_check: the judgement of a proof", """
+The answer is the judgement of the live clauses and the proof, with RUP and RAT over all live clauses; where it is
+`Refuted`, the formula and the path have no model together.""",
+     ["hint_check/checker.rt Checker::judge judgement refuted"]),
+    ("split_tree: the tree of the cubes", """
+The answer is the tree of the cubes, no two of which clash, or it is the first clash.""",
+     ["split_tree/tree.rt build tree fit total fault"]),
+    ("case_core: the case of a bundle, and what is found of a target", """
+The case is the one that the bundle stands for, or the fault is its first one. What is found of a target is the
+judgement of its section, and the type of a finding keeps that a refuted target has no model with the formula.""",
+     ["case_core/bundle.rt read_bundle ok only err",
+      "case_core/finding.rt examine -",
+      "case_core/finding.rt Finding here only has_section is sound"]),
+    ("mark_board: marks, open weight and open branches", """
+A post marks the node of its finding and no other. Marks, open weight and open branches are the definition's, by all
+nodes' marks. A refuted target has no model with its path, and where the root is marked the formula has none.""",
+     ["mark_board/boards.rt Boards::post same new marks",
+      "mark_board/boards.rt Boards::mark_of mark sound",
+      "mark_board/boards.rt Boards::root_marked marked sound",
+      "mark_board/boards.rt Boards::open_weight -",
+      "mark_board/boards.rt Boards::open_branches -"]),
+]
+
+HEAD = """<!-- written by scripts/definitions.py: change the script, not this file -->
+# What a sceptic has to read
+
+A claim is worth what its definitions say. The proofs tie the program to them, and nothing but reading ties them to what
+you have in mind. So here is, claim by claim, what there is to read: the clauses that state the claim, and all
+definitions that they stand on, in the order in which they are best read. No other definition can change what the claim
+says. The first claim matters most, and its list is short.
+
+An assignment is any test on variables, that is a function from numbers to true or false. A literal is a variable and a
+sign, a clause is a list of literals, a formula is a list of clauses, and a text is the list of its bytes, which are
+numbers.
+
+From the second claim on, a list has only what no claim before it has listed, so that each definition is read once.
+Lines are counted without blank lines and comments. A type counts with its constructors and fields. What a call asks of
+its caller counts with its clauses.
+
+Not among the definitions are:
+
+- the words of the kit's library (`Rattle.std.specs`), such as `map` or `flat_map`: each claim names those that it uses,
+  operators and numerals apart;
+- the enums and structs of the code: each claim names those that its definitions name, and src/ has their variants;
+- how a clause sees a value of the code, as a list, a set or a number: a `Vec` as the list of its items, a `Formula` as
+  its clauses, a `Boards` as its case and all nodes' marks. The `impl Model` beside a type says that;
+- what a reader or a writer says of itself in a clause, as `R.remaining` or `W.contents`. The traits `Source` and `Sink`
+  ([cube_report/device.rt](../crates/cube_report/src/device.rt)) and the kit's `Read` and `Write` say that.
+"""
+
+LAWS = """
+Public functions that do nothing; the contract of each is a law over the definitions. No claim stands on them: each is a
+check, already proved, that the definitions mean what they should."""
+
+REST = """
+A claim stands on a few calls. The other public calls, types and traits have contracts of their own, and so have private
+functions. Here is how many definitions of specs/ each crate has, how many of them a claim or a law above stands on, and
+of the others how many other public contracts reach, how many private contracts alone, and how many none.
+
+| Crate | Definitions | Lines | Claims and laws | Other public contracts | Private contracts alone | None |
+|---|---|---|---|---|---|---|"""
+
+UNUSED = """
+No contract reaches these, so that only proofs can use them:
+"""
+
+# Words without an import: of the language, of clauses, and of patterns.
+BUILT_IN = set("_ : = λ → × ¬ ⊥ | ↦ Type Unit tt absurd record data where pub let in elim as if then else abbrev "
+               "unfoldable unfolding Self self result None Some Ok Err usize u8 u16 u32 u64 Prim".split())
+CONSTRUCTORS = set("true false zero suc pos negsuc refl None Some Ok Err".split())
+UNSEEN = set("coded invariant inverse inverse_ok laws by".split())  # ghost members and terms that no caller sees
+
+NAME = r"[^\s(){}\[\],;.\"]+"
+TOKEN = re.compile(r"\.?%s(?:\.%s)*" % (NAME, NAME))
+STRING = r'"(?:\\.|[^"\\])*"'
+HEAD_NAME = r" *(?:(?:abbrev|unfoldable|pub|record|data) )*(%s)" % NAME
+PUB = r"(?:pub(?:\(\w+\))? )?"
+BLOCK = r"(?ms)^(%s(?:impl|trait|struct|enum)\b[^;{]*?)\s*\{\n(.*?)^\}" % PUB
+USE = r"(?m)^ *(?:ghost )?use (Rattle\.[^\s{;]+?)(?:\.\{([^}]*)\})?(?: as (\S+?))?;?$"
+BINDERS = [r"λ([^.]+)\.", r"[({]\s*([^(){}:=]+?)\s+:\s", r"\blet\s+(\S+)"]
+
+Definition = namedtuple("Definition", "crate room name lines")
+Clause = namedtuple("Clause", "crate file owner kind name text scope variables public")
+# What a name means. Its kind: a definition, a type of the code, a word of a library; or all names of a file or a type of
+# one of these: room, variants, words.
+Target = namedtuple("Target", "kind crate path name")
+
+
+class Problem(Exception):
+    pass
+
+
+def read(path):
+    return path.read_text(encoding="utf-8") if path.exists() else ""
+
+
+def without(text, pattern):
+    return re.sub(pattern, "", text)
+
+
+def imported(text, target):
+    """The names that the use lines of a text bring; one without a list brings a whole file."""
+    scope = {}
+    for path, items, alias in re.findall(USE, text):
+        for item in re.findall(r"[^\s,][^,]*", items):
+            name, _, other = item.strip().partition(" as ")
+            scope[other or name] = target(path.split("."), name)
+        if not items:
+            scope[alias or path.split(".")[-1]] = target(path.split("."), None)
+    return scope
+
+
+# ---- reading specs
+
+def definitions_in(crate, room, text):
+    """The definitions of a file; each goes on to the next one."""
+    found, lines = [], []
+    for line in text.splitlines():
+        if re.match(r"(?:pub|abbrev|unfoldable|record|data|use) |%s :" % NAME, line):
+            lines = []
+            if not re.match(r"use |pub mod ", line):
+                found.append(Definition(crate, room, re.match(HEAD_NAME, line).group(1), lines))
+        lines.append(line)
+    return found
+
+
+def is_type(definition):
+    return re.match(r"(pub )?(record|data) ", definition.lines[0])
+
+
+def parts_of(definition):
+    """The head of a definition, and then each of its equations, constructors or fields."""
+    parts = []
+    for line in definition.lines:
+        if not parts or re.match(r"  \S" if is_type(definition) else r"(?!unfolding )[^\s}]", line):
+            parts.append("")
+        parts[-1] += without(line, STRING) + "\n"
+    return parts
+
+
+# ---- reading sources
+
+def braced(text, place):
+    """The text from here to the brace that closes it."""
+    depth, end = 1, place
+    while depth:
+        depth += {"{": 1, "}": -1}.get(text[end], 0)
+        end += 1
+    return text[place:end - 1]
+
+
+def contract(text, start):
+    """The signature of a function, its clauses as (kind, name, text), and whether its body is empty."""
+    clauses, depth, place, end = [], 0, start, None
+    while True:
+        found = re.compile(r"\b(requires|ensures|ghost)\b\*?\s*(\w*):?\s*\{|[()\[\];{]").search(text, place)
+        place = found.end()
+        if found.group(1):
+            inside = braced(text, place)
+            clauses.append((found.group(1), found.group(2) or "-", inside))
+            end, place = end or found.start(), place + len(inside) + 1
+        elif found.group() in ";{" and depth == 0:
+            return text[start:end or found.start()], clauses, text[place - 1:place + 1] == "{}"
+        else:
+            depth += {"(": 1, "[": 1, ")": -1, "]": -1}.get(found.group(), 0)
+
+
+def variables_in(signature):
+    """Parameters, fields and type parameters."""
+    found = re.findall(r"\b(\w+)\s*:(?!:)|[<,]\s*(?:const )?([A-Z]\w*)\s*(?=[:,>])", signature)
+    return {name for pair in found for name in pair if name}
+
+
+def clauses_of(crate, file, header, text, scope, exported):
+    """The clauses of the functions of a block (an impl, a trait, a type, the rest of a file), and its ghost members."""
+    plain = without(header, r"<[^<>]*(<[^<>]*>[^<>]*)*>")
+    owner = re.split(r" where|:", without(plain, r"^.* for |^%s(impl|trait|struct|enum) " % PUB))[0].strip()
+    members = variables_in(header) | set(re.findall(r"ghost (\w+):", text))
+    for found in re.finditer(r"(?m)^ {0,4}(pub )?(?:pub\(\w+\) )?(?:const |unsafe )*fn (\w+)", text):
+        signature, clauses, is_law = contract(text, found.end())
+        name = owner + "::" + found.group(2) if owner else found.group(2)
+        public = (found.group(1) or " trait " in " " + header) and bool({"*", owner or name} & exported)
+        variables = members | variables_in(signature)
+        for kind, label, inside in clauses:
+            yield Clause(crate, file, name, "law" if is_law else kind, label, inside, scope, variables, public)
+    for found in re.finditer(r"(?m)(?:^ *(pub )?ghost (\w+)(:| =)|\} (by)) \{", text):
+        name, is_member = found.group(2) or "by", found.group(3) == " ="
+        public = (found.group(1) or is_member) and name not in UNSEEN and bool({"*", owner} & exported)
+        variables = members if is_member else variables_in(text)
+        yield Clause(crate, file, owner, "ghost", name, braced(text, found.end()), scope, variables, public)
+
+
+def exported_names(text, module):
+    """The names that a crate gives away, with * for all names of a public module."""
+    lists = re.findall(r"(?m)^pub use \w+::(\{[^}]*\}|\w+);", text)
+    open_modules = ["lib"] + re.findall(r"(?m)^pub mod (\w+);", text)
+    return set(re.findall(r"\w+", " ".join(lists))) | ({"*"} if module in open_modules else set())
+
+
+class Repository:
+    """The definitions of specs/ and the clauses of src/, and what their names mean."""
+
+    def __init__(self, root):
+        self.root = root
+        listed = [line.split(":") for line in read(root / "crates.txt").splitlines() if ":" in line]
+        self.crates = [crate.strip() for crate, _ in listed]
+        self.kit = {"std"}.union(*[names.split() for _, names in listed]) - set(self.crates)
+        sources = [(crate, path, without(read(path), r"(?m)^\s*//.*\n?|\s+// [^\"\n]*$"))
+                   for crate in self.crates for path in sorted((root / "crates" / crate / "src").rglob("*.rt"))]
+        self.types = {}  # of the code, (crate, name): the modules that declare it
+        for crate, path, text in sources:
+            for name in re.findall(r"(?m)^%s(?:struct|enum) (\w+)" % PUB, text):
+                self.types.setdefault((crate, name), []).append(path.stem)
+        self.order = [(crate, room) for crate in self.crates for room in self.rooms_of(crate, "")]
+        self.read_specs()
+        self.clauses = [clause for crate, path, text in sources for clause in self.clauses_in(crate, path, text)]
+
+    def path(self, crate, room):
+        return self.root / "crates" / crate / "specs" / (room.replace(".", "/") + ".antt")
+
+    def rooms_of(self, crate, room):
+        """The files of specs/ in the order of Lib.antt, each before those of its folder."""
+        for name in re.findall(r"(?m)^pub mod (\w+)", read(self.path(crate, room or "Lib"))):
+            inner = room + "." + name if room else name
+            yield from [inner] + list(self.rooms_of(crate, inner))
+
+    def read_specs(self):
+        self.definitions, self.names = {}, {key: {} for key in self.order}
+        comments = r"(?m)^\s*--.*\n|^\s*\n|\s+-- [^\"\n]*$"
+        texts = {key: without(read(self.path(*key)), comments) for key in self.order}
+        for key, text in texts.items():
+            for found in definitions_in(*key, text):
+                target = Target("definition", *key, found.name)
+                inner = re.findall(r"(?m)^  (%s) :" % NAME, "\n".join(found.lines)) if is_type(found) else []
+                self.definitions[target] = found
+                self.names[key].update({name: target for name in inner + [found.name]})
+        self.scopes = {key: dict(imported(text, self.target), **self.names[key]) for key, text in texts.items()}
+
+    def target(self, parts, name):
+        """What a use line brings: the name, or without one all of the file."""
+        crate, rest, room = parts[1], parts[2:], ".".join(parts[3:])
+        if rest[0] == "proofs" or crate in self.kit or rest[-1] == "TheConstants":
+            return Target("word", crate, "", name) if name else Target("words", crate, rest[-1], None)
+        if rest[:2] == ["specs", "declared"]:
+            *path, last = [part for part in rest[2:] if part != "TheVariants"]
+            if (path or ["lib"])[-1] in self.types.get((crate, last), []):
+                return Target("type" if name else "variants", crate, (path or ["lib"])[-1], last)
+        if (crate, room) in self.names and (not name or name in self.names[crate, room]):
+            return self.names[crate, room][name] if name else Target("room", crate, room, None)
+        raise Problem("%s: no %s there" % (".".join(parts), name or "file"))
+
+    def clauses_in(self, crate, path, text):
+        exported = exported_names(read(self.root / "crates" / crate / "src" / "lib.rt"), path.stem)
+        rest = without(text, BLOCK)
+        shared = dict(self.code_types(crate, path.stem, text), **imported(rest, self.target))
+        for header, inside in [("", rest)] + re.findall(BLOCK, text):
+            scope = dict(shared, **imported(inside, self.target))
+            yield from clauses_of(crate, path.name, header, inside, scope, exported)
+
+    def code_types(self, crate, module, text):
+        """The types and constants of the code that a file names: those of its use lines, and its own."""
+        found = {}
+        for path, items in re.findall(r"(?m)^(?:pub )?use (\w[\w:]*)::(\{[^}]*\}|\w+(?: as \w+)?);", text):
+            for name, alias in re.findall(r"(\w+)(?: as (\w+))?", items):
+                found[alias or name] = self.code_type(crate, path.split("::"), name)
+        own = re.findall(r"(?m)^%s(?:struct|enum|const) (\w+)" % PUB, text)
+        return dict({name: target for name, target in found.items() if target},
+                    **{name: Target("type", crate, module, name) for name in own})
+
+    def code_type(self, crate, path, name):
+        """The type that a use line of the code brings, also from a crate that hands on what it has from another."""
+        home = crate if path[0] == "crate" else path[0]
+        if home not in self.crates:
+            return Target("word", home, "", name)
+        for key in [(home, name)] + [(other, name) for other in self.crates]:
+            if key in self.types:
+                modules = self.types[key]
+                return Target("type", key[0], path[-1] if path[-1] in modules else modules[0], name)
+        return None
+
+    # ---- what a text names
+
+    def named(self, text, scope, bound, where):
+        """The targets that a text names. A name that can't be resolved is an error, unless `where` is empty."""
+        for token in TOKEN.findall(without(text, r"(?<=[{;])\s*%s\s+=(?=\s)" % NAME)):
+            head, *rest = token.split(".")
+            if not head or head[0].isdigit() or head in bound or head in BUILT_IN:
+                continue
+            found = scope.get(head) or scope.get("◌%s◌" % head)
+            if found and found.kind == "room":
+                found = self.names[found.crate, found.path].get((rest + [""])[0])
+            if found and found.kind == "words":
+                yield Target("word", found.crate, "", ".".join([found.path] + rest))
+            elif found:
+                yield found._replace(kind="type") if found.kind == "variants" else found
+            elif where:
+                raise Problem("%s: can't resolve %s" % (where, token))
+
+    def bound_in(self, text, scope):
+        """The variables that a text binds: by λ, in (x : T), by let, and in the patterns of elim."""
+        groups = [group for binder in BINDERS for group in re.findall(binder, text)]
+        cases = [self.variables(pattern, scope) for pattern in re.findall(r"[\[|]([^\[|↦]*)↦", text)]
+        return {name for group in groups for name in TOKEN.findall(group)}.union(*cases)
+
+    def variables(self, pattern, scope):
+        """The names in a pattern, without constructors."""
+        names = {name for name in TOKEN.findall(pattern) if "." not in name} - CONSTRUCTORS
+        found = {name: scope.get(name) or Target("word", "", "", name) for name in names}
+        return {name for name in names if found[name].kind == "word" or found[name][0::3] == ("definition", name)}
+
+    def named_by(self, definition):
+        """What a definition names. Each part has its own variables; those of a type's head, and its fields, go on."""
+        scope, kept = self.scopes[definition.crate, definition.room], {definition.name}
+        is_lemma = definition.lines[0].startswith("pub ") and not is_type(definition)
+        where = "" if is_lemma else "%s/specs/%s.antt, %s" % definition[:3]
+        for part in parts_of(definition):
+            own, text = re.match(HEAD_NAME + r"(.*)", part, re.S).groups()
+            pattern = re.split(r"\s=\s", text)[0] if part.startswith(definition.name + " ") else ""
+            bound = kept | self.variables(pattern, scope) | self.bound_in(text, scope)
+            yield from self.named(text, scope, bound, where)
+            kept |= bound if own == definition.name and is_type(definition) else {own}
+
+    def stated(self, clauses, strict=True):
+        """What clauses name."""
+        for clause in clauses:
+            where = "crates/%s/src/%s: %s, clause %s" % (clause[:3] + (clause.name,)) if strict else ""
+            text = without(clause.text, STRING)
+            yield from self.named(text, clause.scope, clause.variables | self.bound_in(text, clause.scope), where)
+
+    def reach(self, clauses, strict=True):
+        """All that clauses stand on: definitions, types of the code and words."""
+        found, left = set(), list(self.stated(clauses, strict))
+        while left:
+            target = left.pop()
+            if target not in found and target.kind == "definition":
+                left.extend(self.named_by(self.definitions[target]))
+            found.add(target)
+        return found
+
+    def clauses_of_claim(self, line):
+        """The clauses that a line of a claim lists, and what the call asks of its caller."""
+        place, owner, *names = line.split()
+        own = [clause for clause in self.clauses if "%s/%s" % clause[:2] == place and clause.owner == owner]
+        for name in names:
+            if not any(clause.name == name and clause.kind != "requires" for clause in own):
+                told = "without a name" if name == "-" else name
+                raise Problem("crates/%s: %s has no clause %s" % (place.replace("/", "/src/"), owner, told))
+        return [clause for clause in own if clause.kind == "requires" or clause.name in names]
+
+
+# ---- the document
+
+def link(crate, folder, file):
+    return "[%s/%s](../crates/%s/%s/%s)" % (crate, file, crate, folder, file)
+
+
+def spec_link(target):
+    return link(target.crate, "specs", target.path.replace(".", "/") + ".antt")
+
+
+def quoted(names):
+    return ", ".join("`%s`" % name for name in names)
+
+
+def clause_line(line):
+    place, owner, *names = line.split()
+    crate, file = place.split("/")
+    told = "the clause" if names == ["-"] else quoted(names)
+    return "- %s of `%s` in %s" % (told, owner, link(crate, "src", file))
+
+
+def written(repository):
+    """The document, and how many definitions and lines each claim stands on."""
+    seen, counts, lines = set(), [], []
+    for title, text, sources in CLAIMS:
+        clauses = [clause for line in sources for clause in repository.clauses_of_claim(line)]
+        lines += ["", "## %d. %s" % (len(counts) + 1, title), text, "", "Clauses:", ""]
+        lines += [clause_line(line) for line in sources] + [""]
+        lines += list_of(repository, repository.reach(clauses), seen, counts)
+    laws = [clause for clause in repository.clauses if clause.kind == "law" and clause.public]
+    lines += ["", "## %d. Laws" % (len(counts) + 1), LAWS, ""] + [law_line(repository, law) for law in laws] + [""]
+    lines += list_of(repository, repository.reach(laws), seen, counts)
+    return HEAD + "\n".join(lines + rest_of(repository, seen)) + "\n", counts
+
+
+def counted(repository, targets):
+    own = [repository.definitions[target] for target in targets if target.kind == "definition"]
+    return len(own), sum(len(definition.lines) for definition in own)
+
+
+def list_of(repository, targets, seen, counts):
+    """How many definitions these are, and those that are new, file by file."""
+    new = targets - seen
+    seen |= targets
+    counts.append(counted(repository, targets))
+    told = "%d definitions, %d lines" % counts[-1]
+    lines = [told + (" (%d of them, %d lines, new)" % counted(repository, new) if counts[1:] else "") + ":", ""]
+    for key in repository.order:
+        own = [target for target in repository.definitions if target in new and target[1:3] == key]
+        if own:
+            file = str(repository.path(*key).relative_to(repository.root))
+            names = quoted(target.name for target in own)
+            lines.append("- [%s](../%s) (%d lines): %s" % (file, file, counted(repository, own)[1], names))
+    words = [target for target in new if target.kind == "word" and "◌" not in target.name]
+    for crate in sorted({word.crate for word in words}, key=lambda crate: (crate != "std", crate)):
+        lines.append("- words of %s: %s" % (crate, quoted(sorted({word.name for word in words if word.crate == crate}))))
+    types = ["`%s` in %s" % (t.name, link(t.crate, "src", t.path + ".rt")) for t in sorted(new, key=str) if t.kind == "type"]
+    return lines + (["- types of the code: " + ", ".join(types)] if types else [])
+
+
+def law_line(repository, law):
+    stated = [target for target in dict.fromkeys(repository.stated([law])) if target.kind == "definition"]
+    rooms = ", ".join(dict.fromkeys(map(spec_link, stated)))
+    return "- `%s` (%s): %s in %s" % (law.owner, link(law.crate, "src", law.file), quoted(t.name for t in stated), rooms)
+
+
+def rest_of(repository, seen):
+    """How many definitions serve other contracts, and which serve none."""
+    given = repository.reach([clause for clause in repository.clauses if clause.public], False) | seen
+    used = repository.reach(repository.clauses, False) | seen
+    lines = []
+    for crate in repository.crates:
+        own = {target for target in repository.definitions if target.crate == crate}
+        sizes = len(own & seen), len((own & given) - seen), len((own & used) - given), len(own - used)
+        lines += ["| %s | %d | %d | %d | %d | %d | %d |" % ((crate,) + counted(repository, own) + sizes)] if own else []
+    unused = ["- `%s` in %s" % (t.name, spec_link(t)) for t in repository.definitions if t not in used]
+    return ["", "## What no claim stands on", REST] + lines + ([UNUSED] + unused if unused else [])
+
+
+def difference(old, new):
+    """The first line in which the document isn't what would be written."""
+    pairs = zip(old + [""] * len(new), new + [""] * len(old))
+    return next("line %d is %r and should be %r" % (number, *pair) for number, pair in enumerate(pairs, 1) if pair[0] != pair[1])
+
+
+def run(options):
+    path = options.root / "docs" / "DEFINITIONS.md"
+    text, counts = written(Repository(options.root))
+    if options.count:
+        for number, sizes in enumerate(counts, 1):
+            print("claim %d: %d definitions, %d lines" % ((number,) + sizes))
+    elif not options.check:
+        path.write_text(text, encoding="utf-8")
+    elif read(path) != text:
+        raise Problem("docs/DEFINITIONS.md: " + difference(read(path).split("\n"), text.split("\n")))
+
+
+def main():
+    parser = argparse.ArgumentParser(description=__doc__, formatter_class=argparse.RawDescriptionHelpFormatter)
+    parser.add_argument("--check", action="store_true")
+    parser.add_argument("--count", action="store_true")
+    parser.add_argument("--root", type=Path, default=Path(__file__).resolve().parent.parent)
+    try:
+        run(parser.parse_args())
+    except Problem as problem:
+        sys.exit("definitions.py: %s" % problem)
+
+
+if __name__ == "__main__":
+    main()
