@@ -54,13 +54,7 @@ where
 }
 
 /// The status of what the request asks for, after a line that says what went wrong, if anything did.
-fn answered<R, I, O, E>(
-    rt: &R,
-    request: &Request<'_>,
-    input: I,
-    output: O,
-    errors: &mut E,
-) -> u8
+fn answered<R, I, O, E>(rt: &R, request: &Request<'_>, input: I, output: O, errors: &mut E) -> u8
 where
     R: Files + AllocGlobal,
     I: Read + Drop,

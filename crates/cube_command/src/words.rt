@@ -62,9 +62,7 @@ pub fn request_of<'a, S: AsStr>(alloc: Global, words: &'a [S]) -> Result<Request
 fn parser<'a>(alloc: Global) -> Result<Command<'a>, AllocError>
     ensures { IfOk result (λ parser. app_of parser ≡ words_taken) }
 {
-    texts(alloc)
-        .arg(proofs_word(alloc))?
-        .arg(file_word(alloc))
+    texts(alloc).arg(proofs_word(alloc))?.arg(file_word(alloc))
 }
 
 /// A parser that takes no words yet, with the texts of the help.

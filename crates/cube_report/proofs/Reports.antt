@@ -92,7 +92,7 @@ pub correct : (bundle : List ℕ) (case : CaseOf) (report : List ℕ) (answer : 
 correct bundle case report answer is stated = record {
   case = case;
   marks = stated.marks;
-  judged = record { case_is = is; findings = stated.findings; };
+  judged = record { case_is = is; findings = stated.findings };
   text = stated.text;
   refuted = stated.refuted;
   sound = λ says formula stands. unsatisfiable bundle case formula is stands (stated.sound says);

@@ -144,11 +144,7 @@ pub fn run_io<R: Source, W: Sink>(
 
 /// Writes the report on a bundle; answers whether the formula is refuted. Nothing is written before all is judged.
 /// `Device` where a write failed in this call, and then a beginning of the report was written.
-pub fn write_report<W: Sink>(
-    alloc: Global,
-    bundle: &[u8],
-    writer: &mut W,
-) -> Result<bool, Fault>
+pub fn write_report<W: Sink>(alloc: Global, bundle: &[u8], writer: &mut W) -> Result<bool, Fault>
     requires { W.failures writer.old < 2 ^ 64 - 1 }
     ensures correct { IfOk result (λ answer. (text : List ℕ)
         × IsCorrect bundle.now text answer × Appends (W.contents writer.old) (W.contents writer.new) text) }

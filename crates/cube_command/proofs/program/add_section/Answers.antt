@@ -1,4 +1,3 @@
-use Rattle.std.proofs.Common.{◌∙◌, sym, append_assoc, codes}
 use Rattle.cube_command.proofs.Sections.{section_added}
 use Rattle.cube_command.proofs.program.add_section.Goals as goal
 
