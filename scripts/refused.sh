@@ -83,15 +83,15 @@ for name in two_cubes_refuted missing_leaf_open proof_for_an_inner_node folder_o
     row "$name"
 done
 
-# The reader of proof steps, by a test of its crate that the gate has left: a refused call changes nothing, so the next one gives
+# The reader of proof steps, by a test of the suite that the gate has left: a refused call changes nothing, so the next one gives
 # the step that it would have given.
-tests=$root/crates/lrat_text/out/lrat_text_tests
+tests=$root/crates/suite/out/suite_tests
 if [ -x "$tests" ]; then
     request=1
     refused=0
     while [ "$request" -le "$limit" ]; do
         rm -f "$here/mark"
-        if REFUSE=$request REFUSED_MARK=$here/mark LD_PRELOAD=$here/refuse.so "$tests" tests::step_after_refused_memory \
+        if REFUSE=$request REFUSED_MARK=$here/mark LD_PRELOAD=$here/refuse.so "$tests" lrat_text_tests::step_after_refused_memory \
             > "$here/out" 2> "$here/err"; then
             passed=$((passed + 1))
         else

@@ -17,6 +17,3 @@ pub use finding::{Finding, examine};
 pub use hint_check::{Judged, Reason};
 pub use laws::{case_or_a_fault, one_case, one_fault};
 pub use split_tree::{Leaf, NodeId, Target, Tree};
-
-#[cfg(test)]
-mod tests;

@@ -26,8 +26,3 @@ pub use part::PartVerdict;
 pub use place::Place;
 pub use posted::{PartPosted, Posted};
 pub use stored::BoardData;
-
-#[cfg(test)]
-mod boards_tests;
-#[cfg(test)]
-mod tests;

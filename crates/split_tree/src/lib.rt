@@ -11,8 +11,6 @@ mod readers;
 mod rows;
 mod shape;
 mod tables;
-#[cfg(test)]
-mod tests;
 mod top;
 mod tree;
 

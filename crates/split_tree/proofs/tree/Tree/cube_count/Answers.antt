@@ -1,5 +1,4 @@
-use Rattle.std.proofs.Common.{◌≡◌, ℕ, ◌-◌, ◌≤◌, ◌∙◌, ap, sym, get_or, length, arith}
-use Rattle.split_tree.specs.SplitTree.{SplitTree, subtree_at}
+use Rattle.std.proofs.Common.{◌-◌, ◌≤◌, get_or, length, arith}
 use Rattle.split_tree.proofs.Leaves.{count_leaves, few_leaves}
 use Rattle.split_tree.proofs.tree.Tree.cube_count.Goals as goal
 

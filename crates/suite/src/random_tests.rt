@@ -1,10 +1,12 @@
-//! The judge and the plain judge on proofs that are made up step by step, by a linear congruential generator.
-use crate::plain_tests::{FOUR, REPEATED, formula, lits};
-use crate::{Base, Checker, Judged, Reason, plain};
-use cnf_text::formula::Formula;
+//! The judge and the plain judge on proofs that are made up step by step, by a linear congruential
+//! generator.
+use crate::fixtures::{FOUR, formula, lits};
+use crate::judging_tests::{REPEATED, judged_over};
+use crate::plain;
 use cnf_text::literal::Lit;
+use hint_check::{Base, Judged, Reason};
 use std::alloc::{AllocError, Global};
-use std::test::Fail;
+use std::process::Abort;
 
 /// Clauses of two and three literals over five variables.
 const PAIRS: &[&[i32]] = &[
@@ -124,7 +126,8 @@ const LITERALS: [&[u8]; 16] = [
     b"5", b"-1300",
 ];
 
-/// The steps that are tried on each formula and path, and the length after which a proof is begun anew.
+/// The steps that are tried on each formula and path, and the length after which a proof is begun
+/// anew.
 const TRIES: u32 = 60;
 
 const LONGEST: usize = 300;
@@ -234,24 +237,25 @@ fn count(tally: &mut Tally, judged: Judged) {
     *counter = counter.saturating_add(1);
 }
 
-/// Random steps after one another. A step that isn't good is taken back, so that the proofs grow; after a refutation, and
-/// where it is long, a proof is begun anew. Each text that is tried goes to both judges; the answer is the number of texts on
-/// which they differ.
+/// Random steps after one another. A step that isn't good is taken back, so that the proofs grow;
+/// after a refutation, and where it is long, a proof is begun anew. Each text that is tried goes to
+/// both judges; the answer is the number of texts on which they differ.
 fn differences(
+    rt: &impl Abort,
     alloc: Global,
     base: &Base,
     path: &[Lit],
     given: &[&'static [u8]; 16],
     random: &mut Generator,
     tally: &mut Tally,
-) -> Result<u32, AllocError> {
+) -> u32 {
     let mut text = Vec::new(alloc);
     let mut differ = 0u32;
     for _ in 0..TRIES {
         let before = text.len();
-        push_step(random, &mut text, given)?;
-        let slow = plain::judge(alloc, base.formula(), path, &text)?;
-        let fast = Checker::over(alloc, base, path)?.judge(alloc, &text)?;
+        push_step(random, &mut text, given).expect(rt, "memory");
+        let slow = plain::judge(rt, alloc, base.formula(), path, &text);
+        let fast = judged_over(rt, alloc, base, path, &text);
         count(tally, slow);
         if slow != fast {
             differ = differ.saturating_add(1);
@@ -265,25 +269,25 @@ fn differences(
             _ => text.clear(),
         }
     }
-    Ok(differ)
+    differ
 }
 
 /// The proofs of all paths over one base.
 fn differences_over(
+    rt: &impl Abort,
     alloc: Global,
-    formula: &Formula,
+    base: &Base,
     given: &[&'static [u8]; 16],
     random: &mut Generator,
     tally: &mut Tally,
-) -> Result<u32, AllocError> {
-    let base = Base::new(alloc, formula)?;
+) -> u32 {
     let mut differ = 0u32;
     for numbers in [[].as_slice(), &[1], &[-1, 2], &[4, -3, 4]] {
-        let path = lits(alloc, numbers)?;
-        let more = differences(alloc, &base, &path, given, random, tally)?;
+        let path = lits(rt, alloc, numbers);
+        let more = differences(rt, alloc, base, &path, given, random, tally);
         differ = differ.saturating_add(more);
     }
-    Ok(differ)
+    differ
 }
 
 const NOTHING_YET: Tally = Tally {
@@ -305,7 +309,7 @@ fn least(tally: Tally) -> u32 {
 }
 
 #[test]
-fn both_judges_agree(rt: HostRuntime) -> Result<(), Fail> {
+fn both_judges_agree(rt: HostRuntime) {
     let mut random = Generator { state: 22 };
     let mut tally = NOTHING_YET;
     for (clauses, given) in [
@@ -313,10 +317,10 @@ fn both_judges_agree(rt: HostRuntime) -> Result<(), Fail> {
         (REPEATED, &REPEATED_STEPS),
         (PAIRS, &PAIRS_STEPS),
     ] {
-        let formula = formula(rt.alloc(), clauses)?;
-        let differ = differences_over(rt.alloc(), &formula, given, &mut random, &mut tally)?;
+        let formula = formula(&rt, rt.alloc(), clauses);
+        let base = Base::new(rt.alloc(), &formula).expect(&rt, "memory");
+        let differ = differences_over(&rt, rt.alloc(), &base, given, &mut random, &mut tally);
         assert_eq!(rt; differ, 0);
     }
     assert!(rt; least(tally) > 0, "{tally:?}");
-    Ok(())
 }

@@ -1,8 +1,0 @@
-use Rattle.std.proofs.Common.{◌∙◌, ap, arith}
-use Rattle.split_tree.specs.Parts.{part_nodes}
-use Rattle.mark_board.proofs.Gathered.{part_listed}
-use Rattle.mark_board.proofs.tests.part_board.Goals as goal
-
-pub new-requires-clause-place : goal.new-requires-clause-place
-new-requires-clause-place c =
-    part_listed c.args.cut c.args.case.now.tree c.in-Ok.parts.items (c.in-Ok.ensures.nodes ∙ ap (part_nodes c.args.cut 0) c.tree.ensures.tree) c.args.part (omega (arith, c.in-Ok.parts.ok))

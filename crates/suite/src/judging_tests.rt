@@ -1,0 +1,400 @@
+//! Proofs and the judgements that were worked out by hand from the rules of judging. The judge has
+//! to give them, over a base that many checkers share and over a formula of its own, and so has the
+//! plain judge.
+use crate::fixtures::{FOUR, formula, lits};
+use crate::{nine, plain};
+use cnf_text::literal::Lit;
+use hint_check::{Base, Checker, Judged, Reason};
+use std::alloc::Global;
+use std::process::Abort;
+
+/// A proof: the path, the text, and the number of the step that isn't good or isn't there with what
+/// is wrong with it, or nothing where the proof refutes.
+type Proof = (&'static [i32], &'static str, Option<(u64, Reason)>);
+
+/// A tautology, and clauses that repeat literals and have no model together.
+pub const REPEATED: &[&[i32]] = &[&[1, -1], &[1, 2, 2], &[-1, 3], &[-2, 3, 3], &[-3]];
+
+/// A formula with an empty clause.
+const WITH_EMPTY: &[&[i32]] = &[&[1], &[]];
+
+/// The empty clause alone.
+const EMPTY_ALONE: &[&[i32]] = &[&[]];
+
+/// Additions by reverse unit propagation and tautologies, over the four clauses.
+const ADDITIONS: &[Proof] = &[
+    (&[], "5 1 0 1 2 0\n6 0 5 3 4 0\n", None),
+    (&[], "5 1 1 0 1 2 0\n6 0 5 3 4 0\n", None),
+    (&[], "5 1 0 2 1 0\n", Some((2, Reason::End))),
+    (&[], "5 1 0 99 0\n", Some((1, Reason::Hint))),
+    (&[], "5 3 0 1 0\n", Some((1, Reason::Unit))),
+    (&[], "5 0 0\n", Some((1, Reason::Empty))),
+    (&[], "5 0 1 0\n", Some((1, Reason::Unit))),
+    (&[], "4 1 0 1 2 0\n", Some((1, Reason::Id))),
+    (&[], "4 1 -1 0 0\n", Some((1, Reason::Id))),
+    (&[], "5 1 -1 0 99 0\n", Some((2, Reason::End))),
+    (&[1], "6 0 5 3 4 0\n", None),
+    (&[1], "5 2 0 0\n", Some((1, Reason::Id))),
+    (&[1, -1], "7 0 5 6 0\n", None),
+    (&[1, -1], "7 0 5 0\n", Some((1, Reason::Empty))),
+    (&[1, 1], "0 d 5 0\n7 0 6 3 4 0\n", None),
+    (&[-1], "6 0 5 1 2 0\n", None),
+    (&[1], "6 0 4 3 5 0\n", Some((1, Reason::Unit))),
+    (&[1], "6 0 5 0\n", Some((1, Reason::Empty))),
+    (&[1], "4 0 5 3 4 0\n", Some((1, Reason::Id))),
+    (&[], "6 1 -1 0 0\n", Some((2, Reason::End))),
+];
+
+/// Additions with candidates and groups of hints, over the four clauses.
+const GROUPS: &[Proof] = &[
+    (&[], "5 1 0 1 0\n", Some((1, Reason::Candidate))),
+    (&[], "5 1 0 1 -4 3 0\n", Some((1, Reason::Unit))),
+    (&[], "5 1 0 1 -4 2 0\n", Some((2, Reason::End))),
+    (&[], "5 1 0 1 -3 99 -4 2 0\n", Some((2, Reason::End))),
+    (&[], "5 1 0 1 -4 2 -4 1 0\n", Some((1, Reason::Group))),
+    (&[], "5 1 0 1 -4 2 -4 2 99 0\n", Some((2, Reason::End))),
+    (&[], "5 1 0 1 -4 99 0\n", Some((1, Reason::Hint))),
+    (&[], "5 1 0 1 -99 7 -4 2 0\n", Some((2, Reason::End))),
+    (&[], "5 1 0 1 -1 99 -4 2 0\n", Some((2, Reason::End))),
+    (&[], "5 1 0 -3 1 2 -4 1 2 0\n", Some((2, Reason::End))),
+    (&[], "5 1 0 -3 1 -4 1 2 0\n", Some((2, Reason::End))),
+    (&[], "5 1 0 -4 1 2 0\n", Some((1, Reason::Candidate))),
+    (&[], "5 3 -3 0 0\n6 -3 0 0\n", Some((3, Reason::End))),
+    (&[], "5 3 -3 0 0\n6 -3 0 -5 99 0\n", Some((3, Reason::End))),
+    (
+        &[],
+        "5 -3 1 -3 0 0\n6 3 3 0 -5 1 2 0\n",
+        Some((3, Reason::End)),
+    ),
+    (
+        &[1],
+        "9 d 1 2 0\n6 -1 3 0 0\n",
+        Some((2, Reason::Candidate)),
+    ),
+    (
+        &[1],
+        "9 d 1 2 0\n6 -1 3 0 -5 3 4 0\n",
+        Some((3, Reason::End)),
+    ),
+    (&[1], "9 d 1 2 5 0\n6 -1 3 0 0\n", Some((3, Reason::End))),
+    (&[2, 3], "7 -3 1 0 0\n", Some((1, Reason::Candidate))),
+    (&[2, 3], "7 1 -3 0 0\n", Some((1, Reason::Candidate))),
+    (&[2, 3], "7 1 -3 0 5 -4 2 0\n", Some((2, Reason::End))),
+    (&[], "6 1 0 0\n", Some((1, Reason::Candidate))),
+    (&[], "6 1 -3 0 0\n", Some((1, Reason::Candidate))),
+    (&[], "6 -3 1 0 0\n7 3 0 0\n", Some((2, Reason::Candidate))),
+    (&[], "6 -3 1 0 0\n7 3 0 -6 1 0\n", Some((2, Reason::Group))),
+    (&[], "6 -3 1 0 0\n7 3 0 -6 1 2 0\n", Some((3, Reason::End))),
+    (
+        &[],
+        "6 -3 1 0 0\n7 3 0 -6 1 2 -6 1 0\n",
+        Some((2, Reason::Group)),
+    ),
+    (
+        &[],
+        "6 -3 1 0 0\n7 3 -1 0 -6 99 -99 5 0\n",
+        Some((3, Reason::End)),
+    ),
+    (&[], "5 d 3 4 0\n6 1 0 0\n", Some((3, Reason::End))),
+    (
+        &[],
+        "5 d 1 2 3 4 0\n1 1 0 0\n2 -1 0 0\n",
+        Some((3, Reason::Candidate)),
+    ),
+];
+
+/// A proof that adds nine clauses with the negation of 3, and 1 besides, and then is what is given.
+#[macro_export]
+macro_rules! nine {
+    ($last:literal) => {
+        concat!(
+            "6 -3 1 0 0\n7 -3 1 4 0 0\n8 -3 1 5 0 0\n9 -3 1 6 0 0\n10 -3 1 7 0 0\n",
+            "11 -3 1 8 0 0\n12 -3 1 9 0 0\n13 -3 1 10 0 0\n14 -3 1 11 0 0\n",
+            "15 3 0 -6 1 2 -7 1 2 -8 1 2 -9 1 2 -10 1 2 -11 1 2 -12 1 2 -13 1 2 ",
+            $last
+        )
+    };
+}
+
+/// A group of hints for each of nine candidates, or for all but the last, over the four clauses.
+const MANY_GROUPS: &[Proof] = &[
+    (&[], nine!("-14 1 2 0"), Some((11, Reason::End))),
+    (&[], nine!("-99 1 2 0"), Some((10, Reason::Candidate))),
+    (&[], nine!("0"), Some((10, Reason::Candidate))),
+];
+
+/// Clauses of the formula, of the path and of the proof deleted, and their ids used again, over the
+/// four clauses.
+const DELETIONS: &[Proof] = &[
+    (
+        &[],
+        "5 1 0 1 2 0\n0 d 5 0\n5 -1 0 3 4 0\n",
+        Some((4, Reason::End)),
+    ),
+    (
+        &[],
+        "5 1 0 1 2 0\n0 d 5 0\n5 -1 0 3 4 0\n6 0 5 1 2 0\n",
+        None,
+    ),
+    (
+        &[],
+        "5 1 0 1 2 0\n0 d 5 0\n6 0 5 3 4 0\n",
+        Some((3, Reason::Hint)),
+    ),
+    (&[], "0 d 1 0\n1 1 2 0 0\n", Some((2, Reason::Candidate))),
+    (
+        &[],
+        "5 1 0 1 2 0\n0 d 1 0\n1 2 0 5 3 0\n6 0 5 1 4 0\n",
+        None,
+    ),
+    (
+        &[],
+        "5 1 0 1 2 0\n0 d 1 0\n1 2 0 5 3 0\n6 3 0 1 5 3 0\n",
+        Some((5, Reason::End)),
+    ),
+    (&[], "0 d 1 0\n5 1 0 1 2 0\n", Some((2, Reason::Hint))),
+    (
+        &[],
+        "0 d 1 1 7 0\n0 d 1 0\n0 d 0\n5 1 0 2 0\n",
+        Some((4, Reason::Candidate)),
+    ),
+    (
+        &[],
+        "0 d 3 4 0\n5 1 0 0\n6 -1 0 0\n",
+        Some((3, Reason::Candidate)),
+    ),
+    (
+        &[],
+        "0 d 3 4 0\n3 1 0 0\n0 d 1 2 3 0\n4 -1 0 0\n",
+        Some((5, Reason::End)),
+    ),
+    (&[1], "0 d 5 0\n6 0 5 3 4 0\n", Some((2, Reason::Hint))),
+    (&[1], "0 d 5 0\n5 1 0 1 2 0\n6 0 5 3 4 0\n", None),
+    (&[1], "0 d 1 2 3 4 5 0\n", Some((2, Reason::End))),
+    (&[], "5 1 0 1 2 0\n5 d 1 0\n6 0 5 3 4 0\n", None),
+    (
+        &[],
+        "5 1 0 1 2 0\n5 d 3 0\n6 0 5 3 4 0\n",
+        Some((3, Reason::Hint)),
+    ),
+    (&[1], "5 d 3 0\n6 0 5 3 4 0\n", Some((2, Reason::Hint))),
+];
+
+/// The greatest ids and variables, comments, and texts with no whole step, over the four clauses.
+const READING: &[Proof] = &[
+    (
+        &[],
+        "4611686018427387904 1 0 1 2 0\n6 0 4611686018427387904 3 4 0\n",
+        None,
+    ),
+    (
+        &[],
+        "4611686018427387905 1 0 1 2 0\n",
+        Some((1, Reason::Unreadable)),
+    ),
+    (
+        &[],
+        concat!(
+            "4611686018427387904 1 0 1 2 0\n9 d 4611686018427387904 0\n",
+            "6 0 4611686018427387904 3 4 0\n"
+        ),
+        Some((3, Reason::Hint)),
+    ),
+    (
+        &[],
+        "1000003 -3 1 0 0\n4611686018427387904 3 0 -1000003 1 2 0\n5 0 1 0\n",
+        Some((3, Reason::Unit)),
+    ),
+    (
+        &[],
+        "5 268435455 0 0\n6 -268435455 0 -5 0\n",
+        Some((2, Reason::Group)),
+    ),
+    (&[], "5 268435456 0 0\n", Some((1, Reason::Unreadable))),
+    (
+        &[],
+        "5 -268435455 1 0 0\n6 268435455 0 -5 1 2 0\n",
+        Some((3, Reason::End)),
+    ),
+    (
+        &[],
+        "c first\n\n  \n5 1 0\nc inside a step\n1 2 0\n\n6 0 5 3 4 0\n",
+        None,
+    ),
+    (&[], "c only\n\n", Some((1, Reason::End))),
+    (&[], "", Some((1, Reason::End))),
+    (&[], "5 1 0 1 2 0\nx", Some((2, Reason::Unreadable))),
+    (&[], "5 1 0 1 2 0\n6 0 5 3 4", Some((2, Reason::Unreadable))),
+    (&[], "5 1 0 1 2 0\n6 0 5 3 4 0\nx y", None),
+    (&[], "5 1 0 1 2 -0\n", Some((1, Reason::Unreadable))),
+    (&[], "0 1 0 1 2 0\n", Some((1, Reason::Unreadable))),
+    (&[], "5 d -1 0\n", Some((1, Reason::Unreadable))),
+    (&[], "5 d 1\n", Some((1, Reason::Unreadable))),
+    (&[], "5 1 0 1 d 0\n", Some((1, Reason::Unreadable))),
+    (
+        &[],
+        "5 1 0 1 2 0 6 d 3 0 7 0 5 3 4 0",
+        Some((3, Reason::Hint)),
+    ),
+    (&[], "5 1 0 1 2 0\nc note\n6 0 5 3 4 0\n", None),
+    (&[1], "6 0 5 3 4 0\nx y z\n", None),
+    (&[1], "6 0 5\n", Some((1, Reason::Unreadable))),
+    (&[1], "", Some((1, Reason::End))),
+    (&[1], "c nothing\n", Some((1, Reason::End))),
+];
+
+/// Clauses that repeat literals, and a tautology among the candidates and the hints.
+const REPEATING: &[Proof] = &[
+    (&[], "6 0 5 3 4 2 0\n", None),
+    (&[], "6 2 0 5 3 0\n", Some((1, Reason::Candidate))),
+    (&[], "6 2 0 5 3 2 0\n7 0 6 5 4 0\n", None),
+    (&[], "6 1 0 0\n", Some((1, Reason::Candidate))),
+    (&[], "6 1 0 -1 99 -3 5 0\n", Some((1, Reason::Group))),
+    (&[], "6 1 0 -1 99 -3 2 4 0\n", Some((2, Reason::End))),
+    (&[], "6 -2 0 1 0\n", Some((1, Reason::Unit))),
+    (&[], "6 1 0 1 0\n", Some((1, Reason::Candidate))),
+    (&[3], "7 0 5 6 0\n", None),
+    (&[3], "7 3 2 0 0\n", Some((1, Reason::Candidate))),
+    (&[3], "0 d 5 0\n7 3 0 0\n", Some((3, Reason::End))),
+    (&[3], "0 d 5 0\n5 -3 0 0\n", Some((2, Reason::Candidate))),
+];
+
+/// A formula with an empty clause is refuted before the first step.
+const REFUTED_AT_ONCE: &[Proof] = &[
+    (&[], "", None),
+    (&[], "x", None),
+    (&[], "0 d 2 0\n", None),
+    (&[5], "3 0 0\n", None),
+];
+
+/// So is the empty clause alone.
+const REFUTED_ALONE: &[Proof] = &[(&[], "", None), (&[1], "x", None)];
+
+/// Proofs from no clause at all.
+const NO_CLAUSE: &[Proof] = &[
+    (&[1, -1], "3 0 1 2 0\n", None),
+    (&[1, -1], "", Some((1, Reason::End))),
+    (
+        &[],
+        "0 d 1 0\n1 1 0 0\n2 -1 0 -1 0\n",
+        Some((3, Reason::Group)),
+    ),
+    (&[268435455, -268435455], "3 0 1 2 0\n", None),
+    (
+        &[],
+        "1 268435455 0 0\n2 -268435455 0 -1 1 0\n",
+        Some((2, Reason::Group)),
+    ),
+    (
+        &[],
+        "1 268435456 0 0\n2 -268435455 0 -1 1 0\n",
+        Some((1, Reason::Unreadable)),
+    ),
+];
+
+/// A proof that deletes clauses of the formula, and one that needs them, over the four clauses.
+const DELETED_AND_NEEDED: &[Proof] = &[
+    (&[1], "5 d 1 2 0\n6 0 5 3 4 0\n", None),
+    (&[-1], "6 0 5 1 2 0\n", None),
+];
+
+/// What the judge says over a base.
+pub fn judged_over(
+    rt: &impl Abort,
+    alloc: Global,
+    base: &Base,
+    path: &[Lit],
+    text: &[u8],
+) -> Judged {
+    let checker = Checker::over(alloc, base, path).expect(rt, "memory");
+    checker.judge(alloc, text).expect(rt, "memory")
+}
+
+/// What the judge says over a formula of its own: that of a base.
+fn judged_alone(rt: &impl Abort, alloc: Global, base: &Base, path: &[Lit], text: &[u8]) -> Judged {
+    let checker = Checker::new(alloc, base.formula(), path).expect(rt, "memory");
+    checker.judge(alloc, text).expect(rt, "memory")
+}
+
+fn expected(fault: Option<(u64, Reason)>) -> Judged {
+    match fault {
+        None => Judged::Refuted,
+        Some((step, reason)) => Judged::Rejected { step, reason },
+    }
+}
+
+/// Whether every judge gives a proof the judgement that is expected.
+fn is_expected(rt: &impl Abort, alloc: Global, base: &Base, proof: &Proof) -> bool {
+    let (path, text, fault) = *proof;
+    let path = lits(rt, alloc, path);
+    let want = expected(fault);
+    plain::judge(rt, alloc, base.formula(), &path, text.as_bytes()) == want
+        && judged_over(rt, alloc, base, &path, text.as_bytes()) == want
+        && judged_alone(rt, alloc, base, &path, text.as_bytes()) == want
+}
+
+/// The text of the first of the proofs that isn't judged as expected. All are judged over one base.
+fn first_wrong(
+    rt: &impl Abort,
+    alloc: Global,
+    base: &Base,
+    proofs: &[Proof],
+) -> Option<&'static str> {
+    for proof in proofs {
+        if !is_expected(rt, alloc, base, proof) {
+            return Some(proof.1);
+        }
+    }
+    None
+}
+
+#[test]
+fn expected_of_every_judge(rt: HostRuntime) {
+    for (clauses, proofs) in [
+        (FOUR, ADDITIONS),
+        (FOUR, GROUPS),
+        (FOUR, MANY_GROUPS),
+        (FOUR, DELETIONS),
+        (FOUR, READING),
+        (REPEATED, REPEATING),
+        (WITH_EMPTY, REFUTED_AT_ONCE),
+        (EMPTY_ALONE, REFUTED_ALONE),
+        (&[], NO_CLAUSE),
+    ] {
+        let formula = formula(&rt, rt.alloc(), clauses);
+        let base = Base::new(rt.alloc(), &formula).expect(&rt, "memory");
+        assert_eq!(rt; first_wrong(&rt, rt.alloc(), &base, proofs), None);
+    }
+}
+
+/// Whether proofs over a base of these clauses are judged as expected and leave it as many clauses.
+fn stays(
+    rt: &impl Abort,
+    alloc: Global,
+    base: &Base,
+    clauses: &[&[i32]],
+    proofs: &[Proof],
+) -> bool {
+    first_wrong(rt, alloc, base, proofs).is_none()
+        && base.formula().clauses().len() == clauses.len()
+}
+
+/// The base of a formula that it owns.
+fn owning(rt: &impl Abort, alloc: Global, clauses: &[&[i32]]) -> Base<'static> {
+    Base::owning(alloc, formula(rt, alloc, clauses)).expect(rt, "memory")
+}
+
+#[test]
+fn lent_base_stays(rt: HostRuntime) {
+    let four = formula(&rt, rt.alloc(), FOUR);
+    let lent = Base::new(rt.alloc(), &four).expect(&rt, "memory");
+    assert!(rt; stays(&rt, rt.alloc(), &lent, FOUR, DELETED_AND_NEEDED));
+}
+
+#[test]
+fn owning_base_stays(rt: HostRuntime) {
+    for (clauses, proofs) in [(FOUR, DELETED_AND_NEEDED), (EMPTY_ALONE, REFUTED_ALONE)] {
+        let base = owning(&rt, rt.alloc(), clauses);
+        assert!(rt; stays(&rt, rt.alloc(), &base, clauses, proofs));
+    }
+}

@@ -1,0 +1,299 @@
+//! Lists of cubes: their clashes, and what is asked of their trees.
+ghost use Rattle.std.specs.Prelude.{◌≤◌};
+
+use crate::fixtures::{HALF, QUARTER, WHOLE, are_lits, built, cubes, lits, tree};
+use cnf_text::literal::Lit;
+use split_tree::{Leaf, NodeId, Target, Tree, TreeFault};
+use std::alloc::Global;
+use std::process::Abort;
+
+/// Cubes in the order of a list, and the clash that is named of them.
+type Clash = (&'static [&'static [i32]], TreeFault);
+
+const CLASHES: &[Clash] = &[
+    (
+        &[&[1], &[-1, 2], &[-1, 3], &[1, 4]],
+        TreeFault::NotATree {
+            first: 2,
+            second: 3,
+        },
+    ),
+    (
+        &[&[1], &[-1, 2], &[1, 4], &[-1, 3]],
+        TreeFault::Overlap {
+            first: 1,
+            second: 3,
+        },
+    ),
+    (
+        &[&[1, 2], &[1]],
+        TreeFault::Overlap {
+            first: 1,
+            second: 2,
+        },
+    ),
+    (
+        &[&[1], &[2]],
+        TreeFault::NotATree {
+            first: 1,
+            second: 2,
+        },
+    ),
+    (&[&[1], &[-1], &[1]], TreeFault::Repeats { cube: 3 }),
+];
+
+/// Whether the cubes clash so.
+fn clash(rt: &impl Abort, alloc: Global, cubes: &[Vec<Lit>], wanted: &TreeFault) -> bool {
+    match built(rt, alloc, cubes) {
+        Ok(_) => false,
+        Err(fault) => fault == *wanted,
+    }
+}
+
+#[test]
+fn clashes_are_named(rt: HostRuntime) {
+    for (lists, fault) in CLASHES {
+        let cubes = cubes(&rt, rt.alloc(), lists);
+        assert!(rt; clash(&rt, rt.alloc(), &cubes, fault), "{fault}");
+    }
+}
+
+fn prints(alloc: Global, fault: &TreeFault, text: &str) -> bool {
+    match format!(in alloc; "{fault}") {
+        Ok(printed) => printed.as_str() == text,
+        Err(_) => false,
+    }
+}
+
+#[test]
+fn faults_are_printed(rt: HostRuntime) {
+    for (fault, text) in [
+        (TreeFault::Repeats { cube: 3 }, "F7 cube 3 repeats"),
+        (
+            TreeFault::NotATree {
+                first: 1,
+                second: 2,
+            },
+            "F8 cubes 1 and 2 are not of one tree",
+        ),
+        (
+            TreeFault::Overlap {
+                first: 1,
+                second: 2,
+            },
+            "F9 cubes 1 and 2 overlap",
+        ),
+        (TreeFault::Memory, "F6 memory"),
+    ] {
+        assert!(rt; prints(rt.alloc(), &fault, text), "{text}");
+    }
+}
+
+/// Whether a leaf of the tree has the path of these numbers.
+fn has_path(rt: &impl Abort, alloc: Global, tree: &Tree, leaf: Leaf, numbers: &[i32]) -> bool {
+    assert!(rt; tree.has_leaf(leaf));
+    let path = tree.path_of(alloc, Target::Leaf(leaf)).expect(rt, "memory");
+    are_lits(&path, numbers)
+}
+
+/// Whether a leaf of the tree has this weight.
+fn weighs(rt: &impl Abort, tree: &Tree, leaf: Leaf, weight: u64) -> bool {
+    assert!(rt; tree.has_leaf(leaf));
+    tree.weight_of(leaf) == weight
+}
+
+#[test]
+fn no_cubes_leave_one_leaf(rt: HostRuntime) {
+    let tree = tree(&rt, rt.alloc(), &[]);
+    assert!(rt; tree.leaf_count() == 1 && tree.cube_count() == 0 && tree.missing_count() == 1);
+    assert!(rt; has_path(&rt, rt.alloc(), &tree, Leaf::Missing(1), &[]));
+    assert!(rt; tree.total() == WHOLE);
+    for leaf in [Leaf::Missing(2), Leaf::Missing(0), Leaf::Cube(1)] {
+        assert!(rt; !tree.has_leaf(leaf), "{leaf:?}");
+    }
+}
+
+#[test]
+fn a_variable_splits_twice(rt: HostRuntime) {
+    let tree = tree(&rt, rt.alloc(), &[&[1, -1]]);
+    let leaves: [(Leaf, &[i32], u64); 3] = [
+        (Leaf::Missing(1), &[1, 1], QUARTER),
+        (Leaf::Missing(2), &[-1], HALF),
+        (Leaf::Cube(1), &[1, -1], QUARTER),
+    ];
+    for (leaf, path, weight) in leaves {
+        assert!(rt; has_path(&rt, rt.alloc(), &tree, leaf, path), "{leaf:?}");
+        assert!(rt; weighs(&rt, &tree, leaf, weight), "{leaf:?}");
+    }
+    assert!(rt; tree.missing_count() == 2);
+}
+
+/// The tree of the one cube of the literals 1 to `last`.
+fn long_tree(rt: &impl Abort, alloc: Global, last: i32) -> Tree {
+    let mut cube = Vec::new(alloc);
+    for variable in 1..=last {
+        let lit = Lit::new(variable).expect(rt, "no literal");
+        cube.push(lit).expect(rt, "memory");
+    }
+    let cubes = vec![in alloc; cube].expect(rt, "memory");
+    built(rt, alloc, &cubes).expect(rt, "no tree")
+}
+
+#[test]
+fn weights_end_at_one(rt: HostRuntime) {
+    let tree = long_tree(&rt, rt.alloc(), 61);
+    assert!(rt; tree.missing_count() == 61 && tree.total() == 1_152_921_504_606_846_977);
+    let leaves = [
+        (Leaf::Missing(61), HALF),
+        (Leaf::Missing(60), QUARTER),
+        (Leaf::Missing(3), 2),
+        (Leaf::Missing(2), 1),
+        (Leaf::Missing(1), 1),
+        (Leaf::Cube(1), 1),
+    ];
+    for (leaf, weight) in leaves {
+        assert!(rt; weighs(&rt, &tree, leaf, weight), "{leaf:?}");
+    }
+}
+
+#[test]
+fn a_long_path(rt: HostRuntime) {
+    let tree = long_tree(&rt, rt.alloc(), 61);
+    let path = [
+        1, 2, 3, 4, 5, 6, 7, 8, 9, 10, 11, 12, 13, 14, 15, 16, 17, 18, 19, 20, 21, 22, 23, 24, 25,
+        26, 27, 28, 29, 30, 31, 32, 33, 34, 35, 36, 37, 38, 39, 40, 41, 42, 43, 44, 45, 46, 47, 48,
+        49, 50, 51, 52, 53, 54, 55, 56, 57, 58, 59, 60, -61,
+    ];
+    assert!(rt; has_path(&rt, rt.alloc(), &tree, Leaf::Missing(1), path.as_slice()));
+    assert!(rt; has_path(&rt, rt.alloc(), &tree, Leaf::Missing(61), &[-1]));
+}
+
+#[test]
+fn the_longest_cube(rt: HostRuntime) {
+    let tree = long_tree(&rt, rt.alloc(), 4_096);
+    assert!(rt; tree.missing_count() == 4_096 && tree.total() == 1_152_921_504_606_851_012);
+    assert!(rt; has_path(&rt, rt.alloc(), &tree, Leaf::Missing(4_096), &[-1]));
+}
+
+#[test]
+fn the_most_cubes(rt: HostRuntime) {
+    let mut cubes = Vec::new(rt.alloc());
+    for _ in 0..1_048_576 {
+        cubes.push(Vec::new(rt.alloc())).expect(&rt, "memory");
+    }
+    assert!(rt; clash(&rt, rt.alloc(), &cubes, &TreeFault::Repeats { cube: 2 }));
+}
+
+/// The cube of 12 literals whose signs are the bits of a number.
+fn signed_cube(rt: &impl Abort, alloc: Global, bits: u32) -> Vec<Lit> {
+    let mut cube = Vec::new(alloc);
+    let mut left = bits;
+    for variable in 1..13 {
+        let lit = Lit::from_parts(variable, left % 2 == 0);
+        cube.push(lit).expect(rt, "memory");
+        left /= 2;
+    }
+    cube
+}
+
+#[test]
+fn a_late_clash_is_found(rt: HostRuntime) {
+    let mut cubes = Vec::new(rt.alloc());
+    for bits in 0..4_096 {
+        cubes
+            .push(signed_cube(&rt, rt.alloc(), bits))
+            .expect(&rt, "memory");
+    }
+    cubes
+        .push(signed_cube(&rt, rt.alloc(), 2_048))
+        .expect(&rt, "memory");
+    assert!(rt; clash(&rt, rt.alloc(), &cubes, &TreeFault::Repeats { cube: 4_097 }));
+}
+
+/// Three cubes that cover everything.
+const THREE: &[&[i32]] = &[&[1], &[-1, 2], &[-1, -2]];
+
+/// Whether the parts of a cut are these: the leaf of each, where it is one, and its total.
+fn has_parts(
+    rt: &impl Abort,
+    alloc: Global,
+    tree: &Tree,
+    cut: u32,
+    wanted: &[(Option<Leaf>, u64)],
+) -> bool
+    requires { cut ≤ 6 }
+{
+    let parts = tree.parts(alloc, cut).expect(rt, "memory");
+    for (part, (leaf, total)) in parts.iter().zip(wanted) {
+        assert!(rt; part.number() < tree.size());
+        if tree.leaf_at(*part) != *leaf || tree.weight_under(*part) != *total {
+            return false;
+        }
+    }
+    parts.len() == wanted.len()
+}
+
+#[test]
+fn parts_of_a_cut(rt: HostRuntime) {
+    let tree = tree(&rt, rt.alloc(), THREE);
+    let leaves = [
+        (Some(Leaf::Cube(1)), HALF),
+        (Some(Leaf::Cube(2)), QUARTER),
+        (Some(Leaf::Cube(3)), QUARTER),
+    ];
+    assert!(rt; has_parts(&rt, rt.alloc(), &tree, 2, &leaves));
+    assert!(rt; has_parts(&rt, rt.alloc(), &tree, 0, &[(None, WHOLE)]));
+}
+
+#[test]
+fn paths_of_parts(rt: HostRuntime) {
+    let tree = tree(&rt, rt.alloc(), THREE);
+    for (leaf, path) in [Leaf::Cube(1), Leaf::Cube(2), Leaf::Cube(3)]
+        .into_iter()
+        .zip(THREE)
+    {
+        assert!(rt; has_path(&rt, rt.alloc(), &tree, leaf, path), "{leaf:?}");
+    }
+}
+
+#[test]
+fn the_top_of_a_tree(rt: HostRuntime) {
+    let tree = tree(&rt, rt.alloc(), THREE);
+    let above = tree.top(rt.alloc(), 1).expect(&rt, "memory");
+    assert!(rt; above.nodes.len() == 3);
+}
+
+/// Two cubes with the branch `1`, `-2` missing.
+const TWO: &[&[i32]] = &[&[1, 2], &[-1]];
+
+#[test]
+fn inner_nodes_by_path(rt: HostRuntime) {
+    let tree = tree(&rt, rt.alloc(), TWO);
+    let paths: [(&[i32], Option<NodeId>); 6] = [
+        (&[], Some(NodeId::new(0))),
+        (&[1], Some(NodeId::new(1))),
+        (&[-1], None),
+        (&[1, 2], None),
+        (&[1, 3], None),
+        (&[-1, 2], None),
+    ];
+    for (numbers, node) in paths {
+        let path = lits(&rt, rt.alloc(), numbers);
+        assert!(rt; tree.node_of(&path) == node, "{numbers:?}");
+    }
+}
+
+#[test]
+fn the_way_down(rt: HostRuntime) {
+    let tree = tree(&rt, rt.alloc(), TWO);
+    let branches = tree.branches(tree.root());
+    assert!(rt; branches == Some((NodeId::new(1), NodeId::new(4))));
+}
+
+#[test]
+fn the_way_up(rt: HostRuntime) {
+    let tree = tree(&rt, rt.alloc(), TWO);
+    assert!(rt; tree.has_leaf(Leaf::Missing(1)));
+    let leaf = tree.node_of_leaf(Leaf::Missing(1));
+    assert!(rt; tree.parent(leaf) == Some(NodeId::new(1)));
+}
