@@ -50,6 +50,21 @@ pub const ONE_CUBE: &str = four!("a 1 0\nl 1\n6 0 5 3 4 0\n");
 /// A bundle with two cubes and a proof for the root alone.
 pub const ROOT: &str = halves!("l n 0\n5 1 0 1 2 0\n6 0 5 3 4 0\n");
 
+/// A unit that the clauses force, and then the empty clause.
+pub const REFUTED: &[u8] =
+    b"p inccnf\n1 2 0\n1 -2 0\n-1 2 0\n-1 -2 0\na 0\nl 1\n5 1 0 1 2 0\n6 0 5 3 4 0\n";
+
+/// The same formula with a proof that ends too early.
+pub const OPEN: &[u8] =
+    b"p inccnf\n1 2 0\n1 -2 0\n-1 2 0\n-1 -2 0\na 0\nl 1\n6 -3 1 0 0\n7 3 0 -6 1 2 0\n";
+
+/// The report on `REFUTED`.
+pub const REFUTED_REPORT: &[u8] = b"t 1 0 1152921504606846976\na 1 refuted\nw 0\ns REFUTED\n";
+
+/// The report on `OPEN`.
+pub const OPEN_REPORT: &[u8] =
+    b"t 1 0 1152921504606846976\na 1 rejected 3 end\no 0\nw 1152921504606846976\ns OPEN\n";
+
 pub fn lits(rt: &impl Abort, alloc: Global, numbers: &[i32]) -> Vec<Lit> {
     let mut lits = Vec::new(alloc);
     for number in numbers {

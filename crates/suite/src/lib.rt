@@ -8,6 +8,8 @@ mod boards_tests;
 #[cfg(test)]
 mod case_tests;
 #[cfg(test)]
+mod command_tests;
+#[cfg(test)]
 mod fixtures;
 #[cfg(test)]
 mod icnf_tests;
@@ -19,6 +21,8 @@ mod lrat_text_tests;
 mod plain;
 #[cfg(test)]
 mod random_tests;
+#[cfg(test)]
+mod report_tests;
 #[cfg(test)]
 mod tree_tests;
 #[cfg(test)]
