@@ -122,6 +122,21 @@ fn posted(rt: &impl Abort, alloc: Global, board: &mut Board, posts: &[Target]) -
 }
 
 /// The same, on a new board of a part.
+fn posted_on_part(
+    rt: &impl Abort,
+    alloc: Global,
+    case: &Case,
+    cut: u32,
+    part: u32,
+    posts: &[Target],
+) -> Option<Seen>
+    requires { cut ≤ 6 }
+{
+    let mut board = part_board(rt, alloc, case, cut, part)?;
+    posted(rt, alloc, &mut board, posts)
+}
+
+/// The same, where the case is a bundle's.
 fn posted_in_part(
     rt: &impl Abort,
     alloc: Global,
@@ -132,9 +147,7 @@ fn posted_in_part(
 ) -> Option<Seen>
     requires { cut ≤ 6 }
 {
-    let case = case(rt, alloc, bundle);
-    let mut board = part_board(rt, alloc, &case, cut, part)?;
-    posted(rt, alloc, &mut board, posts)
+    posted_on_part(rt, alloc, &case(rt, alloc, bundle), cut, part, posts)
 }
 
 /// How a board stands that is stored and bound again.
@@ -250,6 +263,17 @@ fn seen_with(became: Became, open: u64, first: Mark, second: Mark) -> Option<See
     })
 }
 
+/// Whether the first part's verdict takes half and a second one of it nothing, and the other part's
+/// verdict takes the rest.
+fn takes_verdicts(rt: &impl Abort, alloc: Global, above: &mut Board) -> bool
+    requires top { above.old.place ≡ Top }
+    requires cut { above.old.cut ≡ 1 }
+{
+    takes_verdict(rt, alloc, above, 0, Became::Marked, HALF)
+        && takes_verdict(rt, alloc, above, 0, Became::Already, HALF)
+        && takes_verdict(rt, alloc, above, 1, Became::TopMarked, 0)
+}
+
 // Both branches of the root weigh half. A second finding of a leaf changes nothing, and the second
 // leaf marks the root.
 #[test]
@@ -257,17 +281,15 @@ fn leaves_of_one_part(rt: HostRuntime) {
     let one = seen_with(Became::Marked, HALF, Mark::Refuted, Mark::Open);
     let again = seen_with(Became::Already, HALF, Mark::Refuted, Mark::Open);
     let both = seen_with(Became::RootMarked(0), 0, Mark::Refuted, Mark::Refuted);
-    for (posts, wanted) in [
+    let alloc = rt.alloc();
+    for (posts, wanted) in &[
         ([cube(1)].as_slice(), one),
         ([cube(1), cube(1)].as_slice(), again),
         ([cube(1), cube(1), cube(2)].as_slice(), both),
     ] {
+        assert!(rt; leaves(&rt, alloc, BOTH_CUBES, posts, *wanted), "{posts:?}");
         assert!(rt;
-            leaves(&rt, rt.alloc(), BOTH_CUBES, posts, wanted),
-            "{posts:?}"
-        );
-        assert!(rt;
-            leaves_stored(&rt, rt.alloc(), BOTH_CUBES, posts, wanted),
+            leaves_stored(&rt, alloc, BOTH_CUBES, posts, *wanted),
             "{posts:?}"
         );
     }
@@ -279,9 +301,7 @@ fn leaves_of_one_part(rt: HostRuntime) {
 fn verdicts_on_top(rt: HostRuntime) {
     let case = case(&rt, rt.alloc(), BOTH_CUBES);
     let mut above = Board::new(rt.alloc(), &case, 1, Place::Top).expect(&rt, "memory");
-    assert!(rt; takes_verdict(&rt, rt.alloc(), &mut above, 0, Became::Marked, HALF));
-    assert!(rt; takes_verdict(&rt, rt.alloc(), &mut above, 0, Became::Already, HALF));
-    assert!(rt; takes_verdict(&rt, rt.alloc(), &mut above, 1, Became::TopMarked, 0));
+    assert!(rt; takes_verdicts(&rt, rt.alloc(), &mut above));
 }
 
 // A refuted root covers the leaves under it, but it is no finding of theirs. A rejected leaf stays

@@ -333,11 +333,13 @@ fn is_expected(rt: &impl Abort, alloc: Global, base: &Base, proof: &Proof) -> bo
         && judged_alone(rt, alloc, base, &path, text.as_bytes()) == want
 }
 
-/// The text of the first of the proofs that isn't judged as expected. All are judged over one base.
+/// The text of the first of the proofs that isn't judged as expected. All are judged over one base,
+/// which has as many clauses after them as it was made of.
 fn first_wrong(
     rt: &impl Abort,
     alloc: Global,
     base: &Base,
+    clauses: &[&[i32]],
     proofs: &[Proof],
 ) -> Option<&'static str> {
     for proof in proofs {
@@ -345,56 +347,71 @@ fn first_wrong(
             return Some(proof.1);
         }
     }
+    assert!(rt; base.formula().clauses().len() == clauses.len());
     None
 }
 
-#[test]
-fn expected_of_every_judge(rt: HostRuntime) {
-    for (clauses, proofs) in [
-        (FOUR, ADDITIONS),
-        (FOUR, GROUPS),
-        (FOUR, MANY_GROUPS),
-        (FOUR, DELETIONS),
-        (FOUR, READING),
-        (REPEATED, REPEATING),
-        (WITH_EMPTY, REFUTED_AT_ONCE),
-        (EMPTY_ALONE, REFUTED_ALONE),
-        (&[], NO_CLAUSE),
-    ] {
-        let formula = formula(&rt, rt.alloc(), clauses);
-        let base = Base::new(rt.alloc(), &formula).expect(&rt, "memory");
-        assert_eq!(rt; first_wrong(&rt, rt.alloc(), &base, proofs), None);
-    }
-}
-
-/// Whether proofs over a base of these clauses are judged as expected and leave it as many clauses.
-fn stays(
+/// The same over a base to which the formula is lent.
+fn first_wrong_lent(
     rt: &impl Abort,
     alloc: Global,
-    base: &Base,
     clauses: &[&[i32]],
     proofs: &[Proof],
-) -> bool {
-    first_wrong(rt, alloc, base, proofs).is_none()
-        && base.formula().clauses().len() == clauses.len()
+) -> Option<&'static str> {
+    let formula = formula(rt, alloc, clauses);
+    let base = Base::new(alloc, &formula).expect(rt, "memory");
+    first_wrong(rt, alloc, &base, clauses, proofs)
 }
 
-/// The base of a formula that it owns.
-fn owning(rt: &impl Abort, alloc: Global, clauses: &[&[i32]]) -> Base<'static> {
-    Base::owning(alloc, formula(rt, alloc, clauses)).expect(rt, "memory")
+/// The same over a base that owns its formula.
+fn first_wrong_owned(
+    rt: &impl Abort,
+    alloc: Global,
+    clauses: &[&[i32]],
+    proofs: &[Proof],
+) -> Option<&'static str> {
+    let base = Base::owning(alloc, formula(rt, alloc, clauses)).expect(rt, "memory");
+    first_wrong(rt, alloc, &base, clauses, proofs)
+}
+
+/// Clauses, and proofs over them.
+type Table = (&'static [&'static [i32]], &'static [Proof]);
+
+const TABLES: &[Table] = &[
+    (FOUR, ADDITIONS),
+    (FOUR, GROUPS),
+    (FOUR, MANY_GROUPS),
+    (FOUR, DELETIONS),
+    (FOUR, READING),
+    (REPEATED, REPEATING),
+    (WITH_EMPTY, REFUTED_AT_ONCE),
+    (EMPTY_ALONE, REFUTED_ALONE),
+    (&[], NO_CLAUSE),
+];
+
+#[test]
+fn expected_of_every_judge(rt: HostRuntime) {
+    for (clauses, proofs) in TABLES {
+        assert_eq!(rt; first_wrong_lent(&rt, rt.alloc(), clauses, proofs), None);
+    }
 }
 
 #[test]
 fn lent_base_stays(rt: HostRuntime) {
-    let four = formula(&rt, rt.alloc(), FOUR);
-    let lent = Base::new(rt.alloc(), &four).expect(&rt, "memory");
-    assert!(rt; stays(&rt, rt.alloc(), &lent, FOUR, DELETED_AND_NEEDED));
+    assert_eq!(rt;
+        first_wrong_lent(&rt, rt.alloc(), FOUR, DELETED_AND_NEEDED),
+        None
+    );
 }
 
 #[test]
 fn owning_base_stays(rt: HostRuntime) {
-    for (clauses, proofs) in [(FOUR, DELETED_AND_NEEDED), (EMPTY_ALONE, REFUTED_ALONE)] {
-        let base = owning(&rt, rt.alloc(), clauses);
-        assert!(rt; stays(&rt, rt.alloc(), &base, clauses, proofs));
-    }
+    assert_eq!(rt;
+        first_wrong_owned(&rt, rt.alloc(), FOUR, DELETED_AND_NEEDED),
+        None
+    );
+    assert_eq!(rt;
+        first_wrong_owned(&rt, rt.alloc(), EMPTY_ALONE, REFUTED_ALONE),
+        None
+    );
 }

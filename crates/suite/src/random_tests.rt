@@ -272,6 +272,8 @@ fn differences(
     differ
 }
 
+const PATHS: &[&[i32]] = &[&[], &[1], &[-1, 2], &[4, -3, 4]];
+
 /// The proofs of all paths over one base.
 fn differences_over(
     rt: &impl Abort,
@@ -282,12 +284,26 @@ fn differences_over(
     tally: &mut Tally,
 ) -> u32 {
     let mut differ = 0u32;
-    for numbers in [[].as_slice(), &[1], &[-1, 2], &[4, -3, 4]] {
+    for numbers in PATHS {
         let path = lits(rt, alloc, numbers);
         let more = differences(rt, alloc, base, &path, given, random, tally);
         differ = differ.saturating_add(more);
     }
     differ
+}
+
+/// The same over the base of these clauses.
+fn differences_of(
+    rt: &impl Abort,
+    alloc: Global,
+    clauses: &[&[i32]],
+    given: &[&'static [u8]; 16],
+    random: &mut Generator,
+    tally: &mut Tally,
+) -> u32 {
+    let formula = formula(rt, alloc, clauses);
+    let base = Base::new(alloc, &formula).expect(rt, "memory");
+    differences_over(rt, alloc, &base, given, random, tally)
 }
 
 const NOTHING_YET: Tally = Tally {
@@ -308,18 +324,21 @@ fn least(tally: Tally) -> u32 {
     first.min(second).min(tally.group).min(tally.candidate)
 }
 
+/// Clauses, and the steps over them that can follow one another.
+type Given = (&'static [&'static [i32]], &'static [&'static [u8]; 16]);
+
+const FORMULAS: &[Given] = &[
+    (FOUR, &FOUR_STEPS),
+    (REPEATED, &REPEATED_STEPS),
+    (PAIRS, &PAIRS_STEPS),
+];
+
 #[test]
 fn both_judges_agree(rt: HostRuntime) {
     let mut random = Generator { state: 22 };
     let mut tally = NOTHING_YET;
-    for (clauses, given) in [
-        (FOUR, &FOUR_STEPS),
-        (REPEATED, &REPEATED_STEPS),
-        (PAIRS, &PAIRS_STEPS),
-    ] {
-        let formula = formula(&rt, rt.alloc(), clauses);
-        let base = Base::new(rt.alloc(), &formula).expect(&rt, "memory");
-        let differ = differences_over(&rt, rt.alloc(), &base, given, &mut random, &mut tally);
+    for (clauses, given) in FORMULAS {
+        let differ = differences_of(&rt, rt.alloc(), clauses, given, &mut random, &mut tally);
         assert_eq!(rt; differ, 0);
     }
     assert!(rt; least(tally) > 0, "{tally:?}");
