@@ -1,4 +1,5 @@
-//! The program on words, streams and files: each expected report is written by hand from the formats.
+//! The program on words, streams and files: each expected report is written by hand from the
+//! formats.
 
 use crate::fixtures::{OPEN, OPEN_REPORT, REFUTED, REFUTED_REPORT};
 use cube_command::command;
@@ -13,7 +14,8 @@ const PROOF: &[u8] = b"5 1 0 1 2 0\n6 0 5 3 4 0\n";
 
 const DEVICE: &[u8] = b"cubeboard: F13 device\n";
 
-/// The program on these words and this input ends with this status, after this report and this line of errors.
+/// The program on these words and this input ends with this status, after this report and this
+/// line of errors.
 fn ends_with<R: Files + AllocGlobal + Abort>(
     rt: &R,
     words: &[&str],

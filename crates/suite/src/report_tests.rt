@@ -1,4 +1,5 @@
-//! Reports and faults of bundles, and runs over streams in memory: each expected report is written by hand from the formats.
+//! Reports and faults of bundles, and runs over streams in memory: each expected report is written
+//! by hand from the formats.
 
 ghost use Rattle.std.specs.Prelude.{Some};
 
