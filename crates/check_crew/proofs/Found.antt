@@ -28,7 +28,8 @@ use Rattle.board_hall.specs.declared.table.Core.{Core}
 use Rattle.board_hall.specs.Halls.{core_of, shared_of, view_of}
 use Rattle.board_hall.specs.Clauses.{Gathers}
 use Rattle.check_crew.specs.Handle.{IsOf}
-use Rattle.check_crew.specs.Findings.{IsMarkOf, AreFindings, HasSeen, HasSeenSection}
+use Rattle.mark_board.specs.Findings.{IsMarkOf, AreFindings}
+use Rattle.check_crew.specs.Findings.{HasSeen, HasSeenSection}
 use Rattle.check_crew.specs.Shifts.{HaveSeenClaims}
 use Rattle.check_crew.proofs.Marks.{open_or_not, marked_more, real_mark, home_of}
 

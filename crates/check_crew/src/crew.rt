@@ -4,7 +4,7 @@ ghost use Rattle.std.specs.Prelude.{◌≡◌, ◌<◌, ◌≤◌, true, false, 
 ghost use Rattle.cube_jobs.specs.Jobs.{IsPassOf, new_pass};
 ghost use Rattle.board_hall.specs.Halls.{view_of};
 ghost use Rattle.check_crew.specs.Handle.{IsOf, IsNewOf};
-ghost use Rattle.check_crew.specs.Findings.{AreFindings};
+ghost use Rattle.mark_board.specs.Findings.{AreFindings};
 ghost use Rattle.check_crew.specs.Shifts.{IsShiftOf, AreReady, AreNew, HaveSeenClaims};
 
 use crate::fault::CrewFault;

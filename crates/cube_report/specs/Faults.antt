@@ -2,8 +2,10 @@
 use Rattle.std.specs.Prelude.{◌≢◌}
 use Rattle.case_core.specs.declared.fault.CaseFault.{CaseFault}
 use Rattle.case_core.specs.declared.fault.CaseFault.TheVariants as case
+use Rattle.check_crew.specs.declared.fault.CrewFault.{CrewFault}
+use Rattle.check_crew.specs.declared.fault.CrewFault.TheVariants as crew
 use Rattle.cube_report.specs.declared.fault.Fault.{Fault}
-use Rattle.cube_report.specs.declared.fault.Fault.TheVariants.{Header, Token, Unfinished, TooLarge, Limit, Memory, Repeats, NotATree, Overlap, BadLabel, NoSuchLeaf, ProofTwice, Device}
+use Rattle.cube_report.specs.declared.fault.Fault.TheVariants.{Header, Token, Unfinished, TooLarge, Limit, Memory, Repeats, NotATree, Overlap, BadLabel, NoSuchLeaf, ProofTwice, Device, Thread}
 
 -- a fault of the bundle, as a fault of the run
 abbrev pub fault_of_case : CaseFault → Fault
@@ -20,6 +22,11 @@ fault_of_case (case.BadLabel line) = BadLabel line
 fault_of_case (case.NoSuchLeaf line) = NoSuchLeaf line
 fault_of_case (case.ProofTwice line) = ProofTwice line
 
--- a fault of what was read, neither of memory nor of a device
+-- a fault of the workers, as a fault of the run
+abbrev pub fault_of_crew : CrewFault → Fault
+fault_of_crew crew.Memory = Memory
+fault_of_crew crew.Thread = Thread
+
+-- a fault of what was read, neither of memory, nor of a device, nor of a thread
 abbrev pub IsInputFault : Fault → Type 0
-IsInputFault fault = (fault ≢ Memory) × (fault ≢ Device)
+IsInputFault fault = (fault ≢ Memory) × (fault ≢ Device) × (fault ≢ Thread)

@@ -7,14 +7,18 @@ ghost use Rattle.mark_board.specs.declared.mark.Mark.TheVariants.{Open};
 ghost use Rattle.cube_report.specs.Faults.{IsInputFault};
 ghost use Rattle.cube_report.specs.Device.{AppendsBeginning, IsReadFault};
 ghost use Rattle.cube_report.specs.Stated.{IsStated};
-ghost use Rattle.cube_report.specs.Correct.{AreFindings, IsReportOn, IsAnswerOn, IsCorrect, IsFaultOn, IsUnsatisfiable, SaysRefuted};
+ghost use Rattle.mark_board.specs.Findings.{AreFindings};
+ghost use Rattle.cube_report.specs.Correct.{IsReportOn, IsAnswerOn, IsCorrect, IsFaultOn, IsUnsatisfiable, SaysRefuted};
 
 use crate::device::{Sink, Source};
 use crate::fault::Fault;
 use crate::report::report_of;
 use case_core::{Case, examine, read_bundle};
+use check_crew::{CrewFault, Gate, Settings, conquer};
 use mark_board::Boards;
 use std::alloc::{AllocError, Global};
+use std::sync::Wait;
+use std::thread::Threads;
 
 /// A report, and whether the root is marked.
 #[derive(Drop)]
@@ -46,8 +50,8 @@ fn post_findings<'c>(
     Ok(())
 }
 
-/// The boards of a case with the findings of all its sections, at cut 0.
-fn conquer(alloc: Global, case: &Case) -> Result<Boards<'_>, AllocError>
+/// The boards of a case with the findings of all its sections, at cut 0, by this thread.
+fn conquer_alone(alloc: Global, case: &Case) -> Result<Boards<'_>, AllocError>
     ensures case { IfOk result (λ boards. boards.case ≡ case.now) }
     ensures findings { IfOk result (λ boards. AreFindings case.now boards.marks) }
 {
@@ -68,15 +72,45 @@ fn outcome_by(alloc: Global, boards: &Boards<'_>) -> Result<Outcome, AllocError>
     })
 }
 
-/// The report on a case, and whether it says refuted.
+/// The report on a case, and whether it says refuted, by this thread.
 fn outcome_on(alloc: Global, case: &Case) -> Result<Outcome, AllocError>
     ensures { IfOk result (λ outcome. IsStated case.now outcome.text.items outcome.refuted) }
 {
-    let boards = conquer(alloc, case)?;
+    let boards = conquer_alone(alloc, case)?;
     outcome_by(alloc, &boards)
 }
 
-/// The report on a bundle, and whether it says refuted.
+/// The report on a case, and whether it says refuted, by workers.
+fn outcome_with<T: Threads + Wait + Sync, G: Gate + Sync>(
+    rt: &T,
+    alloc: Global,
+    case: &Case,
+    settings: Settings,
+    gate: &G,
+) -> Result<Outcome, CrewFault>
+    ensures { IfOk result (λ outcome. IsStated case.now outcome.text.items outcome.refuted) }
+{
+    let boards = conquer(rt, alloc, case, settings, gate)?;
+    Ok(outcome_by(alloc, &boards)?)
+}
+
+/// The report on a bundle, and whether it says refuted, by workers.
+fn outcome_of_crew<T: Threads + Wait + Sync, G: Gate + Sync>(
+    rt: &T,
+    alloc: Global,
+    bundle: &[u8],
+    settings: Settings,
+    gate: &G,
+) -> Result<Outcome, Fault>
+    ensures outcome { IfOk result (λ outcome. IsCorrect bundle.now outcome.text.items outcome.refuted) }
+    ensures fault { IfErr result (λ fault. IsInputFault fault → IsFaultOn bundle.now fault) }
+    ensures device { IfErr result (λ fault. fault ≢ Fault.Device) }
+{
+    let case = read_bundle(alloc, bundle)?;
+    Ok(outcome_with(rt, alloc, &case, settings, gate)?)
+}
+
+/// The report on a bundle, and whether it says refuted, by this thread.
 fn outcome_of(alloc: Global, bundle: &[u8]) -> Result<Outcome, Fault>
     ensures outcome { IfOk result (λ outcome. IsCorrect bundle.now outcome.text.items outcome.refuted) }
     ensures fault { IfErr result (λ fault. fault ≢ Fault.Memory → IsFaultOn bundle.now fault) }
@@ -102,14 +136,43 @@ pub fn run_one(alloc: Global, bundle: &[u8]) -> Result<Vec<u8>, Fault>
     Ok(outcome.text)
 }
 
-/// Reads a bundle to the reader's end, and writes the report on it; answers whether the formula is refuted.
+/// The report on a bundle, by as many workers and at the cut that the settings say, or the bundle's first fault; `Memory` or
+/// `Thread` may stand in the place of any other answer where a growth or the start of a worker is refused. All workers that were
+/// started are joined before it answers. The gate is called beside each section.
+///
+/// It answers as `run_one` does, whatever the settings and the gate.
+pub fn run<T: Threads + Wait + Sync, G: Gate + Sync>(
+    rt: &T,
+    alloc: Global,
+    bundle: &[u8],
+    settings: Settings,
+    gate: &G,
+) -> Result<Vec<u8>, Fault>
+    // The text is the report on the case that the bundle stands for.
+    ensures text { IfOk result (λ text. IsReportOn bundle.now text.items) }
+    // With the answer of its last line, it is all that a run promises.
+    ensures correct { IfOk result (λ text. (answer : Bool) × IsCorrect bundle.now text.items answer) }
+    // It says refuted only where the formula has no model.
+    ensures sound { IfOk result (λ text. SaysRefuted text.items → IsUnsatisfiable bundle.now) }
+    // Another bundle is refused for its first fault.
+    ensures fault { IfErr result (λ fault. fault ≢ Fault.Memory → fault ≢ Fault.Thread → IsFaultOn bundle.now fault) }
+{
+    let outcome = outcome_of_crew(rt, alloc, bundle, settings, gate)?;
+    Ok(outcome.text)
+}
+
+/// Reads a bundle to the reader's end, and writes the report on it, which workers find as `run` says; answers whether the formula is
+/// refuted.
 ///
 /// Nothing is written before all is read and judged. A read of 0 bytes is the reader's end. `Device` where a read or a
 /// write failed in this call, and where a write failed, a beginning of the report was written.
-pub fn run_io<R: Source, W: Sink>(
+pub fn run_io<T: Threads + Wait + Sync, R: Source, W: Sink, G: Gate + Sync>(
+    rt: &T,
     alloc: Global,
     reader: &mut R,
     writer: &mut W,
+    settings: Settings,
+    gate: &G,
 ) -> Result<bool, Fault>
     requires reader { R.failures reader.old < 2 ^ 64 - 1 }
     requires writer { W.failures writer.old < 2 ^ 64 - 1 }
@@ -139,12 +202,19 @@ pub fn run_io<R: Source, W: Sink>(
         (R.failures reader.old < R.failures reader.new ⊎ W.failures writer.old < W.failures writer.new) }
 {
     let input = read_all(alloc, reader)?;
-    write_report(alloc, &input, writer)
+    write_report(rt, alloc, &input, writer, settings, gate)
 }
 
-/// Writes the report on a bundle; answers whether the formula is refuted. Nothing is written before all is judged.
-/// `Device` where a write failed in this call, and then a beginning of the report was written.
-pub fn write_report<W: Sink>(alloc: Global, bundle: &[u8], writer: &mut W) -> Result<bool, Fault>
+/// Writes the report on a bundle, which workers find as `run` says; answers whether the formula is refuted. Nothing is written before
+/// all is judged. `Device` where a write failed in this call, and then a beginning of the report was written.
+pub fn write_report<T: Threads + Wait + Sync, W: Sink, G: Gate + Sync>(
+    rt: &T,
+    alloc: Global,
+    bundle: &[u8],
+    writer: &mut W,
+    settings: Settings,
+    gate: &G,
+) -> Result<bool, Fault>
     requires { W.failures writer.old < 2 ^ 64 - 1 }
     ensures correct { IfOk result (λ answer. (text : List ℕ)
         × IsCorrect bundle.now text answer × Appends (W.contents writer.old) (W.contents writer.new) text) }
@@ -158,7 +228,7 @@ pub fn write_report<W: Sink>(alloc: Global, bundle: &[u8], writer: &mut W) -> Re
         (text : List ℕ) × IsReportOn bundle.now text × AppendsBeginning (W.contents writer.old) (W.contents writer.new) text) }
     ensures device { IsErrOf result Fault.Device ↔ (W.failures writer.old < W.failures writer.new) }
 {
-    let outcome = outcome_of(alloc, bundle)?;
+    let outcome = outcome_of_crew(rt, alloc, bundle, settings, gate)?;
     write_all(writer, &outcome.text)?;
     Ok(outcome.refuted)
 }

@@ -1,11 +1,12 @@
 //! Why a run gives no report.
 
 use case_core::CaseFault;
+use check_crew::CrewFault;
 use std::alloc::{AllocError, AllocFailed};
 use thiserror::Error;
 
 /// Why a run gives no report: the first fault of its input, or what the run itself met. Lines are counted from 1 over
-/// the whole bundle, and cubes from 1. The names `F1` to `F13` are those that the program prints.
+/// the whole bundle, and cubes from 1. The names `F1` to `F14` are those that the program prints.
 #[derive(Clone, Copy, Debug, PartialEq, Eq, Error)]
 pub enum Fault {
     /// The first line that is neither blank nor a comment doesn't begin with `p inccnf`, or there is none.
@@ -47,6 +48,9 @@ pub enum Fault {
     /// A read or a write failed in this call.
     #[error("F13 device")]
     Device,
+    /// The start of a worker was refused.
+    #[error("F14 thread")]
+    Thread,
 }
 
 impl From<AllocError> for Fault {
@@ -91,6 +95,20 @@ impl From<CaseFault> for Fault {
             CaseFault::BadLabel { line } => Fault::BadLabel { line },
             CaseFault::NoSuchLeaf { line } => Fault::NoSuchLeaf { line },
             CaseFault::ProofTwice { line } => Fault::ProofTwice { line },
+        }
+    }
+}
+
+impl From<CrewFault> for Fault {
+    ghost use Rattle.std.specs.Prelude.{◌≡◌};
+    ghost use Rattle.cube_report.specs.Faults.{fault_of_crew};
+
+    ghost from_gives = { λ fault told. told ≡ fault_of_crew fault };
+
+    fn from(fault: CrewFault) -> Fault {
+        match fault {
+            CrewFault::Memory => Fault::Memory,
+            CrewFault::Thread => Fault::Thread,
         }
     }
 }

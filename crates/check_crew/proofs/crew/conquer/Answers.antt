@@ -9,7 +9,7 @@ use Rattle.board_hall.specs.declared.table.Core.{Core}
 use Rattle.board_hall.specs.declared.view.CutCase.{CutCase}
 use Rattle.board_hall.specs.Halls.{HallOf, IsPassOf, core_of, view_of}
 use Rattle.check_crew.specs.Handle.{IsOf}
-use Rattle.check_crew.specs.Findings.{AreFindings}
+use Rattle.mark_board.specs.Findings.{AreFindings}
 use Rattle.check_crew.proofs.Found.{are_findings, some_found_empty, both_true}
 use Rattle.check_crew.proofs.crew.conquer.Goals as goal
 
