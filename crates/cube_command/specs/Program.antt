@@ -3,7 +3,7 @@ use Rattle.std.specs.Prelude.{◌≡◌, ℕ, Bool, List, [], ◌++◌, true, fa
 use Rattle.std.specs.List.{flat_map}
 use Rattle.clap.specs.Words.{App, Rule, Text, fault_of, first_of, matches_of, new_app, new_rule, with_rule}
 use Rattle.cube_report.specs.declared.fault.Fault.{Fault}
-use Rattle.cube_report.specs.declared.fault.Fault.TheVariants.{Header, Token, Unfinished, TooLarge, Limit, Memory, Repeats, NotATree, Overlap, BadLabel, NoSuchLeaf, ProofTwice, Device}
+use Rattle.cube_report.specs.declared.fault.Fault.TheVariants.{Header, Token, Unfinished, TooLarge, Limit, Memory, Repeats, NotATree, Overlap, BadLabel, NoSuchLeaf, ProofTwice, Device, Thread}
 use Rattle.cube_report.specs.Faults.{IsInputFault}
 use Rattle.cube_report.specs.Correct.{IsAnswerOn, IsFaultOn, IsUnsatisfiable}
 
@@ -21,6 +21,7 @@ status_of (NoSuchLeaf line) = 3
 status_of (ProofTwice line) = 3
 status_of Memory = 4
 status_of Device = 5
+status_of Thread = 4
 
 -- one of the program's statuses
 abbrev pub IsStatus : ℕ → Type 0
@@ -35,7 +36,7 @@ IsStatusOn bundle status =
     × (status ≡ 3 → (fault : Fault) × IsInputFault fault × IsFaultOn bundle fault)
 
 -- what a run answers for the bundle that was read: whether its case is refuted, and so that its formula has no model, or
--- the bundle's fault; nothing is said of a fault of memory or of a device
+-- the bundle's fault; nothing is said of a fault of memory, of a device or of a thread
 abbrev pub IsRunOn : List ℕ → Result Bool Fault → Type 0
 IsRunOn bundle (Ok answer) = IsAnswerOn bundle answer × (answer ≡ true → IsUnsatisfiable bundle)
 IsRunOn bundle (Err fault) = IsInputFault fault → IsFaultOn bundle fault

@@ -8,6 +8,7 @@ ghost use Rattle.cube_report.specs.Faults.{IsInputFault};
 
 use crate::words::{Request, request_of};
 use case_core::{CaseFault, read_bundle};
+use check_crew::{NoGate, Settings};
 use clap::Error as WordsError;
 use clap::error::ErrorKind as WordsFault;
 use cube_report::{Counted, Fault, run_io, write_report};
@@ -16,7 +17,15 @@ use std::convert::AsStr;
 use std::env::Env;
 use std::io::{ErrorKind, Read, Write};
 use std::rt::Files;
+use std::sync::Wait;
+use std::thread::Threads;
 use std::{env, fs, io};
+
+/// How many workers check the proofs.
+const WORKERS: u32 = 4;
+
+/// The depth at which the tree is cut into parts, each with a board of its own.
+const CUT: u32 = 3;
 
 /// The program on these words, which are those after its name: `[--proofs DIR] [FILE]`. It reads a bundle from FILE, or
 /// from `input` where there is none, and writes the report to `output` or, where there is no report, one line to
@@ -26,12 +35,12 @@ use std::{env, fs, io};
 /// in order, the file `DIR/K.lrat` or `DIR/mJ.lrat`, where it is there, is added to the bundle as the section of its leaf.
 ///
 /// Answers the status: 0 for a report that says refuted, 1 for one that says open, 2 where the words can't be taken or ask
-/// for help, after the parser's text on `errors`, 3 where the input is refused, 4 where memory is refused, 5 where a
+/// for help, after the parser's text on `errors`, 3 where the input is refused, 4 where memory or the start of a thread is refused, 5 where a
 /// device failed: also where FILE can't be opened, and where a file of DIR is there and can't be read. A failed write to
 /// `errors` doesn't change it.
 pub fn command<R, S, I, O, E>(rt: &R, words: &[S], input: I, output: O, mut errors: E) -> u8
 where
-    R: Files + AllocGlobal,
+    R: Files + AllocGlobal + Threads + Wait + Sync,
     S: AsStr,
     I: Read + Drop,
     O: Write + Drop,
@@ -56,7 +65,7 @@ where
 /// The status of what the request asks for, after a line that says what went wrong, if anything did.
 fn answered<R, I, O, E>(rt: &R, request: &Request<'_>, input: I, output: O, errors: &mut E) -> u8
 where
-    R: Files + AllocGlobal,
+    R: Files + AllocGlobal + Threads + Wait + Sync,
     I: Read + Drop,
     O: Write + Drop,
     E: Write,
@@ -98,38 +107,64 @@ fn fail<E: Write>(errors: &mut E, fault: Fault) -> u8
 /// What the request asks for: whether the report that was written says refuted, or why there is none.
 fn run_request<R, I, O>(rt: &R, request: &Request<'_>, input: I, output: O) -> Result<bool, Fault>
 where
-    R: Files + AllocGlobal,
+    R: Files + AllocGlobal + Threads + Wait + Sync,
     I: Read + Drop,
     O: Write + Drop,
     ensures alone { request.now.proofs ≡ None → request.now.file ≡ None → IfSome (I.remaining input) (λ bundle. IsRunOn bundle result) }
     ensures proofs { request.now.file ≡ None → IfSome (I.remaining input) (λ bundle. IsRunWithSections bundle result) }
 {
     match (request.proofs, request.file) {
-        (None, None) => run(rt.alloc(), input, output),
-        (None, Some(path)) => run(rt.alloc(), open(rt, path)?, output),
+        (None, None) => run(rt, input, output),
+        (None, Some(path)) => run(rt, open(rt, path)?, output),
         (Some(folder), None) => run_with_proofs(rt, folder, input, output),
         (Some(folder), Some(path)) => run_with_proofs(rt, folder, open(rt, path)?, output),
     }
 }
 
+/// How many workers a run has, and its cut: no word says otherwise.
+fn default_settings() -> Settings {
+    match Settings::new(WORKERS, CUT) {
+        Some(settings) => settings,
+        None => unreachable!(),
+    }
+}
+
 /// One run, over streams whose failed calls are counted.
-fn run<I: Read + Drop, O: Write + Drop>(alloc: Global, input: I, output: O) -> Result<bool, Fault>
+fn run<R, I, O>(rt: &R, input: I, output: O) -> Result<bool, Fault>
+where
+    R: Files + AllocGlobal + Threads + Wait + Sync,
+    I: Read + Drop,
+    O: Write + Drop,
     ensures { IfSome (I.remaining input) (λ bundle. IsRunOn bundle result) }
 {
-    run_io(alloc, &mut Counted::new(input), &mut Counted::new(output))
+    run_io(
+        rt,
+        rt.alloc(),
+        &mut Counted::new(input),
+        &mut Counted::new(output),
+        default_settings(),
+        &NoGate,
+    )
 }
 
 /// One run over the bundle that `input` gives, with the proofs of this folder.
 fn run_with_proofs<R, I, O>(rt: &R, folder: &str, input: I, output: O) -> Result<bool, Fault>
 where
-    R: Files + AllocGlobal,
+    R: Files + AllocGlobal + Threads + Wait + Sync,
     I: Read + Drop,
     O: Write + Drop,
     ensures { IfSome (I.remaining input) (λ bundle. IsRunWithSections bundle result) }
 {
     let mut bundle = read_whole(rt.alloc(), input)?;
     add_proofs(rt, folder, &mut bundle)?;
-    write_report(rt.alloc(), &bundle, &mut Counted::new(output))
+    write_report(
+        rt,
+        rt.alloc(),
+        &bundle,
+        &mut Counted::new(output),
+        default_settings(),
+        &NoGate,
+    )
 }
 
 /// All bytes up to the reader's end.
@@ -297,7 +332,7 @@ fn status_of(fault: Fault) -> u8
         | Fault::BadLabel { .. }
         | Fault::NoSuchLeaf { .. }
         | Fault::ProofTwice { .. } => 3,
-        Fault::Memory => 4,
+        Fault::Memory | Fault::Thread => 4,
         Fault::Device => 5,
     }
 }
