@@ -9,3 +9,4 @@ pub mod Sections
 pub mod Cut
 pub mod Kept
 pub mod Told
+pub mod Shown

@@ -18,8 +18,12 @@ use Rattle.mark_board.specs.declared.kind.Kind.TheVariants.{Part as part_kind, T
 use Rattle.mark_board.specs.Marking.{marked, open_weight, AreRefuted}
 use Rattle.mark_board.specs.Rows.{is_refuted, refuted_by, mark_at}
 use Rattle.mark_board.specs.Places.{part_root, part_count, part_place, top_node, worth_of, IsOwnPlace, HasOwnPlace, IsPlaceOf}
-use Rattle.mark_board.specs.Board.{BoardOf, IsRowOn, IsTargetRow, TakesNode, tree_on, worth_on}
-use Rattle.mark_board.specs.Kinds.{board_of}
+use Rattle.mark_board.specs.Board.{BoardOf, IsRowOn, IsTargetRow, TakesNode, tree_on, node_on, worth_on}
+use Rattle.case_core.specs.Case.{CaseOf}
+use Rattle.mark_board.specs.declared.stored.Stored.{Stored}
+use Rattle.mark_board.specs.declared.stored.Stored.TheVariants.{Part as part_stored, Top as top_stored}
+use Rattle.mark_board.specs.declared.stored.BoardData.{BoardData}
+use Rattle.mark_board.specs.Kinds.{board_of, kind_board, stored_board, IsKindOf, IsDataOf}
 use Rattle.mark_board.proofs.Marks.{marked_refuted}
 use Rattle.mark_board.proofs.TopPlaces.{path_of_top, node_within}
 use Rattle.mark_board.proofs.Apart.{place_once}
@@ -173,3 +177,23 @@ pub top_sound_mark : (board : TopBoard) (node row : ℕ) → IsRowOn (board_of (
 top_sound_mark board node row at m =
     rw (path_of_top board.case.now.tree board.cut row at.within, at.here) at (sound_mark board.case.now.formula board.rows.marks.items []
     (top board.cut board.case.now.tree) row board.sound at.within m)
+
+-- ---- what is stored of a board
+
+kind_sound : (case : CaseOf) (kind : Stored) (row : ℕ) → IsKindOf case kind → row < size (tree_on (kind_board case kind)) →
+    marked (refuted_by (kind_board case kind).marks) row (subtree_at (tree_on (kind_board case kind)) row) ≡ true →
+    IsRefuted case.formula (path_at case.tree (node_on (kind_board case kind) row))
+kind_sound case (part_stored board) row is within m =
+    let w : row < size (subtree_at case.tree board.root) = rw is.placed within in
+    let s : marked (refuted_by board.rows.marks.items) row (subtree_at (subtree_at case.tree board.root) row) ≡ true = rw is.placed m in
+    let r = sound_row case.formula (refuted_by board.rows.marks.items) (path_at case.tree board.root) (subtree_at case.tree board.root) row is.sound w s in
+    let p = label_below branch [] [] case.tree board.root row is.inside w in
+    rw (← is.placed) (rw (← p) at r)
+kind_sound case (top_stored board) row is within m =
+    rw (path_of_top case.tree board.cut row within) at (sound_row case.formula (refuted_by board.rows.marks.items) [] (top board.cut case.tree) row is.sound within m)
+
+-- what a stored board marks has no model together with the formula
+pub stored_sound : (case : CaseOf) (stored : BoardData) (row : ℕ) → IsDataOf case stored → row < size (tree_on (stored_board case stored)) →
+    marked (refuted_by (stored_board case stored).marks) row (subtree_at (tree_on (stored_board case stored)) row) ≡ true →
+    IsRefuted case.formula (path_at case.tree (node_on (stored_board case stored) row))
+stored_sound case stored row is within m = kind_sound case stored.kind row is within m

@@ -9,3 +9,4 @@ pub mod Boards
 pub mod Board
 pub mod Kinds
 pub mod BoardPosts
+pub mod Shown

@@ -6,7 +6,7 @@ ghost use Rattle.split_tree.specs.SplitTree.{size, subtree_at, path_at};
 ghost use Rattle.split_tree.specs.Leaves.{IsTargetAt};
 ghost use Rattle.split_tree.specs.Rows.{HasBelow};
 ghost use Rattle.split_tree.specs.Top.{top};
-ghost use Rattle.mark_board.specs.Board.{IsPlace, board_tree, tree_on, worth_on, IsRowOn, HasNode, TakesNode, TakesTarget};
+ghost use Rattle.mark_board.specs.Board.{IsPlace, board_tree, tree_on, worth_on, IsRowOn, IsTargetRow, HasNode, TakesNode, TakesTarget};
 ghost use Rattle.mark_board.specs.Marking.{marked, open_weight};
 ghost use Rattle.mark_board.specs.Places.{part_count, part_place, part_root, mark_as};
 ghost use Rattle.mark_board.specs.Rows.{refuted_by, mark_at};
@@ -225,6 +225,29 @@ impl<'c> Board<'c> {
         match &self.kind {
             Kind::Part(board) => board.takes(node),
             Kind::Top(board) => board.takes(node),
+        }
+    }
+
+    /// The row of a node whose findings are posted on this board: its number in tree order among the board's nodes.
+    pub fn row_of(&self, node: NodeId) -> usize
+        requires { TakesNode self.now node }
+        ensures { IsTargetRow self.now node result }
+    {
+        match &self.kind {
+            Kind::Part(board) => board.row_of(node),
+            Kind::Top(board) => board.place_of(node),
+        }
+    }
+
+    /// The row at which a part's verdict stands. It asks for the top board, and for a part of its cut.
+    pub fn row_of_part(&self, part: u32) -> usize
+        requires top { self.now.place ≡ Top }
+        requires part { part < part_count self.now.cut self.now.case.tree }
+        ensures { result ≡ part_place self.now.cut self.now.case.tree part }
+    {
+        match &self.kind {
+            Kind::Part(_) => unreachable!(),
+            Kind::Top(board) => board.place_of_part(part),
         }
     }
 

@@ -25,4 +25,5 @@ pub use mark::Mark;
 pub use part::PartVerdict;
 pub use place::Place;
 pub use posted::{PartPosted, Posted};
+pub use rows::Answer;
 pub use stored::BoardData;

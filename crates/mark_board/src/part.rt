@@ -157,6 +157,14 @@ impl<'c> PartBoard<'c> {
         self.root <= node.number() && node.number() < end
     }
 
+    /// The row of a node.
+    pub fn row_of(&self, node: NodeId) -> usize
+        requires { HasBelow self.now.case.now.tree self.now.root node }
+        ensures { result ≡ node - self.now.root }
+    {
+        node.index() - self.root as usize
+    }
+
     /// What is posted of a node itself.
     pub fn mark_of(&self, node: NodeId) -> Mark
         requires { HasBelow self.now.case.now.tree self.now.root node }

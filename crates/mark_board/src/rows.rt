@@ -14,7 +14,7 @@ use std::alloc::{AllocError, Global};
 
 /// What a post did.
 #[derive(Clone, Copy)]
-pub(crate) enum Answer {
+pub enum Answer {
     /// The node stands as the finding says.
     Marked,
     /// The same, and this marked the root.

@@ -97,7 +97,7 @@ impl<'c> TopBoard<'c> {
     }
 
     /// The place of a part, by its number.
-    fn place_of_part(&self, part: u32) -> usize
+    pub fn place_of_part(&self, part: u32) -> usize
         requires { part < part_count self.now.cut self.now.case.now.tree }
         ensures place { result ≡ part_place self.now.cut self.now.case.now.tree part }
         ensures within { result < size (top self.now.cut self.now.case.now.tree) }
