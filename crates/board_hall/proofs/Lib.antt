@@ -1,0 +1,13 @@
+pub mod PostLists
+pub mod Lawfulness
+pub mod Moves
+pub mod Hands
+pub mod HeldBoards
+pub mod Homes
+pub mod AfterCalls
+pub mod OneFinding
+pub mod Openings
+pub mod Closings
+pub mod OpenLeaves
+pub mod Whole
+pub mod WholeOfLeaves

@@ -1,0 +1,5 @@
+use Rattle.board_hall.proofs.WholeOfLeaves.{whole_of_leaves}
+use Rattle.board_hall.proofs.laws.free_is_whole_of_leaves.Goals as goal
+
+pub returns : goal.returns
+returns c = whole_of_leaves

@@ -1,0 +1,9 @@
+pub mod Posts
+pub mod Hall
+pub mod Told
+pub mod Terms
+pub mod Halls
+pub mod Clauses
+pub mod Opened
+pub mod Laws
+pub mod Closed

@@ -1,0 +1,126 @@
+//! How a hall is opened.
+
+ghost use Rattle.std.specs.Prelude.{◌≡◌, ◌+◌, ◌≤◌, ◌<◌, [], IfOk, All, vec_len, length};
+ghost use Rattle.mark_board.specs.Board.{IsPlace};
+ghost use Rattle.mark_board.specs.Places.{part_count};
+ghost use Rattle.board_hall.specs.Posts.{parts_in, boards_of, place_of};
+ghost use Rattle.board_hall.specs.Hall.{newcomer};
+ghost use Rattle.board_hall.specs.Terms.{cut_case};
+ghost use Rattle.board_hall.specs.Halls.{core_of, shared_of, hall_of, IsNewPass};
+ghost use Rattle.board_hall.specs.Opened.{IsOpened};
+
+use crate::hall::Hall;
+use crate::pass::Pass;
+use crate::plays::Deal;
+use crate::rule::{Place as Seated, Terms};
+use crate::table::Core;
+use atomic_table::{Refused, Table};
+use case_core::Case;
+use mark_board::{Board, BoardData, Place};
+use std::alloc::{AllocError, Global};
+use std::snapshot::Snapshot;
+
+/// The words and slots of the first boards, with nothing posted.
+#[derive(Drop)]
+pub(crate) struct Opened {
+    words: Vec<u64>,
+    slots: Vec<Option<BoardData>>,
+}
+
+/// One more board, at this place.
+fn with_board(
+    alloc: Global,
+    case: &Case,
+    cut: u32,
+    place: Place,
+    opened: Opened,
+) -> Result<Opened, AllocError>
+    requires cut { cut ≤ 6 }
+    requires place { IsPlace cut case.now.tree place }
+    requires next { (length opened.slots.items < boards_of (cut_case case.now cut)) × (place_of (cut_case case.now cut) (length opened.slots.items) ≡ place) }
+    requires opened { IsOpened (cut_case case.now cut) (length opened.slots.items) opened.words.items opened.slots.items }
+    ensures count { IfOk result (λ o. length o.slots.items ≡ length opened.slots.items + 1) }
+    ensures opened { IfOk result (λ o. IsOpened (cut_case case.now cut) (length o.slots.items) o.words.items o.slots.items) }
+{
+    let board = Board::new(alloc, case, cut, place)?;
+    let Opened {
+        mut words,
+        mut slots,
+    } = opened;
+    words.push(0)?;
+    words.push(board.open_weight())?;
+    slots.push(Some(board.unbind()))?;
+    Ok(Opened { words, slots })
+}
+
+/// All boards: each part's, and the one above the parts.
+fn all_boards(alloc: Global, case: &Case, cut: u32, parts: u32) -> Result<Opened, AllocError>
+    requires cut { cut ≤ 6 }
+    requires parts { parts ≡ part_count cut case.now.tree }
+    ensures { IfOk result (λ o. IsOpened (cut_case case.now cut) (boards_of (cut_case case.now cut)) o.words.items o.slots.items) }
+{
+    let mut opened = Opened {
+        words: Vec::new(alloc),
+        slots: Vec::new(alloc),
+    };
+    for part in 0..parts {
+        opened = with_board(alloc, case, cut, Place::Part(part), opened)?;
+    }
+    with_board(alloc, case, cut, Place::Top, opened)
+}
+
+impl Core {
+    /// Cuts a pass off for each one that was asked for.
+    fn deal(&self, alloc: Global, first: Seated) -> Result<Vec<Pass>, AllocError>
+        requires own { first.table_id ≡ self.now.table.shared.table_id }
+        requires all { first.me ≡ (newcomer (core_of self.now) self.now.passes, []) }
+        ensures count { IfOk result (λ v. vec_len v ≡ self.now.passes) }
+        ensures passes { IfOk result (λ v. All (IsNewPass (shared_of self.now)) v.items) }
+    {
+        let mut seat = first;
+        let mut all = Vec::new(alloc);
+        for _ in 1..self.passes {
+            let other = self.table.shared.split_seat::<Deal>(&mut seat);
+            all.push(Pass::resting(other))?;
+        }
+        all.push(Pass::resting(seat))?;
+        Ok(all)
+    }
+}
+
+impl<'c> Hall<'c> {
+    /// Opens a hall with no posts, for so many passes. It asks for a cut from 0 to 6, and for 1 to 64 passes. `AllocError` where a
+    /// growth was refused.
+    pub fn open(
+        alloc: Global,
+        case: &'c Case,
+        cut: u32,
+        passes: usize,
+    ) -> Result<(Hall<'c>, Vec<Pass>), AllocError>
+        requires cut { cut ≤ 6 }
+        requires passes { (0 < passes) × (passes ≤ 64) }
+        ensures hall { IfOk result (λ r. ((hall_of r.0).of ≡ cut_case case.now cut) × ((hall_of r.0).passes ≡ passes)) }
+        ensures count { IfOk result (λ r. vec_len r.1 ≡ passes) }
+        ensures passes { IfOk result (λ r. All (IsNewPass (hall_of r.0)) r.1.items) }
+    {
+        let roots = case.tree().parts(alloc, cut)?;
+        let Opened { words, slots } = all_boards(alloc, case, cut, roots.len() as u32)?;
+        let room = Vec::with_capacity(alloc, roots.len())?;
+        let terms = Terms {
+            case: Snapshot::of(case),
+            cut,
+            passes,
+        };
+        let (table, first) = match Table::new(alloc, words.as_slice(), slots, &terms) {
+            Ok(made) => made,
+            Err(Refused { slots: _ }) => return Err(AllocError),
+        };
+        let core = Core {
+            table,
+            passes,
+            roots,
+        };
+        let all = core.deal(alloc, first)?;
+        Ok((Hall { case, core, room }, all))
+    }
+}
