@@ -1,22 +1,16 @@
 -- The main statements: what a run says of the bytes of a bundle.
-use Rattle.std.specs.Prelude.{◌≡◌, ℕ, Bool, List, ◌++◌, true, codes, length, MatchOption}
+use Rattle.std.specs.Prelude.{◌≡◌, ℕ, Bool, List, ◌++◌, true, codes}
 use Rattle.cnf_text.specs.Literal.{Literal}
 use Rattle.cnf_text.specs.Formula.{HasNoModel}
 use Rattle.cnf_text.specs.Icnf.{Item, StandsFor, clauses_of}
-use Rattle.lrat_text.specs.Proof.{proof_of}
-use Rattle.hint_check.specs.Judgement.{judgement}
-use Rattle.split_tree.specs.SplitTree.{size}
-use Rattle.split_tree.specs.Leaves.{IsTargetAt, IsPathOf}
-use Rattle.split_tree.specs.declared.node.Target.{Target}
 use Rattle.case_core.specs.Bundle.{icnf_text}
-use Rattle.case_core.specs.Case.{CaseOf, proof_for}
+use Rattle.case_core.specs.Case.{CaseOf}
 use Rattle.case_core.specs.Sections as case_core
 use Rattle.case_core.specs.declared.fault.CaseFault.{CaseFault}
 use Rattle.mark_board.specs.declared.mark.Mark.{Mark}
-use Rattle.mark_board.specs.declared.mark.Mark.TheVariants.{Open}
 use Rattle.mark_board.specs.Marking.{marked}
-use Rattle.mark_board.specs.Rows.{mark_at, refuted_by}
-use Rattle.mark_board.specs.Places.{mark_as}
+use Rattle.mark_board.specs.Rows.{refuted_by}
+use Rattle.mark_board.specs.Findings.{AreFindings}
 use Rattle.cube_report.specs.declared.fault.Fault.{Fault}
 use Rattle.cube_report.specs.Faults.{fault_of_case}
 use Rattle.cube_report.specs.Report.{report_text}
@@ -28,17 +22,6 @@ IsFormulaOf bundle formula = (items : List Item) × StandsFor (icnf_text bundle)
 -- the formula of the bundle has no model
 abbrev pub IsUnsatisfiable : List ℕ → Type 0
 IsUnsatisfiable bundle = (formula : List (List Literal)) → IsFormulaOf bundle formula → HasNoModel formula
-
--- the mark of a target's finding: open where it has no section, otherwise as the section's proof is judged from the formula and the
--- target's path
-abbrev pub IsMarkOf : CaseOf → Target → Mark → Type 0
-IsMarkOf case target mark = MatchOption (proof_for case.sections target) (mark ≡ Open)
-    (λ proof. (path : List Literal) → IsPathOf case.tree target path → mark ≡ mark_as (judgement case.formula path (proof_of proof)))
-
--- each node has the mark of its finding
-pub record AreFindings (case : CaseOf) (marks : List Mark) : Type 0 where
-  pub long : length marks ≡ size case.tree
-  pub each : (node : ℕ) (target : Target) → IsTargetAt case.tree node target → IsMarkOf case target (mark_at marks node)
 
 -- the bundle stands for this case, whose nodes' findings have these marks
 pub record IsJudged (bundle : List ℕ) (case : CaseOf) (marks : List Mark) : Type 0 where

@@ -6,7 +6,7 @@ use Rattle.mark_board.specs.declared.mark.Mark.{Mark}
 use Rattle.mark_board.specs.Marking.{marked}
 use Rattle.mark_board.specs.Rows.{refuted_by}
 use Rattle.cube_report.specs.Report.{report_text}
-use Rattle.cube_report.specs.Correct.{AreFindings}
+use Rattle.mark_board.specs.Findings.{AreFindings}
 
 -- the report on the case, and the answer that goes with it
 pub record IsStated (case : CaseOf) (report : List ℕ) (answer : Bool) : Type 0 where

@@ -7,7 +7,8 @@ ghost use Rattle.mark_board.specs.declared.mark.Mark.TheVariants.{Open};
 ghost use Rattle.cube_report.specs.Faults.{IsInputFault};
 ghost use Rattle.cube_report.specs.Device.{AppendsBeginning, IsReadFault};
 ghost use Rattle.cube_report.specs.Stated.{IsStated};
-ghost use Rattle.cube_report.specs.Correct.{AreFindings, IsReportOn, IsAnswerOn, IsCorrect, IsFaultOn, IsUnsatisfiable, SaysRefuted};
+ghost use Rattle.mark_board.specs.Findings.{AreFindings};
+ghost use Rattle.cube_report.specs.Correct.{IsReportOn, IsAnswerOn, IsCorrect, IsFaultOn, IsUnsatisfiable, SaysRefuted};
 
 use crate::device::{Sink, Source};
 use crate::fault::Fault;

@@ -10,3 +10,4 @@ pub mod Board
 pub mod Kinds
 pub mod BoardPosts
 pub mod Shown
+pub mod Findings

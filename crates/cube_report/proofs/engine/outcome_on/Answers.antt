@@ -1,6 +1,6 @@
 use Rattle.std.proofs.Common.{subst, sym, IfOk}
 use Rattle.case_core.specs.Case.{CaseOf}
-use Rattle.cube_report.specs.Correct.{AreFindings}
+use Rattle.mark_board.specs.Findings.{AreFindings}
 use Rattle.cube_report.specs.Stated.{IsStated}
 use Rattle.cube_report.proofs.engine.outcome_on.Goals as goal
 

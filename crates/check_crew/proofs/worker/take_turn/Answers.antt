@@ -1,0 +1,39 @@
+use Rattle.std.proofs.Common.{◌≡◌, sym, ◌∙◌, ap}
+use Rattle.mark_board.proofs.Gathered.{target_inside}
+use Rattle.board_hall.specs.declared.view.CutCase.{CutCase}
+use Rattle.board_hall.specs.Halls.{core_of, view_of}
+use Rattle.check_crew.proofs.Places.{section_here}
+use Rattle.check_crew.proofs.Turns.{seen_stays, section_seen, told}
+use Rattle.check_crew.proofs.worker.take_turn.Goals as goal
+
+pub examine-requires : goal.examine-requires
+examine-requires g c =
+    (section_here c.args.site.case.now c.sections.result.now c.args.place c.index-sections-place.result c.sections.ensures.sections c.sections.ensures.targets c.requires.place).has_target
+
+pub unreachable-requires : goal.unreachable-requires
+unreachable-requires g c =
+    (section_here c.args.site.case.now c.sections.result.now c.args.place c.index-sections-place.result c.sections.ensures.sections c.sections.ensures.targets c.requires.place).proof
+    (rw c.in_default.is at c.in_ok-finding.ensures)
+
+pub place_of-board-requires-clause-node : goal.place_of-board-requires-clause-node
+place_of-board-requires-clause-node g c =
+    let same : c.in-Some.finding.case.now ≡ c.args.site.case.now = (rw c.in-Some.is at c.in_ok-finding.ensures).1 in
+    target_inside c.args.site.case.now.tree c.node.result _ (rw same at c.node.ensures.here)
+
+pub after-requires : goal.after-requires
+after-requires g c =
+    let found = rw c.in-Some.is at c.in_ok-finding.ensures in
+    let same : c.in-Some.finding.case.now ≡ (core_of c.args.site.core.now).case = found.1 ∙ c.requires.case in
+    let own = c.open_weight-weight.ensures.own in
+    told (core_of c.args.site.core.now) (view_of c.open_weight-weight.new.pass) c.in-Some.finding.node _ c.place_of-board.result c.open_weight-weight.result own.1 own.2
+    (rw (same, found.2) at c.in-Some.finding.here) (seen_stays _ _ c.open_weight-weight.ensures.stays c.in-Some.finding.node c.post.ensures.seen)
+    (rw (c.requires.case, c.node.ensures.value) at c.place_of-board.ensures) c.open_weight-weight.ensures.weight
+
+pub returns-clause-seen : goal.returns-clause-seen
+returns-clause-seen g c =
+    let found = rw c.in-Some.is at c.in_ok-finding.ensures in
+    let same : c.in-Some.finding.case.now ≡ c.args.site.case.now = found.1 in
+    let here = section_here c.args.site.case.now c.sections.result.now c.args.place c.index-sections-place.result c.sections.ensures.sections c.sections.ensures.targets c.requires.place in
+    let of_case = ap (λ (k : CutCase). k.case) c.open_weight-weight.ensures.own.1 ∙ sym c.requires.case in
+    section_seen c.args.site.case.now (view_of c.open_weight-weight.new.pass) c.args.place c.in-Some.finding.node _ of_case here.is (rw (same, found.2) at c.in-Some.finding.only)
+    (seen_stays _ _ c.open_weight-weight.ensures.stays c.in-Some.finding.node c.post.ensures.seen)
