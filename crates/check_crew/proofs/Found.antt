@@ -2,12 +2,13 @@
 use Rattle.std.proofs.Common.{◌≡◌, ◌≢◌, ℕ, zero, suc, ◌+◌, ◌<◌, ◌==◌, ◌&&◌, nat_lt, cond, if◌then◌else◌, Bool, true, false, List, [], ◌∷◌, ◌++◌, Option, None, Some, All, length, flat_map, refl, sym, ap, ◌∙◌, subst, arith, inl, inr, ◌⊎◌, append-nil}
 use mathlib.Core.Logic.{dite}
 use native.Mathlib.Decide.{ℕ_discrete}
-use Rattle.std.specs.List.{Contains, list_any}
+use Rattle.std.specs.List.{Contains, list_any, slice_index}
 use Rattle.std.proofs.lemmas.Bool.{cases_Bool}
 use Rattle.std.proofs.lemmas.Bool.Decides.{nat_tests}
 use Rattle.std.proofs.lemmas.List.Concat.{flat_map-append}
 use Rattle.std.proofs.lemmas.List.Elements.{All-contains, Contains-append_left, Contains-append_right, Contains-append_cases, Contains-push}
 use Rattle.std.proofs.lemmas.List.Sums.{sum_by-cons}
+use Rattle.std.proofs.lemmas.Grind.{get_or_default_zero}
 use Rattle.split_tree.specs.SplitTree.{size}
 use Rattle.split_tree.specs.Leaves.{IsTargetAt}
 use Rattle.split_tree.specs.declared.node.Target.{Target}
@@ -19,17 +20,16 @@ use Rattle.mark_board.specs.Boards.{BoardsOf}
 use Rattle.mark_board.specs.Rows.{mark_at}
 use Rattle.mark_board.proofs.Gathered.{target_inside}
 use Rattle.cube_jobs.specs.Places.{times, EachOnce}
-use Rattle.cube_jobs.specs.Jobs.{Claimant, JobQueue, IsPassOf, claims_of, has_found_empty}
+use Rattle.cube_jobs.specs.Jobs.{JobPassOf, claims_of, has_found_empty}
 use Rattle.board_hall.specs.declared.pass.Pass.{Pass}
 use Rattle.board_hall.specs.declared.view.CutCase.{CutCase}
 use Rattle.board_hall.specs.declared.view.Post.{Post}
 use Rattle.board_hall.specs.Posts.{mark_in, Among, posts_of}
-use Rattle.board_hall.specs.declared.table.Core.{Core}
-use Rattle.board_hall.specs.Halls.{core_of, shared_of, view_of}
+use Rattle.board_hall.specs.Halls.{HallOf, IsPassOf, view_of}
 use Rattle.board_hall.specs.Clauses.{Gathers}
-use Rattle.check_crew.specs.Handle.{IsOf}
 use Rattle.mark_board.specs.Findings.{IsMarkOf, AreFindings}
-use Rattle.check_crew.specs.Findings.{HasSeen, HasSeenSection}
+use Rattle.check_crew.specs.Order.{IsOrder}
+use Rattle.check_crew.specs.Seen.{HasSeen, HasSeenTurn}
 use Rattle.check_crew.specs.Shifts.{HaveSeenClaims}
 use Rattle.check_crew.proofs.Marks.{open_or_not, marked_more, real_mark, home_of}
 
@@ -58,64 +58,66 @@ section_of_proof (section ∷ sections) target proof is = elim (cases_Bool (same
       (suc later.0, record { within = omega (arith, later.1.within); target_is = later.1.target_is })
 ]
 
-module _ (hall : Core) (passes : List Pass) (job_passes : List Claimant) (boards : BoardsOf) (gathered : Gathers (shared_of hall) passes boards) where
+module _ (hall : HallOf) (order : List ℕ) (passes : List Pass) (job_passes : List JobPassOf) (boards : BoardsOf) (gathered : Gathers hall passes boards) where
   -- what one of the passes has seen is marked on the boards
-  seen_marked : All (IsOf hall) passes → (pass : Pass) → Contains passes pass → (node : ℕ) → HasSeen (view_of pass) node → mark_at boards.marks node ≢ Open
+  seen_marked : All (IsPassOf hall) passes → (pass : Pass) → Contains passes pass → (node : ℕ) → HasSeen (view_of pass) node → mark_at boards.marks node ≢ Open
   seen_marked own pass one node seen =
-      let of_hall : (view_of pass).of ≡ (core_of hall) = (All-contains (IsOf hall) passes pass own one).1 in
+      let of_hall : (view_of pass).of ≡ hall.of = (All-contains (IsPassOf hall) passes pass own one).1 in
       let posts : List Post = posts_of gathered.state.views in
       let hold = All-contains (λ p. (post : Post) → Among post (view_of p).posts ⊎ Among post (view_of p).seen → Among post posts) passes pass gathered.includes one in
       let there : mark_in posts seen.board seen.row ≢ Open = marked_more (view_of pass).seen posts (λ post among. hold post (inr among)) seen.board seen.row seen.marked in
       rw (gathered.hold.marks node seen.board seen.row (rw of_hall at seen.home)) there
 
   -- the mark of a section's target is not open
-  section_marked : All (IsOf hall) passes → HaveSeenClaims passes job_passes → EachOnce (length (core_of hall).case.sections) (flat_map claims_of job_passes)
-      → (node place : ℕ) (target : Target) → IsTargetAt (core_of hall).case.tree node target → IsSectionAt (core_of hall).case.sections target place → mark_at boards.marks node ≢ Open
-  section_marked own seen once node place target at section =
-      let some = seen place (claimed (length (core_of hall).case.sections) place (flat_map claims_of job_passes) once section.within) in
+  section_marked : All (IsPassOf hall) passes → IsOrder (length hall.of.case.sections) order → HaveSeenClaims order passes job_passes → EachOnce (length order) (flat_map claims_of job_passes)
+      → (node place : ℕ) (target : Target) → IsTargetAt hall.of.case.tree node target → IsSectionAt hall.of.case.sections target place → mark_at boards.marks node ≢ Open
+  section_marked own in_order seen once node place target at section =
+      let there = in_order.each place section.within in
+      let some = seen there.0 (claimed (length order) there.0 (flat_map claims_of job_passes) once there.1) in
       let pass : Pass = some.0 in
-      let of_hall : (view_of pass).of ≡ (core_of hall) = (All-contains (IsOf hall) passes pass own some.1).1 in
-      seen_marked own pass some.1 node (some.2 node (rw (of_hall, section.target_is) at))
+      let of_hall : (view_of pass).of ≡ hall.of = (All-contains (IsPassOf hall) passes pass own some.1).1 in
+      let is : slice_index order there.0 ≡ place = sym (get_or_default_zero order there.0 place there.1) ∙ there.2 in
+      seen_marked own pass some.1 node (some.2 node (rw (of_hall, is, section.target_is) at))
 
   -- each node has the mark of its finding
-  pub are_findings : All (IsOf hall) passes → HaveSeenClaims passes job_passes → EachOnce (length (core_of hall).case.sections) (flat_map claims_of job_passes) → AreFindings (core_of hall).case boards.marks
-  are_findings own seen once = record {
+  pub are_findings : All (IsPassOf hall) passes → IsOrder (length hall.of.case.sections) order → HaveSeenClaims order passes job_passes → EachOnce (length order) (flat_map claims_of job_passes) → AreFindings hall.of.case boards.marks
+  are_findings own in_order seen once = record {
     long = gathered.hold.long;
-    each = λ node target at. is_mark node target at (proof_for (core_of hall).case.sections target) refl;
+    each = λ node target at. is_mark node target at (proof_for hall.of.case.sections target) refl;
   }
     where
-      is_mark : (node : ℕ) (target : Target) → IsTargetAt (core_of hall).case.tree node target → (proof : Option (List ℕ)) → proof_for (core_of hall).case.sections target ≡ proof → IsMarkOf (core_of hall).case target (mark_at boards.marks node)
+      is_mark : (node : ℕ) (target : Target) → IsTargetAt hall.of.case.tree node target → (proof : Option (List ℕ)) → proof_for hall.of.case.sections target ≡ proof → IsMarkOf hall.of.case target (mark_at boards.marks node)
       is_mark node target at proof e =
           let posts : List Post = posts_of gathered.state.views in
-          let home = home_of (core_of hall) node (target_inside (core_of hall).case.tree node target at) in
+          let home = home_of hall.of node (target_inside hall.of.case.tree node target at) in
           let mark : mark_at boards.marks node ≡ mark_in posts home.0 home.1 = gathered.hold.marks node home.0 home.1 home.2 in
           elim (open_or_not (mark_in posts home.0 home.1)) [
             | inl none ↦ open_mark node target at proof e (mark ∙ none)
-            | inr some ↦ rw mark (real_mark (core_of hall) posts gathered.real node home.0 home.1 target home.2 at some)
+            | inr some ↦ rw mark (real_mark hall.of posts gathered.real node home.0 home.1 target home.2 at some)
           ]
         where
-          open_mark : (node : ℕ) (target : Target) → IsTargetAt (core_of hall).case.tree node target → (proof : Option (List ℕ)) → proof_for (core_of hall).case.sections target ≡ proof
-              → mark_at boards.marks node ≡ Open → IsMarkOf (core_of hall).case target (mark_at boards.marks node)
+          open_mark : (node : ℕ) (target : Target) → IsTargetAt hall.of.case.tree node target → (proof : Option (List ℕ)) → proof_for hall.of.case.sections target ≡ proof
+              → mark_at boards.marks node ≡ Open → IsMarkOf hall.of.case target (mark_at boards.marks node)
           open_mark node target at None e none = rw e none
           open_mark node target at (Some proof) e none =
-              let section = section_of_proof (core_of hall).case.sections target proof e in
-              absurd (section_marked own seen once node section.0 target at section.1 none)
+              let section = section_of_proof hall.of.case.sections target proof e in
+              absurd (section_marked own in_order seen once node section.0 target at section.1 none)
 
 -- one worker more has handed in its passes
-pub claims_more : (passes : List Pass) (job_passes : List Claimant) (pass : Pass) (job_pass : Claimant) → HaveSeenClaims passes job_passes
-    → All (HasSeenSection (view_of pass)) job_pass.claims → HaveSeenClaims (passes ++ pass ∷ []) (job_passes ++ job_pass ∷ [])
-claims_more passes job_passes pass job_pass were are place claim =
+pub claims_more : (order : List ℕ) (passes : List Pass) (job_passes : List JobPassOf) (pass : Pass) (job_pass : JobPassOf) → HaveSeenClaims order passes job_passes
+    → All (HasSeenTurn order (view_of pass)) job_pass.claims → HaveSeenClaims order (passes ++ pass ∷ []) (job_passes ++ job_pass ∷ [])
+claims_more order passes job_passes pass job_pass were are place claim =
     let joined : flat_map claims_of (job_passes ++ job_pass ∷ []) ≡ flat_map claims_of job_passes ++ job_pass.claims =
     flat_map-append claims_of job_passes (job_pass ∷ []) ∙ ap (λ (xs : List ℕ). flat_map claims_of job_passes ++ xs) (append-nil job_pass.claims) in
     elim (Contains-append_cases (flat_map claims_of job_passes) job_pass.claims place (rw joined at claim)) [
       | inl early ↦ let some = were place early in (some.0, Contains-append_left passes (pass ∷ []) some.0 some.1, some.2)
-      | inr late ↦ (pass, Contains-push passes pass, All-contains (HasSeenSection (view_of pass)) job_pass.claims place are late)
+      | inr late ↦ (pass, Contains-push passes pass, All-contains (HasSeenTurn order (view_of pass)) job_pass.claims place are late)
     ]
 
 -- one of the passes has found the queue empty
-pub some_found_empty : (queue : JobQueue) (passes : List Claimant) → 0 < length passes → All (λ p. IsPassOf queue p × (p.found_empty ≡ true)) passes → list_any has_found_empty passes ≡ true
-some_found_empty queue [] some_pass all = absurd (omega arith)
-some_found_empty queue (p ∷ ps) some_pass all = let h : p.found_empty ≡ true = (all 0 p (omega arith)).1 in rw h refl
+pub some_found_empty : (passes : List JobPassOf) → 0 < length passes → All (λ p. p.found_empty ≡ true) passes → list_any has_found_empty passes ≡ true
+some_found_empty [] some_pass all = absurd (omega arith)
+some_found_empty (p ∷ ps) some_pass all = let h : p.found_empty ≡ true = all 0 p (omega arith) in rw h refl
 
 pub both_true : (m n : ℕ) (b : Bool) → m ≡ n → b ≡ true → ((m == n) && b) ≡ true
 both_true m n b e t = rw (e, t) (grind (arith, nat_tests))

@@ -16,7 +16,7 @@ use Rattle.board_hall.specs.Posts.{mark_in, is_at, open_by, AreReal}
 use Rattle.board_hall.specs.Clauses.{Stays, IsPosted, Becomes, IsHome, number_of}
 use Rattle.mark_board.specs.declared.place.Place.{Place}
 use Rattle.mark_board.specs.Boards.{IsPlaceFor}
-use Rattle.check_crew.specs.Findings.{HasSeen, HasSeenSection, IsTold}
+use Rattle.check_crew.specs.Seen.{HasSeen, HasSeenSection, IsTold}
 use Rattle.check_crew.proofs.Marks.{real_mark, judged_marks, one_board, place_home}
 
 -- a row that is marked stays so

@@ -1,14 +1,15 @@
-//! A run: workers in threads of their own.
+//! A run: the calling thread is a worker, and each other worker has a thread of its own.
 
-ghost use Rattle.std.specs.Prelude.{◌≡◌, ◌<◌, ◌≤◌, true, false, None, length, All, IfOk, vec_len, vec_capacity};
-ghost use Rattle.cube_jobs.specs.Jobs.{IsPassOf, new_pass};
-ghost use Rattle.board_hall.specs.Halls.{view_of};
-ghost use Rattle.check_crew.specs.Handle.{IsOf, IsNewOf};
+ghost use Rattle.std.specs.Prelude.{◌≡◌, ◌+◌, ◌<◌, ◌≤◌, true, false, None, length, All, IfOk, vec_len, vec_capacity};
+ghost use Rattle.cube_jobs.specs.Jobs as queue;
+ghost use Rattle.cube_jobs.specs.Jobs.{new_pass};
+ghost use Rattle.board_hall.specs.Halls.{shared_of, view_of, IsPassOf, IsNewPass};
 ghost use Rattle.mark_board.specs.Findings.{AreFindings};
 ghost use Rattle.check_crew.specs.Shifts.{IsShiftOf, AreReady, AreNew, HaveSeenClaims};
 
 use crate::fault::CrewFault;
 use crate::gate::Gate;
+use crate::order::long_proofs_first;
 use crate::settings::Settings;
 use crate::worker::{Shift, Site, work};
 use board_hall::{Hall, Pass};
@@ -22,9 +23,14 @@ use std::thread::{PromisedHandle, Scope, Threads};
 
 type Handle<'a> = PromisedHandle<Shift, Site<'a>>;
 
-/// The boards of a cut of a case with the findings of all its sections, by as many workers as the settings say. All workers that
-/// were started are joined before it answers. `Thread` where the start of a worker was refused, and otherwise `Memory` where a
-/// growth was: the other workers then go on until no job is left.
+/// The boards of `case` at the cut of `settings` with the findings of all its sections, by as many
+/// workers as `settings` says. The calling thread is worker 0, and each other worker has a thread of
+/// its own. Workers take the sections of longer proofs first. Each calls `gate` before it examines a
+/// section, and after what it found was posted.
+///
+/// All workers that were started are joined before it answers. `Thread` where the start of one was
+/// refused, whatever else happened, and otherwise `Memory` where a growth was refused: a worker that
+/// meets that stops, and the others go on until no section is left. A fault hands nothing out.
 pub fn conquer<'c, R: Threads + Wait + Sync, G: Gate + Sync>(
     rt: &R,
     alloc: Global,
@@ -32,19 +38,23 @@ pub fn conquer<'c, R: Threads + Wait + Sync, G: Gate + Sync>(
     settings: Settings,
     gate: &G,
 ) -> Result<Boards<'c>, CrewFault>
-    ensures case { IfOk result (λ boards. (boards.case ≡ case.now) × (boards.cut ≡ settings.cut)) }
+    ensures case {
+        IfOk result (λ boards. (boards.case ≡ case.now) × (boards.cut ≡ settings.cut))
+    }
     ensures findings { IfOk result (λ boards. AreFindings case.now boards.marks) }
 {
     let workers = settings.workers() as usize;
+    let order = long_proofs_first(alloc, case)?;
     let (hall, passes) = Hall::open(alloc, case, settings.cut(), workers)?;
     let (jobs, job_passes) = Jobs::fill(rt, alloc, case, workers)?;
     let site = Site {
         case,
         core: hall.core(),
         jobs: &jobs,
+        order: &order,
     };
     let shifts = run_all(rt, alloc, site, gate, passes, job_passes)?;
-    let (passes, job_passes) = part(alloc, site, shifts)?;
+    let (passes, job_passes) = hand_in(alloc, site, shifts)?;
     if !jobs.finish(rt, job_passes) {
         unreachable!()
     }
@@ -54,7 +64,7 @@ pub fn conquer<'c, R: Threads + Wait + Sync, G: Gate + Sync>(
     }
 }
 
-/// Runs a worker for each pass, in threads of their own.
+/// Runs a worker for each pass, the last pass's in the calling thread.
 fn run_all<R: Threads + Wait + Sync, G: Gate + Sync>(
     rt: &R,
     alloc: Global,
@@ -63,29 +73,97 @@ fn run_all<R: Threads + Wait + Sync, G: Gate + Sync>(
     passes: Vec<Pass>,
     job_passes: Vec<JobPass>,
 ) -> Result<Vec<Shift>, CrewFault>
-    requires ready { AreReady site.case.now site.core.now site.jobs.now }
-    requires count { (vec_len passes ≤ 32) × (vec_len job_passes ≡ vec_len passes) }
-    requires new { AreNew site.core.now site.jobs.now passes.items job_passes.items }
-    ensures { IfOk result (λ shifts. (vec_len shifts ≡ vec_len passes) × All (IsShiftOf site.entry.core.now site.entry.jobs.now) shifts.items) }
+    requires ready {
+        AreReady site.case.now (shared_of site.core.now) site.jobs.now site.order.now
+    }
+    requires count { (0 < vec_len passes) × (vec_len passes ≤ 32) }
+    requires pairs { vec_len job_passes ≡ vec_len passes }
+    requires new {
+        AreNew (shared_of site.core.now) site.jobs.now passes.items job_passes.items
+    }
+    ensures count { IfOk result (λ shifts. vec_len shifts ≡ vec_len passes) }
+    ensures kept {
+        IfOk result (λ shifts. All (IsShiftOf (shared_of site.entry.core.now)
+            site.entry.jobs.now site.entry.order.now) shifts.items)
+    }
 {
-    let Site { case, core, jobs } = site;
+    let Site {
+        case,
+        core,
+        jobs,
+        order,
+    } = site;
     thread::scope(
         thread::scope_env(),
         rt,
         move |scope| -> Result<Vec<Shift>, CrewFault>
-            requires ready { AreReady case.now core.now jobs.now }
-            requires count { (vec_len passes ≤ 32) × (vec_len job_passes ≡ vec_len passes) }
-            requires new { AreNew core.now jobs.now passes.items job_passes.items }
-            ensures { IfOk result (λ shifts. (vec_len shifts ≡ vec_len passes) × All (IsShiftOf core.entry.now jobs.entry.now) shifts.items) }
+            requires ready { AreReady case.now (shared_of core.now) jobs.now order.now }
+            requires count { (0 < vec_len passes) × (vec_len passes ≤ 32) }
+            requires pairs { vec_len job_passes ≡ vec_len passes }
+            requires new { AreNew (shared_of core.now) jobs.now passes.items job_passes.items }
+            ensures count { IfOk result (λ shifts. vec_len shifts ≡ vec_len passes) }
+            ensures kept {
+                IfOk result (λ shifts. All (IsShiftOf (shared_of core.entry.now) jobs.entry.now
+                    order.entry.now) shifts.items)
+            }
         {
-            let site = Site { case, core, jobs };
+            let site = Site {
+                case,
+                core,
+                jobs,
+                order,
+            };
             start_and_join(scope, rt, alloc, site, gate, passes, job_passes)
         },
     )
 }
 
-/// Starts a worker for each pass, until the start of one is refused, and joins all that were started.
+/// Starts a worker for each pass but the last, works with the last, and joins all that were started.
+/// `Thread` where the start of one was refused, and then it doesn't work itself.
 fn start_and_join<'s, 'e: 's, R: Threads + Wait + Sync, G: Gate + Sync>(
+    scope: &'s Scope<'s, &'e ()>,
+    rt: &'e R,
+    alloc: Global,
+    site: Site<'e>,
+    gate: &'e G,
+    mut passes: Vec<Pass>,
+    mut job_passes: Vec<JobPass>,
+) -> Result<Vec<Shift>, CrewFault>
+    requires ready {
+        AreReady site.case.now (shared_of site.core.now) site.jobs.now site.order.now
+    }
+    requires count { (0 < vec_len passes) × (vec_len passes ≤ 32) }
+    requires pairs { vec_len job_passes ≡ vec_len passes }
+    requires new {
+        AreNew (shared_of site.core.now) site.jobs.now passes.items job_passes.items
+    }
+    ensures count { IfOk result (λ shifts. vec_len shifts ≡ vec_len passes) }
+    ensures kept {
+        IfOk result (λ shifts. All (IsShiftOf (shared_of site.entry.core.now)
+            site.entry.jobs.now site.entry.order.now) shifts.items)
+    }
+{
+    let count = passes.len();
+    let mut shifts = Vec::with_capacity(alloc, count)?;
+    let handles = Vec::with_capacity(alloc, count)?;
+    let Some(pass) = passes.pop() else {
+        unreachable!()
+    };
+    let Some(job_pass) = job_passes.pop() else {
+        unreachable!()
+    };
+    let handles = start(scope, rt, alloc, site, gate, passes, job_passes, handles);
+    if handles.len() + 1 < count {
+        drop(join_all(rt, site, handles, shifts));
+        return Err(CrewFault::Thread);
+    }
+    shifts.push_reserved(work(rt, alloc, site, gate, 0, pass, job_pass));
+    Ok(join_all(rt, site, handles, shifts))
+}
+
+/// Starts a worker for each pass, from worker 1 on, until the start of one is refused. It asks for
+/// room for their handles.
+fn start<'s, 'e: 's, R: Threads + Wait + Sync, G: Gate + Sync>(
     scope: &'s Scope<'s, &'e ()>,
     rt: &'e R,
     alloc: Global,
@@ -93,55 +171,75 @@ fn start_and_join<'s, 'e: 's, R: Threads + Wait + Sync, G: Gate + Sync>(
     gate: &'e G,
     passes: Vec<Pass>,
     mut job_passes: Vec<JobPass>,
-) -> Result<Vec<Shift>, CrewFault>
-    requires ready { AreReady site.case.now site.core.now site.jobs.now }
-    requires count { (vec_len passes ≤ 32) × (vec_len job_passes ≡ vec_len passes) }
-    requires new { AreNew site.core.now site.jobs.now passes.items job_passes.items }
-    ensures { IfOk result (λ shifts. (vec_len shifts ≡ vec_len passes) × All (IsShiftOf site.entry.core.now site.entry.jobs.now) shifts.items) }
+    mut handles: Vec<Handle<'e>>,
+) -> Vec<Handle<'e>>
+    requires ready {
+        AreReady site.case.now (shared_of site.core.now) site.jobs.now site.order.now
+    }
+    requires count { vec_len passes < 32 }
+    requires pairs { vec_len job_passes ≡ vec_len passes }
+    requires new {
+        AreNew (shared_of site.core.now) site.jobs.now passes.items job_passes.items
+    }
+    requires room { (vec_len handles ≡ 0) × (vec_len passes ≤ vec_capacity handles) }
+    ensures count { vec_len result ≤ vec_len passes }
+    ensures promised { All (λ handle. handle.promise ≡ site.entry) result.items }
 {
-    let count = passes.len();
-    let shifts = Vec::with_capacity(alloc, count)?;
-    let mut handles: Vec<Handle<'e>> = Vec::with_capacity(alloc, count)?;
-    let Site { case, core, jobs } = site;
+    let Site {
+        case,
+        core,
+        jobs,
+        order,
+    } = site;
     let mut worker = 0;
     for pass in passes {
         let Some(job_pass) = job_passes.pop() else {
             unreachable!()
         };
+        worker += 1;
         let Ok(handle) = scope.spawn_with(
             site,
             move || -> Shift
-                requires ready { AreReady case.now core.now jobs.now }
-                requires passes { IsNewOf core.now pass × (job_pass ≡ new_pass jobs.now) }
-                ensures { IsShiftOf core.entry.now jobs.entry.now result }
+                requires ready { AreReady case.now (shared_of core.now) jobs.now order.now }
+                requires pass { IsNewPass (shared_of core.now) pass }
+                requires job_pass { job_pass ≡ new_pass jobs.now }
+                ensures {
+                    IsShiftOf (shared_of core.entry.now) jobs.entry.now order.entry.now result
+                }
             {
-                let site = Site { case, core, jobs };
+                let site = Site {
+                    case,
+                    core,
+                    jobs,
+                    order,
+                };
                 work(rt, alloc, site, gate, worker, pass, job_pass)
             },
         ) else {
             break;
         };
         handles.push_reserved(handle);
-        worker += 1;
     }
-    let shifts = join_all(rt, site, handles, shifts);
-    if shifts.len() < count {
-        return Err(CrewFault::Thread);
-    }
-    Ok(shifts)
+    handles
 }
 
-/// Joins all threads. It asks for room for what they hand back.
+/// Joins all threads, and puts what they hand back to `shifts`. It asks for room for it.
 fn join_all<'a, R: Threads>(
     rt: &R,
     site: Site<'a>,
     handles: Vec<Handle<'a>>,
     mut shifts: Vec<Shift>,
 ) -> Vec<Shift>
-    requires room { (vec_len shifts ≡ 0) × (vec_len handles ≤ vec_capacity shifts) }
+    requires room { vec_len shifts + vec_len handles ≤ vec_capacity shifts }
     requires promised { All (λ handle. handle.promise ≡ site) handles.items }
-    ensures count { vec_len result ≡ vec_len handles.entry }
-    ensures kept { All (IsShiftOf site.entry.core.now site.entry.jobs.now) result.items }
+    requires kept {
+        All (IsShiftOf (shared_of site.core.now) site.jobs.now site.order.now) shifts.items
+    }
+    ensures count { vec_len result ≡ vec_len shifts + vec_len handles.entry }
+    ensures kept {
+        All (IsShiftOf (shared_of site.entry.core.now) site.entry.jobs.now site.entry.order.now)
+            result.items
+    }
 {
     for handle in handles {
         shifts.push_reserved(handle.join(rt));
@@ -149,17 +247,29 @@ fn join_all<'a, R: Threads>(
     shifts
 }
 
-/// The passes of the hall and those of the jobs. `AllocError` where a worker met want of memory, or a growth is refused now.
-fn part(
+/// The passes of the hall and those of the queue. `AllocError` where a worker met want of memory, or
+/// a growth is refused now.
+fn hand_in(
     alloc: Global,
     site: Site<'_>,
     shifts: Vec<Shift>,
 ) -> Result<(Vec<Pass>, Vec<JobPass>), AllocError>
-    requires { All (IsShiftOf site.core.now site.jobs.now) shifts.items }
-    ensures count { IfOk result (λ passes. (vec_len passes.0 ≡ vec_len shifts) × (vec_len passes.1 ≡ vec_len shifts)) }
-    ensures hall { IfOk result (λ passes. All (λ pass. IsOf site.entry.core.now pass × ((view_of pass).owes ≡ None)) passes.0.items) }
-    ensures jobs { IfOk result (λ passes. All (λ pass. IsPassOf site.entry.jobs.now pass × (pass.found_empty ≡ true)) passes.1.items) }
-    ensures seen { IfOk result (λ passes. HaveSeenClaims passes.0.items passes.1.items) }
+    requires {
+        All (IsShiftOf (shared_of site.core.now) site.jobs.now site.order.now) shifts.items
+    }
+    ensures passes { IfOk result (λ passes. vec_len passes.0 ≡ vec_len shifts) }
+    ensures job_passes { IfOk result (λ passes. vec_len passes.1 ≡ vec_len shifts) }
+    ensures own {
+        IfOk result (λ passes. All (IsPassOf (shared_of site.entry.core.now)) passes.0.items)
+    }
+    ensures free { IfOk result (λ passes. All (λ pass. (view_of pass).owes ≡ None) passes.0.items) }
+    ensures jobs {
+        IfOk result (λ passes. All (queue.IsPassOf site.entry.jobs.now) passes.1.items)
+    }
+    ensures empty { IfOk result (λ passes. All (λ pass. pass.found_empty ≡ true) passes.1.items) }
+    ensures seen {
+        IfOk result (λ passes. HaveSeenClaims site.entry.order.now passes.0.items passes.1.items)
+    }
 {
     let mut passes = Vec::with_capacity(alloc, shifts.len())?;
     let mut job_passes = Vec::with_capacity(alloc, shifts.len())?;
@@ -167,8 +277,8 @@ fn part(
         if shift.short_of_memory {
             return Err(AllocError);
         }
-        passes.push(shift.pass)?;
-        job_passes.push(shift.job_pass)?;
+        passes.push_reserved(shift.pass);
+        job_passes.push_reserved(shift.job_pass);
     }
     Ok((passes, job_passes))
 }

@@ -1,18 +1,19 @@
 //! What a caller may do beside each job.
 
 ghost use Rattle.board_hall.specs.Halls.{view_of};
-ghost use Rattle.check_crew.specs.Findings.{IsTold};
+ghost use Rattle.check_crew.specs.Seen.{IsTold};
 
 use board_hall::Pass;
 use case_core::Target;
 
-/// Called by each worker before it examines a target, and after what it found, and a part that it then owed, were posted.
+/// Called by each worker beside each of its jobs. The workers of a run share one gate.
 pub trait Gate {
-    /// Before this worker examines the target.
+    /// Before the worker of this number, from 0, examines the target's section.
     fn before(&self, worker: u32, target: Target);
 
-    /// After its finding was posted. The posts that the worker's pass has seen hold it, and by them the board of the target has this
-    /// open weight.
+    /// After what this worker found of the target, and a part that it then owed, were posted. The
+    /// posts that `pass`, the worker's own, has seen hold the target's finding, and by these posts
+    /// the board of the target has the open weight `weight`.
     fn after(&self, worker: u32, target: Target, pass: &Pass, weight: u64)
         requires { IsTold (view_of pass.now) target weight };
 }

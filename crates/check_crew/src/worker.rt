@@ -1,11 +1,11 @@
 //! What one worker does.
 
 ghost use Rattle.std.specs.Prelude.{◌≡◌, ◌<◌, None, length, OnOk};
+ghost use Rattle.case_core.specs.Shown.{finding_of};
 ghost use Rattle.cube_jobs.specs.Jobs.{new_pass};
-ghost use Rattle.board_hall.specs.Halls.{core_of, view_of};
+ghost use Rattle.board_hall.specs.Halls.{core_of, shared_of, view_of, IsPassOf, IsNewPass};
 ghost use Rattle.board_hall.specs.Clauses.{Stays};
-ghost use Rattle.check_crew.specs.Handle.{IsOf, IsNewOf};
-ghost use Rattle.check_crew.specs.Findings.{HasSeen, HasSeenSection};
+ghost use Rattle.check_crew.specs.Seen.{HasSeen, HasSeenSection};
 ghost use Rattle.check_crew.specs.Shifts.{IsShiftOf, AreReady};
 
 use crate::gate::Gate;
@@ -25,22 +25,27 @@ pub(crate) struct Shift {
     pub(crate) short_of_memory: bool,
 }
 
-/// What all workers share. As a promise it says what each of them hands back.
+/// What all workers share: the case, the hall, the queue, whose jobs are turns, and for each turn
+/// the place of its section. As a promise it says what each of them hands back.
 #[derive(Clone, Copy)]
 pub(crate) struct Site<'a> {
     pub(crate) case: &'a Case,
     pub(crate) core: &'a Core,
     pub(crate) jobs: &'a Jobs,
+    pub(crate) order: &'a [usize],
 }
 
 impl<'a> Promise<Shift> for Site<'a> {
+    ghost use Rattle.board_hall.specs.Halls.{shared_of};
     ghost use Rattle.check_crew.specs.Shifts.{IsShiftOf};
 
-    ghost kept_by = { λ site shift. IsShiftOf site.core.now site.jobs.now shift };
+    ghost kept_by = {
+        λ site shift. IsShiftOf (shared_of site.core.now) site.jobs.now site.order.now shift
+    };
 }
 
-/// Examines the section at a place, posts what is found, and then the part that is owed, if any. `AllocError` where a growth was
-/// refused, and then nothing is posted.
+/// Examines the section at a place, posts what is found, and then the part that is owed, if any.
+/// `AllocError` where a growth was refused, and then nothing is posted.
 fn take_turn<R: Wait, G: Gate>(
     rt: &R,
     alloc: Global,
@@ -52,12 +57,14 @@ fn take_turn<R: Wait, G: Gate>(
 ) -> Result<(), AllocError>
     requires case { site.case.now ≡ (core_of site.core.now).case }
     requires place { place < length site.case.now.sections }
-    requires pass { IsOf site.core.now pass.old × ((view_of pass.old).owes ≡ None) }
-    ensures own { IsOf site.entry.core.now pass.new × ((view_of pass.new).owes ≡ None) }
+    requires own { IsPassOf (shared_of site.core.now) pass.old }
+    requires free { (view_of pass.old).owes ≡ None }
+    ensures own { IsPassOf (shared_of site.entry.core.now) pass.new }
+    ensures free { (view_of pass.new).owes ≡ None }
     ensures stays { Stays (view_of pass.old) (view_of pass.new) }
     ensures seen { OnOk result (HasSeenSection (view_of pass.new) place) }
 {
-    let Site { case, core, jobs: _ } = site;
+    let Site { case, core, .. } = site;
     let target = case.sections()[place].target;
     let announced = target;
     let asked = target;
@@ -80,18 +87,22 @@ fn post<'c, R: Wait>(
     pass: &mut Pass,
     finding: Finding<'c>,
 )
-    requires case { (case.now ≡ (core_of core.now).case) × (finding.case.now ≡ case.now) }
-    requires pass { IsOf core.now pass.old × ((view_of pass.old).owes ≡ None) }
-    ensures own { IsOf core.now pass.new × ((view_of pass.new).owes ≡ None) }
+    requires case { case.now ≡ (core_of core.now).case }
+    requires finding { (finding_of finding).case ≡ case.now }
+    requires own { IsPassOf (shared_of core.now) pass.old }
+    requires free { (view_of pass.old).owes ≡ None }
+    ensures own { IsPassOf (shared_of core.now) pass.new }
+    ensures free { (view_of pass.new).owes ≡ None }
     ensures stays { Stays (view_of pass.old) (view_of pass.new) }
-    ensures seen { HasSeen (view_of pass.new) finding.entry.node }
+    ensures seen { HasSeen (view_of pass.new) (finding_of finding.entry).node }
 {
     if let Posted::RootMarked(verdict) = core.post(rt, case, pass, finding) {
         let _ = core.post_part(rt, case, pass, verdict);
     }
 }
 
-/// Claims places, examines their sections and posts what is found, until no job is left or memory is refused.
+/// Claims turns, examines their sections and posts what is found, until no turn is left or memory
+/// is refused.
 pub(crate) fn work<R: Wait, G: Gate>(
     rt: &R,
     alloc: Global,
@@ -101,21 +112,36 @@ pub(crate) fn work<R: Wait, G: Gate>(
     mut pass: Pass,
     mut job_pass: JobPass,
 ) -> Shift
-    requires ready { AreReady site.case.now site.core.now site.jobs.now }
-    requires passes { IsNewOf site.core.now pass × (job_pass ≡ new_pass site.jobs.now) }
-    ensures { IsShiftOf site.entry.core.now site.entry.jobs.now result }
+    requires ready {
+        AreReady site.case.now (shared_of site.core.now) site.jobs.now site.order.now
+    }
+    requires pass { IsNewPass (shared_of site.core.now) pass }
+    requires job_pass { job_pass ≡ new_pass site.jobs.now }
+    ensures {
+        IsShiftOf (shared_of site.entry.core.now) site.entry.jobs.now site.entry.order.now result
+    }
 {
-    let Site { case, core, jobs } = site;
+    let Site {
+        case,
+        core,
+        jobs,
+        order,
+    } = site;
     for _ in rt.forever() {
-        let Some(place) = jobs.claim(rt, &mut job_pass) else {
+        let Some(turn) = jobs.claim(rt, &mut job_pass) else {
             return Shift {
                 pass,
                 job_pass,
                 short_of_memory: false,
             };
         };
-        let site = Site { case, core, jobs };
-        let Ok(()) = take_turn(rt, alloc, site, gate, worker, &mut pass, place) else {
+        let site = Site {
+            case,
+            core,
+            jobs,
+            order,
+        };
+        let Ok(()) = take_turn(rt, alloc, site, gate, worker, &mut pass, order[turn]) else {
             return Shift {
                 pass,
                 job_pass,

@@ -14,6 +14,8 @@ mod fixtures;
 #[cfg(test)]
 mod icnf_tests;
 #[cfg(test)]
+mod jobs_tests;
+#[cfg(test)]
 mod judging_tests;
 #[cfg(test)]
 mod lrat_text_tests;

@@ -1,0 +1,33 @@
+-- What a worker has seen of the findings of a case.
+use Rattle.std.specs.Prelude.{◌≡◌, ◌≢◌, ℕ, List, slice_index}
+use Rattle.split_tree.specs.Leaves.{IsTargetAt}
+use Rattle.split_tree.specs.declared.node.Target.{Target}
+use Rattle.case_core.specs.Case.{section_at}
+use Rattle.mark_board.specs.declared.mark.Mark.TheVariants.{Open}
+use Rattle.mark_board.specs.Findings.{IsMarkOf}
+use Rattle.board_hall.specs.declared.view.View.{View}
+use Rattle.board_hall.specs.Posts.{mark_in, open_by}
+use Rattle.board_hall.specs.Clauses.{IsHome}
+
+-- the finding of a node is among what was seen
+pub record HasSeen (v : View) (node : ℕ) : Type 0 where
+  pub board : ℕ
+  pub row : ℕ
+  pub home : IsHome v.of node board row
+  pub marked : mark_in v.seen board row ≢ Open
+
+-- that of the section at a place
+abbrev pub HasSeenSection : View → ℕ → Type 0
+HasSeenSection v place = (node : ℕ) → IsTargetAt v.of.case.tree node (section_at v.of.case.sections place).target → HasSeen v node
+
+-- that of the section whose turn it is in this order
+abbrev pub HasSeenTurn : List ℕ → View → ℕ → Type 0
+HasSeenTurn order v turn = HasSeenSection v (slice_index order turn)
+
+-- the posts that were seen hold the target's finding, and by them the board of the target has this open weight
+pub record IsTold (v : View) (target : Target) (weight : ℕ) : Type 0 where
+  pub node : ℕ
+  pub here : IsTargetAt v.of.case.tree node target
+  pub seen : HasSeen v node
+  pub mark : IsMarkOf v.of.case target (mark_in v.seen seen.board seen.row)
+  pub weight_is : weight ≡ open_by v.of seen.board (mark_in v.seen seen.board)
