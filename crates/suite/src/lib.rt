@@ -10,6 +10,8 @@ mod case_tests;
 #[cfg(test)]
 mod command_tests;
 #[cfg(test)]
+mod crew_tests;
+#[cfg(test)]
 mod fixtures;
 #[cfg(test)]
 mod icnf_tests;
