@@ -6,7 +6,9 @@ use cube_command::command;
 use std::fs;
 use std::process::Abort;
 use std::rt::Files;
+use std::sync::Wait;
 use std::test::Fail;
+use std::thread::Threads;
 
 const BUNDLE: &[u8] = b"p inccnf\n1 2 0\n1 -2 0\n-1 2 0\n-1 -2 0\na 0\n";
 
@@ -16,7 +18,7 @@ const DEVICE: &[u8] = b"cubeboard: F13 device\n";
 
 /// The program on these words and this input ends with this status, after this report and this
 /// line of errors.
-fn ends_with<R: Files + AllocGlobal + Abort>(
+fn ends_with<R: Files + AllocGlobal + Abort + Threads + Wait + Sync>(
     rt: &R,
     words: &[&str],
     input: &[u8],
@@ -35,7 +37,7 @@ fn ends_with<R: Files + AllocGlobal + Abort>(
 }
 
 /// The program on these words ends with status 2, no report, and a text of errors.
-fn is_refused<R: Files + AllocGlobal + Abort>(rt: &R, word: &str, input: &[u8]) {
+fn is_refused<R: Files + AllocGlobal + Abort + Threads + Wait + Sync>(rt: &R, word: &str, input: &[u8]) {
     let mut output = Vec::new(rt.alloc());
     let mut errors = Vec::new(rt.alloc());
     let answer = command(rt, &[word], input, &mut output, &mut errors);
@@ -88,7 +90,7 @@ fn files(rt: HostRuntime) -> Result<(), Fail> {
 }
 
 /// The program on words that name files and folders.
-fn with_files<R: Files + AllocGlobal + Abort>(rt: &R) {
+fn with_files<R: Files + AllocGlobal + Abort + Threads + Wait + Sync>(rt: &R) {
     let proofs = ["--proofs", "files_test/proofs"];
     let both = ["--proofs=files_test/proofs", "files_test/case.icnf"];
     let unreadable = ["--proofs", "files_test/unreadable"];

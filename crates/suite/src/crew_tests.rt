@@ -2,13 +2,13 @@
 //! and that what they find is what one thread finds.
 ghost use Rattle.std.specs.Prelude.{◌≡◌};
 
-use crate::fixtures::{BOTH_CUBES, HALF, ONE_CUBE, ROOT, case};
+use crate::fixtures::{BOTH_CUBES, HALF, ONE_CUBE, OPEN, REFUTED, ROOT, case};
 use crate::four;
 use board_hall::Pass;
 use case_core::{Leaf, Target};
 use check_crew::{Gate, NoGate, Settings, conquer};
 use crossbeam_utils::Backoff;
-use cube_report::{report_of, run_one};
+use cube_report::{run, run_one};
 use std::alloc::Global;
 use std::process::Abort;
 use std::sync::Wait;
@@ -60,27 +60,43 @@ fn settings_have_a_range(rt: HostRuntime) {
     assert!(rt; Settings::new(1, 7).is_none());
 }
 
-/// Whether the report on the boards of a run is the one of one thread.
+/// Whether a run by workers answers as the run of one thread does.
 fn is_as_alone<R: Abort + Threads + Wait + Sync>(
     rt: &R,
     alloc: Global,
-    bundle: &str,
+    bundle: &[u8],
     workers: u32,
     cut: u32,
 ) -> bool {
-    let case = case(rt, alloc, bundle);
-    let alone = run_one(alloc, bundle.as_bytes()).expect(rt, "no report");
     let settings = settings(rt, workers, cut);
-    let boards = conquer(rt, alloc, &case, settings, &NoGate).expect(rt, "no boards");
-    report_of(alloc, &boards).expect(rt, "memory").as_slice() == alone.as_slice()
+    match (
+        run(rt, alloc, bundle, settings, &NoGate),
+        run_one(alloc, bundle),
+    ) {
+        (Ok(report), Ok(alone)) => report.as_slice() == alone.as_slice(),
+        (Err(fault), Err(alone)) => fault == alone,
+        _ => false,
+    }
 }
 
-// The boards are those of one thread, for any number of workers and any cut.
+// The report is that of one thread, for any number of workers and any cut, and so is a fault.
 #[test]
 fn any_workers_and_any_cut(rt: HostRuntime) {
-    for bundle in [BOTH_CUBES, FOUR_CUBES, REJECTED_NODE, ONE_CUBE, ROOT, LENGTHS, NOTHING] {
+    for bundle in [
+        BOTH_CUBES.as_bytes(),
+        FOUR_CUBES.as_bytes(),
+        REJECTED_NODE.as_bytes(),
+        ONE_CUBE.as_bytes(),
+        ROOT.as_bytes(),
+        LENGTHS.as_bytes(),
+        NOTHING.as_bytes(),
+        REFUTED,
+        OPEN,
+        b"p inccnf\na 1 0\na -1 0\na 1 0\n",
+        b"p inccnf\na 0\nl 1\nl 1\n",
+    ] {
         for workers in [1, 2, 4, 32] {
-            for cut in [0, 1, 2, 6] {
+            for cut in [0, 1, 3, 6] {
                 assert!(rt; is_as_alone(&rt, rt.alloc(), bundle, workers, cut));
             }
         }

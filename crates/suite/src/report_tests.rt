@@ -1,14 +1,31 @@
 //! Reports and faults of bundles, and runs over streams in memory: each expected report is written
 //! by hand from the formats.
 
-ghost use Rattle.std.specs.Prelude.{Some};
+ghost use Rattle.std.specs.Prelude.{Some, ◌<◌, ◌^◌, ◌-◌};
 
 use crate::fixtures::{OPEN, OPEN_REPORT, REFUTED, REFUTED_REPORT};
+use check_crew::{NoGate, Settings};
 use cube_report::{Counted, Fault, Sink, Source, run_io, run_one};
 use std::alloc::Global;
 use std::io;
 use std::process::Abort;
+use std::sync::Wait;
 use std::test::Fail;
+use std::thread::Threads;
+
+/// A run over streams, by two workers.
+fn run_by_two<R: Abort + Threads + Wait + Sync, I: Source, O: Sink>(
+    rt: &R,
+    alloc: Global,
+    reader: &mut I,
+    writer: &mut O,
+) -> Result<bool, Fault>
+    requires reader { I.failures reader.old < 2 ^ 64 - 1 }
+    requires writer { O.failures writer.old < 2 ^ 64 - 1 }
+{
+    let settings = Settings::new(2, 1).expect(rt, "no settings");
+    run_io(rt, alloc, reader, writer, settings, &NoGate)
+}
 
 #[test]
 fn reports(rt: HostRuntime) -> Result<(), Fail> {
@@ -100,7 +117,7 @@ fn a_read_fails(rt: HostRuntime) -> Result<(), Fail> {
 }
 
 /// A run whose reader fails at this call says so, and has written nothing.
-fn read_fails_at(rt: &impl Abort, alloc: Global, fails_at: u64) {
+fn read_fails_at<R: Abort + Threads + Wait + Sync>(rt: &R, alloc: Global, fails_at: u64) {
     let mut reader = Broken {
         left: REFUTED,
         calls: 0,
@@ -108,7 +125,7 @@ fn read_fails_at(rt: &impl Abort, alloc: Global, fails_at: u64) {
         failed: 0,
     };
     let mut written = Vec::new(alloc);
-    let result = run_io(alloc, &mut reader, &mut Counted::new(&mut written));
+    let result = run_by_two(rt, alloc, &mut reader, &mut Counted::new(&mut written));
     assert!(rt; result == Err(Fault::Device), "at {fails_at}");
     assert!(rt; written.is_empty(), "at {fails_at}");
 }
@@ -154,14 +171,19 @@ fn a_write_fails(rt: HostRuntime) -> Result<(), Fail> {
 }
 
 /// A run whose writer fails at this call says so, and has written these bytes before it.
-fn write_fails_at(rt: &impl Abort, alloc: Global, fails_at: u64, before: &[u8]) {
+fn write_fails_at<R: Abort + Threads + Wait + Sync>(
+    rt: &R,
+    alloc: Global,
+    fails_at: u64,
+    before: &[u8],
+) {
     let mut writer = Narrow {
         written: Vec::new(alloc),
         calls: 0,
         fails_at,
         failed: 0,
     };
-    let result = run_io(alloc, &mut Counted::new(REFUTED), &mut writer);
+    let result = run_by_two(rt, alloc, &mut Counted::new(REFUTED), &mut writer);
     assert!(rt; result == Err(Fault::Device), "at {fails_at}");
     assert_eq!(rt; writer.written.as_slice(), before, "at {fails_at}");
 }
@@ -169,7 +191,8 @@ fn write_fails_at(rt: &impl Abort, alloc: Global, fails_at: u64, before: &[u8]) 
 #[test]
 fn a_write_of_nothing_fails(rt: HostRuntime) -> Result<(), Fail> {
     let mut room = [0u8; 8];
-    let result = run_io(
+    let result = run_by_two(
+        &rt,
         rt.alloc(),
         &mut Counted::new(REFUTED),
         &mut Counted::new(room.as_mut_slice()),
