@@ -1,7 +1,7 @@
 #!/bin/sh
 # Runs the built program on a few rows with its Nth request for memory refused, for each N from 1 until a run meets no
 # refusal. Each run has to write the row's exact report with its status, or no report, the status 4 and
-# `cubeboard: F6 memory`. A test of the reader of proof steps is run the same way. It needs a C compiler; where there is
+# `cubeboard: F6 memory`, or `cubeboard: F14 thread` where the request was made for the start of a thread. A test of the reader of proof steps is run the same way. It needs a C compiler; where there is
 # none, it says so and tries nothing. The last line counts.
 root=$(CDPATH= cd -- "$(dirname -- "$0")/.." && pwd) || exit 1
 compiler=
@@ -25,6 +25,7 @@ program=$root/crates/cubeboard/out/cubeboard
 passed=0
 failed=0
 echo "cubeboard: F6 memory" > "$here/memory"
+echo "cubeboard: F14 thread" > "$here/thread"
 limit=10000
 
 # One run with this request refused: the row's files without the ending, the request, the words.
@@ -38,9 +39,9 @@ run() {
     echo $? > "$here/status"
 }
 
-# Whether the last run said that memory was refused, and nothing else.
-says_memory() {
-    [ "$(cat "$here/status")" = 4 ] && [ ! -s "$here/out" ] && cmp -s "$here/err" "$here/memory"
+# Whether the last run said that memory or the start of a thread was refused, and nothing else.
+says_refused() {
+    [ "$(cat "$here/status")" = 4 ] && [ ! -s "$here/out" ] && { cmp -s "$here/err" "$here/memory" || cmp -s "$here/err" "$here/thread"; }
 }
 
 # Whether the last run is the row's own: its files without the ending.
@@ -63,7 +64,7 @@ row() {
     refused=0
     while [ "$request" -le "$limit" ]; do
         run "$base" "$request" "$@"
-        if is_exact "$base" || { [ -f "$here/mark" ] && says_memory; }; then
+        if is_exact "$base" || { [ -f "$here/mark" ] && says_refused; }; then
             passed=$((passed + 1))
         else
             failed=$((failed + 1))
