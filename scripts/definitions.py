@@ -20,15 +20,18 @@ CLAIMS = [
 Where the report on a bundle ends with the line `s REFUTED`, or `run_io` answers true, no assignment makes all clauses of
 the bundle's formula true. To say that, no definition of trees, proofs or marks is needed.""",
      ["cube_report/engine.rt run_one sound",
+      "cube_report/engine.rt run sound",
       "cube_report/engine.rt run_io sound"]),
     ("A refusal names the first fault", """
-Where a bundle is refused for its own sake, not for want of memory or a failed device, the fault is its first one.""",
+Where a bundle is refused for its own sake, not for want of memory, a failed device or a refused thread, the fault is its first one.""",
      ["cube_report/engine.rt run_one fault",
+      "cube_report/engine.rt run fault",
       "cube_report/engine.rt run_io fault"]),
     ("Every line of the report is the definition's", """
 The report is one text, fixed by the case that the bundle stands for and by the mark of each node: what its section's
 proof is judged to be from the formula and the node's path, or open where it has no section.""",
      ["cube_report/engine.rt run_one text correct",
+      "cube_report/engine.rt run text correct",
       "cube_report/engine.rt run_io written answer correct",
       "cube_report/report.rt report_of -"]),
     ("Streams and status", """
@@ -77,6 +80,13 @@ is closed gives the boards of all that was posted.""",
       "board_hall/hall.rt Hall::mark_of own stays nothing mark",
       "board_hall/hall.rt Hall::open_weight own stays nothing seen weight",
       "board_hall/closing.rt Hall::close all boards same"]),
+    ("cube_jobs and check_crew: one report for every number of threads", """
+Each section's place is claimed once. Once all workers are joined, each node of the boards has the mark of its finding, for every number of
+workers, every cut and every gate.""",
+     ["cube_jobs/jobs.rt Jobs::fill sections count passes",
+      "cube_jobs/jobs.rt Jobs::claim same place later claimed none",
+      "cube_jobs/jobs.rt Jobs::finish exactly once",
+      "check_crew/crew.rt conquer case findings"]),
 ]
 
 HEAD = """<!-- written by scripts/definitions.py: change the script, not this file -->
