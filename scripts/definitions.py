@@ -77,6 +77,17 @@ is closed gives the boards of all that was posted.""",
       "board_hall/hall.rt Hall::mark_of own stays nothing mark",
       "board_hall/hall.rt Hall::open_weight own stays nothing seen weight",
       "board_hall/closing.rt Hall::close all boards same"]),
+    ("cube_jobs: each section is claimed once", """
+The passes of a queue claim the places of a case's sections. A pass that is answered that none is left found the queue empty.
+Where all passes are handed in and one of them found it empty, their claims together hold each section's place once.""",
+     ["cube_jobs/jobs.rt Jobs::fill sections count passes",
+      "cube_jobs/jobs.rt Jobs::claim same place later claimed more unchanged none stays",
+      "cube_jobs/jobs.rt Jobs::finish exactly once"]),
+    ("check_crew: what several workers find", """
+The boards that a run gives are of its case and cut, and each node has the mark of its finding, for every number of workers and
+whatever they do when.""",
+     ["check_crew/settings.rt Settings::new range value",
+      "check_crew/crew.rt conquer case findings"]),
 ]
 
 HEAD = """<!-- written by scripts/definitions.py: change the script, not this file -->
