@@ -24,13 +24,13 @@ use std::thread::{PromisedHandle, Scope, Threads};
 type Handle<'a> = PromisedHandle<Shift, Site<'a>>;
 
 /// The boards of `case` at the cut of `settings` with the findings of all its sections, by as many
-/// workers as `settings` says. The calling thread is worker 0, and each other worker has a thread of
-/// its own. Workers take the sections of longer proofs first. Each calls `gate` before it examines a
-/// section, and after what it found was posted.
+/// workers as `settings` says. The calling thread is worker 0, and each other worker has a thread
+/// of its own. Workers take the sections of longer proofs first. Each calls `gate` before it
+/// examines a section, and after what it found was posted.
 ///
 /// All workers that were started are joined before it answers. `Thread` where the start of one was
-/// refused, whatever else happened, and otherwise `Memory` where a growth was refused: a worker that
-/// meets that stops, and the others go on until no section is left. A fault hands nothing out.
+/// refused, whatever else happened, and otherwise `Memory` where a growth was refused: a worker
+/// that meets that stops, and the others go on until no section is left. A fault hands nothing out.
 pub fn conquer<'c, R: Threads + Wait + Sync, G: Gate + Sync>(
     rt: &R,
     alloc: Global,
@@ -118,8 +118,8 @@ fn run_all<R: Threads + Wait + Sync, G: Gate + Sync>(
     )
 }
 
-/// Starts a worker for each pass but the last, works with the last, and joins all that were started.
-/// `Thread` where the start of one was refused, and then it doesn't work itself.
+/// Starts a worker for each pass but the last, works with the last, and joins all that were
+/// started. `Thread` where the start of one was refused, and then it doesn't work itself.
 fn start_and_join<'s, 'e: 's, R: Threads + Wait + Sync, G: Gate + Sync>(
     scope: &'s Scope<'s, &'e ()>,
     rt: &'e R,
@@ -247,8 +247,8 @@ fn join_all<'a, R: Threads>(
     shifts
 }
 
-/// The passes of the hall and those of the queue. `AllocError` where a worker met want of memory, or
-/// a growth is refused now.
+/// The passes of the hall and those of the queue. `AllocError` where a worker met want of memory,
+/// or a growth is refused now.
 fn hand_in(
     alloc: Global,
     site: Site<'_>,

@@ -14,9 +14,9 @@ fn proof_length(sections: &[Section], place: usize) -> usize {
         .map_or(0, |section| section.proof.len())
 }
 
-/// The places of a case's sections, those of longer proofs first and ties in the order of the text:
-/// so no worker begins a long proof when the others are nearly done. `AllocError` where a growth was
-/// refused.
+/// The places of a case's sections, those of longer proofs first and ties in the order of the
+/// text: so no worker begins a long proof when the others are nearly done. `AllocError` where a
+/// growth was refused.
 pub(crate) fn long_proofs_first(alloc: Global, case: &Case) -> Result<Vec<usize>, AllocError>
     ensures { IfOk result (λ order. IsOrder (length case.now.sections) order.items) }
 {

@@ -161,8 +161,8 @@ impl Gate for Crossing {
     }
 }
 
-// Two workers are at work at once: the first cube's waits for what the second cube's has posted. The
-// two cubes share a board at cut 0, and have boards of their own at others.
+// Two workers are at work at once: the first cube's waits for what the second cube's has posted.
+// The two cubes share a board at cut 0, and have boards of their own at others.
 #[test]
 fn two_workers_cross(rt: HostRuntime) {
     for (cut, second_weight) in [(0, HALF), (1, 0), (6, 0)] {
