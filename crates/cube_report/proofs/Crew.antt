@@ -1,5 +1,5 @@
 -- What a fault of the workers is to a run.
-use Rattle.std.proofs.Common.{◌≡◌, ◌≢◌, refl}
+use Rattle.std.proofs.Common.{◌≢◌, refl}
 use Rattle.check_crew.specs.declared.fault.CrewFault.{CrewFault}
 use Rattle.check_crew.specs.declared.fault.CrewFault.TheVariants as crew
 use Rattle.cube_report.specs.declared.fault.Fault.TheVariants.{Memory, Device, Thread}
