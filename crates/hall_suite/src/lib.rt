@@ -1,0 +1,7 @@
+//! Tests of the hall.
+#![tactic(auto)]
+
+#[cfg(test)]
+mod fixtures;
+#[cfg(test)]
+mod hall_tests;
