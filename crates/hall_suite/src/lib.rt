@@ -5,3 +5,5 @@
 mod fixtures;
 #[cfg(test)]
 mod hall_tests;
+#[cfg(test)]
+mod hall_thread_tests;
