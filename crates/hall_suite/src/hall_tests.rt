@@ -196,20 +196,29 @@ fn open_in(
     hall.open_weight(pass, Place::Part(part))
 }
 
-/// A list of one pass.
-fn one(rt: &impl Abort, alloc: Global, pass: Pass) -> Vec<Pass>
-    ensures { result.items ≡ pass ∷ [] }
+/// A list of one pass of a hall.
+fn one(rt: &impl Abort, alloc: Global, hall: &Hall<'_>, pass: Pass) -> Vec<Pass>
+    requires { IsPassOf (hall_of hall.now) pass }
+    ensures own { All (IsPassOf (hall_of hall.now)) result.items }
+    ensures same { result.items ≡ pass ∷ [] }
 {
     let mut passes = Vec::new(alloc);
     passes.push(pass).expect(rt, "memory");
     passes
 }
 
-/// A list of two passes.
-pub fn two(rt: &impl Abort, alloc: Global, first: Pass, second: Pass) -> Vec<Pass>
-    ensures { result.items ≡ first ∷ second ∷ [] }
+/// A list of two passes of a hall.
+pub fn two(
+    rt: &impl Abort,
+    alloc: Global,
+    hall: &Hall<'_>,
+    first: Pass,
+    second: Pass,
+) -> Vec<Pass>
+    requires { IsPassOf (hall_of hall.now) first × IsPassOf (hall_of hall.now) second }
+    ensures { All (IsPassOf (hall_of hall.now)) result.items }
 {
-    let mut passes = one(rt, alloc, first);
+    let mut passes = one(rt, alloc, hall, first);
     passes.push(second).expect(rt, "memory");
     passes
 }
@@ -228,9 +237,11 @@ fn closed(hall: Hall<'_>, passes: Vec<Pass>) -> Option<(bool, u64)>
 /// The hall and the pass that come back where a hall isn't closed with this pass alone.
 fn refused<'c>(rt: &impl Abort, alloc: Global, hall: Hall<'c>, pass: Pass) -> (Hall<'c>, Pass)
     requires { IsPassOf (hall_of hall) pass }
-    ensures { (result.0 ≡ hall.entry) × (result.1 ≡ pass) }
+    ensures same { (result.0 ≡ hall.entry) × (result.1 ≡ pass) }
+    ensures own { IsPassOf (hall_of result.0) result.1 }
 {
-    match hall.close(one(rt, alloc, pass)) {
+    let passes = one(rt, alloc, &hall, pass);
+    match hall.close(passes) {
         Ok(_) => panic!(rt; "closed"),
         Err((hall, mut passes)) => (hall, passes.pop().expect(rt, "no pass")),
     }
@@ -276,7 +287,8 @@ fn one_part(rt: HostRuntime) {
     let (hall, mut pass) = hall_for_one(&rt, rt.alloc(), &case, 0);
     let once = leaf_twice(&rt, rt.alloc(), &hall, &mut pass);
     let both = leaf_after(&rt, rt.alloc(), &hall, &mut pass);
-    let boards = closed(hall, one(&rt, rt.alloc(), pass));
+    let passes = one(&rt, rt.alloc(), &hall, pass);
+    let boards = closed(hall, passes);
     assert!(rt; once && both && boards == Some((true, 0)));
 }
 
@@ -309,13 +321,14 @@ fn verdicts<'c, R: Wait + Abort>(
     ensures own { IsPassOf (hall_of hall.now) pass.new }
     ensures free { (view_of pass.new).owes ≡ None }
 {
+    let part = verdict.part() == 0;
     let first = post_part(rt, hall, pass, verdict);
     let half = open_above(hall, pass) == HALF;
     let second = post_last(rt, alloc, hall, pass, cube(2));
     let owed = pass.owes() == Some(1) && second.part() == 1;
     let root = post_part(rt, hall, pass, second);
     let none = open_above(hall, pass) == 0;
-    !first && half && owed && root && none
+    part && !first && half && owed && root && none
 }
 
 // At cut 1 each leaf is a part, whose verdict is owed until it is posted. Until then the hall isn't
@@ -325,11 +338,12 @@ fn two_parts(rt: HostRuntime) {
     let case = case(&rt, rt.alloc(), BOTH_CUBES);
     let (hall, mut pass) = hall_for_one(&rt, rt.alloc(), &case, 1);
     let verdict = post_last(&rt, rt.alloc(), &hall, &mut pass, cube(1));
-    let owed = verdict.part() == 0 && is_owed(&rt, rt.alloc(), &hall, &mut pass);
+    let owed = is_owed(&rt, rt.alloc(), &hall, &mut pass);
     let (hall, mut pass) = refused(&rt, rt.alloc(), hall, pass);
     let still = is_owed(&rt, rt.alloc(), &hall, &mut pass);
     let posted = verdicts(&rt, rt.alloc(), &hall, &mut pass, verdict);
-    let boards = closed(hall, one(&rt, rt.alloc(), pass));
+    let passes = one(&rt, rt.alloc(), &hall, pass);
+    let boards = closed(hall, passes);
     assert!(rt; owed && still && posted && boards == Some((true, 0)));
 }
 
@@ -369,7 +383,8 @@ fn three_parts(rt: HostRuntime) {
     let first = takes_part(&rt, rt.alloc(), &hall, &mut pass, 0, HALF, HALF);
     let second = takes_part(&rt, rt.alloc(), &hall, &mut pass, 1, QUARTER, QUARTER);
     let third = takes_part(&rt, rt.alloc(), &hall, &mut pass, 2, QUARTER, 0);
-    let boards = closed(hall, one(&rt, rt.alloc(), pass));
+    let passes = one(&rt, rt.alloc(), &hall, pass);
+    let boards = closed(hall, passes);
     assert!(rt; whole && first && second && third && boards == Some((true, 0)));
 }
 
@@ -395,7 +410,8 @@ fn root_above_the_cut(rt: HostRuntime) {
     let case = case(&rt, rt.alloc(), ROOT);
     let (hall, mut pass) = hall_for_one(&rt, rt.alloc(), &case, 1);
     let root = root_above(&rt, rt.alloc(), &hall, &mut pass);
-    let boards = closed(hall, one(&rt, rt.alloc(), pass));
+    let passes = one(&rt, rt.alloc(), &hall, pass);
+    let boards = closed(hall, passes);
     assert!(rt; root && boards == Some((true, 0)));
 }
 
@@ -425,7 +441,8 @@ fn root_in_a_part(rt: HostRuntime) {
     let case = case(&rt, rt.alloc(), ROOT);
     let (hall, mut pass) = hall_for_one(&rt, rt.alloc(), &case, 0);
     let posted = first_part(&rt, rt.alloc(), &hall, &mut pass, inner(0));
-    let boards = closed(hall, one(&rt, rt.alloc(), pass));
+    let passes = one(&rt, rt.alloc(), &hall, pass);
+    let boards = closed(hall, passes);
     assert!(rt; posted == (true, true) && boards == Some((true, 0)));
 }
 
@@ -437,7 +454,8 @@ fn part_under_a_marked_root(rt: HostRuntime) {
     let root = root_above(&rt, rt.alloc(), &hall, &mut pass);
     let part = first_part(&rt, rt.alloc(), &hall, &mut pass, cube(1));
     let none = open_above(&hall, &mut pass) == 0;
-    let boards = closed(hall, one(&rt, rt.alloc(), pass));
+    let passes = one(&rt, rt.alloc(), &hall, pass);
+    let boards = closed(hall, passes);
     assert!(rt; root && part == (true, false) && none && boards == Some((true, 0)));
 }
 
@@ -467,7 +485,8 @@ fn rejected_leaf(rt: HostRuntime) {
     let case = case(&rt, rt.alloc(), REJECTED);
     let (hall, mut pass) = hall_for_one(&rt, rt.alloc(), &case, 0);
     let told = rejected(&rt, rt.alloc(), &hall, &mut pass);
-    let boards = closed(hall, one(&rt, rt.alloc(), pass));
+    let passes = one(&rt, rt.alloc(), &hall, pass);
+    let boards = closed(hall, passes);
     assert!(rt; told && boards == Some((false, WHOLE)));
 }
 
@@ -501,7 +520,8 @@ fn two_passes(rt: HostRuntime) {
     let (hall, mut first, mut second) = hall_for_two(&rt, rt.alloc(), &case, 0);
     let seen = see_leaves(&rt, rt.alloc(), &hall, &mut first, &mut second);
     let (hall, first) = refused(&rt, rt.alloc(), hall, first);
-    let boards = closed(hall, two(&rt, rt.alloc(), first, second));
+    let passes = two(&rt, rt.alloc(), &hall, first, second);
+    let boards = closed(hall, passes);
     assert!(rt; seen && boards == Some((true, 0)));
 }
 
@@ -536,6 +556,7 @@ fn two_passes_owe(rt: HostRuntime) {
     let case = case(&rt, rt.alloc(), BOTH_CUBES);
     let (hall, mut first, mut second) = hall_for_two(&rt, rt.alloc(), &case, 1);
     let seen = see_parts(&rt, rt.alloc(), &hall, &mut first, &mut second);
-    let boards = closed(hall, two(&rt, rt.alloc(), first, second));
+    let passes = two(&rt, rt.alloc(), &hall, first, second);
+    let boards = closed(hall, passes);
     assert!(rt; seen && boards == Some((true, 0)));
 }

@@ -64,7 +64,7 @@ fn start<'s, E, R: Wait + Abort + Sync>(
     requires of { case.now ≡ (core_of core.now).case }
     requires own { IsPassOf (shared_of core.now) pass }
     requires free { (view_of pass).owes ≡ None }
-    ensures { promised result.promise ≡ pass }
+    ensures { IsPassOf (shared_of core.now) (promised result.promise) }
 {
     let promise = SameHall::of(&pass);
     scope
@@ -78,6 +78,14 @@ fn start<'s, E, R: Wait + Abort + Sync>(
             { post_all(rt, alloc, core, case, pass, target) },
         )
         .expect(rt, "no thread")
+}
+
+/// The pass that a thread gives back.
+fn back<R: Threads>(rt: &R, core: &Core, thread: PromisedHandle<Pass, SameHall>) -> Pass
+    requires { IsPassOf (shared_of core.now) (promised thread.promise) }
+    ensures { IsPassOf (shared_of core.now) result }
+{
+    thread.join(rt)
 }
 
 /// Two threads post a leaf each, and both passes come back.
@@ -105,7 +113,7 @@ fn post_from_two<R: Threads + Wait + Abort + Sync>(
         {
             let one = start(scope, rt, alloc, core, case, first, cube(1));
             let other = start(scope, rt, alloc, core, case, second, cube(2));
-            (one.join(rt), other.join(rt))
+            (back(rt, core, one), back(rt, core, other))
         },
     )
 }
@@ -131,7 +139,7 @@ fn two_refute<R: Threads + Wait + Abort + Sync>(
 {
     let (hall, first, second) = hall_for_two(rt, alloc, case, cut);
     let (first, second) = post_from_two(rt, alloc, hall.core(), case, first, second);
-    let passes = two(rt, alloc, first, second);
+    let passes = two(rt, alloc, &hall, first, second);
     reports(rt, alloc, hall, passes, TWO_REFUTED)
 }
 
