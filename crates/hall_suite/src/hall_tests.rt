@@ -1,6 +1,7 @@
 //! A hall: its calls by one pass and by two, and how it is closed.
 ghost use Rattle.std.specs.Prelude.{◌≡◌, ◌≤◌, [], ◌∷◌, None, Some, All};
 ghost use Rattle.split_tree.specs.Leaves.{HasTarget};
+ghost use Rattle.mark_board.specs.Board.{IsPlace};
 ghost use Rattle.mark_board.specs.Shown.{verdict_of};
 ghost use Rattle.board_hall.specs.Clauses.{IsVerdictOf};
 ghost use Rattle.board_hall.specs.Halls.{hall_of, view_of, IsPassOf, IsNewPass};
@@ -177,6 +178,15 @@ fn open_above(hall: &Hall<'_>, pass: &mut Pass) -> u64
     hall.open_weight(pass, Place::Top)
 }
 
+/// Ends the test where a cut of a case's tree hasn't a part.
+pub fn need_part(rt: &impl Abort, alloc: Global, case: &Case, cut: u32, part: u32)
+    requires { cut ≤ 6 }
+    ensures { IsPlace cut case.now.tree (Place.Part part) }
+{
+    let parts = case.tree().parts(alloc, cut).expect(rt, "memory");
+    assert!(rt; (part as usize) < parts.len());
+}
+
 /// The open weight of a part of a hall's cut.
 fn open_in(
     rt: &impl Abort,
@@ -191,8 +201,7 @@ fn open_in(
     ensures own { IsPassOf (hall_of hall.now) pass.new }
     ensures owes { (view_of pass.new).owes ≡ (view_of pass.old).owes }
 {
-    let parts = hall.case().tree().parts(alloc, cut).expect(rt, "memory");
-    assert!(rt; (part as usize) < parts.len());
+    need_part(rt, alloc, hall.case(), cut, part);
     hall.open_weight(pass, Place::Part(part))
 }
 
@@ -207,25 +216,27 @@ fn one(rt: &impl Abort, alloc: Global, hall: &Hall<'_>, pass: Pass) -> Vec<Pass>
     passes
 }
 
+/// These passes of a hall and one more.
+pub fn with(rt: &impl Abort, hall: &Hall<'_>, passes: Vec<Pass>, pass: Pass) -> Vec<Pass>
+    requires { All (IsPassOf (hall_of hall.now)) passes.items × IsPassOf (hall_of hall.now) pass }
+    ensures { All (IsPassOf (hall_of hall.now)) result.items }
+{
+    let mut passes = passes;
+    passes.push(pass).expect(rt, "memory");
+    passes
+}
+
 /// A list of two passes of a hall.
-pub fn two(
-    rt: &impl Abort,
-    alloc: Global,
-    hall: &Hall<'_>,
-    first: Pass,
-    second: Pass,
-) -> Vec<Pass>
+pub fn two(rt: &impl Abort, alloc: Global, hall: &Hall<'_>, first: Pass, second: Pass) -> Vec<Pass>
     requires { IsPassOf (hall_of hall.now) first × IsPassOf (hall_of hall.now) second }
     ensures { All (IsPassOf (hall_of hall.now)) result.items }
 {
-    let mut passes = one(rt, alloc, hall, first);
-    passes.push(second).expect(rt, "memory");
-    passes
+    with(rt, hall, one(rt, alloc, hall, first), second)
 }
 
 /// Whether the root is marked and how much is open once a hall is closed with these passes, or that
 /// it isn't closed.
-fn closed(hall: Hall<'_>, passes: Vec<Pass>) -> Option<(bool, u64)>
+pub fn closed(hall: Hall<'_>, passes: Vec<Pass>) -> Option<(bool, u64)>
     requires { All (IsPassOf (hall_of hall)) passes.items }
 {
     match hall.close(passes) {
