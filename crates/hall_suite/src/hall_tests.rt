@@ -2,6 +2,7 @@
 ghost use Rattle.std.specs.Prelude.{◌≡◌, ◌≤◌, [], ◌∷◌, None, Some, All};
 ghost use Rattle.split_tree.specs.Leaves.{HasTarget};
 ghost use Rattle.mark_board.specs.Board.{IsPlace};
+ghost use Rattle.mark_board.specs.Places.{part_count};
 ghost use Rattle.mark_board.specs.Shown.{verdict_of};
 ghost use Rattle.board_hall.specs.Clauses.{IsVerdictOf};
 ghost use Rattle.board_hall.specs.Halls.{hall_of, view_of, IsPassOf, IsNewPass};
@@ -178,13 +179,22 @@ fn open_above(hall: &Hall<'_>, pass: &mut Pass) -> u64
     hall.open_weight(pass, Place::Top)
 }
 
+/// How many parts a cut of a case's tree has.
+fn part_count(rt: &impl Abort, alloc: Global, case: &Case, cut: u32) -> usize
+    requires { cut ≤ 6 }
+    ensures { result ≡ part_count cut case.now.tree }
+{
+    let parts = case.tree().parts(alloc, cut).expect(rt, "memory");
+    parts.len()
+}
+
 /// Ends the test where a cut of a case's tree hasn't a part.
 pub fn need_part(rt: &impl Abort, alloc: Global, case: &Case, cut: u32, part: u32)
     requires { cut ≤ 6 }
     ensures { IsPlace cut case.now.tree (Place.Part part) }
 {
-    let parts = case.tree().parts(alloc, cut).expect(rt, "memory");
-    assert!(rt; (part as usize) < parts.len());
+    let count = part_count(rt, alloc, case, cut);
+    assert!(rt; (part as usize) < count);
 }
 
 /// The open weight of a part of a hall's cut.
