@@ -64,6 +64,19 @@ nodes' marks. A refuted target has no model with its path, and where the root is
       "mark_board/boards.rt Boards::root_marked marked sound",
       "mark_board/boards.rt Boards::open_weight -",
       "mark_board/boards.rt Boards::open_branches -"]),
+    ("board_hall: boards shared by threads", """
+Whenever a board's lock is free, it is the board of exactly what was posted on it: what it marks has no model together with the
+formula, an inner node is marked exactly where its own refutation was posted or both its branches are marked, and its open
+word is the sum of the weights of the leaves under no marked node. Each call answers by what its pass has seen, and a hall that
+is closed gives the boards of all that was posted.""",
+     ["board_hall/laws.rt free_is_whole -",
+      "board_hall/laws.rt free_is_whole_of_leaves -",
+      "board_hall/opening.rt Hall::open hall count passes",
+      "board_hall/hall.rt Hall::post own stays posted back",
+      "board_hall/hall.rt Hall::post_part own stays posted",
+      "board_hall/hall.rt Hall::mark_of own stays nothing mark",
+      "board_hall/hall.rt Hall::open_weight own stays nothing seen weight",
+      "board_hall/closing.rt Hall::close all boards same"]),
 ]
 
 HEAD = """<!-- written by scripts/definitions.py: change the script, not this file -->
@@ -121,7 +134,7 @@ STRING = r'"(?:\\.|[^"\\])*"'
 HEAD_NAME = r" *(?:(?:abbrev|unfoldable|pub|record|data) )*(%s)" % NAME
 PUB = r"(?:pub(?:\(\w+\))? )?"
 BLOCK = r"(?ms)^(%s(?:impl|trait|struct|enum)\b[^;{]*?)\s*\{\n(.*?)^\}" % PUB
-USE = r"(?m)^ *(?:ghost )?use (Rattle\.[^\s{;]+?)(?:\.\{([^}]*)\})?(?: as (\S+?))?;?$"
+USE = r"(?m)^ *(?:ghost )?use ((?:Rattle|lib|mathlib)\.[^\s{;]+?)(?:\.\{([^}]*)\})?(?: as (\S+?))?;?$"
 BINDERS = [r"λ([^.]+)\.", r"[({]\s*([^(){}:=]+?)\s+:\s", r"\blet\s+(\S+)"]
 
 Definition = namedtuple("Definition", "crate room name lines")
@@ -248,7 +261,7 @@ class Repository:
     def __init__(self, root):
         self.root = root
         listed = [line.split(":") for line in read(root / "crates.txt").splitlines() if ":" in line]
-        self.crates = [crate.strip() for crate, _ in listed]
+        self.crates = [crate.split()[0] for crate, _ in listed]
         self.kit = {"std"}.union(*[names.split() for _, names in listed]) - set(self.crates)
         sources = [(crate, path, without(read(path), r"(?m)^\s*//.*\n?|\s+// [^\"\n]*$"))
                    for crate in self.crates for path in sorted((root / "crates" / crate / "src").rglob("*.rt"))]
@@ -283,6 +296,8 @@ class Repository:
 
     def target(self, parts, name):
         """What a use line brings: the name, or without one all of the file."""
+        if parts[0] != "Rattle":  # the library of the logic
+            return Target("word", parts[0], "", name)
         crate, rest, room = parts[1], parts[2:], ".".join(parts[3:])
         if rest[0] == "proofs" or crate in self.kit or rest[-1] == "TheConstants":
             return Target("word", crate, "", name) if name else Target("words", crate, rest[-1], None)

@@ -1,8 +1,7 @@
 -- What a pass has posted and seen after a call.
-use Rattle.std.proofs.Common.{◌≡◌, ◌≢◌, ◌==◌, ℕ, true, false, List, [], ◌∷◌, ◌++◌, Option, Some, None, if◌then◌else◌, ◌⊎◌, ⊎_elim, refl, sym, ap, ◌∙◌, subst, eq-eqb, ne_eqb}
+use Rattle.std.proofs.Common.{◌≡◌, ◌≢◌, ℕ, true, false, [], ◌∷◌, ◌++◌, Option, Some, None, if◌then◌else◌, ⊎_elim, refl, sym, ap, ◌∙◌, eq-eqb, ne_eqb}
 use mathlib.Core.Logic.{dite}
 use native.Mathlib.Decide.{ℕ_discrete}
-use Rattle.mark_board.specs.declared.mark.Mark.{Mark}
 use Rattle.mark_board.specs.declared.mark.Mark.TheVariants.{Open}
 use Rattle.mark_board.specs.declared.posted.Posted.{Posted}
 use Rattle.mark_board.specs.declared.posted.Posted.TheVariants as posted
@@ -16,7 +15,8 @@ use Rattle.board_hall.specs.declared.view.CutCase.{CutCase}
 use Rattle.board_hall.specs.declared.view.Post.{Post}
 use Rattle.board_hall.specs.Posts.{tree_of, is_at, mark_by, mark_in, root_by, AreReal}
 use Rattle.board_hall.specs.Told.{Hand}
-use Rattle.board_hall.specs.Clauses.{without, HasGiven, HasPosted, MarksRootOf, MakesRoot, IsNoted, Recorded, PartRecorded, PostsNothing, Becomes, PartBecomes, SeesOwn}
+use Rattle.board_hall.specs.Clauses.{without, HasPosted, MarksRootOf, Becomes, PartBecomes, SeesOwn}
+use Rattle.board_hall.specs.Held.{HasGiven, MakesRoot, IsNoted, Recorded, PartRecorded}
 use Rattle.board_hall.proofs.PostLists.{of_cases, is_itself}
 use Rattle.board_hall.proofs.Hands.{seen_more}
 

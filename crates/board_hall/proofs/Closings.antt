@@ -1,21 +1,21 @@
 -- How passes are gathered, and what the boards of a closed hall are.
-use Rattle.std.proofs.Common.{◌≡◌, ◌≢◌, ◌⊎◌, ◌==◌, ℕ, zero, suc, ◌+◌, ◌<◌, ◌≤◌, Bool, true, false, List, [], ◌∷◌, ◌++◌, length, get_or, map, All, Option, Some, None, refl, sym, ap, ◌∙◌, subst, inl, inr, ⊎_elim, arith, append_assoc, length-append}
+use Rattle.std.proofs.Common.{◌≡◌, ◌⊎◌, ℕ, ◌+◌, ◌<◌, ◌≤◌, Bool, true, false, List, [], ◌∷◌, ◌++◌, length, get_or, map, All, Option, Some, None, refl, sym, ap, ◌∙◌, subst, inl, inr, ⊎_elim, arith, append_assoc, length-append}
 use mathlib.Core.Logic.{dite}
 use native.Mathlib.Decide.{ℕ_discrete}
-use mathlib.Core.Option.{some, some-ne-none, some-injective}
+use mathlib.Core.Option.{some, some-injective}
 use lib.ListN.{get_elem?}
 use Rattle.std.proofs.Math.ListN.{get_or-append}
 use Rattle.std.proofs.lemmas.List.Elements.{All-cons}
 use Rattle.std.proofs.lemmas.List.{get_or_push, get_or-map}
 use Rattle.atomic_table.specs.Table.{Final, Seen}
-use Rattle.split_tree.specs.SplitTree.{size, IsSplit}
+use Rattle.split_tree.specs.SplitTree.{size}
 use Rattle.mark_board.specs.declared.mark.Mark.{Mark}
 use Rattle.mark_board.specs.declared.mark.Mark.TheVariants.{Open, Refuted, Rejected}
 use Rattle.mark_board.specs.declared.place.Place.{Place}
 use Rattle.mark_board.specs.declared.place.Place.TheVariants.{Part, Top}
 use Rattle.mark_board.specs.declared.stored.BoardData.{BoardData}
 use Rattle.mark_board.specs.Board.{BoardOf, board_tree, IsRow, HasTargets}
-use Rattle.mark_board.specs.Boards.{BoardsOf, part_mark, part_tree, part_marks, marks_of, boards_of as boards_together, IsBoardAt, AreBoards, ArePosted}
+use Rattle.mark_board.specs.Boards.{part_mark, part_tree, part_marks, marks_of, boards_of as boards_together, IsBoardAt, AreBoards}
 use Rattle.case_core.specs.Case.{CaseOf}
 use Rattle.mark_board.specs.Kinds.{stored_board, IsDataOf}
 use Rattle.mark_board.specs.Marking.{marked}
@@ -26,14 +26,15 @@ use Rattle.board_hall.specs.declared.pass.Pass.{Pass}
 use Rattle.board_hall.specs.declared.view.View.{View}
 use Rattle.board_hall.specs.declared.view.CutCase.{CutCase}
 use Rattle.board_hall.specs.declared.view.Post.{Post}
-use Rattle.board_hall.specs.Posts.{parts_in, boards_of, place_of, mark_in, root_by, one_if, placed, Among, AreReal, IsReal, IsFindingPost, IsPartPost, posts_of}
-use Rattle.board_hall.specs.Hall.{HallState, IsBoardOf, IsBoard, Reached, meeting}
+use Rattle.board_hall.specs.Posts.{parts_in, boards_of, place_of, mark_in, root_by, one_if, placed, Among, AreReal, IsFindingPost, IsPartPost, posts_of}
+use Rattle.board_hall.specs.Hall.{HallState, IsBoardOf, Reached, meeting}
 use Rattle.board_hall.specs.Told.{Hand}
 use Rattle.board_hall.specs.Halls.{view_of}
-use Rattle.board_hall.specs.Clauses.{IsHome, Includes, Gathered}
+use Rattle.board_hall.specs.Clauses.{IsHome}
+use Rattle.board_hall.specs.Held.{Includes, Gathered}
 use Rattle.board_hall.specs.Closed.{AreHome}
 use Rattle.board_hall.specs.Clauses.{HoldPosts}
-use Rattle.board_hall.proofs.PostLists.{among_left, among_right, among_either, among_posts, marked_among}
+use Rattle.board_hall.proofs.PostLists.{among_left, among_right, among_posts, marked_among}
 use Rattle.board_hall.proofs.Lawfulness.{reached_lawful, all_real, all_free, none_owed, own_row}
 use Rattle.board_hall.proofs.Homes.{place_in_part, place_on_top}
 use Rattle.board_hall.proofs.HeldBoards.{open_or}

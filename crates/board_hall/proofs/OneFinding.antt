@@ -1,5 +1,5 @@
 -- A node's mark by real posts is that of its finding.
-use Rattle.std.proofs.Common.{◌≡◌, ◌≢◌, ◌⊎◌, ◌==◌, ℕ, true, List, Option, None, Some, refl, sym, ap, ◌∙◌, subst, inl, inr, eq-eqb}
+use Rattle.std.proofs.Common.{◌≡◌, ◌≢◌, ◌==◌, ℕ, true, List, Option, None, Some, refl, sym, ap, ◌∙◌, inl, inr, eq-eqb}
 use Rattle.hint_check.specs.declared.Judged.{Judged}
 use Rattle.split_tree.specs.SplitTree.{path_at}
 use Rattle.split_tree.specs.Leaves.{IsTargetAt}

@@ -1,12 +1,12 @@
 -- The leaves of a tree under no marked node, and their weights.
-use Rattle.std.proofs.Common.{◌≡◌, ◌≢◌, ◌⊎◌, ◌+◌, ◌-◌, ◌<◌, ◌≤◌, ℕ, zero, suc, Bool, true, false, List, [], ◌∷◌, ◌++◌, if◌then◌else◌, refl, sym, ap, ◌∙◌, subst, inl, inr, arith, add-zero, zero-add}
+use Rattle.std.proofs.Common.{◌≡◌, ◌+◌, ◌-◌, ◌<◌, ◌≤◌, ℕ, zero, suc, Bool, true, false, List, [], ◌∷◌, ◌++◌, if◌then◌else◌, refl, sym, ◌∙◌, subst, inl, inr, arith, add-zero}
 use Rattle.std.specs.List.{Contains, sum_by}
 use Rattle.std.proofs.lemmas.Bool.{cases_Bool, cases_lt}
 use Rattle.std.proofs.lemmas.List.Elements.{Contains-append_left, Contains-append_right, Contains-append_cases}
 use Rattle.std.proofs.lemmas.List.Sums.{sum_by-append}
 use Rattle.split_tree.specs.SplitTree.{SplitTree, missing, cube, split, size, subtree_at, IsLeaf}
 use Rattle.split_tree.specs.Rows.{HasBelow}
-use Rattle.split_tree.proofs.Coding.{in_positive, in_negative, subtree-root, some_node}
+use Rattle.split_tree.proofs.Coding.{in_positive, in_negative, subtree-root}
 use Rattle.split_tree.proofs.Labels.{inside}
 use Rattle.mark_board.specs.Marking.{marked, open_weight}
 use Rattle.board_hall.specs.Laws.{AreRising}
@@ -123,15 +123,15 @@ open_is refuted node q (split v p n) h = elim (cases_Bool (marked refuted node (
       let either : Contains (open_leaves refuted (suc node) p ++ open_leaves refuted (suc (node + size p)) n) q = rw not_yet at h in
       elim (Contains-append_cases (open_leaves refuted (suc node) p) (open_leaves refuted (suc (node + size p)) n) q either) [
         | inl first ↦ let f = open_is refuted (suc node) q p first in let r : ℕ = f.0 in let e = f.1 in let l : r < size p = f.2.0 in (
-            suc r,
-            omega (arith, e),
-            (omega (arith, l), rw (in_positive v p n r l) f.2.1, above_positive refuted node v p n r not_yet l f.2.2),
-          )
+          suc r,
+          omega (arith, e),
+          (omega (arith, l), rw (in_positive v p n r l) f.2.1, above_positive refuted node v p n r not_yet l f.2.2),
+        )
         | inr second ↦ let f = open_is refuted (suc (node + size p)) q n second in let r : ℕ = f.0 in let e = f.1 in let l : r < size n = f.2.0 in (
-            suc (size p + r),
-            omega (arith, e),
-            (omega (arith, l), rw (in_negative v p n (size p + r) r refl) f.2.1, above_negative refuted node v p n r not_yet l f.2.2),
-          )
+          suc (size p + r),
+          omega (arith, e),
+          (omega (arith, l), rw (in_negative v p n (size p + r) r refl) f.2.1, above_negative refuted node v p n r not_yet l f.2.2),
+        )
       ]
 ]
 

@@ -1,17 +1,14 @@
 -- What a free board is.
-use Rattle.std.proofs.Common.{◌≡◌, ◌≢◌, ◌⊎◌, ◌↔◌, ◌+◌, ◌-◌, ◌<◌, ◌≤◌, ◌&&◌, ◌||◌, ℕ, zero, suc, Bool, true, false, List, get_or, refl, sym, ap, ◌∙◌, subst, inl, inr, ⊎_elim, arith, zero-add}
+use Rattle.std.proofs.Common.{◌≡◌, ◌≢◌, ◌⊎◌, ◌+◌, ◌<◌, ◌≤◌, ◌&&◌, ◌||◌, ℕ, suc, Bool, true, false, List, get_or, refl, sym, ap, ◌∙◌, subst, inl, inr, ⊎_elim, arith, zero-add}
 use Rattle.std.specs.List.{Contains}
-use Rattle.std.proofs.lemmas.Bool.{cases_Bool, cases_lt, and_from}
+use Rattle.std.proofs.lemmas.Bool.{and_from}
 use Rattle.cnf_text.specs.Formula.{IsRefuted}
 use Rattle.hint_check.specs.declared.Judged.{Judged}
 use Rattle.hint_check.specs.declared.Judged.TheVariants.{Refuted as judged_refuted, Rejected as judged_rejected}
-use Rattle.split_tree.specs.SplitTree.{SplitTree, missing, cube, split, size, subtree_at, path_at, IsSplit, IsLeaf}
-use Rattle.split_tree.specs.Rows.{AreBranches, HasBelow}
-use Rattle.split_tree.proofs.Coding.{in_positive, in_negative, subtree-root, some_node}
-use Rattle.split_tree.proofs.Labels.{below, inside}
+use Rattle.split_tree.specs.SplitTree.{SplitTree, missing, cube, split, size, subtree_at, path_at, IsLeaf}
+use Rattle.split_tree.specs.Rows.{AreBranches}
 use Rattle.mark_board.specs.declared.mark.Mark.{Mark}
 use Rattle.mark_board.specs.declared.mark.Mark.TheVariants.{Open, Refuted, Rejected}
-use Rattle.mark_board.specs.declared.place.Place.{Place}
 use Rattle.mark_board.specs.declared.stored.BoardData.{BoardData}
 use Rattle.mark_board.specs.Board.{BoardOf, board_tree, board_node, tree_on, node_on}
 use Rattle.mark_board.specs.Boards.{IsBoardAt}
@@ -22,9 +19,9 @@ use Rattle.mark_board.specs.Kinds.{stored_board}
 use Rattle.mark_board.proofs.BoardRows.{stored_sound}
 use Rattle.board_hall.specs.declared.view.CutCase.{CutCase}
 use Rattle.board_hall.specs.declared.view.Post.{Post}
-use Rattle.board_hall.specs.Posts.{boards_of, place_of, tree_of, weight_of, refuted_in, mark_in, open_by, posts_of, times}
-use Rattle.board_hall.specs.Hall.{HallState, Reached, Lawful, IsBoardOf, lock_word, open_word}
-use Rattle.board_hall.specs.Laws.{IsRefutedBy, Marks, AreRising, AddsUp, IsOpenLeaf, IsWhole}
+use Rattle.board_hall.specs.Posts.{boards_of, place_of, tree_of, weight_of, mark_in, posts_of, times}
+use Rattle.board_hall.specs.Hall.{HallState, Reached, lock_word}
+use Rattle.board_hall.specs.Laws.{IsRefutedBy, AreRising, IsWhole}
 use Rattle.board_hall.proofs.Lawfulness.{reached_lawful}
 use Rattle.board_hall.proofs.OpenLeaves.{open_leaves, rising, weighs, open_is, listed, IsOpen}
 use Rattle.board_hall.proofs.PostLists.{mark_among, marked_among}

@@ -1,18 +1,16 @@
 -- What a free board is where the case's sections name leaves alone.
-use Rattle.std.proofs.Common.{◌≡◌, ◌⊎◌, ◌↔◌, ◌+◌, ◌-◌, ◌<◌, ◌≤◌, ◌==◌, ℕ, zero, suc, Bool, true, false, List, get_or, refl, sym, ap, ◌∙◌, subst, inl, inr, ⊎_elim, arith, add-zero, zero-add, eq-eqb}
-use Rattle.std.proofs.lemmas.Bool.{cases_Bool, cases_lt, eqb-true, eqb-false}
+use Rattle.std.proofs.Common.{◌≡◌, ◌⊎◌, ◌+◌, ◌-◌, ◌<◌, ◌==◌, ℕ, zero, suc, Bool, true, false, List, get_or, refl, sym, ap, ◌∙◌, subst, inl, inr, ⊎_elim, arith, add-zero, eq-eqb}
+use Rattle.std.proofs.lemmas.Bool.{cases_Bool, cases_lt, eqb-false}
 use Rattle.split_tree.specs.SplitTree.{SplitTree, missing, cube, split, size, subtree_at, IsSplit, IsLeaf}
-use Rattle.split_tree.specs.Rows.{AreBranches, HasBelow}
-use Rattle.split_tree.specs.Leaves.{IsTargetAt}
+use Rattle.split_tree.specs.Rows.{HasBelow}
 use Rattle.split_tree.specs.Top.{top}
-use Rattle.split_tree.specs.declared.node.Target.{Target}
 use Rattle.split_tree.specs.declared.node.Target.TheVariants.{Node}
 use Rattle.split_tree.proofs.Coding.{in_positive, in_negative, some_node}
 use Rattle.split_tree.proofs.Labels.{below, inside}
 use Rattle.case_core.specs.Finding.{HasSection}
 use Rattle.case_core.proofs.Tables.{one_target}
 use Rattle.mark_board.specs.Marking.{marked}
-use Rattle.mark_board.specs.Places.{part_root, part_place, top_node}
+use Rattle.mark_board.specs.Places.{part_root}
 use Rattle.mark_board.specs.Rows.{is_refuted, refuted_by}
 use Rattle.mark_board.specs.Kinds.{stored_board}
 use Rattle.mark_board.proofs.Joined.{own_no_part}
@@ -20,9 +18,9 @@ use Rattle.mark_board.proofs.PartPlaces.{part_within}
 use Rattle.mark_board.proofs.TopPlaces.{split_at_top}
 use Rattle.board_hall.specs.declared.view.CutCase.{CutCase}
 use Rattle.board_hall.specs.declared.view.Post.{Post}
-use Rattle.board_hall.specs.Posts.{parts_in, boards_of, tree_of, node_of, posts_of, IsFindingPost, IsPartPost, AreReal}
+use Rattle.board_hall.specs.Posts.{parts_in, boards_of, tree_of, node_of, posts_of, AreReal}
 use Rattle.board_hall.specs.Hall.{HallState, Reached, lock_word}
-use Rattle.board_hall.specs.Laws.{IsRefutedBy, Marks, AddsUp, IsOpenLeaf, IsUnmarkedLeaf, IsWhole, IsWholeOfLeaves, NamesNoNode}
+use Rattle.board_hall.specs.Laws.{IsRefutedBy, IsWholeOfLeaves, NamesNoNode}
 use Rattle.board_hall.proofs.Lawfulness.{reached_lawful, all_real}
 use Rattle.board_hall.proofs.Whole.{whole, either_of, not_both, false_of, posted_refuted}
 
@@ -84,14 +82,14 @@ covered refuted node (split v p n) none m (suc r) l leaf =
       | inl near ↦
           let e : node + suc r ≡ suc node + r = omega arith in
           let first : (q : ℕ) → q < size p → IsSplit (subtree_at p q) → refuted (suc node + q) ≡ false = λ q w is.
-              let f : node + suc q ≡ suc node + q = omega arith in rw f at (none (suc q) (omega (arith, w)) (rw (in_positive v p n q w) is)) in
+          let f : node + suc q ≡ suc node + q = omega arith in rw f at (none (suc q) (omega (arith, w)) (rw (in_positive v p n q w) is)) in
           rw e (covered refuted (suc node) p first both.0 r near (rw (in_positive v p n r near) at leaf))
       | inr far ↦
           let c : ℕ = r - size p in let s : r ≡ size p + c = omega (arith, far) in
           let e : node + suc r ≡ suc (node + size p) + c = omega (arith, s) in
           let second : (q : ℕ) → q < size n → IsSplit (subtree_at n q) → refuted (suc (node + size p) + q) ≡ false = λ q w is.
-              let f : node + suc (size p + q) ≡ suc (node + size p) + q = omega arith in
-              rw f at (none (suc (size p + q)) (omega (arith, w)) (rw (in_negative v p n (size p + q) q refl) is)) in
+          let f : node + suc (size p + q) ≡ suc (node + size p) + q = omega arith in
+          rw f at (none (suc (size p + q)) (omega (arith, w)) (rw (in_negative v p n (size p + q) q refl) is)) in
           rw e (covered refuted (suc (node + size p)) n second both.1 c (omega (arith, s, l)) (rw (in_negative v p n r c s) at leaf))
     ]
 
@@ -109,7 +107,7 @@ under_marked refuted tree none above row within under leaf m =
     let most = inside tree above high in
     let at : subtree_at tree row ≡ subtree_at (subtree_at tree above) c = ap (subtree_at tree) (sym e) ∙ below tree above c high near in
     let none' : (r : ℕ) → r < size (subtree_at tree above) → IsSplit (subtree_at (subtree_at tree above) r) → refuted (above + r) ≡ false = λ r l is.
-        none (above + r) (omega (arith, l, most)) (rw (below tree above r high l) is) in
+    none (above + r) (omega (arith, l, most)) (rw (below tree above r high l) is) in
     leaf_marks refuted row (subtree_at tree row) leaf (ap refuted (sym e) ∙ covered refuted above (subtree_at tree above) none' m c near (rw at at leaf))
 
 itself_below : (tree : SplitTree) (row : ℕ) → HasBelow tree row row
@@ -120,7 +118,7 @@ whole_of_leaves k passes s names g b within free =
     let w = whole k passes s g b within free in let tree : SplitTree = tree_of k b in let real = all_real k s (reached_lawful k passes s g) in let posts : List Post = posts_of s.views in
     let refuted : ℕ → Bool = refuted_by (stored_board k.case w.stored).marks in
     let none : (r : ℕ) → r < size tree → IsSplit (subtree_at tree r) → refuted r ≡ false = λ r l is. false_of (refuted r) (λ e.
-        none_inner k posts names real b r within l is (posted_refuted posts b r (sym (ap is_refuted (w.is_board.is_board.marks r)) ∙ e))) in record {
+    none_inner k posts names real b r within l is (posted_refuted posts b r (sym (ap is_refuted (w.is_board.is_board.marks r)) ∙ e))) in record {
       stored = w.stored;
       at_home = w.at_home;
       is_board = w.is_board;

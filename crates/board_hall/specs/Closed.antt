@@ -2,11 +2,9 @@
 use Rattle.std.specs.Prelude.{◌≡◌, ◌<◌, ℕ, List, length, Option, Some}
 use mathlib.Core.Option.{some}
 use lib.ListN.{get_elem?}
-use Rattle.split_tree.specs.SplitTree.{size}
 use Rattle.mark_board.specs.declared.stored.BoardData.{BoardData}
-use Rattle.mark_board.specs.Boards.{BoardsOf, part_mark}
+use Rattle.mark_board.specs.Boards.{part_mark}
 use Rattle.mark_board.specs.Places.{part_place}
-use Rattle.mark_board.specs.Rows.{mark_at}
 use Rattle.board_hall.specs.declared.view.CutCase.{CutCase}
 use Rattle.board_hall.specs.declared.view.Post.{Post}
 use Rattle.board_hall.specs.Posts.{parts_in, boards_of, mark_in, root_by}

@@ -1,11 +1,11 @@
 -- What a free board is.
-use Rattle.std.specs.Prelude.{◌≡◌, ◌⊎◌, ◌↔◌, ℕ, suc, ◌<◌, ◌≤◌, Bool, true, List, [], ◌∷◌, Some, slice_index}
+use Rattle.std.specs.Prelude.{◌≡◌, ◌⊎◌, ◌↔◌, ℕ, suc, ◌<◌, ◌≤◌, true, List, [], ◌∷◌, Some, slice_index}
 use Rattle.std.specs.List.{Contains, sum_by}
 use mathlib.Core.Option.{some}
 use lib.ListN.{get_elem?}
 use Rattle.cnf_text.specs.Formula.{IsRefuted}
 use Rattle.hint_check.specs.declared.Judged.TheVariants.{Refuted}
-use Rattle.split_tree.specs.SplitTree.{SplitTree, size, subtree_at, path_at, IsSplit, IsLeaf}
+use Rattle.split_tree.specs.SplitTree.{SplitTree, size, subtree_at, path_at, IsLeaf}
 use Rattle.split_tree.specs.Rows.{AreBranches, HasBelow}
 use Rattle.split_tree.specs.declared.node.Target.TheVariants.{Node}
 use Rattle.case_core.specs.Finding.{HasSection}

@@ -4,6 +4,7 @@ pub mod Told
 pub mod Terms
 pub mod Halls
 pub mod Clauses
+pub mod Held
 pub mod Opened
 pub mod Laws
 pub mod Closed

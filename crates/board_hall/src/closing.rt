@@ -11,7 +11,8 @@ ghost use Rattle.mark_board.specs.declared.stored.BoardData.{BoardData};
 ghost use Rattle.board_hall.specs.declared.view.CutCase.{CutCase};
 ghost use Rattle.board_hall.specs.declared.view.Post.{Post};
 ghost use Rattle.board_hall.specs.Halls.{hall_of, view_of, IsPassOf, IsComplete};
-ghost use Rattle.board_hall.specs.Clauses.{Gathered, Gathers, HoldPosts};
+ghost use Rattle.board_hall.specs.Clauses.{Gathers, HoldPosts};
+ghost use Rattle.board_hall.specs.Held.{Gathered};
 ghost use Rattle.board_hall.specs.Closed.{AreHome};
 
 use crate::hall::Hall;

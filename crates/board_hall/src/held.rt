@@ -5,7 +5,8 @@ ghost use Rattle.board_hall.specs.Posts.{parts_in, IsPartPost};
 ghost use Rattle.board_hall.specs.Hall.{IsBoardOf};
 ghost use Rattle.board_hall.specs.Told.{OwedIsOpen};
 ghost use Rattle.board_hall.specs.Halls.{core_of};
-ghost use Rattle.board_hall.specs.Clauses.{IsHome, IsPostOf, IsVerdictOf, Recorded, PartRecorded, owed_after};
+ghost use Rattle.board_hall.specs.Clauses.{IsHome, IsPostOf, IsVerdictOf};
+ghost use Rattle.board_hall.specs.Held.{Recorded, PartRecorded, owed_after};
 ghost use Rattle.mark_board.specs.BoardPosts.{GivesBack};
 ghost use Rattle.board_hall.specs.declared.view.Post.{Post};
 

@@ -22,4 +22,3 @@ pub use rule::{InHall, Terms};
 pub use same_hall::SameHall;
 pub use table::Core;
 pub use view::{CutCase, Post, View};
-

@@ -7,7 +7,7 @@ ghost use Rattle.board_hall.specs.Posts.{parts_in, boards_of, covered, mark_in, 
 ghost use Rattle.board_hall.specs.Hall.{IsBoard, taking, posting, MayPost};
 ghost use Rattle.board_hall.specs.Told.{OwedIsOpen};
 ghost use Rattle.board_hall.specs.Halls.{core_of};
-ghost use Rattle.board_hall.specs.Clauses.{HasGiven};
+ghost use Rattle.board_hall.specs.Held.{HasGiven};
 
 use crate::plays::{Give, Naming, Note, Try};
 use crate::rule::Place;

@@ -1,7 +1,6 @@
-use Rattle.std.proofs.Common.{rules, ◌≡◌, All, None, List, [], ◌∷◌, ◌++◌, sym, ◌∙◌, subst}
+use Rattle.std.proofs.Common.{rules, ◌≡◌, All, None, List, [], ◌∷◌, ◌++◌, ◌∙◌, subst}
 use Rattle.board_hall.specs.declared.pass.Pass.{Pass}
 use Rattle.board_hall.specs.Halls.{view_of}
-use Rattle.board_hall.specs.Clauses.{Gathered}
 use Rattle.board_hall.proofs.Closings.{gathered_more, moved_over, all_front}
 use Rattle.board_hall.proofs.closing.gather.Goals as goal
 

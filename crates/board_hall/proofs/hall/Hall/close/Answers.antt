@@ -1,12 +1,10 @@
-use Rattle.std.proofs.Common.{rules, ◌≡◌, ◌⊎◌, ◌+◌, ℕ, List, [], ◌∷◌, ◌++◌, All, vec_len, sym, ◌∙◌, subst, arith}
+use Rattle.std.proofs.Common.{rules, ◌≡◌, ◌⊎◌, ◌+◌, ℕ, [], ◌∷◌, ◌++◌, vec_len, subst, arith}
 use Rattle.std.specs.Mem.Slots.{slots_items}
-use Rattle.board_hall.specs.declared.pass.Pass.{Pass}
 use Rattle.board_hall.specs.declared.view.CutCase.{CutCase}
 use Rattle.board_hall.specs.declared.view.Post.{Post}
 use Rattle.board_hall.specs.Hall.{Reached}
 use Rattle.board_hall.specs.Posts.{posts_of, Among}
 use Rattle.board_hall.specs.Halls.{core_of, view_of}
-use Rattle.board_hall.specs.Clauses.{Gathers}
 use Rattle.board_hall.proofs.Closings.{all_both, homes}
 use Rattle.board_hall.proofs.hall.Hall.close.Goals as goal
 

@@ -1,4 +1,4 @@
-use Rattle.std.proofs.Common.{rules, ◌≡◌, ◌+◌, ◌<◌, ◌≤◌, ℕ, refl, sym, ap, ◌∙◌, arith}
+use Rattle.std.proofs.Common.{◌≡◌, ◌+◌, ◌<◌, ◌≤◌, ℕ, refl, ap, ◌∙◌, arith}
 use Rattle.split_tree.specs.SplitTree.{SplitTree, size, subtree_at}
 use Rattle.mark_board.specs.Places.{part_root}
 use Rattle.mark_board.proofs.PartPlaces.{part_read}

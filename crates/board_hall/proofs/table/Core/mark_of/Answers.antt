@@ -1,4 +1,4 @@
-use Rattle.std.proofs.Common.{◌≡◌, ℕ, List, refl, sym, ap, ◌∙◌, subst}
+use Rattle.std.proofs.Common.{◌≡◌, ℕ, List, sym, ap, ◌∙◌, subst}
 use Rattle.split_tree.specs.SplitTree.{SplitTree}
 use Rattle.split_tree.specs.Leaves.{IsTargetAt}
 use Rattle.mark_board.specs.Kinds.{stored_board}

@@ -1,4 +1,4 @@
-use Rattle.std.proofs.Common.{◌≡◌, ◌+◌, ◌<◌, ◌*◌, ℕ, sym, ap, ◌∙◌, subst, arith, refl}
+use Rattle.std.proofs.Common.{◌≡◌, ◌+◌, ◌<◌, ◌*◌, ℕ, ap, ◌∙◌, subst, arith, refl}
 use Rattle.board_hall.proofs.Moves.{looks}
 use Rattle.board_hall.proofs.Hands.{seen_more}
 use Rattle.board_hall.proofs.Homes.{number_inside}

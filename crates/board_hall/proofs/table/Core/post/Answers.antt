@@ -1,4 +1,4 @@
-use Rattle.std.proofs.Common.{◌≡◌, ◌≢◌, ◌<◌, ℕ, List, refl, sym, ap, ◌∙◌, subst}
+use Rattle.std.proofs.Common.{◌≡◌, ◌≢◌, ◌<◌, ℕ, List, sym, ap, ◌∙◌, subst}
 use Rattle.split_tree.specs.SplitTree.{size}
 use Rattle.case_core.specs.Case.{CaseOf}
 use Rattle.case_core.specs.Finding.{target_of, HasSection, IsFinding}
@@ -36,8 +36,8 @@ returns-clause-posted g c =
     let s = saw k n v me mid c.give.new.seat.me (ap (λ (m : Hand). m.0.of) e.holds ∙ r.1) (ap (λ (m : Hand). m.0.seen) e.holds) kept q.gave r.2 in
     let f = c.args.finding in let of : f.case.now ≡ k.case = c.requires.case ∙ c.requires.of in let target : Target = target_of f.leaf f.node in let seen : List Post = c.give.new.seat.me.0.seen in
     let settles : mark_in seen rec.0.board rec.0.row ≢ Open → mark_in seen rec.0.board rec.0.row ≡ mark_as rec.0.judged = λ marked.
-        one_mark k seen s.1 f.node rec.0.board rec.0.row target f.judged rec.1.home (subst (λ (z : CaseOf). IsTargetAt z.tree f.node target) of f.here)
-        (subst (λ (z : CaseOf). HasSection z target) of f.has_section) (subst (λ (z : CaseOf). IsFinding z target f.judged) of f.is) marked ∙ ap mark_as (sym rec.1.judged_is) in record {
+    one_mark k seen s.1 f.node rec.0.board rec.0.row target f.judged rec.1.home (subst (λ (z : CaseOf). IsTargetAt z.tree f.node target) of f.here)
+    (subst (λ (z : CaseOf). HasSection z target) of f.has_section) (subst (λ (z : CaseOf). IsFinding z target f.judged) of f.is) marked ∙ ap mark_as (sym rec.1.judged_is) in record {
       post = rec.0;
       is_post = rec.1;
       sees = subst (SeesOwn c.give.new.seat.me.0) (sym rec.2) s.2;

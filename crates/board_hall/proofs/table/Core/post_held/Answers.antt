@@ -1,6 +1,5 @@
-use Rattle.std.proofs.Common.{◌≡◌, ◌-◌, ℕ, List, ◌∷◌, refl, sym, ap, ◌∙◌, subst}
+use Rattle.std.proofs.Common.{◌≡◌, List, refl, sym, ap, ◌∙◌, subst}
 use Rattle.case_core.specs.Finding.{IsSound, target_of}
-use Rattle.mark_board.specs.Board.{BoardOf}
 use Rattle.mark_board.specs.BoardPosts.{posted_answer}
 use Rattle.board_hall.specs.declared.view.CutCase.{CutCase}
 use Rattle.board_hall.specs.declared.view.Post.{Post}
@@ -56,7 +55,11 @@ returns c =
     let after : c.note.new.seat.me ≡ (posting x c.owed_by.result me.0, me.1) = c.note.ensures.posts in record {
       own = c.note.ensures.own;
       board = subst (λ l. IsBoardOf k c.args.number l c.post-answer.new.self) (sym (ap (λ (m : Hand). m.0.known) after)) (board_new k known c.args.board.now c.post-answer.new.self x (posted_answer c.post-answer.result) r.board home.is_row.within p new);
-      recorded = (x, record { home = home; judged_is = c.judged.ensures.value }, refl,
-        recorded k known c.args.board.now c.post-answer.new.self x r.board real c.post-answer.result is_new p e.verdict me c.note.new.seat.me refl (after ∙ (λ i. (posting x (c.owed_by.ensures i) me.0, me.1))));
+      recorded = (
+        x,
+        record { home = home; judged_is = c.judged.ensures.value },
+        refl,
+        recorded k known c.args.board.now c.post-answer.new.self x r.board real c.post-answer.result is_new p e.verdict me c.note.new.seat.me refl (after ∙ (λ i. (posting x (c.owed_by.ensures i) me.0, me.1))),
+      );
       back = e.back;
     }

@@ -1,12 +1,11 @@
-use Rattle.std.proofs.Common.{rules, ◌≡◌, ◌-◌, ◌<◌, ℕ, List, ◌∷◌, Some, None, refl, sym, ap, ◌∙◌, subst, arith}
+use Rattle.std.proofs.Common.{rules, ◌≡◌, ℕ, List, Some, None, refl, sym, ap, ◌∙◌, subst, arith}
 use Rattle.hint_check.specs.declared.Judged.TheVariants.{Refuted}
 use Rattle.mark_board.specs.declared.mark.Mark.TheVariants.{Open}
-use Rattle.mark_board.specs.Board.{BoardOf}
 use Rattle.mark_board.specs.BoardPosts.{part_posted_answer}
 use Rattle.mark_board.specs.Places.{part_place}
 use Rattle.board_hall.specs.declared.view.CutCase.{CutCase}
 use Rattle.board_hall.specs.declared.view.Post.{Post}
-use Rattle.board_hall.specs.Posts.{parts_in, boards_of, mark_in}
+use Rattle.board_hall.specs.Posts.{parts_in, mark_in}
 use Rattle.board_hall.specs.Hall.{IsBoardOf, posting, of_part}
 use Rattle.board_hall.specs.Told.{Hand}
 use Rattle.board_hall.specs.Halls.{core_of}
@@ -65,6 +64,9 @@ returns c =
       own = c.note.ensures.own;
       board = subst (λ (p : ℕ × List Post). IsBoardOf k p.0 p.1 c.post_part-answer.new.self) (λ i. (top i, sym (ap (λ (m : Hand). m.0.known) after) i))
           (board_new k known c.args.board.now c.post_part-answer.new.self x (part_posted_answer c.post_part-answer.result) is within p new);
-      recorded = (x, part_post k x.board x.row v.part v.cut v.case.now r.verdict.case r.verdict.cut top r.verdict.within row v.refuted,
-        part_recorded k known c.args.board.now c.post_part-answer.new.self x is within c.post_part-answer.result p me c.note.new.seat.me refl none_ after);
+      recorded = (
+        x,
+        part_post k x.board x.row v.part v.cut v.case.now r.verdict.case r.verdict.cut top r.verdict.within row v.refuted,
+        part_recorded k known c.args.board.now c.post_part-answer.new.self x is within c.post_part-answer.result p me c.note.new.seat.me refl none_ after,
+      );
     }
