@@ -12,6 +12,10 @@ mod command_tests;
 #[cfg(test)]
 mod fixtures;
 #[cfg(test)]
+mod hall_tests;
+#[cfg(test)]
+mod hall_thread_tests;
+#[cfg(test)]
 mod icnf_tests;
 #[cfg(test)]
 mod judging_tests;

@@ -1,6 +1,6 @@
 use Rattle.std.proofs.Common.{arith, rules}
 use Rattle.mark_board.proofs.Gathered.{parts_listed}
-use Rattle.hall_suite.proofs.hall_tests.part_count.Goals as goal
+use Rattle.suite.proofs.hall_tests.part_count.Goals as goal
 
 pub returns : goal.returns
 returns g c =

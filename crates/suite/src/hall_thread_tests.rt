@@ -1,8 +1,8 @@
 //! A hall that threads of a scope share: each of them gets a pass, and gives it back.
-ghost use Rattle.std.specs.Prelude.{◌≡◌, ◌≤◌, ◌<◌, None, All, vec_len};
+ghost use Rattle.std.specs.Prelude.{◌≡◌, ◌≤◌, None, All};
 ghost use Rattle.mark_board.specs.Board.{IsPlace};
-ghost use Rattle.board_hall.specs.Halls.{hall_of, shared_of, core_of, view_of, promised, IsPassOf, IsNewPass};
-ghost use Rattle.board_hall.specs.Terms.{cut_case};
+ghost use Rattle.board_hall.specs.Halls.{hall_of, shared_of, core_of, view_of, promised};
+ghost use Rattle.board_hall.specs.Halls.{IsPassOf};
 
 use crate::fixtures::{BOTH_CUBES, HALF, QUARTER, WHOLE, case, cube, finding_of};
 use crate::four;
@@ -28,11 +28,11 @@ const QUARTERS: &str = four!(
 const TWO_REFUTED: &[u8] = b"t 2 0 1152921504606846976\na 1 refuted\na 2 refuted\nw 0\ns REFUTED\n";
 
 /// The report where all four cubes are refuted.
-const FOUR_REFUTED: &[u8] = b"t 4 0 1152921504606846976\na 1 refuted\na 2 refuted\na 3 refuted\n\
-a 4 refuted\nw 0\ns REFUTED\n";
+const FOUR_REFUTED: &[u8] = b"t 4 0 1152921504606846976\n\
+a 1 refuted\na 2 refuted\na 3 refuted\na 4 refuted\nw 0\ns REFUTED\n";
 
-/// Posts the finding of a target, and the verdict of the part that is then owed unless that is to be
-/// dropped, and gives the pass back.
+/// Posts the finding of a target, and the verdict of the part that is then owed unless that is to
+/// be dropped, and gives the pass back.
 fn post_all<R: Wait + Abort>(
     rt: &R,
     alloc: Global,
@@ -114,9 +114,11 @@ fn post_from_two<R: Threads + Wait + Abort + Sync>(
         rt,
         |scope| -> (Pass, Pass)
             requires of { case.now ≡ (core_of core.now).case }
-            requires own { IsPassOf (shared_of core.now) first × IsPassOf (shared_of core.now) second }
+            requires own { IsPassOf (shared_of core.now) first
+                × IsPassOf (shared_of core.now) second }
             requires free { ((view_of first).owes ≡ None) × ((view_of second).owes ≡ None) }
-            ensures { IsPassOf (shared_of core.entry.now) result.0 × IsPassOf (shared_of core.entry.now) result.1 }
+            ensures { IsPassOf (shared_of core.entry.now) result.0
+                × IsPassOf (shared_of core.entry.now) result.1 }
         {
             let one = start(scope, rt, alloc, core, case, first, cube(1), drops);
             let other = start(scope, rt, alloc, core, case, second, cube(2), drops);
@@ -204,8 +206,10 @@ fn post_from_four<R: Threads + Wait + Abort + Sync>(
     requires b { IsPassOf (shared_of core.now) b × ((view_of b).owes ≡ None) }
     requires c { IsPassOf (shared_of core.now) c × ((view_of c).owes ≡ None) }
     requires d { IsPassOf (shared_of core.now) d × ((view_of d).owes ≡ None) }
-    ensures first { IsPassOf (shared_of core.now) result.0.0 × IsPassOf (shared_of core.now) result.0.1 }
-    ensures second { IsPassOf (shared_of core.now) result.1.0 × IsPassOf (shared_of core.now) result.1.1 }
+    ensures first { IsPassOf (shared_of core.now) result.0.0
+        × IsPassOf (shared_of core.now) result.0.1 }
+    ensures second { IsPassOf (shared_of core.now) result.1.0
+        × IsPassOf (shared_of core.now) result.1.1 }
 {
     thread::scope(
         thread::scope_env(),
@@ -216,8 +220,10 @@ fn post_from_four<R: Threads + Wait + Abort + Sync>(
             requires b { IsPassOf (shared_of core.now) b × ((view_of b).owes ≡ None) }
             requires c { IsPassOf (shared_of core.now) c × ((view_of c).owes ≡ None) }
             requires d { IsPassOf (shared_of core.now) d × ((view_of d).owes ≡ None) }
-            ensures first { IsPassOf (shared_of core.entry.now) result.0.0 × IsPassOf (shared_of core.entry.now) result.0.1 }
-            ensures second { IsPassOf (shared_of core.entry.now) result.1.0 × IsPassOf (shared_of core.entry.now) result.1.1 }
+            ensures first { IsPassOf (shared_of core.entry.now) result.0.0
+                × IsPassOf (shared_of core.entry.now) result.0.1 }
+            ensures second { IsPassOf (shared_of core.entry.now) result.1.0
+                × IsPassOf (shared_of core.entry.now) result.1.1 }
         {
             let a = start(scope, rt, alloc, core, case, a, cube(1), false);
             let b = start(scope, rt, alloc, core, case, b, cube(2), false);
@@ -268,7 +274,8 @@ struct WithAnswer {
 impl Promise<(Pass, bool)> for WithAnswer {
     ghost use Rattle.board_hall.specs.Halls.{HallOf, IsPassOf};
 
-    ghost kept_by = { λ p r. (hall : HallOf) → IsPassOf hall p.pass.value → IsPassOf hall r.0 };
+    ghost kept_by = { λ p r. (hall : HallOf) →
+        IsPassOf hall p.pass.value → IsPassOf hall r.0 };
 }
 
 /// Posts the finding of a leaf that marks no part's root, and gives the pass back. Whether the leaf
@@ -354,9 +361,11 @@ fn post_same<R: Threads + Wait + Abort + Sync>(
         rt,
         |scope| -> ((Pass, bool), (Pass, bool))
             requires of { case.now ≡ (core_of core.now).case }
-            requires own { IsPassOf (shared_of core.now) first × IsPassOf (shared_of core.now) second }
+            requires own { IsPassOf (shared_of core.now) first
+                × IsPassOf (shared_of core.now) second }
             requires free { ((view_of first).owes ≡ None) × ((view_of second).owes ≡ None) }
-            ensures { IsPassOf (shared_of core.entry.now) result.0.0 × IsPassOf (shared_of core.entry.now) result.1.0 }
+            ensures { IsPassOf (shared_of core.entry.now) result.0.0
+                × IsPassOf (shared_of core.entry.now) result.1.0 }
         {
             let one = start_once(scope, rt, alloc, core, case, first);
             let other = start_once(scope, rt, alloc, core, case, second);
@@ -433,11 +442,14 @@ fn read_beside<R: Threads + Wait + Abort + Sync>(
         rt,
         |scope| -> (Pass, Pass, (Pass, bool))
             requires of { case.now ≡ (core_of core.now).case }
-            requires place { IsPlace (core_of core.now).cut (core_of core.now).case.tree (Place.Part 0) }
-            requires own { IsPassOf (shared_of core.now) first × IsPassOf (shared_of core.now) second }
+            requires place { IsPlace (core_of core.now).cut (core_of core.now).case.tree
+                (Place.Part 0) }
+            requires own { IsPassOf (shared_of core.now) first
+                × IsPassOf (shared_of core.now) second }
             requires free { ((view_of first).owes ≡ None) × ((view_of second).owes ≡ None) }
             requires reader { IsPassOf (shared_of core.now) reader }
-            ensures own { IsPassOf (shared_of core.entry.now) result.0 × IsPassOf (shared_of core.entry.now) result.1 }
+            ensures own { IsPassOf (shared_of core.entry.now) result.0
+                × IsPassOf (shared_of core.entry.now) result.1 }
             ensures reader { IsPassOf (shared_of core.entry.now) result.2.0 }
         {
             let one = start(scope, rt, alloc, core, case, first, cube(1), false);

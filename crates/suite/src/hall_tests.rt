@@ -5,15 +5,16 @@ ghost use Rattle.mark_board.specs.Board.{IsPlace};
 ghost use Rattle.mark_board.specs.Places.{part_count};
 ghost use Rattle.mark_board.specs.Shown.{verdict_of};
 ghost use Rattle.board_hall.specs.Clauses.{IsVerdictOf};
-ghost use Rattle.board_hall.specs.Halls.{hall_of, view_of, IsPassOf, IsNewPass};
+ghost use Rattle.board_hall.specs.Halls.{hall_of, core_of, view_of, IsPassOf, IsNewPass};
 ghost use Rattle.board_hall.specs.Terms.{cut_case};
 
 use crate::fixtures::{
-    BOTH_CUBES, HALF, QUARTER, ROOT, WHOLE, case, cube, finding_of, has_target, inner,
+    BOTH_CUBES, HALF, QUARTER, REJECTED, ROOT, ROOT_AND_CUBE, WHOLE, case, cube, finding_of,
+    has_target, inner,
 };
-use crate::{four, halves};
-use board_hall::{Hall, Pass};
-use case_core::{Case, Finding, Reason, Target};
+use crate::four;
+use board_hall::{Core, Hall, Pass};
+use case_core::{Case, Finding, NodeId, Reason, Target};
 use mark_board::{Mark, PartPosted, PartVerdict, Place, Posted};
 use std::alloc::Global;
 use std::process::Abort;
@@ -23,12 +24,6 @@ use std::sync::Wait;
 const THREE: &str = four!(
     "a 1 0\na -1 2 0\na -1 -2 0\nl 1\n6 0 5 3 4 0\nl 2\n7 0 5 6 2 0\nl 3\n7 0 5 6 1 0\n"
 );
-
-/// Two cubes, and proofs for the root and for the first cube.
-const ROOT_AND_CUBE: &str = halves!("l n 0\n5 1 0 1 2 0\n6 0 5 3 4 0\nl 1\n6 0 5 3 4 0\n");
-
-/// Two cubes, and for the first a proof whose first hint isn't unit.
-const REJECTED: &str = halves!("l 1\n6 0 4 3 5 0\n");
 
 /// What became of a finding that leaves no part owed.
 #[derive(Clone, Copy, PartialEq, Eq, Debug)]
@@ -580,4 +575,35 @@ fn two_passes_owe(rt: HostRuntime) {
     let passes = two(&rt, rt.alloc(), &hall, first, second);
     let boards = closed(hall, passes);
     assert!(rt; seen && boards == Some((true, 0)));
+}
+
+/// The place of the board on which findings of a node are posted.
+fn place_of(rt: &impl Abort, core: &Core, case: &Case, node: u32) -> Place
+    requires { case.now ≡ (core_of core.now).case }
+{
+    assert!(rt; node < case.tree().size());
+    core.place_of(case, NodeId::new(node))
+}
+
+/// The places of the root and of the two nodes after it, at a cut.
+fn places(rt: &impl Abort, alloc: Global, case: &Case, cut: u32) -> [Place; 3]
+    requires { cut ≤ 6 }
+{
+    let (hall, _pass) = hall_for_one(rt, alloc, case, cut);
+    let core = hall.core();
+    [
+        place_of(rt, core, case, 0),
+        place_of(rt, core, case, 1),
+        place_of(rt, core, case, 2),
+    ]
+}
+
+// A node above the cut is at home above the parts, and any other in its part.
+#[test]
+fn places_of_nodes(rt: HostRuntime) {
+    let case = case(&rt, rt.alloc(), BOTH_CUBES);
+    let one = [Place::Part(0), Place::Part(0), Place::Part(0)];
+    let two = [Place::Top, Place::Part(0), Place::Part(1)];
+    assert!(rt; places(&rt, rt.alloc(), &case, 0) == one);
+    assert!(rt; places(&rt, rt.alloc(), &case, 1) == two);
 }
