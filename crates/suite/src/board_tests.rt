@@ -3,18 +3,13 @@ ghost use Rattle.std.specs.Prelude.{◌≡◌, ◌≤◌, IfSome};
 ghost use Rattle.mark_board.specs.BoardPosts.{IsPostedOn};
 ghost use Rattle.mark_board.specs.declared.place.Place.TheVariants.{Top};
 
-use crate::fixtures::{BOTH_CUBES, HALF, WHOLE, case, cube, finding_of, inner};
-use crate::halves;
+use crate::fixtures::{
+    BOTH_CUBES, HALF, REJECTED, ROOT_AND_CUBE, WHOLE, case, cube, finding_of, inner,
+};
 use case_core::{Case, Leaf, Reason, Target};
 use mark_board::{Board, Mark, PartPosted, PartVerdict, Place, Posted};
 use std::alloc::Global;
 use std::process::Abort;
-
-/// A proof for the root and for the first cube.
-const ROOT_AND_CUBE: &str = halves!("l n 0\n5 1 0 1 2 0\n6 0 5 3 4 0\nl 1\n6 0 5 3 4 0\n");
-
-/// Two cubes, and for the first a proof whose first step has a unit that isn't one.
-const REJECTED: &str = halves!("l 1\n6 0 4 3 5 0\nl 2\n6 0 5 1 2 0\n");
 
 /// What became of a post, in a word.
 #[derive(Clone, Copy, PartialEq, Eq)]

@@ -50,6 +50,12 @@ pub const ONE_CUBE: &str = four!("a 1 0\nl 1\n6 0 5 3 4 0\n");
 /// A bundle with two cubes and a proof for the root alone.
 pub const ROOT: &str = halves!("l n 0\n5 1 0 1 2 0\n6 0 5 3 4 0\n");
 
+/// A bundle with two cubes, and proofs for the root and for the first cube.
+pub const ROOT_AND_CUBE: &str = halves!("l n 0\n5 1 0 1 2 0\n6 0 5 3 4 0\nl 1\n6 0 5 3 4 0\n");
+
+/// A bundle with two cubes, and for the first a proof whose first step has a unit that isn't one.
+pub const REJECTED: &str = halves!("l 1\n6 0 4 3 5 0\nl 2\n6 0 5 1 2 0\n");
+
 /// A unit that the clauses force, and then the empty clause.
 pub const REFUTED: &[u8] =
     b"p inccnf\n1 2 0\n1 -2 0\n-1 2 0\n-1 -2 0\na 0\nl 1\n5 1 0 1 2 0\n6 0 5 3 4 0\n";

@@ -14,6 +14,10 @@ mod crew_tests;
 #[cfg(test)]
 mod fixtures;
 #[cfg(test)]
+mod hall_tests;
+#[cfg(test)]
+mod hall_thread_tests;
+#[cfg(test)]
 mod icnf_tests;
 #[cfg(test)]
 mod jobs_tests;
