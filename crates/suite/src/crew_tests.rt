@@ -78,7 +78,15 @@ fn is_as_alone<R: Abort + Threads + Wait + Sync>(
 // The boards are those of one thread, for any number of workers and any cut.
 #[test]
 fn any_workers_and_any_cut(rt: HostRuntime) {
-    for bundle in [BOTH_CUBES, FOUR_CUBES, REJECTED_NODE, ONE_CUBE, ROOT, LENGTHS, NOTHING] {
+    for bundle in [
+        BOTH_CUBES,
+        FOUR_CUBES,
+        REJECTED_NODE,
+        ONE_CUBE,
+        ROOT,
+        LENGTHS,
+        NOTHING,
+    ] {
         for workers in [1, 2, 4, 32] {
             for cut in [0, 1, 2, 6] {
                 assert!(rt; is_as_alone(&rt, rt.alloc(), bundle, workers, cut));
