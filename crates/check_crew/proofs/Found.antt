@@ -1,5 +1,5 @@
 -- Once each section was claimed, its finding is seen by some worker, so it stands on the boards.
-use Rattle.std.proofs.Common.{◌≡◌, ◌≢◌, ℕ, zero, suc, ◌+◌, ◌<◌, ◌==◌, ◌&&◌, nat_lt, cond, if◌then◌else◌, Bool, true, false, List, [], ◌∷◌, ◌++◌, Option, None, Some, All, length, flat_map, refl, sym, ap, ◌∙◌, subst, arith, inl, inr, ◌⊎◌, append-nil}
+use Rattle.std.proofs.Common.{◌≡◌, ◌≢◌, ℕ, suc, ◌<◌, ◌==◌, ◌&&◌, cond, Bool, true, List, [], ◌∷◌, ◌++◌, Option, None, Some, All, length, flat_map, refl, sym, ap, ◌∙◌, subst, arith, inl, inr, ◌⊎◌, append-nil}
 use mathlib.Core.Logic.{dite}
 use native.Mathlib.Decide.{ℕ_discrete}
 use Rattle.std.specs.List.{Contains, list_any, slice_index}
@@ -9,12 +9,10 @@ use Rattle.std.proofs.lemmas.List.Concat.{flat_map-append}
 use Rattle.std.proofs.lemmas.List.Elements.{All-contains, Contains-append_left, Contains-append_right, Contains-append_cases, Contains-push}
 use Rattle.std.proofs.lemmas.List.Sums.{sum_by-cons}
 use Rattle.std.proofs.lemmas.Grind.{get_or_default_zero}
-use Rattle.split_tree.specs.SplitTree.{size}
 use Rattle.split_tree.specs.Leaves.{IsTargetAt}
 use Rattle.split_tree.specs.declared.node.Target.{Target}
 use Rattle.case_core.specs.Case.{SectionOf, proof_for, section_at, same_target}
 use Rattle.case_core.proofs.Tables.{same_target-true}
-use Rattle.mark_board.specs.declared.mark.Mark.{Mark}
 use Rattle.mark_board.specs.declared.mark.Mark.TheVariants.{Open}
 use Rattle.mark_board.specs.Boards.{BoardsOf}
 use Rattle.mark_board.specs.Rows.{mark_at}
@@ -22,7 +20,6 @@ use Rattle.mark_board.proofs.Gathered.{target_inside}
 use Rattle.cube_jobs.specs.Places.{times, EachOnce}
 use Rattle.cube_jobs.specs.Jobs.{JobPassOf, claims_of, has_found_empty}
 use Rattle.board_hall.specs.declared.pass.Pass.{Pass}
-use Rattle.board_hall.specs.declared.view.CutCase.{CutCase}
 use Rattle.board_hall.specs.declared.view.Post.{Post}
 use Rattle.board_hall.specs.Posts.{mark_in, Among, posts_of}
 use Rattle.board_hall.specs.Halls.{HallOf, IsPassOf, view_of}

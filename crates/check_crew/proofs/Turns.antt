@@ -8,12 +8,11 @@ use Rattle.case_core.specs.Case.{CaseOf, section_at}
 use Rattle.mark_board.specs.declared.mark.Mark.TheVariants.{Open}
 use Rattle.mark_board.specs.declared.posted.Posted.{Posted}
 use Rattle.mark_board.specs.declared.posted.Posted.TheVariants.{Marked, RootMarked, TopMarked, Already}
-use Rattle.mark_board.specs.Places.{mark_as}
 use Rattle.board_hall.specs.declared.view.CutCase.{CutCase}
 use Rattle.board_hall.specs.declared.view.Post.{Post}
 use Rattle.board_hall.specs.declared.view.View.{View}
 use Rattle.board_hall.specs.Posts.{mark_in, is_at, open_by, AreReal}
-use Rattle.board_hall.specs.Clauses.{Stays, IsPosted, Becomes, IsHome, number_of}
+use Rattle.board_hall.specs.Clauses.{Stays, IsPosted, Becomes, number_of}
 use Rattle.mark_board.specs.declared.place.Place.{Place}
 use Rattle.mark_board.specs.Boards.{IsPlaceFor}
 use Rattle.check_crew.specs.Seen.{HasSeen, HasSeenSection, IsTold}

@@ -38,9 +38,7 @@ pub fn conquer<'c, R: Threads + Wait + Sync, G: Gate + Sync>(
     settings: Settings,
     gate: &G,
 ) -> Result<Boards<'c>, CrewFault>
-    ensures case {
-        IfOk result (λ boards. (boards.case ≡ case.now) × (boards.cut ≡ settings.cut))
-    }
+    ensures case { IfOk result (λ boards. (boards.case ≡ case.now) × (boards.cut ≡ settings.cut)) }
     ensures findings { IfOk result (λ boards. AreFindings case.now boards.marks) }
 {
     let workers = settings.workers() as usize;
@@ -73,19 +71,13 @@ fn run_all<R: Threads + Wait + Sync, G: Gate + Sync>(
     passes: Vec<Pass>,
     job_passes: Vec<JobPass>,
 ) -> Result<Vec<Shift>, CrewFault>
-    requires ready {
-        AreReady site.case.now (shared_of site.core.now) site.jobs.now site.order.now
-    }
+    requires ready { AreReady site.case.now (shared_of site.core.now) site.jobs.now site.order.now }
     requires count { (0 < vec_len passes) × (vec_len passes ≤ 32) }
     requires pairs { vec_len job_passes ≡ vec_len passes }
-    requires new {
-        AreNew (shared_of site.core.now) site.jobs.now passes.items job_passes.items
-    }
+    requires new { AreNew (shared_of site.core.now) site.jobs.now passes.items job_passes.items }
     ensures count { IfOk result (λ shifts. vec_len shifts ≡ vec_len passes) }
-    ensures kept {
-        IfOk result (λ shifts. All (IsShiftOf (shared_of site.entry.core.now)
-            site.entry.jobs.now site.entry.order.now) shifts.items)
-    }
+    ensures kept { IfOk result (λ shifts. All (IsShiftOf (shared_of site.entry.core.now)
+        site.entry.jobs.now site.entry.order.now) shifts.items) }
 {
     let Site {
         case,
@@ -102,10 +94,9 @@ fn run_all<R: Threads + Wait + Sync, G: Gate + Sync>(
             requires pairs { vec_len job_passes ≡ vec_len passes }
             requires new { AreNew (shared_of core.now) jobs.now passes.items job_passes.items }
             ensures count { IfOk result (λ shifts. vec_len shifts ≡ vec_len passes) }
-            ensures kept {
-                IfOk result (λ shifts. All (IsShiftOf (shared_of core.entry.now) jobs.entry.now
-                    order.entry.now) shifts.items)
-            }
+            ensures kept { IfOk result (λ shifts. All
+                (IsShiftOf (shared_of core.entry.now) jobs.entry.now order.entry.now)
+                shifts.items) }
         {
             let site = Site {
                 case,
@@ -129,19 +120,13 @@ fn start_and_join<'s, 'e: 's, R: Threads + Wait + Sync, G: Gate + Sync>(
     mut passes: Vec<Pass>,
     mut job_passes: Vec<JobPass>,
 ) -> Result<Vec<Shift>, CrewFault>
-    requires ready {
-        AreReady site.case.now (shared_of site.core.now) site.jobs.now site.order.now
-    }
+    requires ready { AreReady site.case.now (shared_of site.core.now) site.jobs.now site.order.now }
     requires count { (0 < vec_len passes) × (vec_len passes ≤ 32) }
     requires pairs { vec_len job_passes ≡ vec_len passes }
-    requires new {
-        AreNew (shared_of site.core.now) site.jobs.now passes.items job_passes.items
-    }
+    requires new { AreNew (shared_of site.core.now) site.jobs.now passes.items job_passes.items }
     ensures count { IfOk result (λ shifts. vec_len shifts ≡ vec_len passes) }
-    ensures kept {
-        IfOk result (λ shifts. All (IsShiftOf (shared_of site.entry.core.now)
-            site.entry.jobs.now site.entry.order.now) shifts.items)
-    }
+    ensures kept { IfOk result (λ shifts. All (IsShiftOf (shared_of site.entry.core.now)
+        site.entry.jobs.now site.entry.order.now) shifts.items) }
 {
     let count = passes.len();
     let mut shifts = Vec::with_capacity(alloc, count)?;
@@ -173,14 +158,10 @@ fn start<'s, 'e: 's, R: Threads + Wait + Sync, G: Gate + Sync>(
     mut job_passes: Vec<JobPass>,
     mut handles: Vec<Handle<'e>>,
 ) -> Vec<Handle<'e>>
-    requires ready {
-        AreReady site.case.now (shared_of site.core.now) site.jobs.now site.order.now
-    }
+    requires ready { AreReady site.case.now (shared_of site.core.now) site.jobs.now site.order.now }
     requires count { vec_len passes < 32 }
     requires pairs { vec_len job_passes ≡ vec_len passes }
-    requires new {
-        AreNew (shared_of site.core.now) site.jobs.now passes.items job_passes.items
-    }
+    requires new { AreNew (shared_of site.core.now) site.jobs.now passes.items job_passes.items }
     requires room { (vec_len handles ≡ 0) × (vec_len passes ≤ vec_capacity handles) }
     ensures count { vec_len result ≤ vec_len passes }
     ensures promised { All (λ handle. handle.promise ≡ site.entry) result.items }
@@ -203,9 +184,8 @@ fn start<'s, 'e: 's, R: Threads + Wait + Sync, G: Gate + Sync>(
                 requires ready { AreReady case.now (shared_of core.now) jobs.now order.now }
                 requires pass { IsNewPass (shared_of core.now) pass }
                 requires job_pass { job_pass ≡ new_pass jobs.now }
-                ensures {
-                    IsShiftOf (shared_of core.entry.now) jobs.entry.now order.entry.now result
-                }
+                ensures { IsShiftOf (shared_of core.entry.now) jobs.entry.now order.entry.now
+                    result }
             {
                 let site = Site {
                     case,
@@ -232,14 +212,11 @@ fn join_all<'a, R: Threads>(
 ) -> Vec<Shift>
     requires room { vec_len shifts + vec_len handles ≤ vec_capacity shifts }
     requires promised { All (λ handle. handle.promise ≡ site) handles.items }
-    requires kept {
-        All (IsShiftOf (shared_of site.core.now) site.jobs.now site.order.now) shifts.items
-    }
+    requires kept { All (IsShiftOf (shared_of site.core.now) site.jobs.now site.order.now)
+        shifts.items }
     ensures count { vec_len result ≡ vec_len shifts + vec_len handles.entry }
-    ensures kept {
-        All (IsShiftOf (shared_of site.entry.core.now) site.entry.jobs.now site.entry.order.now)
-            result.items
-    }
+    ensures kept { All (IsShiftOf (shared_of site.entry.core.now)
+        site.entry.jobs.now site.entry.order.now) result.items }
 {
     for handle in handles {
         shifts.push_reserved(handle.join(rt));
@@ -254,22 +231,16 @@ fn hand_in(
     site: Site<'_>,
     shifts: Vec<Shift>,
 ) -> Result<(Vec<Pass>, Vec<JobPass>), AllocError>
-    requires {
-        All (IsShiftOf (shared_of site.core.now) site.jobs.now site.order.now) shifts.items
-    }
+    requires { All (IsShiftOf (shared_of site.core.now) site.jobs.now site.order.now) shifts.items }
     ensures passes { IfOk result (λ passes. vec_len passes.0 ≡ vec_len shifts) }
     ensures job_passes { IfOk result (λ passes. vec_len passes.1 ≡ vec_len shifts) }
-    ensures own {
-        IfOk result (λ passes. All (IsPassOf (shared_of site.entry.core.now)) passes.0.items)
-    }
+    ensures own { IfOk result (λ passes.
+        All (IsPassOf (shared_of site.entry.core.now)) passes.0.items) }
     ensures free { IfOk result (λ passes. All (λ pass. (view_of pass).owes ≡ None) passes.0.items) }
-    ensures jobs {
-        IfOk result (λ passes. All (queue.IsPassOf site.entry.jobs.now) passes.1.items)
-    }
+    ensures jobs { IfOk result (λ passes. All (queue.IsPassOf site.entry.jobs.now) passes.1.items) }
     ensures empty { IfOk result (λ passes. All (λ pass. pass.found_empty ≡ true) passes.1.items) }
-    ensures seen {
-        IfOk result (λ passes. HaveSeenClaims site.entry.order.now passes.0.items passes.1.items)
-    }
+    ensures seen { IfOk result (λ passes.
+        HaveSeenClaims site.entry.order.now passes.0.items passes.1.items) }
 {
     let mut passes = Vec::with_capacity(alloc, shifts.len())?;
     let mut job_passes = Vec::with_capacity(alloc, shifts.len())?;

@@ -9,9 +9,7 @@ use std::cmp::Reverse;
 
 /// How long the proof at a place is, or 0 behind the last.
 fn proof_length(sections: &[Section], place: usize) -> usize {
-    sections
-        .get(place)
-        .map_or(0, |section| section.proof.len())
+    sections.get(place).map_or(0, |section| section.proof.len())
 }
 
 /// The places of a case's sections, those of longer proofs first and ties in the order of the

@@ -39,9 +39,8 @@ impl<'a> Promise<Shift> for Site<'a> {
     ghost use Rattle.board_hall.specs.Halls.{shared_of};
     ghost use Rattle.check_crew.specs.Shifts.{IsShiftOf};
 
-    ghost kept_by = {
-        λ site shift. IsShiftOf (shared_of site.core.now) site.jobs.now site.order.now shift
-    };
+    ghost kept_by = { λ site shift.
+        IsShiftOf (shared_of site.core.now) site.jobs.now site.order.now shift };
 }
 
 /// Examines the section at a place, posts what is found, and then the part that is owed, if any.
@@ -80,13 +79,7 @@ fn take_turn<R: Wait, G: Gate>(
 }
 
 /// Posts a finding, and then the part that is owed, if any.
-fn post<'c, R: Wait>(
-    rt: &R,
-    case: &'c Case,
-    core: &Core,
-    pass: &mut Pass,
-    finding: Finding<'c>,
-)
+fn post<'c, R: Wait>(rt: &R, case: &'c Case, core: &Core, pass: &mut Pass, finding: Finding<'c>)
     requires case { case.now ≡ (core_of core.now).case }
     requires finding { (finding_of finding).case ≡ case.now }
     requires own { IsPassOf (shared_of core.now) pass.old }
@@ -112,14 +105,11 @@ pub(crate) fn work<R: Wait, G: Gate>(
     mut pass: Pass,
     mut job_pass: JobPass,
 ) -> Shift
-    requires ready {
-        AreReady site.case.now (shared_of site.core.now) site.jobs.now site.order.now
-    }
+    requires ready { AreReady site.case.now (shared_of site.core.now) site.jobs.now site.order.now }
     requires pass { IsNewPass (shared_of site.core.now) pass }
     requires job_pass { job_pass ≡ new_pass site.jobs.now }
-    ensures {
-        IsShiftOf (shared_of site.entry.core.now) site.entry.jobs.now site.entry.order.now result
-    }
+    ensures { IsShiftOf (shared_of site.entry.core.now)
+        site.entry.jobs.now site.entry.order.now result }
 {
     let Site {
         case,

@@ -1,11 +1,11 @@
-use Rattle.std.proofs.Common.{◌≡◌, ◌<◌, true, List, length, All, vec_len, flat_map, sym, ap, ◌∙◌, subst, arith, rules}
+use Rattle.std.proofs.Common.{◌≡◌, ◌<◌, length, All, vec_len, flat_map, sym, ap, ◌∙◌, subst, arith, rules}
 use Rattle.std.proofs.lemmas.Bool.{false≢true}
 use Rattle.case_core.specs.Case.{CaseOf}
 use Rattle.cube_jobs.specs.Places.{EachOnce}
 use Rattle.cube_jobs.specs.Jobs.{claims_of}
 use Rattle.mark_board.specs.Findings.{AreFindings}
 use Rattle.board_hall.specs.declared.view.CutCase.{CutCase}
-use Rattle.board_hall.specs.Halls.{HallOf, IsPassOf, shared_of, hall_of}
+use Rattle.board_hall.specs.Halls.{HallOf, IsPassOf, hall_of}
 use Rattle.check_crew.specs.Order.{IsOrder}
 use Rattle.check_crew.proofs.Found.{are_findings, some_found_empty, both_true}
 use Rattle.check_crew.proofs.crew.conquer.Goals as goal

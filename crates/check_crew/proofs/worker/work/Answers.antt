@@ -1,4 +1,3 @@
-use Rattle.std.proofs.Common.{◌≡◌}
 use Rattle.std.proofs.lemmas.List.Elements.{All-push, All-weaker}
 use Rattle.board_hall.specs.Halls.{view_of}
 use Rattle.check_crew.specs.Seen.{HasSeenTurn}

@@ -1,4 +1,4 @@
-use Rattle.std.proofs.Common.{◌≡◌, ap, arith, rules, ◌∙◌, sym}
+use Rattle.std.proofs.Common.{◌≡◌, ap, arith, rules, ◌∙◌}
 use Rattle.std.proofs.lemmas.List.Elements.{All-push}
 use Rattle.crossbeam_deque.specs.Injected.{injector_view}
 use Rattle.cube_jobs.specs.Jobs.{JobPassOf, new_pass}
