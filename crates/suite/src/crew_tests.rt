@@ -3,7 +3,7 @@
 ghost use Rattle.std.specs.Prelude.{◌≡◌};
 
 use crate::fixtures::{BOTH_CUBES, HALF, ONE_CUBE, OPEN, REFUTED, ROOT, case};
-use crate::four;
+use crate::{four, halves};
 use board_hall::Pass;
 use case_core::{Leaf, Target};
 use check_crew::{Gate, NoGate, Settings, conquer};
@@ -37,6 +37,10 @@ const LENGTHS: &str = four!(
     "l 1\n7 0 5 6 4 0\nl 2\n7 d 1 0\n8 0 5 6 3 0\n",
     "l 3\n7 d 1 0\n8 d 3 0\n9 0 5 6 2 0\nl 4\n7 0 5 6 1 0\n"
 );
+
+/// The cubes `1` and `-1`, and proofs for the root and for each of them.
+const ROOT_AND_LEAVES: &str =
+    halves!("l 1\n6 0 5 3 4 0\nl n 0\n5 1 0 1 2 0\n6 0 5 3 4 0\nl 2\n6 0 5 1 2 0\n");
 
 /// No clause, no cube and no proof.
 const NOTHING: &str = "p inccnf\n";
@@ -89,6 +93,7 @@ fn any_workers_and_any_cut(rt: HostRuntime) {
         ONE_CUBE.as_bytes(),
         ROOT.as_bytes(),
         LENGTHS.as_bytes(),
+        ROOT_AND_LEAVES.as_bytes(),
         NOTHING.as_bytes(),
         REFUTED,
         OPEN,
@@ -222,6 +227,54 @@ fn four_workers_meet(rt: HostRuntime) {
     assert!(rt; refutes(&rt, rt.alloc(), FOUR_CUBES, settings, &gate));
     assert_eq!(rt; gate.met.load(Ordering::SeqCst), 4);
     assert_eq!(rt; gate.workers.load(Ordering::SeqCst), 15);
+}
+
+/// Holds back the workers of the cubes until the root's finding was posted.
+#[derive(Drop)]
+struct Rooted {
+    root_posted: AtomicU64,
+    root_weight: AtomicU64,
+    later: AtomicU64,
+}
+
+impl Gate for Rooted {
+    fn before(&self, _worker: u32, target: Target) {
+        if cube_number(target) == 0 {
+            return;
+        }
+        let backoff = Backoff::new();
+        for _ in 0..TURNS {
+            if self.root_posted.load(Ordering::SeqCst) == 1 {
+                self.later.fetch_add(1, Ordering::SeqCst);
+                return;
+            }
+            backoff.snooze();
+        }
+    }
+
+    fn after(&self, _worker: u32, target: Target, _pass: &Pass, weight: u64) {
+        if cube_number(target) == 0 {
+            self.root_weight.store(weight, Ordering::SeqCst);
+            self.root_posted.store(1, Ordering::SeqCst);
+        }
+    }
+}
+
+// The root's proof is posted while two other workers are at work: what they find is posted below a
+// root that is marked already.
+#[test]
+fn the_root_is_posted_while_others_work(rt: HostRuntime) {
+    for cut in [0, 1] {
+        let gate = Rooted {
+            root_posted: AtomicU64::new(0),
+            root_weight: AtomicU64::new(1),
+            later: AtomicU64::new(0),
+        };
+        let settings = settings(&rt, 3, cut);
+        assert!(rt; refutes(&rt, rt.alloc(), ROOT_AND_LEAVES, settings, &gate));
+        assert_eq!(rt; gate.later.load(Ordering::SeqCst), 2);
+        assert_eq!(rt; gate.root_weight.load(Ordering::SeqCst), 0);
+    }
 }
 
 /// Keeps the numbers of the cubes in the order in which they were examined, as decimal digits, and
