@@ -1,7 +1,8 @@
 #!/bin/sh
 # Runs the built program on a few rows with its Nth request for memory refused, for each N from 1 until a run meets no
 # refusal. Each run has to write the row's exact report with its status, or no report, the status 4 and
-# `cubeboard: F6 memory`, or `cubeboard: F14 thread` where the request was made for the start of a thread. A test of the reader of proof steps is run the same way. It needs a C compiler; where there is
+# `cubeboard: F6 memory`, or `cubeboard: F14 thread` where the request was made for the start of a thread; so it has with little room for
+# addresses. A test of the reader of proof steps is run the same way. It needs a C compiler; where there is
 # none, it says so and tries nothing. The last line counts.
 root=$(CDPATH= cd -- "$(dirname -- "$0")/.." && pwd) || exit 1
 compiler=
@@ -80,9 +81,26 @@ row() {
     fi
 }
 
+# One row with little room for addresses, from too little for a thread's stack to enough for all: the row's exact report, or that the start
+# of a thread (or memory) was refused. The least room has to refuse one, and the greatest none.
+little_room() {
+    base=$root/tests/rows/$1
+    for room in 20000 25000 30000 100000 1000000; do
+        (ulimit -v "$room" && exec "$program") < "$base.in" > "$here/out" 2> "$here/err"
+        echo $? > "$here/status"
+        if { [ "$room" -gt 20000 ] && is_exact "$base"; } || { [ "$room" -lt 1000000 ] && says_refused; }; then
+            passed=$((passed + 1))
+        else
+            failed=$((failed + 1))
+            echo "refused: $1 with $room KB of addresses: status $(cat "$here/status"), $(head -c 200 "$here/err")"
+        fi
+    done
+}
+
 for name in two_cubes_refuted missing_leaf_open proof_for_an_inner_node folder_of_proofs second_section_of_a_cube; do
     row "$name"
 done
+little_room two_cubes_refuted
 
 # The reader of proof steps, by a test of the suite that the gate has left: a refused call changes nothing, so the next one gives
 # the step that it would have given.
