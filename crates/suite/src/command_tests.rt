@@ -37,7 +37,11 @@ fn ends_with<R: Files + AllocGlobal + Abort + Threads + Wait + Sync>(
 }
 
 /// The program on these words ends with status 2, no report, and a text of errors.
-fn is_refused<R: Files + AllocGlobal + Abort + Threads + Wait + Sync>(rt: &R, word: &str, input: &[u8]) {
+fn is_refused<R: Files + AllocGlobal + Abort + Threads + Wait + Sync>(
+    rt: &R,
+    word: &str,
+    input: &[u8],
+) {
     let mut output = Vec::new(rt.alloc());
     let mut errors = Vec::new(rt.alloc());
     let answer = command(rt, &[word], input, &mut output, &mut errors);

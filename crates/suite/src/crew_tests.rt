@@ -39,8 +39,9 @@ const LENGTHS: &str = four!(
 );
 
 /// The cubes `1` and `-1`, and proofs for the root and for each of them.
-const ROOT_AND_LEAVES: &str =
-    halves!("l 1\n6 0 5 3 4 0\nl n 0\n5 1 0 1 2 0\n6 0 5 3 4 0\nl 2\n6 0 5 1 2 0\n");
+const ROOT_AND_LEAVES: &str = halves!(
+    "l 1\n6 0 5 3 4 0\nl n 0\n5 1 0 1 2 0\n6 0 5 3 4 0\nl 2\n6 0 5 1 2 0\n"
+);
 
 /// No clause, no cube and no proof.
 const NOTHING: &str = "p inccnf\n";
