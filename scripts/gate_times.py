@@ -72,7 +72,7 @@ def edit_count(folder, crate):
 def table_of(folder, wall, total, parts):
     """The lines of the document."""
     with open(f"{folder}/crates.txt", encoding="utf-8") as file:
-        crates = [line.partition(":")[0] for line in file if line.strip() and line[0] != "#"]
+        crates = [line.partition(":")[0].split()[0] for line in file if line.strip() and line[0] != "#"]
     rows = [[parts.get((crate, part), 0) for part in PARTS] for crate in crates]
     lines = [
         f"`./check` from a clean clone: {wall / 60:.0f} minutes on {os.cpu_count()} cores, "
