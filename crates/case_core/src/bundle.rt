@@ -6,7 +6,7 @@ ghost use Rattle.cnf_text.specs.Icnf.{Item, Within};
 ghost use Rattle.cnf_text.specs.Progress.{IsFileOf};
 ghost use Rattle.case_core.specs.Bundle.{lines_of, is_label, text_before, labels_of};
 ghost use Rattle.case_core.specs.Cut.{HasNoLabel, HasNoLetter, AfterPlainLines, FirstLabel, EndsWith, BeginsWithLabel, OneLabel, NextLabel};
-ghost use Rattle.case_core.specs.Case.{section_of, CaseOf};
+ghost use Rattle.case_core.specs.Case.{section_of, CaseOf, IsKept};
 ghost use Rattle.case_core.specs.Naming.{IsLimited};
 ghost use Rattle.case_core.specs.Kept.{AreKept, LabelAt, HasTree, HasClash};
 ghost use Rattle.case_core.specs.Sections.{AreSectionsOf, IsLabelFault, IsCaseOf, IsFaultOf};
@@ -15,7 +15,7 @@ use crate::case::Case;
 use crate::fault::CaseFault;
 use crate::sections::Sections;
 use cnf_text::tokens::{first_word, split_line};
-use cnf_text::{IcnfFile, read_icnf};
+use cnf_text::{Formula, IcnfFile, read_icnf};
 use hint_check::Base;
 use memchr::{memchr, memrchr};
 use split_tree::{Tree, build};
@@ -187,21 +187,65 @@ pub fn read_bundle(alloc: Global, bundle: &[u8]) -> Result<Case, CaseFault>
     read_case(alloc, bundle)
 }
 
+/// The tree of a bundle's cubes, for those who need no more of its case: no clause is indexed.
+///
+/// It answers as `read_bundle` does, with the case's tree in the place of the case.
+pub fn read_tree(alloc: Global, bundle: &[u8]) -> Result<Tree, CaseFault>
+    // The tree is that of the bundle's case.
+    ensures ok { IfOk result (λ tree. (case : CaseOf) × IsCaseOf bundle.now case × (case.tree ≡ tree)) }
+    // A bundle without a case is refused for its first fault, unless memory runs out.
+    ensures err { IfErr result (λ fault. fault ≢ CaseFault.Memory → IsFaultOf bundle.now fault) }
+{
+    let Parts { tree, .. } = read_parts(alloc, bundle)?;
+    Ok(tree)
+}
+
 /// The case of a bundle, or its fault.
 fn read_case(alloc: Global, bundle: &[u8]) -> Result<Case, CaseFault>
     ensures ok { IfOk result (IsCaseOf bundle.now) }
     ensures err { IfErr result (λ fault. fault ≢ CaseFault.Memory → IsFaultOf bundle.now fault) }
 {
-    let (icnf, first) = cut(bundle);
-    let file = read_icnf(alloc, icnf)?;
-    let tree = tree_of(alloc, &file)?;
-    let Sections { sections, places } = read_sections(alloc, &tree, bundle, first)?;
-    let IcnfFile { formula, .. } = file;
+    let Parts {
+        formula,
+        tree,
+        sections,
+    } = read_parts(alloc, bundle)?;
+    let Sections { sections, places } = sections;
     let base = Base::owning(alloc, formula)?;
     Ok(Case {
         base,
         tree,
         sections,
         places,
+    })
+}
+
+/// What a bundle is read into: its clauses, the tree of its cubes and its sections.
+#[derive(Drop)]
+struct Parts {
+    formula: Formula,
+    tree: Tree,
+    sections: Sections,
+}
+
+/// The parts of a bundle's case, or its fault.
+fn read_parts(alloc: Global, bundle: &[u8]) -> Result<Parts, CaseFault>
+    ensures ok { IfOk result (λ parts. IsCaseOf bundle.now (record {
+        formula = parts.formula;
+        tree = parts.tree;
+        sections = map section_of parts.sections.sections.items;
+    })) }
+    ensures kept { IfOk result (λ parts. IsKept parts.tree (map section_of parts.sections.sections.items) parts.sections.places.items) }
+    ensures err { IfErr result (λ fault. fault ≢ CaseFault.Memory → IsFaultOf bundle.now fault) }
+{
+    let (icnf, first) = cut(bundle);
+    let file = read_icnf(alloc, icnf)?;
+    let tree = tree_of(alloc, &file)?;
+    let sections = read_sections(alloc, &tree, bundle, first)?;
+    let IcnfFile { formula, .. } = file;
+    Ok(Parts {
+        formula,
+        tree,
+        sections,
     })
 }

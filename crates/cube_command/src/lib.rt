@@ -2,6 +2,11 @@
 #![tactic(auto)]
 
 mod program;
+mod telling;
 mod words;
 
-pub use program::{command, own_words};
+pub use bundle_files::{FileStore, Store};
+pub use check_crew::{Gate, NoGate};
+pub use cube_report::{Counted, Sink, Source};
+pub use program::command;
+pub use telling::own_words;

@@ -1,17 +1,21 @@
 //! The words of the program: what they ask for, and the help.
 
-ghost use Rattle.std.specs.Prelude.{◌≡◌, false, map, option_map, codes, IfOk, IfErr};
-ghost use Rattle.clap.specs.Words.{app_of, kind_of, new_app, rule_of};
-ghost use Rattle.cube_command.specs.Program.{AreTaken, asked_for, file_word, proofs_word, without_program, words_taken};
+ghost use Rattle.std.specs.Prelude.{◌≡◌, ◌<◌, ◌≤◌, ℕ, List, Some, false, map, option_map, codes, IfOk, IfErr};
+ghost use Rattle.clap.specs.Words.{app_of, found_of, kind_of, new_app, one_text, rule_of};
+ghost use Rattle.cube_command.specs.Words.{AreTaken, Reads, SaysNumber, asked_for, cut_word, file_word, proofs_word, with_numbers, without_program, words_taken, workers_word};
 
+use check_crew::Settings;
+use clap::builder::ValueParser;
 use clap::error::ErrorKind;
-use clap::{Arg, Command, Error};
+use clap::{Arg, ArgMatches, Command, Error, value_parser};
 use std::alloc::{AllocError, Global};
 use std::convert::AsStr;
 
 /// What the words ask for.
 #[derive(Clone, Copy)]
 pub struct Request<'a> {
+    /// How many workers check the proofs, and where the tree is cut.
+    pub settings: Settings,
     /// The folder with the proofs of leaves, where one is given.
     pub proofs: Option<&'a str>,
     /// The file with the bundle, or `None` for the program's input.
@@ -31,7 +35,7 @@ A bundle is a formula and cubes in iCNF, and then proofs, each below a label lin
 With --proofs, DIR/1.lrat, DIR/2.lrat, .. and DIR/m1.lrat, .. are added as if they
 stood below such labels; a file that isn't there is no proof.
 
-The report:
+The report is the same for every N and D:
   t   numbers of cubes and of missing branches, and the weight of the whole tree
   a   a cube; m  a missing branch; n  an inner node that has a proof:
       refuted, open (no proof), or rejected with the step and the reason
@@ -39,7 +43,8 @@ The report:
   w   the open weight; 0 where nothing is open
   s   REFUTED: the formula has no model; OPEN: that isn't shown
 
-Status: 0 REFUTED, 1 OPEN, 2 words or help, 3 input refused, 4 memory, 5 device.
+Status: 0 REFUTED, 1 OPEN, 2 words or help, 3 input refused, 4 memory or threads,
+5 device.
 Example: printf 'p inccnf\\n1 0\\n-1 0\\na 0\\nl 1\\n3 0 1 2 0\\n' | cubeboard";
 
 /// What these words, without the program's name, ask for; or the parser's text, which is the help where it is asked for.
@@ -47,22 +52,59 @@ pub fn request_of<'a, S: AsStr>(alloc: Global, words: &'a [S]) -> Result<Request
     // The request is what the words say.
     ensures proofs { IfOk result (λ request. option_map (λ text. text.now) request.proofs ≡ asked_for (codes "proofs") (map S.text words.now)) }
     ensures file { IfOk result (λ request. option_map (λ text. text.now) request.file ≡ asked_for (codes "file") (map S.text words.now)) }
+    ensures settings { IfOk result (λ request. (workers cut : ℕ)
+        → SaysNumber (codes "workers") (map S.text words.now) workers → 0 < workers → workers ≤ 32
+        → SaysNumber (codes "cut") (map S.text words.now) cut → cut ≤ 6
+        → (request.settings.workers ≡ workers) × (request.settings.cut ≡ cut)) }
     // Only words that are taken make a request, and they are refused only for want of memory.
     ensures taken { IfOk result (λ _. AreTaken (map S.text words.now)) }
     ensures refused { IfErr result (λ error. AreTaken (map S.text words.now) → kind_of error ≡ ErrorKind.OutOfMemory) }
 {
     let matches = parser(alloc)?.try_get_matches_from(words)?;
     Ok(Request {
+        settings: settings_in(&matches),
         proofs: matches.get_str("proofs"),
         file: matches.get_str("file"),
     })
+}
+
+/// How the run is set up, by the numbers that were matched.
+fn settings_in(matches: &ArgMatches<'_>) -> Settings
+    ensures { (workers cut : ℕ)
+        → Reads (one_text (found_of matches.now) (codes "workers")) workers → 0 < workers → workers ≤ 32
+        → Reads (one_text (found_of matches.now) (codes "cut")) cut → cut ≤ 6
+        → (result.workers ≡ workers) × (result.cut ≡ cut) }
+{
+    let workers = matches.get_one::<u32>("workers");
+    let cut = matches.get_one::<u32>("cut");
+    match Settings::new(workers.unwrap_or(4), cut.unwrap_or(3)) {
+        Some(settings) => settings,
+        None => default_settings(),
+    }
+}
+
+/// Four workers at cut 3.
+fn default_settings() -> Settings {
+    match Settings::new(4, 3) {
+        Some(settings) => settings,
+        None => unreachable!(),
+    }
 }
 
 /// The parser of the program's words.
 fn parser<'a>(alloc: Global) -> Result<Command<'a>, AllocError>
     ensures { IfOk result (λ parser. app_of parser ≡ words_taken) }
 {
-    texts(alloc).arg(proofs_word(alloc))?.arg(file_word(alloc))
+    numbers(alloc)?
+        .arg(proofs_word(alloc))?
+        .arg(file_word(alloc))
+}
+
+/// A parser that takes the numbers of workers and of the cut.
+fn numbers<'a>(alloc: Global) -> Result<Command<'a>, AllocError>
+    ensures { IfOk result (λ parser. app_of parser ≡ with_numbers) }
+{
+    texts(alloc).arg(workers_word(alloc))?.arg(cut_word(alloc))
 }
 
 /// A parser that takes no words yet, with the texts of the help.
@@ -75,6 +117,32 @@ fn texts<'a>(alloc: Global) -> Command<'a>
         .after_help(FORMATS)
 }
 
+/// The number of workers.
+fn workers_word<'a>(alloc: Global) -> Arg<'a>
+    ensures rule { rule_of result ≡ workers_word }
+    ensures own { result.global ≡ false }
+{
+    Arg::new(alloc, "workers")
+        .long("workers")
+        .value_name("N")
+        .value_parser(value_parser!(u32).range(1..=32))
+        .default_value("4")
+        .help("How many workers check the proofs, from 1 to 32")
+}
+
+/// The depth at which the tree is cut.
+fn cut_word<'a>(alloc: Global) -> Arg<'a>
+    ensures rule { rule_of result ≡ cut_word }
+    ensures own { result.global ≡ false }
+{
+    Arg::new(alloc, "cut")
+        .long("cut")
+        .value_name("D")
+        .value_parser(value_parser!(u32).range(0..=6))
+        .default_value("3")
+        .help("The depth at which the tree is cut into parts, from 0 to 6")
+}
+
 /// The folder of proofs.
 fn proofs_word<'a>(alloc: Global) -> Arg<'a>
     ensures rule { rule_of result ≡ proofs_word }
@@ -83,6 +151,7 @@ fn proofs_word<'a>(alloc: Global) -> Arg<'a>
     Arg::new(alloc, "proofs")
         .long("proofs")
         .value_name("DIR")
+        .value_parser(ValueParser::NonEmptyString)
         .help("A folder with the proofs of leaves")
 }
 

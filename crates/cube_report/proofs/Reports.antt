@@ -1,5 +1,5 @@
 -- What a report says of the formula.
-use Rattle.std.proofs.Common.{◌≡◌, ℕ, Bool, true, false, List, [], ◌∷◌, ◌++◌, length, append-nil, append_assoc, arith, refl, sym, ap, ◌∙◌, subst, Option, None, Some, IfSome, Result, Ok, Err, IfOk, IfErr, IsErrAnd}
+use Rattle.std.proofs.Common.{◌≡◌, ℕ, Bool, true, false, List, [], ◌∷◌, ◌++◌, length, append-nil, append_assoc, arith, refl, sym, ap, ◌∙◌, subst, Option, None, Some, IfSome, Result, Ok, Err, IfOk, IfErr, IsErrAnd, OnErr}
 use Rattle.std.specs.Prelude.{codes}
 use Rattle.cnf_text.specs.Literal.{Literal}
 use Rattle.cnf_text.specs.Formula.{HasNoModel, IsRefuted}
@@ -108,3 +108,10 @@ pub fault_of : (known : Option (List ℕ)) (bundle read : List ℕ) (result : Re
     → IfErr result (λ fault. IsInputFault fault → IsFaultOn bundle fault) → IfErr result (λ fault. IsInputFault fault → IfSome known (λ input. IsFaultOn input fault))
 fault_of known bundle read (Ok answer) is same h = tt
 fault_of known bundle read (Err fault) is same h = λ input. of_known (λ b. IsFaultOn b fault) known read is (rw same at (h input))
+
+-- what was begun for bytes was begun for the bytes that were read
+pub begun_of : (Failed : Type 0) (P : List ℕ → Type 0) (known : Option (List ℕ)) (bundle read : List ℕ) (result : Result Bool Fault) → IfSome known (λ left. read ≡ left) → bundle ≡ read
+    → OnErr result (Failed → P bundle) → OnErr result (IfSome known (λ input. Failed → P input))
+begun_of Failed P known bundle read (Ok answer) is same h = tt
+begun_of Failed P None bundle read (Err fault) is same h = tt
+begun_of Failed P (Some left) bundle read (Err fault) is same h = λ failed. subst P (same ∙ is) (h failed)

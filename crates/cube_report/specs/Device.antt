@@ -1,5 +1,5 @@
 -- What a run does to its reader and its writer.
-use Rattle.std.specs.Prelude.{◌≡◌, ℕ, ◌+◌, ◌≤◌, List, ◌⊎◌, take, length, Result, Option, MatchResult}
+use Rattle.std.specs.Prelude.{◌≡◌, ℕ, ◌+◌, ◌≤◌, List, ◌⊎◌, ◌++◌, IfSome, take, length, Result, Option, MatchResult}
 use Rattle.std.specs.Io.KnownBytes.{Appends}
 use Rattle.cube_report.specs.declared.fault.Fault.{Fault}
 use Rattle.cube_report.specs.declared.fault.Fault.TheVariants.{Memory, Device as FaultDevice}
@@ -11,6 +11,10 @@ CountsFailures before after result = MatchResult result (λ _. after ≡ before)
 -- known bytes grew by a beginning of the text
 abbrev pub AppendsBeginning : Option (List ℕ) → Option (List ℕ) → List ℕ → Type 0
 AppendsBeginning old new text = (n : ℕ) × (n ≤ length text) × Appends old new (take n text)
+
+-- some bytes grew by what a reader had left, where that is known
+abbrev pub IsReadOf : Option (List ℕ) → List ℕ → List ℕ → Type 0
+IsReadOf left old new = (read : List ℕ) × (new ≡ old ++ read) × IfSome left (λ known. read ≡ known)
 
 -- want of memory without a failed call, or a fault of the device with one
 abbrev pub IsReadFault : ℕ → ℕ → Fault → Type 0

@@ -1,5 +1,5 @@
 -- The faults of a run.
-use Rattle.std.specs.Prelude.{◌≢◌}
+use Rattle.std.specs.Prelude.{◌≢◌, ℕ, List, ◌++◌, codes, decimal}
 use Rattle.case_core.specs.declared.fault.CaseFault.{CaseFault}
 use Rattle.case_core.specs.declared.fault.CaseFault.TheVariants as case
 use Rattle.check_crew.specs.declared.fault.CrewFault.{CrewFault}
@@ -30,3 +30,24 @@ fault_of_crew crew.Thread = Thread
 -- a fault of what was read, neither of memory, nor of a device, nor of a thread
 abbrev pub IsInputFault : Fault → Type 0
 IsInputFault fault = (fault ≢ Memory) × (fault ≢ Device) × (fault ≢ Thread)
+
+-- the numbers of two cubes
+unfoldable pub pair_text : ℕ → ℕ → List ℕ
+pair_text first second = decimal first ++ codes " and " ++ decimal second
+
+-- the text of a fault: its name, and the lines or cubes that it is about
+abbrev pub fault_text : Fault → List ℕ
+fault_text Header = codes "F1 header"
+fault_text (Token line) = codes "F2 token, line " ++ decimal line
+fault_text Unfinished = codes "F3 unfinished"
+fault_text (TooLarge line) = codes "F4 too large, line " ++ decimal line
+fault_text Limit = codes "F5 limit"
+fault_text Memory = codes "F6 memory"
+fault_text (Repeats cube) = codes "F7 cube " ++ decimal cube ++ codes " repeats"
+fault_text (NotATree first second) = codes "F8 cubes " ++ pair_text first second ++ codes " are not of one tree"
+fault_text (Overlap first second) = codes "F9 cubes " ++ pair_text first second ++ codes " overlap"
+fault_text (BadLabel line) = codes "F10 bad label, line " ++ decimal line
+fault_text (NoSuchLeaf line) = codes "F11 no such leaf, line " ++ decimal line
+fault_text (ProofTwice line) = codes "F12 second proof, line " ++ decimal line
+fault_text Device = codes "F13 device"
+fault_text Thread = codes "F14 thread"

@@ -1,11 +1,12 @@
 //! From the bytes that come in to the bytes that go out.
 
 ghost use Rattle.std.specs.Prelude.{Bool, List, replicate, ◌≡◌, ◌≢◌, ◌↔◌, ◌⊎◌, ℕ, ◌<◌, ◌^◌, ◌-◌, ◌+◌, true, IfOk, IfErr, OnOk, OnErr, IfSome, IsErrOf};
+ghost use Rattle.std.specs.Io.{StartsWith};
 ghost use Rattle.std.specs.Io.KnownBytes.{Keeps, Appends};
 ghost use Rattle.split_tree.specs.SplitTree.{size};
 ghost use Rattle.mark_board.specs.declared.mark.Mark.TheVariants.{Open};
 ghost use Rattle.cube_report.specs.Faults.{IsInputFault};
-ghost use Rattle.cube_report.specs.Device.{AppendsBeginning, IsReadFault};
+ghost use Rattle.cube_report.specs.Device.{AppendsBeginning, IsReadFault, IsReadOf};
 ghost use Rattle.cube_report.specs.Stated.{IsStated};
 ghost use Rattle.mark_board.specs.Findings.{AreFindings};
 ghost use Rattle.cube_report.specs.Correct.{IsReportOn, IsAnswerOn, IsCorrect, IsFaultOn, IsUnsatisfiable, SaysRefuted};
@@ -227,6 +228,8 @@ pub fn write_report<T: Threads + Wait + Sync, W: Sink, G: Gate + Sync>(
     ensures beginning { OnErr result (W.failures writer.new ≢ W.failures writer.old →
         (text : List ℕ) × IsReportOn bundle.now text × AppendsBeginning (W.contents writer.old) (W.contents writer.new) text) }
     ensures device { IsErrOf result Fault.Device ↔ (W.failures writer.old < W.failures writer.new) }
+    ensures same { IfErr result (λ fault. fault ≢ Fault.Device → W.failures writer.new ≡ W.failures writer.old) }
+    ensures ok { OnOk result (W.failures writer.new ≡ W.failures writer.old) }
 {
     let outcome = outcome_of_crew(rt, alloc, bundle, settings, gate)?;
     write_all(writer, &outcome.text)?;
@@ -241,20 +244,34 @@ fn read_all<R: Source>(alloc: Global, reader: &mut R) -> Result<Vec<u8>, Fault>
     ensures err { IfErr result (λ fault. IsReadFault (R.failures reader.old) (R.failures reader.new) fault) }
 {
     let mut input = Vec::new(alloc);
+    read_to_end(reader, &mut input)?;
+    Ok(input)
+}
+
+/// Appends all bytes up to the reader's end. A read of 0 bytes is the reader's end.
+///
+/// `Device` where a read failed in this call, and `Memory` where a growth was refused: what was there before stays.
+pub fn read_to_end<R: Source>(reader: &mut R, bytes: &mut Vec<u8>) -> Result<(), Fault>
+    requires { R.failures reader.old < 2 ^ 64 - 1 }
+    ensures read { OnOk result (IsReadOf (R.remaining reader.old) bytes.old.items bytes.new.items) }
+    ensures stays { StartsWith bytes.new.items bytes.old.items }
+    ensures ok { OnOk result (R.failures reader.new ≡ R.failures reader.old) }
+    ensures err { IfErr result (λ fault. IsReadFault (R.failures reader.old) (R.failures reader.new) fault) }
+{
     let mut buffer = [0u8; 65536];
     loop {
         let Ok(count) = reader.read(&mut buffer) else {
             return Err(Fault::Device);
         };
         if count == 0 {
-            return Ok(input);
+            return Ok(());
         }
-        input.extend_from_slice(&buffer[..count])?;
+        bytes.extend_from_slice(&buffer[..count])?;
     }
 }
 
-/// Writes all of the text.
-fn write_all<W: Sink>(writer: &mut W, text: &[u8]) -> Result<(), Fault>
+/// Writes all of the text. `Device` where a write failed in this call, and then a beginning of it was written.
+pub fn write_all<W: Sink>(writer: &mut W, text: &[u8]) -> Result<(), Fault>
     requires { W.failures writer.old < 2 ^ 64 - 1 }
     ensures ok { OnOk result (Appends (W.contents writer.old) (W.contents writer.new) text.now) }
     ensures same { OnOk result (W.failures writer.new ≡ W.failures writer.old) }

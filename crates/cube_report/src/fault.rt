@@ -3,55 +3,91 @@
 use case_core::CaseFault;
 use check_crew::CrewFault;
 use std::alloc::{AllocError, AllocFailed};
-use thiserror::Error;
+use std::error::Error;
+use std::fmt;
 
 /// Why a run gives no report: the first fault of its input, or what the run itself met. Lines are counted from 1 over
 /// the whole bundle, and cubes from 1. The names `F1` to `F14` are those that the program prints.
-#[derive(Clone, Copy, Debug, PartialEq, Eq, Error)]
+#[derive(Clone, Copy, Debug, PartialEq, Eq)]
 pub enum Fault {
     /// The first line that is neither blank nor a comment doesn't begin with `p inccnf`, or there is none.
-    #[error("F1 header")]
     Header,
     /// A token that can't stand there.
-    #[error("F2 token, line {line}")]
     Token { line: u64 },
     /// The iCNF text ends inside a clause or a cube.
-    #[error("F3 unfinished")]
     Unfinished,
     /// A variable above 268,435,455.
-    #[error("F4 too large, line {line}")]
     TooLarge { line: u64 },
     /// A count above its limit.
-    #[error("F5 limit")]
     Limit,
     /// A growth was refused.
-    #[error("F6 memory")]
     Memory,
     /// This cube equals an earlier one.
-    #[error("F7 cube {cube} repeats")]
     Repeats { cube: u32 },
     /// These cubes go on with different variables.
-    #[error("F8 cubes {first} and {second} are not of one tree")]
     NotATree { first: u32, second: u32 },
     /// One of these cubes begins the other.
-    #[error("F9 cubes {first} and {second} overlap")]
     Overlap { first: u32, second: u32 },
     /// A label line that has none of the forms of a label.
-    #[error("F10 bad label, line {line}")]
     BadLabel { line: u64 },
     /// A label of a leaf that the tree doesn't have, or with a path that is no inner node's.
-    #[error("F11 no such leaf, line {line}")]
     NoSuchLeaf { line: u64 },
     /// A label of a leaf or an inner node that an earlier one has named.
-    #[error("F12 second proof, line {line}")]
     ProofTwice { line: u64 },
     /// A read or a write failed in this call.
-    #[error("F13 device")]
     Device,
     /// The start of a worker was refused.
-    #[error("F14 thread")]
     Thread,
 }
+
+/// Two cubes, as `1 and 2`.
+#[derive(Clone, Copy)]
+struct Pair(u32, u32);
+
+impl fmt::Display for Pair {
+    ghost use Rattle.std.specs.Prelude.{Some};
+    ghost use Rattle.cube_report.specs.Faults.{pair_text};
+
+    ghost output = { λ pair. Some (pair_text pair.0 pair.1) };
+
+    #[tactic(auto, unfolding(crate::specs::Faults::pair_text))]
+    fn fmt<W: fmt::Write>(&self, f: &mut fmt::Formatter<W>) -> fmt::Result {
+        write!(f, "{} and {}", self.0, self.1)
+    }
+}
+
+/// Writes the fault's name and what it names, as `F2 token, line 7`.
+impl fmt::Display for Fault {
+    ghost use Rattle.std.specs.Prelude.{Some};
+    ghost use Rattle.cube_report.specs.Faults.{fault_text};
+
+    ghost output = { λ fault. Some (fault_text fault) };
+
+    fn fmt<W: fmt::Write>(&self, f: &mut fmt::Formatter<W>) -> fmt::Result {
+        match self {
+            Fault::Header => f.write_str("F1 header"),
+            Fault::Token { line } => write!(f, "F2 token, line {line}"),
+            Fault::Unfinished => f.write_str("F3 unfinished"),
+            Fault::TooLarge { line } => write!(f, "F4 too large, line {line}"),
+            Fault::Limit => f.write_str("F5 limit"),
+            Fault::Memory => f.write_str("F6 memory"),
+            Fault::Repeats { cube } => write!(f, "F7 cube {cube} repeats"),
+            Fault::NotATree { first, second } => {
+                write!(f, "F8 cubes {} are not of one tree", Pair(*first, *second))
+            }
+            Fault::Overlap { first, second } => {
+                write!(f, "F9 cubes {} overlap", Pair(*first, *second))
+            }
+            Fault::BadLabel { line } => write!(f, "F10 bad label, line {line}"),
+            Fault::NoSuchLeaf { line } => write!(f, "F11 no such leaf, line {line}"),
+            Fault::ProofTwice { line } => write!(f, "F12 second proof, line {line}"),
+            Fault::Device => f.write_str("F13 device"),
+            Fault::Thread => f.write_str("F14 thread"),
+        }
+    }
+}
+
+impl Error for Fault {}
 
 impl From<AllocError> for Fault {
     ghost use Rattle.std.specs.Prelude.{◌≡◌};

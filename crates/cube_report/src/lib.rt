@@ -7,6 +7,6 @@ mod fault;
 mod report;
 
 pub use device::{Counted, Sink, Source};
-pub use engine::{run, run_io, run_one, write_report};
+pub use engine::{read_to_end, run, run_io, run_one, write_all, write_report};
 pub use fault::Fault;
 pub use report::report_of;

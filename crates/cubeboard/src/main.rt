@@ -1,12 +1,21 @@
 //! `cubeboard` checks refutations made by cube-and-conquer and prints a report.
 #![tactic(auto)]
 
-use cube_command::{command, own_words};
+use cube_command::{Counted, FileStore, NoGate, command, own_words};
 use std::process::ExitCode;
 
 fn main(rt: HostRuntime) -> ExitCode {
-    let status = match own_words(&rt) {
-        Ok(words) => command(&rt, &words, rt.stdin(), rt.stdout(), rt.stderr()),
+    let mut errors = Counted::new(rt.stderr());
+    let status = match own_words(&rt, &mut errors) {
+        Ok(words) => command(
+            &rt,
+            &mut FileStore::new(&rt),
+            &words,
+            &mut Counted::new(rt.stdin()),
+            &mut Counted::new(rt.stdout()),
+            &mut errors,
+            &NoGate,
+        ),
         Err(status) => status,
     };
     ExitCode::from(status)

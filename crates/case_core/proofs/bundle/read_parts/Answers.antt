@@ -4,7 +4,7 @@ use Rattle.case_core.specs.declared.fault.CaseFault.TheVariants.{Memory}
 use Rattle.case_core.specs.Faults.{of_text}
 use Rattle.case_core.specs.Sections.{IsFaultOf, InText, InCubes, InLabels}
 use Rattle.case_core.proofs.Unique.{handed_on}
-use Rattle.case_core.proofs.bundle.read_case.Goals as goal
+use Rattle.case_core.proofs.bundle.read_parts.Goals as goal
 
 pub returns-in_err-file-clause-err : goal.returns-in_err-file-clause-err
 returns-in_err-file-clause-err c =

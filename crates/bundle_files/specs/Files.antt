@@ -1,0 +1,87 @@
+-- Which bundle is judged, by what is known of the files: the input's or a file's, with the proofs that a folder has for its leaves.
+use Rattle.std.specs.Prelude.{◌≡◌, ℕ, zero, suc, ◌+◌, Bool, List, [], ◌∷◌, ◌++◌, map, length, codes, decimal, Option, None, Some, IfSome, is_some, unwrap_or, ◌⊎◌, ⊥}
+use Rattle.std.specs.List.{All, flat_map}
+use Rattle.split_tree.specs.SplitTree.{SplitTree}
+use Rattle.split_tree.specs.Leaves.{missing_nodes, cube_count}
+use Rattle.case_core.specs.Case.{CaseOf}
+use Rattle.case_core.specs.Sections.{IsCaseOf, IsFaultOf}
+use Rattle.case_core.specs.declared.fault.CaseFault.{CaseFault}
+use Rattle.cube_report.specs.declared.fault.Fault.{Fault}
+use Rattle.cube_report.specs.declared.fault.Fault.TheVariants.{Memory, Device}
+
+-- what lies at each path, where that is known: no file, or a file with these bytes
+abbrev pub Held : Type 0
+Held = List ℕ → Option (Option (List ℕ))
+
+-- what reading a path gave, no file or these bytes, is what is known to lie there
+abbrev pub Gives : Held → List ℕ → Option (List ℕ) → Type 0
+Gives held path given = IfSome (held path) (λ known. given ≡ known)
+
+-- the bundle that is read: that of the file that is asked for, or the input
+abbrev pub IsRead : Held → Option (List ℕ) → Option (List ℕ) → List ℕ → Type 0
+IsRead held None input bundle = IfSome input (λ known. bundle ≡ known)
+IsRead held (Some path) input bundle = Gives held path (Some bundle)
+
+-- so many names of leaves of a kind, from this number on
+abbrev pub names_from : List ℕ → ℕ → ℕ → List (List ℕ)
+names_from kind number zero = []
+names_from kind number (suc count) = (kind ++ decimal number) ∷ names_from kind (suc number) count
+
+-- the names of a tree's leaves, in order: 1, 2, .. for the cubes, and m1, m2, .. for the missing leaves
+abbrev pub leaf_names : SplitTree → List (List ℕ)
+leaf_names tree = names_from (codes "") 1 (cube_count tree) ++ names_from (codes "m") 1 (length (missing_nodes tree))
+
+-- the leaves whose proofs are looked for: those of the bundle's tree, or none where the bundle has a fault
+abbrev pub AreLeavesOf : List ℕ → List (List ℕ) → Type 0
+AreLeavesOf bundle names =
+    ((case : CaseOf) × IsCaseOf bundle case × (names ≡ leaf_names case.tree))
+    ⊎ ((fault : CaseFault) × IsFaultOf bundle fault × (names ≡ []))
+
+-- the path of a leaf's proof
+abbrev pub proof_path : List ℕ → List ℕ → List ℕ
+proof_path folder name = folder ++ codes "/" ++ name ++ codes ".lrat"
+
+-- what a leaf with this name adds to a bundle: nothing, or a line end, its label line, and its proof
+abbrev pub section_text : List ℕ → Option (List ℕ) → List ℕ
+section_text name None = []
+section_text name (Some proof) = codes "\nl " ++ name ++ codes "\n" ++ proof
+
+-- Leaves with these names were added, in this order: each whose file is there, with the file's bytes as its proof.
+pub record AreAdded (held : Held) (folder : List ℕ) (names : List (List ℕ)) (bundle whole : List ℕ) : Type 0 where
+  pub leaves : List (List ℕ × Option (List ℕ))
+  pub named : map (λ leaf. leaf.0) leaves ≡ names
+  pub files : All (λ leaf. Gives held (proof_path folder leaf.0) leaf.1) leaves
+  pub text : whole ≡ bundle ++ flat_map (λ leaf. section_text leaf.0 leaf.1) leaves
+
+-- the whole is the bundle with the folder's proofs for all leaves of its tree
+abbrev pub IsWithProofs : Held → List ℕ → List ℕ → List ℕ → Type 0
+IsWithProofs held folder bundle whole = (names : List (List ℕ)) × AreLeavesOf bundle names × AreAdded held folder names bundle whole
+
+-- the bundle that is judged: the one that was read, with the proofs of the folder that is asked for
+abbrev pub IsJudgedOf : Held → Option (List ℕ) → List ℕ → List ℕ → Type 0
+IsJudgedOf held None bundle whole = whole ≡ bundle
+IsJudgedOf held (Some folder) bundle whole = IsWithProofs held folder bundle whole
+
+-- for these words, FILE and DIR, and this input, the bundle that is read, and the one that is judged
+pub record IsBundleOf (held : Held) (file folder input : Option (List ℕ)) (read whole : List ℕ) : Type 0 where
+  pub is_read : IsRead held file input read
+  pub is_judged : IsJudgedOf held folder read whole
+
+-- ---- what single calls do
+
+-- reading a path appended the bytes of its file, or nothing where there is none
+abbrev pub IsFound : Option (Option (List ℕ)) → List ℕ → List ℕ → Bool → Type 0
+IsFound known old new there =
+    (given : Option (List ℕ)) × IfSome known (λ held. given ≡ held) × (there ≡ is_some given) × (new ≡ old ++ unwrap_or given [])
+
+-- no file lies at the path that is asked for, as far as is known
+abbrev pub IsAbsent : Held → Option (List ℕ) → Type 0
+IsAbsent held None = ⊥
+IsAbsent held (Some path) = Gives held path None
+
+-- Why a bundle wasn't read, where so many calls had failed and have: want of memory, without a failed call; or a fault of the
+-- device, where a call failed or no file is there.
+abbrev pub IsUnread : Held → Option (List ℕ) → ℕ → ℕ → Fault → Type 0
+IsUnread held file before after fault =
+    ((fault ≡ Memory) × (after ≡ before))
+    ⊎ ((fault ≡ Device) × ((after ≡ before + 1) ⊎ ((after ≡ before) × IsAbsent held file)))

@@ -1,0 +1,114 @@
+//! A folder with the proofs of leaves: what it adds to a bundle.
+ghost use Rattle.std.specs.Prelude.{◌≡◌, ◌<◌, ◌^◌, ◌-◌, ◌++◌, [], ◌∷◌, codes, IfOk, IfErr, OnOk};
+ghost use Rattle.cube_report.specs.Device.{IsReadFault};
+ghost use Rattle.bundle_files.specs.Files.{IsWithProofs, AreLeavesOf, AreAdded, names_from};
+
+use crate::store::Store;
+use case_core::{CaseFault, read_tree};
+use cube_report::Fault;
+use std::alloc::{AllocError, Global};
+
+/// How many cubes and how many missing leaves a tree has.
+#[derive(Clone, Copy)]
+struct Leaves {
+    cubes: u32,
+    missing: u32,
+}
+
+/// Adds to a bundle the proofs of a folder: for each leaf of the bundle's tree, in the order of the cubes 1, 2, .. and then the
+/// missing leaves 1, 2, .., a line end, the leaf's label line and the bytes of `FOLDER/K.lrat` or `FOLDER/mJ.lrat`, where there is
+/// such a file. A bundle with a fault has no leaves, and stays as it is.
+///
+/// `Device` where a file is there and can't be read, `Memory` where a growth was refused.
+pub fn add_proofs<D: Store>(
+    alloc: Global,
+    store: &mut D,
+    folder: &str,
+    bundle: &mut Vec<u8>,
+) -> Result<(), Fault>
+    requires { D.failures store.old < 2 ^ 64 - 1 }
+    ensures held { D.held store.new ≡ D.held store.old }
+    ensures whole { OnOk result (IsWithProofs (D.held store.old) folder.now bundle.old.items bundle.new.items) }
+    ensures ok { OnOk result (D.failures store.new ≡ D.failures store.old) }
+    ensures err { IfErr result (λ fault. IsReadFault (D.failures store.old) (D.failures store.new) fault) }
+{
+    let leaves = leaves_of(alloc, bundle)?;
+    add_sections(alloc, store, folder, "", leaves.cubes, bundle)?;
+    add_sections(alloc, store, folder, "m", leaves.missing, bundle)
+}
+
+/// The leaves of the bundle's tree. A bundle with a fault has none: no proof is looked for, and the run tells the fault.
+fn leaves_of(alloc: Global, bundle: &[u8]) -> Result<Leaves, Fault>
+    ensures leaves { IfOk result (λ leaves. AreLeavesOf bundle.now
+        (names_from (codes "") 1 leaves.cubes ++ names_from (codes "m") 1 leaves.missing)) }
+    ensures memory { IfErr result (λ fault. fault ≡ Fault.Memory) }
+{
+    match read_tree(alloc, bundle) {
+        Ok(tree) => Ok(Leaves {
+            cubes: tree.cube_count(),
+            missing: tree.missing_count(),
+        }),
+        Err(CaseFault::Memory) => Err(Fault::Memory),
+        Err(_) => Ok(Leaves {
+            cubes: 0,
+            missing: 0,
+        }),
+    }
+}
+
+/// Adds the proofs of the leaves 1 to `count` whose names begin so.
+fn add_sections<D: Store>(
+    alloc: Global,
+    store: &mut D,
+    folder: &str,
+    kind: &str,
+    count: u32,
+    bundle: &mut Vec<u8>,
+) -> Result<(), Fault>
+    requires { D.failures store.old < 2 ^ 64 - 1 }
+    ensures held { D.held store.new ≡ D.held store.old }
+    ensures added { OnOk result (AreAdded (D.held store.old) folder.now (names_from kind.now 1 count) bundle.old.items bundle.new.items) }
+    ensures ok { OnOk result (D.failures store.new ≡ D.failures store.old) }
+    ensures err { IfErr result (λ fault. IsReadFault (D.failures store.old) (D.failures store.new) fault) }
+{
+    let mut done = 0;
+    while done < count {
+        done += 1;
+        let name = format!(in alloc; "{kind}{done}")?;
+        add_section(alloc, store, folder, name.as_str(), bundle)?;
+    }
+    Ok(())
+}
+
+/// Adds the proof of the leaf of this name, where its file is there.
+fn add_section<D: Store>(
+    alloc: Global,
+    store: &mut D,
+    folder: &str,
+    name: &str,
+    bundle: &mut Vec<u8>,
+) -> Result<(), Fault>
+    requires { D.failures store.old < 2 ^ 64 - 1 }
+    ensures held { D.held store.new ≡ D.held store.old }
+    ensures added { OnOk result (AreAdded (D.held store.old) folder.now (name.now ∷ []) bundle.old.items bundle.new.items) }
+    ensures ok { OnOk result (D.failures store.new ≡ D.failures store.old) }
+    ensures err { IfErr result (λ fault. IsReadFault (D.failures store.old) (D.failures store.new) fault) }
+{
+    let path = format!(in alloc; "{folder}/{name}.lrat")?;
+    let before = bundle.len();
+    write_label(name, bundle)?;
+    if !store.read(path.as_str(), bundle)? {
+        bundle.truncate(before);
+    }
+    Ok(())
+}
+
+/// Adds a line end and the label line with this name.
+fn write_label(name: &str, bundle: &mut Vec<u8>) -> Result<(), AllocError>
+    ensures { OnOk result (bundle.new.items ≡ bundle.old.items ++ codes "\nl " ++ name.now ++ codes "\n") }
+{
+    bundle.extend_from_slice(b"\nl ")?;
+    bundle.extend_from_slice(name.as_bytes())?;
+    bundle.push(b'\n')?;
+    Ok(())
+}

@@ -1,0 +1,12 @@
+//! Where the bytes of a bundle come from: the program's input, a file, and a folder with the proofs of leaves.
+#![tactic(auto)]
+
+mod folder;
+mod laws;
+mod source;
+mod store;
+
+pub use folder::add_proofs;
+pub use laws::proofs_keep_formula;
+pub use source::read_judged;
+pub use store::{FileStore, Store};

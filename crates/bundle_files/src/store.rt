@@ -1,0 +1,78 @@
+//! What can be read by its path.
+ghost use Rattle.std.specs.Prelude.{◌≡◌, ℕ, List, ◌<◌, ◌+◌, ◌^◌, ◌-◌, Option, None, IfOk, IfErr, OnOk};
+ghost use Rattle.cube_report.specs.Device.{IsReadFault};
+ghost use Rattle.bundle_files.specs.Files.{IsFound};
+
+use cube_report::{Counted, Fault, read_to_end};
+use std::fs;
+use std::io::ErrorKind;
+use std::rt::Files;
+
+/// What can be read by its path.
+pub trait Store {
+    // What lies at each path, where that is known: no file, or a file with these bytes.
+    ghost held: { Self → List ℕ → Option (Option (List ℕ)) };
+
+    // How many calls have failed so far.
+    ghost failures: { Self → ℕ };
+
+    /// Appends the bytes of the file at this path, and answers whether there is one; where there is none, nothing changes.
+    ///
+    /// `Device` where a file is there and can't be opened or read, `Memory` where a growth was refused. The count of failed
+    /// calls, which has to be below its greatest value, rises by one exactly with `Device`.
+    fn read(&mut self, path: &str, bytes: &mut Vec<u8>) -> Result<bool, Fault>
+        requires { failures self.old < 2 ^ 64 - 1 }
+        ensures held { held self.new ≡ held self.old }
+        ensures found { IfOk result (λ there. IsFound (held self.old path.now) bytes.old.items bytes.new.items there) }
+        ensures ok { OnOk result (failures self.new ≡ failures self.old) }
+        ensures err { IfErr result (λ fault. IsReadFault (failures self.old) (failures self.new) fault) };
+}
+
+/// The files of a system, and how many calls on them have failed. What they hold is not known to a contract.
+#[derive(Drop)]
+pub struct FileStore<'a, R> {
+    files: &'a R,
+    failed: u64,
+}
+
+impl<'a, R> FileStore<'a, R> {
+    /// The files of this system, with no failed call yet.
+    pub fn new(files: &'a R) -> FileStore<'a, R>
+        ensures none { result.failed ≡ 0 }
+    {
+        FileStore { files, failed: 0 }
+    }
+}
+
+impl<'a, R: Files> FileStore<'a, R> {
+    /// A fault of the device, which is counted.
+    fn broken(&mut self) -> Fault
+        requires { self.old.failed < 2 ^ 64 - 1 }
+        ensures fault { result ≡ Fault.Device }
+        ensures count { self.new.failed ≡ self.old.failed + 1 }
+    {
+        self.failed += 1;
+        Fault::Device
+    }
+}
+
+impl<'a, R: Files> Store for FileStore<'a, R> {
+    ghost held = { λ _ _. None };
+
+    ghost failures = { λ s. s.failed };
+
+    fn read(&mut self, path: &str, bytes: &mut Vec<u8>) -> Result<bool, Fault> {
+        match fs::open(self.files, path) {
+            Ok(file) => match read_to_end(&mut Counted::new(file), bytes) {
+                Ok(()) => Ok(true),
+                Err(Fault::Memory) => Err(Fault::Memory),
+                Err(_) => Err(self.broken()),
+            },
+            Err(error) => match error.kind() {
+                ErrorKind::NotFound => Ok(false),
+                ErrorKind::OutOfMemory => Err(Fault::Memory),
+                _ => Err(self.broken()),
+            },
+        }
+    }
+}

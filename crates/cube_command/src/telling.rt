@@ -1,0 +1,104 @@
+//! What went wrong, as a line and as a status.
+
+ghost use Rattle.std.specs.Prelude.{◌≡◌, ◌⊎◌, ◌<◌, ◌^◌, ◌-◌, codes, OnOk, IfErr, MatchResult};
+ghost use Rattle.cube_command.specs.Program.{IsTold, IsToldAs, fault_line, status_of, status_of_answer};
+
+use cube_report::{Fault, Sink, write_all};
+use std::alloc::Global;
+use std::env;
+use std::env::Env;
+use std::io::ErrorKind;
+
+/// The status of a run, after a line that says what went wrong, if anything did.
+pub fn tell_run<E: Sink>(alloc: Global, errors: &mut E, run: Result<bool, Fault>) -> u8
+    requires { E.failures errors.old < 2 ^ 64 - 1 }
+    ensures told { MatchResult run (λ answer. (result ≡ status_of_answer answer) × (errors.new ≡ errors.old))
+        (λ fault. IsToldAs fault result (E.contents errors.old) (E.contents errors.new) (E.failures errors.old) (E.failures errors.new)) }
+{
+    match run {
+        Ok(true) => 0,
+        Ok(false) => 1,
+        Err(fault) => tell_fault(alloc, errors, fault),
+    }
+}
+
+/// Says what went wrong, and answers the status. Where the line of a fault of the input finds no memory, it is want of memory that is told.
+pub fn tell_fault<E: Sink>(alloc: Global, errors: &mut E, fault: Fault) -> u8
+    requires { E.failures errors.old < 2 ^ 64 - 1 }
+    ensures told { IsToldAs fault result (E.contents errors.old) (E.contents errors.new) (E.failures errors.old) (E.failures errors.new) }
+{
+    match fault {
+        Fault::Memory => tell(errors, b"cubeboard: F6 memory\n"),
+        Fault::Thread => tell(errors, b"cubeboard: F14 thread\n"),
+        Fault::Device => tell(errors, b"cubeboard: F13 device\n"),
+        input => match format!(in alloc; "cubeboard: {input}\n") {
+            Ok(line) => tell(errors, line.as_bytes()),
+            Err(_) => {
+                tell(errors, b"cubeboard: F6 memory\n");
+                return status_of(Fault::Memory);
+            }
+        },
+    }
+    status_of(fault)
+}
+
+/// Writes a line, as far as the device takes it.
+fn tell<E: Sink>(errors: &mut E, line: &[u8])
+    requires { E.failures errors.old < 2 ^ 64 - 1 }
+    ensures { IsTold (E.contents errors.old) (E.contents errors.new) (E.failures errors.old) (E.failures errors.new) line.now }
+{
+    let _ = write_all(errors, line);
+}
+
+/// The status of a run that ended with a fault.
+fn status_of(fault: Fault) -> u8
+    ensures { result ≡ status_of fault }
+{
+    match fault {
+        Fault::Header
+        | Fault::Token { .. }
+        | Fault::Unfinished
+        | Fault::TooLarge { .. }
+        | Fault::Limit
+        | Fault::Repeats { .. }
+        | Fault::NotATree { .. }
+        | Fault::Overlap { .. }
+        | Fault::BadLabel { .. }
+        | Fault::NoSuchLeaf { .. }
+        | Fault::ProofTwice { .. } => 3,
+        Fault::Memory | Fault::Thread => 4,
+        Fault::Device => 5,
+    }
+}
+
+/// The words after the program's name, or the status where they can't be read, after a line on `errors`.
+pub fn own_words<R: Env + AllocGlobal, E: Sink>(rt: &R, errors: &mut E) -> Result<Vec<String>, u8>
+    requires { E.failures errors.old < 2 ^ 64 - 1 }
+    ensures ok { OnOk result (errors.new ≡ errors.old) }
+    ensures err { IfErr result (λ status.
+        ((status ≡ 2) × IsTold (E.contents errors.old) (E.contents errors.new) (E.failures errors.old) (E.failures errors.new)
+            (codes "cubeboard: a word is no text\n"))
+        ⊎ ((status ≡ 4) × IsTold (E.contents errors.old) (E.contents errors.new) (E.failures errors.old) (E.failures errors.new)
+            (fault_line Fault.Memory))) }
+{
+    let mut words = match env::args(rt) {
+        Ok(words) => words,
+        Err(error) if error.kind() != ErrorKind::OutOfMemory => {
+            tell(errors, b"cubeboard: a word is no text\n");
+            return Err(2);
+        }
+        Err(_) => return Err(tell_memory(errors)),
+    };
+    let _program = words.next();
+    words.collect(rt.alloc()).map_err(|_| tell_memory(errors))
+}
+
+/// Says that memory was refused, and answers the status.
+fn tell_memory<E: Sink>(errors: &mut E) -> u8
+    requires { E.failures errors.old < 2 ^ 64 - 1 }
+    ensures status { result ≡ 4 }
+    ensures told { IsTold (E.contents errors.old) (E.contents errors.new) (E.failures errors.old) (E.failures errors.new) (fault_line Fault.Memory) }
+{
+    tell(errors, b"cubeboard: F6 memory\n");
+    4
+}

@@ -1,0 +1,14 @@
+use Rattle.std.proofs.Common.{◌≡◌, ◌-◌, ◌^◌, ◌++◌, List, ℕ, vec_len, length}
+use Rattle.std.specs.Io.KnownBytes.{Consumes}
+use Rattle.cube_report.proofs.Written.{ReadSoFar}
+use Rattle.cube_report.proofs.engine.read_to_end.Given as goal
+
+abbrev pub invariant-loop-count : goal.invariant-loop-count
+invariant-loop-count g l = record {
+  same : g.R.Source.failures l.reader ≡ g.R.Source.failures l.initial.reader;
+  room : length l.buffer ≡ 65536;
+  read : ReadSoFar (g.R.Source.remaining l.initial.reader) (g.R.Source.remaining l.reader) l.initial.bytes.items l.bytes.items;
+}
+
+abbrev pub decreases-loop-count : goal.decreases-loop-count
+decreases-loop-count g l = 2 ^ 64 - vec_len l.bytes
