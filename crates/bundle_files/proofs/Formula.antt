@@ -29,7 +29,7 @@ lines_more (x ∷ text) more = cases_more (is_line_end x) x (lines_of (text ++ 1
 one_line : (test : Bool) (line label : List ℕ) (lines more : List (List ℕ)) → is_label label ≡ true
     → let whole = text_before (lines ++ label ∷ more) in (whole ≡ text_before lines) ⊎ (whole ≡ text_before lines ++ 10 ∷ [])
     → let first = if test then [] else line_onto line (lines ++ label ∷ more) (text_before (lines ++ label ∷ more)) in
-      let alone = if test then [] else line_onto line lines (text_before lines) in (first ≡ alone) ⊎ (first ≡ alone ++ 10 ∷ [])
+    let alone = if test then [] else line_onto line lines (text_before lines) in (first ≡ alone) ⊎ (first ≡ alone ++ 10 ∷ [])
 one_line true line label lines more is below = inl refl
 one_line false line label [] more is below = inr (rw is refl)
 one_line false line label (next ∷ lines) more is (inl same) = inl (ap (λ (t : List ℕ). line ++ 10 ∷ t) same)
@@ -101,7 +101,7 @@ Leaf = List ℕ × Option (List ℕ)
 
 -- sections that are added leave the formula as it is
 one_kept : (bundle name : List ℕ) (proof : Option (List ℕ)) (rest : List ℕ) (formula : List (List Literal))
-    → (IsFormulaOf (bundle ++ rest) formula ↔ IsFormulaOf bundle formula) → IsFormulaOf (bundle ++ section_text name proof ++ rest) formula ↔ IsFormulaOf bundle formula
+    → (IsFormulaOf (bundle ++ rest) formula ↔ IsFormulaOf bundle formula) → IsFormulaOf (bundle ++ (section_text name proof ++ rest)) formula ↔ IsFormulaOf bundle formula
 one_kept bundle name None rest formula kept = kept
 one_kept bundle name (Some proof) rest formula kept = formula_kept bundle ((name ++ codes "\n" ++ proof) ++ rest) formula
 

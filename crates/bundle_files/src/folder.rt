@@ -1,7 +1,8 @@
 //! A folder with the proofs of leaves: what it adds to a bundle.
 ghost use Rattle.std.specs.Prelude.{◌≡◌, ◌<◌, ◌^◌, ◌-◌, ◌++◌, [], ◌∷◌, codes, IfOk, IfErr, OnOk};
+ghost use Rattle.std.specs.String.{string_bytes};
 ghost use Rattle.cube_report.specs.Device.{IsReadFault};
-ghost use Rattle.bundle_files.specs.Files.{IsWithProofs, AreLeavesOf, AreAdded, names_from};
+ghost use Rattle.bundle_files.specs.Files.{IsWithProofs, AreLeavesOf, AreAdded, names_from, proof_path};
 
 use crate::store::Store;
 use case_core::{CaseFault, read_tree};
@@ -94,13 +95,21 @@ fn add_section<D: Store>(
     ensures ok { OnOk result (D.failures store.new ≡ D.failures store.old) }
     ensures err { IfErr result (λ fault. IsReadFault (D.failures store.old) (D.failures store.new) fault) }
 {
-    let path = format!(in alloc; "{folder}/{name}.lrat")?;
+    let path = proof_path(alloc, folder, name)?;
     let before = bundle.len();
     write_label(name, bundle)?;
-    if !store.read(path.as_str(), bundle)? {
-        bundle.truncate(before);
+    if store.read(path.as_str(), bundle)? {
+        return Ok(());
     }
+    bundle.truncate(before);
     Ok(())
+}
+
+/// The path of the proof of the leaf of this name.
+fn proof_path(alloc: Global, folder: &str, name: &str) -> Result<String, AllocError>
+    ensures { IfOk result (λ path. string_bytes path ≡ proof_path folder.now name.now) }
+{
+    format!(in alloc; "{folder}/{name}.lrat")
 }
 
 /// Adds a line end and the label line with this name.

@@ -8,5 +8,4 @@ ghost use Rattle.bundle_files.specs.Files.{Held, IsWithProofs};
 pub fn proofs_keep_formula()
     ensures { (held : Held) (folder bundle whole : List ℕ) (formula : List (List Literal)) → IsWithProofs held folder bundle whole
         → IsFormulaOf whole formula ↔ IsFormulaOf bundle formula }
-{
-}
+{}
