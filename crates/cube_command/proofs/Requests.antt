@@ -8,7 +8,7 @@ use Rattle.clap.specs.declared.parser.matches.ArgMatches.{ArgMatches}
 use Rattle.clap.specs.Words.{App, HasMatchesOf, Text, app_of, first_of, fault_of, first_value, found_of, is_simple, is_simple_and_free, kind_of, matches_of, HasKind, Kinds}
 use Rattle.clap.proofs.OnLiterals.{clap_on_literals}
 use Rattle.clap.proofs.WalkLemmas.{first_value-rows}
-use Rattle.cube_command.specs.Program.{AreTaken, asked_for, words_taken}
+use Rattle.cube_command.specs.Words.{AreTaken, asked_for, words_taken}
 
 -- what the parser's matches hold under a name is what the words ask for
 pub found_asked : (parser : Command) (matches : ArgMatches) (words : List Text) (name : Text) → app_of parser ≡ words_taken

@@ -71,8 +71,8 @@ where
     ensures nothing { 1 < result → result < 5 → Keeps (O.contents output.old) (O.contents output.new) }
     ensures beginning { result ≡ 5 → Keeps (O.contents output.old) (O.contents output.new)
         ⊎ ((O.failures output.old < O.failures output.new)
-            × IsBegun (D.held store.old) (file_of (map S.text words.now)) (folder_of (map S.text words.now))
-                (I.remaining input.old) (O.contents output.old) (O.contents output.new)) }
+        × IsBegun (D.held store.old) (file_of (map S.text words.now)) (folder_of (map S.text words.now))
+        (I.remaining input.old) (O.contents output.old) (O.contents output.new)) }
 
     // Status 2: the words can't be taken. They are refused exactly then, unless memory is refused; no words can be taken.
     ensures usage { AreTaken (map S.text words.now) → result ≢ 2 }
@@ -95,7 +95,7 @@ where
         < D.failures store.new + I.failures input.new + O.failures output.new → result ≡ 5 }
     ensures broken { result ≡ 5 →
         (D.failures store.old + I.failures input.old + O.failures output.old
-            < D.failures store.new + I.failures input.new + O.failures output.new)
+        < D.failures store.new + I.failures input.new + O.failures output.new)
         ⊎ IsAbsent (D.held store.old) (file_of (map S.text words.now)) }
 {
     match request_of(rt.alloc(), words) {
@@ -132,13 +132,13 @@ where
     ensures nothing { IfErr result (λ fault. fault ≢ Fault.Device → Keeps (O.contents output.old) (O.contents output.new)) }
     ensures beginning { OnErr result (Keeps (O.contents output.old) (O.contents output.new)
         ⊎ ((O.failures output.old < O.failures output.new)
-            × IsBegun (D.held store.old) (option_map (λ text. text.now) request.now.file) (option_map (λ text. text.now) request.now.proofs)
-                (I.remaining input.old) (O.contents output.old) (O.contents output.new))) }
+        × IsBegun (D.held store.old) (option_map (λ text. text.now) request.now.file) (option_map (λ text. text.now) request.now.proofs)
+        (I.remaining input.old) (O.contents output.old) (O.contents output.new))) }
     ensures failed { D.failures store.old + I.failures input.old + O.failures output.old
         < D.failures store.new + I.failures input.new + O.failures output.new → IsErrOf result Fault.Device }
     ensures broken { IsErrOf result Fault.Device →
         (D.failures store.old + I.failures input.old + O.failures output.old
-            < D.failures store.new + I.failures input.new + O.failures output.new)
+        < D.failures store.new + I.failures input.new + O.failures output.new)
         ⊎ IsAbsent (D.held store.old) (option_map (λ text. text.now) request.now.file) }
 {
     let bundle = read_judged(rt.alloc(), store, input, request.file, request.proofs)?;

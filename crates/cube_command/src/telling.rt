@@ -1,6 +1,7 @@
 //! What went wrong, as a line and as a status.
 
 ghost use Rattle.std.specs.Prelude.{◌≡◌, ◌⊎◌, ◌<◌, ◌^◌, ◌-◌, codes, OnOk, IfErr, MatchResult};
+ghost use Rattle.cube_report.specs.Faults.{IsInputFault};
 ghost use Rattle.cube_command.specs.Program.{IsTold, IsToldAs, fault_line, status_of, status_of_answer};
 
 use cube_report::{Fault, Sink, write_all};
@@ -28,18 +29,32 @@ pub fn tell_fault<E: Sink>(alloc: Global, errors: &mut E, fault: Fault) -> u8
     ensures told { IsToldAs fault result (E.contents errors.old) (E.contents errors.new) (E.failures errors.old) (E.failures errors.new) }
 {
     match fault {
-        Fault::Memory => tell(errors, b"cubeboard: F6 memory\n"),
-        Fault::Thread => tell(errors, b"cubeboard: F14 thread\n"),
-        Fault::Device => tell(errors, b"cubeboard: F13 device\n"),
-        input => match format!(in alloc; "cubeboard: {input}\n") {
-            Ok(line) => tell(errors, line.as_bytes()),
-            Err(_) => {
-                tell(errors, b"cubeboard: F6 memory\n");
-                return status_of(Fault::Memory);
-            }
-        },
+        Fault::Memory => tell_memory(errors),
+        Fault::Thread => {
+            tell(errors, b"cubeboard: F14 thread\n");
+            4
+        }
+        Fault::Device => {
+            tell(errors, b"cubeboard: F13 device\n");
+            5
+        }
+        input => tell_input(alloc, errors, input),
     }
-    status_of(fault)
+}
+
+/// Says which fault the input has.
+fn tell_input<E: Sink>(alloc: Global, errors: &mut E, fault: Fault) -> u8
+    requires errors { E.failures errors.old < 2 ^ 64 - 1 }
+    requires input { IsInputFault fault }
+    ensures told { IsToldAs fault result (E.contents errors.old) (E.contents errors.new) (E.failures errors.old) (E.failures errors.new) }
+{
+    match format!(in alloc; "cubeboard: {fault}\n") {
+        Ok(line) => {
+            tell(errors, line.as_bytes());
+            status_of(fault)
+        }
+        Err(_) => tell_memory(errors),
+    }
 }
 
 /// Writes a line, as far as the device takes it.
@@ -77,9 +92,9 @@ pub fn own_words<R: Env + AllocGlobal, E: Sink>(rt: &R, errors: &mut E) -> Resul
     ensures ok { OnOk result (errors.new ≡ errors.old) }
     ensures err { IfErr result (λ status.
         ((status ≡ 2) × IsTold (E.contents errors.old) (E.contents errors.new) (E.failures errors.old) (E.failures errors.new)
-            (codes "cubeboard: a word is no text\n"))
+        (codes "cubeboard: a word is no text\n"))
         ⊎ ((status ≡ 4) × IsTold (E.contents errors.old) (E.contents errors.new) (E.failures errors.old) (E.failures errors.new)
-            (fault_line Fault.Memory))) }
+        (fault_line Fault.Memory))) }
 {
     let mut words = match env::args(rt) {
         Ok(words) => words,
@@ -90,7 +105,10 @@ pub fn own_words<R: Env + AllocGlobal, E: Sink>(rt: &R, errors: &mut E) -> Resul
         Err(_) => return Err(tell_memory(errors)),
     };
     let _program = words.next();
-    words.collect(rt.alloc()).map_err(|_| tell_memory(errors))
+    match words.collect(rt.alloc()) {
+        Ok(words) => Ok(words),
+        Err(_) => Err(tell_memory(errors)),
+    }
 }
 
 /// Says that memory was refused, and answers the status.

@@ -1,11 +1,11 @@
-use Rattle.std.proofs.Common.{◌≡◌, ◌∙◌, ap₂, codes}
+use Rattle.std.proofs.Common.{◌≡◌, ◌∙◌, ap₂}
 use Rattle.std.proofs.lemmas.Result.{IfOk-weaker}
-use Rattle.clap.specs.Words.{app_of, new_app, with_rule}
-use Rattle.cube_command.specs.Program.{proofs_word, without_program}
+use Rattle.clap.specs.Words.{app_of, with_rule}
+use Rattle.cube_command.specs.Words.{proofs_word, with_numbers}
 use Rattle.cube_command.proofs.words.parser.Goals as goal
 
 pub returns : goal.returns
 returns c =
-    let first : app_of c.in_ok-arg.field-0 ≡ with_rule (without_program (new_app (codes "cubeboard"))) proofs_word =
-    c.in_ok-arg.ensures.shape c.proofs_word.ensures.own ∙ ap₂ with_rule c.texts.ensures c.proofs_word.ensures.rule in
+    let first : app_of c.in_ok-arg.field-0 ≡ with_rule with_numbers proofs_word =
+    c.in_ok-arg.ensures.shape c.proofs_word.ensures.own ∙ ap₂ with_rule c.in_ok-numbers.ensures c.proofs_word.ensures.rule in
     IfOk-weaker c.arg-2.result _ _ (λ parser adds. adds.shape c.file_word.ensures.own ∙ ap₂ with_rule first c.file_word.ensures.rule) c.arg-2.ensures
