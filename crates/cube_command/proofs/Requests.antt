@@ -5,10 +5,10 @@ use Rattle.clap.specs.declared.builder.command.Command.{Command}
 use Rattle.clap.specs.declared.error.Error.{Error}
 use Rattle.clap.specs.declared.error.kind.ErrorKind.TheVariants.{OutOfMemory}
 use Rattle.clap.specs.declared.parser.matches.ArgMatches.{ArgMatches}
-use Rattle.clap.specs.Words.{App, HasMatchesOf, Text, app_of, first_of, fault_of, first_value, found_of, is_simple, is_simple_and_free, kind_of, matches_of, HasKind, Kinds}
+use Rattle.clap.specs.Words.{App, HasMatchesOf, Text, app_of, first_of, fault_of, first_value, found_of, is_simple, is_simple_and_free, kind_of, matches_of, one_of, one_text, HasKind, Kinds}
 use Rattle.clap.proofs.OnLiterals.{clap_on_literals}
-use Rattle.clap.proofs.WalkLemmas.{first_value-rows}
-use Rattle.cube_command.specs.Words.{AreTaken, asked_for, words_taken}
+use Rattle.clap.proofs.WalkLemmas.{first_value-rows, one_text-rows}
+use Rattle.cube_command.specs.Words.{AreTaken, Reads, SaysNumber, asked_for, file_of, folder_of, words_taken}
 
 -- what the parser's matches hold under a name is what the words ask for
 pub found_asked : (parser : Command) (matches : ArgMatches) (words : List Text) (name : Text) → app_of parser ≡ words_taken
@@ -60,18 +60,15 @@ no_words : {A B : Type 0} (f : A → B) (words : List A) → length words ≡ 0 
 no_words f [] none = refl
 no_words f (word ∷ words) none = absurd (cc)
 
-no_text : (found : Option (Bor (List ℕ))) → option_map (λ s. s.now) found ≡ None → found ≡ None
-no_text None is = refl
-no_text (Some text) is = absurd (cc)
-
 -- no words are taken, and ask for neither proofs nor a file
 pub nothing_taken : {A : Type 0} (text : A → Text) (words : List A) → length words ≡ 0 → AreTaken (map text words)
 nothing_taken text words none = ap (fault_of words_taken) (no_words text words none) ∙ no_words_taken
 
-pub no_proofs_asked : {A : Type 0} (text : A → Text) (words : List A) (found : Option (Bor (List ℕ))) → length words ≡ 0
-    → option_map (λ s. s.now) found ≡ asked_for (codes "proofs") (map text words) → found ≡ None
-no_proofs_asked text words found none is = no_text found (is ∙ ap (asked_for (codes "proofs")) (no_words text words none) ∙ no_proofs)
+pub nothing_asked : {A : Type 0} (text : A → Text) (words : List A) → length words ≡ 0 → (file_of (map text words) ≡ None) × (folder_of (map text words) ≡ None)
+nothing_asked text words none = (ap file_of (no_words text words none) ∙ no_file, ap folder_of (no_words text words none) ∙ no_proofs)
 
-pub no_file_asked : {A : Type 0} (text : A → Text) (words : List A) (found : Option (Bor (List ℕ))) → length words ≡ 0
-    → option_map (λ s. s.now) found ≡ asked_for (codes "file") (map text words) → found ≡ None
-no_file_asked text words found none is = no_text found (is ∙ ap (asked_for (codes "file")) (no_words text words none) ∙ no_file)
+-- what the parser's matches read as a number under a name is what the words say
+pub number_asked : (parser : Command) (matches : ArgMatches) (words : List Text) (name : Text) (number : ℕ) → app_of parser ≡ words_taken
+    → HasMatchesOf (app_of parser) words matches → SaysNumber name words number → Reads (one_text (found_of matches) name) number
+number_asked parser matches words name number is has says =
+    (says.0, one_text-rows (found_of matches) name ∙ ap (one_of name) ((has (ap is_simple is ∙ refl)).0 ∙ ap (λ (a : App). matches_of a words) is) ∙ says.1, says.2, says.3)

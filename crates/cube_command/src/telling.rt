@@ -1,11 +1,12 @@
 //! What went wrong, as a line and as a status.
 
-ghost use Rattle.std.specs.Prelude.{◌≡◌, ◌⊎◌, ◌<◌, ◌^◌, ◌-◌, codes, OnOk, IfErr, MatchResult};
+ghost use Rattle.std.specs.Prelude.{◌≡◌, ◌⊎◌, ◌<◌, ◌^◌, ◌-◌, codes, OnOk, IfOk, IfErr, MatchResult};
+ghost use Rattle.std.specs.String.{string_bytes};
 ghost use Rattle.cube_report.specs.Faults.{IsInputFault};
 ghost use Rattle.cube_command.specs.Program.{IsTold, IsToldAs, fault_line, status_of, status_of_answer};
 
 use cube_report::{Fault, Sink, write_all};
-use std::alloc::Global;
+use std::alloc::{AllocError, Global};
 use std::env;
 use std::env::Env;
 use std::io::ErrorKind;
@@ -48,13 +49,20 @@ fn tell_input<E: Sink>(alloc: Global, errors: &mut E, fault: Fault) -> u8
     requires input { IsInputFault fault }
     ensures told { IsToldAs fault result (E.contents errors.old) (E.contents errors.new) (E.failures errors.old) (E.failures errors.new) }
 {
-    match format!(in alloc; "cubeboard: {fault}\n") {
+    match line_of(alloc, fault) {
         Ok(line) => {
             tell(errors, line.as_bytes());
             status_of(fault)
         }
         Err(_) => tell_memory(errors),
     }
+}
+
+/// The line that tells a fault.
+fn line_of(alloc: Global, fault: Fault) -> Result<String, AllocError>
+    ensures { IfOk result (λ line. string_bytes line ≡ fault_line fault) }
+{
+    format!(in alloc; "cubeboard: {fault}\n")
 }
 
 /// Writes a line, as far as the device takes it.

@@ -2,7 +2,7 @@ use Rattle.std.proofs.Common.{◌≡◌, ◌∙◌, map}
 use Rattle.clap.specs.Words.{kind_of}
 use Rattle.clap.specs.declared.error.kind.ErrorKind.TheVariants.{OutOfMemory}
 use Rattle.cube_command.specs.Words.{AreTaken}
-use Rattle.cube_command.proofs.Requests.{found_asked, handed_on, parsed_taken, taken_fails}
+use Rattle.cube_command.proofs.Requests.{found_asked, handed_on, number_asked, parsed_taken, taken_fails}
 use Rattle.cube_command.proofs.words.request_of.Goals as goal
 
 pub returns-in_err-matches-clause-refused : goal.returns-in_err-matches-clause-refused
@@ -15,6 +15,9 @@ pub returns : goal.returns
 returns g c = record {
   proofs = c.get_str.ensures ∙ found_asked _ _ _ _ c.in_ok-parser.ensures c.in_ok-matches.ensures.matches;
   file = c.get_str-2.ensures ∙ found_asked _ _ _ _ c.in_ok-parser.ensures c.in_ok-matches.ensures.matches;
+  settings = λ workers cut says_workers least most says_cut top.
+      c.settings_in.ensures workers cut (number_asked _ _ _ _ workers c.in_ok-parser.ensures c.in_ok-matches.ensures.matches says_workers) least most
+      (number_asked _ _ _ _ cut c.in_ok-parser.ensures c.in_ok-matches.ensures.matches says_cut) top;
   taken = parsed_taken _ _ c.in_ok-parser.ensures c.in_ok-matches.ensures.kinds;
   refused = tt;
 }
