@@ -116,13 +116,18 @@ for word in --workers --cut --proofs; do
     refuses "$word" "$word="
     refuses "$word" "$word" 1 "$word" 2
 done
-for value in 0 33 x -1 1.5 257 4294967297 18446744073709551617; do
+for value in 0 33 x 1.5 257 4294967297 18446744073709551617; do
     refuses --workers --workers "$value"
     refuses --workers --workers="$value"
 done
-for value in 7 x -1 1.5 256 4294967296 18446744073709551616; do
+for value in 7 x 1.5 256 4294967296 18446744073709551616; do
     refuses --cut --cut "$value"
     refuses --cut --cut="$value"
+done
+# A word that begins with - and stands alone is taken for a name, which there isn't.
+for word in --workers --cut; do
+    refuses "'-1'" "$word" -1
+    refuses "$word" "$word=-1"
 done
 
 # Whether the last run told of a device: its name.
