@@ -1,10 +1,11 @@
 #!/bin/sh
-# Runs the built program on a few rows, with 1, 2 and 4 workers, with its Nth request for memory refused, for each N from 1
+# Runs the built program on a few rows, by 1, 2 and 4 workers, with its Nth request for memory refused, for each N from 1
 # until a run meets no refusal. Each run has to write the row's exact report with its status, or no report, the status 4 and
-# `cubeboard: F6 memory`, or with more than one worker `cubeboard: F14 thread`, where the request was made for the start of a thread. So it has
-# with little room for addresses and with few threads for the user: with one worker no thread is started, so
-# that its report is exact where four workers get none. A test of the reader of proof steps is run with refused requests, too. It needs a
-# C compiler; where there is none, it says so and tries nothing. A run that hasn't ended after 20 seconds is ended, and fails. The last line counts.
+# `cubeboard: F6 memory`, or `cubeboard: F14 thread` where the request was made for the start of a thread, which one worker
+# makes none of. So it has with little room for addresses, and with few threads for the user: there one worker has to give the
+# report where four can't start a thread. A test of the reader of proof steps is run with its requests refused, too. It needs a C
+# compiler; where there is none, it says so and tries nothing. A run that hasn't ended after 20 seconds is ended, and
+# fails. The last line counts.
 root=$(CDPATH= cd -- "$(dirname -- "$0")/.." && pwd) || exit 1
 compiler=
 for word in cc gcc clang; do
@@ -100,56 +101,63 @@ limited() {
     note "$base.in" $as_other sh -c "$2"' && shift && exec "$@"' sh "$3" "$program" --workers "$1"
 }
 
-# Says so where no limit was seen at which one worker gives the report and four can't start a thread: what was limited.
-unless_seen() {
-    [ -n "$seen" ] || echo "refused: one worker beside four with little $1 is skipped, since no limit here tells them apart"
-}
-
-# One row with little room for addresses, from too little for a thread's stack to enough for all: the row's exact report, or that the start
-# of a thread (or memory) was refused. The greatest room has to refuse none.
+# One row with little room for addresses, from enough for one thread's stack to enough for all: by one worker the row's exact report,
+# by more that, or that the start of a thread (or memory) was refused. The least room has to refuse four workers, the greatest nobody.
 little_room() {
     base=$root/tests/rows/$1
-    seen=
-    for room in 10000 20000 25000 30000 100000 1000000; do
-        alone=
+    room='ulimit -S -s 8192 && ulimit -v "$1"'
+    if ! sh -c "$room" sh 1000000 2> /dev/null; then
+        echo "refused: little room for addresses is skipped, since it can't be set here"
+        return
+    fi
+    for kilobytes in 20000 25000 30000 100000 1000000; do
         for workers in 1 2 4; do
-            limited "$workers" 'ulimit -v "$1"' "$room"
-            is_exact "$base" || { [ "$room" -lt 1000000 ] && says_refused "$workers"; }
-            count "$1 by $workers workers with $room KB of addresses" $?
-            [ "$workers" -eq 1 ] && is_exact "$base" && alone=yes
-            [ "$workers" -eq 4 ] && says_thread && seen=$seen$alone
+            limited "$workers" "$room" "$kilobytes"
+            case $workers-$kilobytes in
+                1-* | *-1000000) is_exact "$base" ;;
+                4-20000) says_thread ;;
+                *) is_exact "$base" || says_refused "$workers" ;;
+            esac
+            count "$1 by $workers workers with $kilobytes KB of addresses" $?
         done
     done
-    unless_seen "room for addresses"
 }
 
-# One row with few threads for the user: the row's exact report, which it is with one worker, or that the start of a thread was refused. Root
-# isn't bound by such a limit, so the program runs as another user then, from where that one may run it.
+# One row with few threads for the user: by one worker the row's exact report, by more that, or that the start of a thread was refused,
+# which it has to be where the user may have one. Root isn't bound by such a limit, so the program runs as another user then.
 few_threads() {
     base=$root/tests/rows/$1
-    seen=
+    few='{ ulimit -u "$1" 2> /dev/null || ulimit -p "$1"; }'
     if [ "$(id -u)" -eq 0 ]; then
         as_other="setpriv --reuid=65534 --regid=65534 --clear-groups"
         chmod 711 "$here"
         cp "$program" "$here/program"
         program=$here/program
     fi
-    if $as_other test -x "$program" 2> /dev/null; then
+    # timeout can't start what it is to run where the limit is kept.
+    if ! $as_other test -x "$program" 2> /dev/null; then
+        echo "refused: few threads for the user are skipped, since no other user can run the program"
+    elif $as_other sh -c "$few && exec timeout 20 true" sh 1 2> /dev/null; then
+        echo "refused: few threads for the user are skipped, since nobody here is bound by such a limit"
+    else
         for threads in 1 2 3 4; do
             for workers in 1 2 4; do
-                limited "$workers" '{ ulimit -u "$1" 2> /dev/null || ulimit -p "$1"; }' "$threads"
-                is_exact "$base" || { [ "$workers" -gt 1 ] && says_thread; }
+                limited "$workers" "$few" "$threads"
+                case $workers-$threads in
+                    1-*) is_exact "$base" ;;
+                    *-1) says_thread ;;
+                    *) is_exact "$base" || says_thread ;;
+                esac
                 count "$1 by $workers workers with $threads threads for the user" $?
-                [ "$workers" -eq 4 ] && says_thread && seen=yes
             done
         done
     fi
-    unless_seen "threads for the user"
     as_other=
     program=$root/crates/cubeboard/out/cubeboard
 }
 
-for name in two_cubes_refuted missing_leaf_open proof_for_an_inner_node folder_of_proofs folder_with_missing_leaves second_section_of_a_cube; do
+for name in two_cubes_refuted missing_leaf_open proof_for_an_inner_node folder_of_proofs folder_with_missing_leaves \
+    second_section_of_a_cube; do
     for workers in 1 2 4; do
         row "$name" "$workers"
     done
