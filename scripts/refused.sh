@@ -1,9 +1,11 @@
 #!/bin/sh
-# Runs the built program on a few rows with its Nth request for memory refused, for each N from 1 until a run meets no
-# refusal. Each run has to write the row's exact report with its status, or no report, the status 4 and
-# `cubeboard: F6 memory`, or `cubeboard: F14 thread` where the request was made for the start of a thread; so it has with little room for
-# addresses. A test of the reader of proof steps is run the same way. It needs a C compiler; where there is
-# none, it says so and tries nothing. The last line counts.
+# Runs the built program on a few rows, by 1, 2 and 4 workers, with its Nth request for memory refused, for each N from 1
+# until a run meets no refusal. Each run has to write the row's exact report with its status, or no report, the status 4 and
+# `cubeboard: F6 memory`, or `cubeboard: F14 thread` where the request was made for the start of a thread, which one worker
+# makes none of. So it has with little room for addresses, and with few threads for the user: there one worker has to give the
+# report where four can't start a thread. A test of the reader of proof steps is run with its requests refused, too. It needs a C
+# compiler; where there is none, it says so and tries nothing. A run that hasn't ended after 20 seconds is ended, and
+# fails. The last line counts.
 root=$(CDPATH= cd -- "$(dirname -- "$0")/.." && pwd) || exit 1
 compiler=
 for word in cc gcc clang; do
@@ -25,24 +27,29 @@ fi
 program=$root/crates/cubeboard/out/cubeboard
 passed=0
 failed=0
+as_other=
+mkdir "$here/run"
 echo "cubeboard: F6 memory" > "$here/memory"
 echo "cubeboard: F14 thread" > "$here/thread"
 limit=10000
 
-# One run with this request refused: the row's files without the ending, the request, the words.
-run() {
-    row=$1
-    request=$2
-    shift 2
-    rm -f "$here/mark"
-    (cd "$here/run" && REFUSE=$request REFUSED_MARK=$here/mark LD_PRELOAD=$here/refuse.so "$program" "$@") \
-        < "$row.in" > "$here/out" 2> "$here/err"
+# Runs a command in $here/run, and notes what it writes and its status: the input, then the command.
+note() {
+    input=$1
+    shift
+    (cd "$here/run" && timeout 20 "$@") < "$input" > "$here/out" 2> "$here/err"
     echo $? > "$here/status"
 }
 
-# Whether the last run said that memory or the start of a thread was refused, and nothing else.
+# Whether the last run, by so many workers, said that memory or the start of a thread was refused, and nothing else.
 says_refused() {
-    [ "$(cat "$here/status")" = 4 ] && [ ! -s "$here/out" ] && { cmp -s "$here/err" "$here/memory" || cmp -s "$here/err" "$here/thread"; }
+    [ "$(cat "$here/status")" = 4 ] && [ ! -s "$here/out" ] \
+        && { cmp -s "$here/err" "$here/memory" || { [ "$1" -gt 1 ] && cmp -s "$here/err" "$here/thread"; }; }
+}
+
+# Whether the last run said that the start of a thread was refused, and nothing else.
+says_thread() {
+    says_refused 2 && cmp -s "$here/err" "$here/thread"
 }
 
 # Whether the last run is the row's own: its files without the ending.
@@ -50,57 +57,113 @@ is_exact() {
     cmp -s "$here/out" "$1.out" && cmp -s "$here/err" "$1.err" && cmp -s "$here/status" "$1.status"
 }
 
-# All requests of one row.
+# Counts the last run: what it was, and whether it is as it has to be.
+count() {
+    if [ "$2" -eq 0 ]; then
+        passed=$((passed + 1))
+    else
+        failed=$((failed + 1))
+        echo "refused: $1: status $(cat "$here/status"), $(head -n 1 "$here/err" | head -c 200)"
+    fi
+}
+
+# All requests of one row, by so many workers.
 row() {
     base=$root/tests/rows/$1
+    workers=$2
     rm -rf "$here/run"
     mkdir "$here/run"
     [ -f "$base.icnf" ] && cp "$base.icnf" "$here/run/case.icnf"
     [ -d "$base.proofs" ] && cp -r "$base.proofs" "$here/run/proofs"
-    set --
+    set -- --workers "$workers"
     if [ -f "$base.args" ]; then
         while IFS= read -r word; do set -- "$@" "$word"; done < "$base.args"
     fi
     request=1
     refused=0
     while [ "$request" -le "$limit" ]; do
-        run "$base" "$request" "$@"
-        if is_exact "$base" || { [ -f "$here/mark" ] && says_refused; }; then
-            passed=$((passed + 1))
-        else
-            failed=$((failed + 1))
-            echo "refused: $(basename "$base"), request $request: status $(cat "$here/status"), $(head -c 200 "$here/err")"
-        fi
+        rm -f "$here/mark"
+        note "$base.in" env REFUSE="$request" REFUSED_MARK="$here/mark" LD_PRELOAD="$here/refuse.so" "$program" "$@"
+        is_exact "$base" || { [ -f "$here/mark" ] && says_refused "$workers"; }
+        count "$(basename "$base") by $workers workers, request $request" $?
         [ -f "$here/mark" ] || break
         refused=$((refused + 1))
         request=$((request + 1))
     done
     if [ "$refused" -eq 0 ] || [ "$request" -gt "$limit" ]; then
         failed=$((failed + 1))
-        echo "refused: $(basename "$base"): $refused requests were refused"
+        echo "refused: $(basename "$base") by $workers workers: $refused requests were refused"
     fi
 }
 
-# One row with little room for addresses, from too little for a thread's stack to enough for all: the row's exact report, or that the start
-# of a thread (or memory) was refused. The least room has to refuse one, and the greatest none.
+# One row by so many workers under a limit of the system: what sets it to $1, and the limit.
+limited() {
+    note "$base.in" $as_other sh -c "$2"' && shift && exec "$@"' sh "$3" "$program" --workers "$1"
+}
+
+# One row with little room for addresses, from enough for one thread's stack to enough for all: by one worker the row's exact report,
+# by more that, or that the start of a thread (or memory) was refused. The least room has to refuse four workers, the greatest nobody.
 little_room() {
     base=$root/tests/rows/$1
-    for room in 20000 25000 30000 100000 1000000; do
-        (ulimit -v "$room" && exec "$program") < "$base.in" > "$here/out" 2> "$here/err"
-        echo $? > "$here/status"
-        if { [ "$room" -gt 20000 ] && is_exact "$base"; } || { [ "$room" -lt 1000000 ] && says_refused; }; then
-            passed=$((passed + 1))
-        else
-            failed=$((failed + 1))
-            echo "refused: $1 with $room KB of addresses: status $(cat "$here/status"), $(head -c 200 "$here/err")"
-        fi
+    room='ulimit -S -s 8192 && ulimit -v "$1"'
+    if ! sh -c "$room" sh 1000000 2> /dev/null; then
+        echo "refused: little room for addresses is skipped, since it can't be set here"
+        return
+    fi
+    for kilobytes in 20000 25000 30000 100000 1000000; do
+        for workers in 1 2 4; do
+            limited "$workers" "$room" "$kilobytes"
+            case $workers-$kilobytes in
+                1-* | *-1000000) is_exact "$base" ;;
+                4-20000) says_thread ;;
+                *) is_exact "$base" || says_refused "$workers" ;;
+            esac
+            count "$1 by $workers workers with $kilobytes KB of addresses" $?
+        done
     done
 }
 
-for name in two_cubes_refuted missing_leaf_open proof_for_an_inner_node folder_of_proofs second_section_of_a_cube; do
-    row "$name"
+# One row with few threads for the user: by one worker the row's exact report, by more that, or that the start of a thread was refused,
+# which it has to be where the user may have one. Root isn't bound by such a limit, so the program runs as another user then.
+few_threads() {
+    base=$root/tests/rows/$1
+    few='{ ulimit -u "$1" 2> /dev/null || ulimit -p "$1"; }'
+    if [ "$(id -u)" -eq 0 ]; then
+        as_other="setpriv --reuid=65534 --regid=65534 --clear-groups"
+        chmod 711 "$here"
+        cp "$program" "$here/program"
+        program=$here/program
+    fi
+    # timeout can't start what it is to run where the limit is kept.
+    if ! $as_other test -x "$program" 2> /dev/null; then
+        echo "refused: few threads for the user are skipped, since no other user can run the program"
+    elif $as_other sh -c "$few && exec timeout 20 true" sh 1 2> /dev/null; then
+        echo "refused: few threads for the user are skipped, since nobody here is bound by such a limit"
+    else
+        for threads in 1 2 3 4; do
+            for workers in 1 2 4; do
+                limited "$workers" "$few" "$threads"
+                case $workers-$threads in
+                    1-*) is_exact "$base" ;;
+                    *-1) says_thread ;;
+                    *) is_exact "$base" || says_thread ;;
+                esac
+                count "$1 by $workers workers with $threads threads for the user" $?
+            done
+        done
+    fi
+    as_other=
+    program=$root/crates/cubeboard/out/cubeboard
+}
+
+for name in two_cubes_refuted missing_leaf_open proof_for_an_inner_node folder_of_proofs folder_with_missing_leaves \
+    second_section_of_a_cube; do
+    for workers in 1 2 4; do
+        row "$name" "$workers"
+    done
 done
 little_room two_cubes_refuted
+few_threads two_cubes_refuted
 
 # The reader of proof steps, by a test of the suite that the gate has left: a refused call changes nothing, so the next one gives
 # the step that it would have given.
@@ -110,8 +173,8 @@ if [ -x "$tests" ]; then
     refused=0
     while [ "$request" -le "$limit" ]; do
         rm -f "$here/mark"
-        if REFUSE=$request REFUSED_MARK=$here/mark LD_PRELOAD=$here/refuse.so "$tests" lrat_text_tests::step_after_refused_memory \
-            > "$here/out" 2> "$here/err"; then
+        if timeout 20 env REFUSE="$request" REFUSED_MARK="$here/mark" LD_PRELOAD="$here/refuse.so" \
+            "$tests" lrat_text_tests::step_after_refused_memory > "$here/out" 2> "$here/err"; then
             passed=$((passed + 1))
         else
             failed=$((failed + 1))

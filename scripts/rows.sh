@@ -1,15 +1,18 @@
 #!/bin/sh
 # Runs the built program on each row of tests/rows, on each beginning of the bundle of tests/prefixes, and on the
 # examples, and compares its standard output, its standard error and its status, byte for byte, with the files that say
-# what is wanted. Those were written from the formats, not by the program. The last line counts.
+# what is wanted. Those were written from the formats, not by the program. A run that hasn't ended after a minute is ended,
+# and differs. The last line counts.
 #
 # A row NAME has NAME.in (standard input), NAME.out, NAME.err and NAME.status. NAME.args has the program's words, one a
-# line; it runs in a folder of its own, where NAME.icnf lies as case.icnf and NAME.proofs as proofs.
+# line; it runs in a folder of its own, where NAME.icnf lies as case.icnf and NAME.proofs as proofs. A row without a word for the
+# workers or the cut runs three times: as it is, with `--workers 1`, and with `--workers 4 --cut 3`.
 root=$(CDPATH= cd -- "$(dirname -- "$0")/.." && pwd) || exit 1
 here=$(mktemp -d) || exit 1
 trap 'rm -rf "$here"' EXIT
 passed=0
 failed=0
+as_other=
 
 # Counts one claim: its name, and whether it holds.
 count() {
@@ -17,7 +20,7 @@ count() {
         passed=$((passed + 1))
     else
         failed=$((failed + 1))
-        echo "rows: $1 differs: status $(cat "$here/status"), $(head -c 200 "$here/err")"
+        echo "rows: $1 differs: status $(cat "$here/status"), $(head -n 1 "$here/err" | head -c 200)"
     fi
 }
 
@@ -25,7 +28,7 @@ count() {
 run() {
     input=$1
     shift
-    (cd "$here/run" && "$program" "$@") < "$input" > "$here/out" 2> "$here/err"
+    (cd "$here/run" && timeout 60 $as_other "$program" "$@") < "$input" > "$here/out" 2> "$here/err"
     echo $? > "$here/status"
 }
 
@@ -41,33 +44,46 @@ clear_folder() {
     mkdir "$here/run"
 }
 
-# One row: the path of its files without the ending.
-row() {
+# Makes $here/run anew with a row's files: their path without the ending.
+lay_out() {
     clear_folder
     [ -f "$1.icnf" ] && cp "$1.icnf" "$here/run/case.icnf"
     [ -d "$1.proofs" ] && cp -r "$1.proofs" "$here/run/proofs"
-    set -- "$1"
-    if [ -f "$1.args" ]; then
-        while IFS= read -r word; do set -- "$@" "$word"; done < "$1.args"
-    fi
+}
+
+# One row: the path of its files without the ending, and the words that are put before its own.
+row() {
     base=$1
     shift
+    name=$(basename "$base")${1:+" with $*"}
+    lay_out "$base"
+    if [ -f "$base.args" ]; then
+        while IFS= read -r word; do set -- "$@" "$word"; done < "$base.args"
+    fi
     run "$base.in" "$@"
-    compare "$(basename "$base")" "$base.out" "$base.err" "$base.status"
+    compare "$name" "$base.out" "$base.err" "$base.status"
+}
+
+# Whether a row has a word for the workers or the cut: the path of its files without the ending.
+has_settings() {
+    [ -f "$1.args" ] && grep -q -e '^--workers' -e '^--cut' "$1.args"
 }
 
 # The launcher first, which builds the program where that is needed; all other runs are of the program itself.
-clear_folder
-program=$root/cubeboard
-run /dev/null
-if [ "$(cat "$here/status")" != 3 ]; then
+"$root/cubeboard" < /dev/null > "$here/out" 2> "$here/err"
+if [ $? -ne 3 ]; then
     cat "$here/err"
     echo "rows: 0 passed, 1 failed"
     exit 1
 fi
 program=$root/crates/cubeboard/out/cubeboard
 for input in "$root"/tests/rows/*.in; do
-    row "${input%.in}"
+    path=${input%.in}
+    row "$path"
+    if ! has_settings "$path"; then
+        row "$path" --workers 1
+        row "$path" --workers 4 --cut 3
+    fi
 done
 
 # Each beginning of a bundle: `answers` has the least and the greatest length, and the name of what is wanted.
@@ -81,31 +97,87 @@ while read -r length last name; do
     done
 done < "$prefixes/answers"
 
-# Words that can't be taken, and the help: a text on standard error, status 2, no report.
-for word in --help -h --proofs --no-such-word; do
-    run /dev/null "$word"
-    [ "$(cat "$here/status")" = 2 ] && [ ! -s "$here/out" ] && [ -s "$here/err" ]
-    count "the word $word" $?
-done
-run /dev/null --help
+# Words that can't be taken, and the help: status 2, no report, and on standard error a text that has what is named first.
+refuses() {
+    named=$1
+    shift
+    run "$root/tests/rows/two_cubes_refuted.in" "$@"
+    [ "$(cat "$here/status")" = 2 ] && [ ! -s "$here/out" ] && grep -q -e "$named" "$here/err"
+    count "the words $*" $?
+}
+refuses Usage --help
 [ "$(wc -l < "$here/err")" -le 40 ]
 count "the help on one screen" $?
+refuses Usage -h
+refuses --no-such-word --no-such-word
+for word in --workers --cut --proofs; do
+    refuses "$word" "$word"
+    refuses "$word" "$word" ''
+    refuses "$word" "$word="
+    refuses "$word" "$word" 1 "$word" 2
+done
+for value in 0 33 x 1.5 257 4294967297 18446744073709551617; do
+    refuses --workers --workers "$value"
+    refuses --workers --workers="$value"
+done
+for value in 7 x 1.5 256 4294967296 18446744073709551616; do
+    refuses --cut --cut "$value"
+    refuses --cut --cut="$value"
+done
+# A word that begins with - and stands alone is taken for a name, which there isn't.
+for word in --workers --cut; do
+    refuses "'-1'" "$word" -1
+    refuses "$word" "$word=-1"
+done
 
-# A file of the folder that is there and can't be read as a file.
-clear_folder
-cp "$root/tests/rows/folder_of_proofs.icnf" "$here/run/case.icnf"
-mkdir -p "$here/run/proofs/2.lrat"
+# Whether the last run told of a device: its name.
+is_device() {
+    [ "$(cat "$here/status")" = 5 ] && [ ! -s "$here/out" ] && [ "$(cat "$here/err")" = "cubeboard: F13 device" ]
+    count "$1" $?
+}
+
+# A read that fails, since there is a folder where a file should be.
+lay_out "$root/tests/rows/folder_of_proofs"
+run "$here/run"
+is_device "a folder for the standard input"
+run "$here/run" --proofs proofs
+is_device "a folder for the standard input, and proofs"
+rm "$here/run/proofs/2.lrat"
+mkdir "$here/run/proofs/2.lrat"
 run /dev/null --proofs proofs case.icnf
-[ "$(cat "$here/status")" = 5 ] && [ ! -s "$here/out" ] && [ "$(cat "$here/err")" = "cubeboard: F13 device" ]
-count "a folder in the place of a proof" $?
+is_device "a folder in the place of a proof"
+
+# What is there and may not be read. Root reads anything, so the program runs as another user then.
+if [ "$(id -u)" -eq 0 ]; then
+    as_other="setpriv --reuid=65534 --regid=65534 --clear-groups"
+    chmod 711 "$here"
+    cp "$program" "$here/program"
+    program=$here/program
+fi
+for path in proofs/2.lrat proofs case.icnf; do
+    lay_out "$root/tests/rows/folder_of_proofs"
+    chmod -R a+rX "$here/run"
+    $as_other test -x "$program" 2> /dev/null && $as_other test -r "$here/run/$path"
+    reads=$?
+    chmod 000 "$here/run/$path"
+    if [ "$reads" -ne 0 ] || $as_other test -r "$here/run/$path"; then
+        echo "rows: $path without rights is skipped, since there is no user here whom rights keep from it"
+    else
+        run /dev/null --proofs proofs case.icnf
+        is_device "$path without rights"
+    fi
+    chmod 755 "$here/run/$path"
+done
+as_other=
+program=$root/crates/cubeboard/out/cubeboard
 
 # A report that can't be written, and an error that can't be written.
 if [ -w /dev/full ]; then
-    "$program" < "$root/tests/rows/unit_then_empty_clause.in" > /dev/full 2> "$here/err"
+    timeout 60 "$program" < "$root/tests/rows/unit_then_empty_clause.in" > /dev/full 2> "$here/err"
     echo $? > "$here/status"
     [ "$(cat "$here/status")" = 5 ] && [ "$(cat "$here/err")" = "cubeboard: F13 device" ]
     count "a full device" $?
-    "$program" < /dev/null > "$here/out" 2> /dev/full
+    timeout 60 "$program" < /dev/null > "$here/out" 2> /dev/full
     echo $? > "$here/status"
     [ "$(cat "$here/status")" = 3 ] && [ ! -s "$here/out" ]
     count "a full device for the error" $?
