@@ -17,27 +17,37 @@ from pathlib import Path
 # The claims: a title, what it says, and its clauses, each by file, function (or type) and names; - is a clause without one.
 CLAIMS = [
     ("`s REFUTED` means that the formula has no model", """
-Where the report on a bundle ends with the line `s REFUTED`, or `run_io` answers true, no assignment makes all clauses of
-the bundle's formula true. To say that, no definition of trees, proofs or marks is needed.""",
-     ["cube_report/engine.rt run_one sound",
+Where the program ends with status 0, no assignment makes all clauses true of the formula of the bundle that it read, from FILE or from
+its input: `command` is the call that `main` makes. The libraries say the same of a report that ends with the line `s REFUTED`, and of `run_io`
+where it answers true. To say that, no definition of trees, proofs or marks is needed.""",
+     ["cube_command/program.rt command sound",
+      "cube_report/engine.rt run_one sound",
       "cube_report/engine.rt run sound",
       "cube_report/engine.rt run_io sound"]),
     ("A refusal names the first fault", """
 Where a bundle is refused for its own sake, not for want of memory, a failed device or a refused thread, the fault is its first one.""",
-     ["cube_report/engine.rt run_one fault",
+     ["cube_command/program.rt command fault",
+      "cube_report/engine.rt run_one fault",
       "cube_report/engine.rt run fault",
       "cube_report/engine.rt run_io fault"]),
     ("Every line of the report is the definition's", """
 The report is one text, fixed by the case that the bundle stands for and by the mark of each node: what its section's
 proof is judged to be from the formula and the node's path, or open where it has no section.""",
-     ["cube_report/engine.rt run_one text correct",
+     ["cube_command/program.rt command refuted open",
+      "cube_report/engine.rt run_one text correct",
       "cube_report/engine.rt run text correct",
       "cube_report/engine.rt run_io written answer correct",
       "cube_report/report.rt report_of -"]),
     ("Streams and status", """
-What `run_io` has written where something fails, and what the program's status says of its input.""",
-     ["cube_report/engine.rt run_io nothing beginning device",
-      "cube_command/program.rt command status usage taken none answer proofs"]),
+What the program and `run_io` have written where something fails, which lines go to standard error, and which status comes when.""",
+     ["cube_command/program.rt command status quiet nothing beginning usage taken none memory device failed broken",
+      "cube_command/telling.rt own_words ok err",
+      "cube_report/engine.rt run_io nothing beginning device"]),
+    ("bundle_files: the bundle that is judged", """
+It is the file's or the input's, with the proofs of a folder added for the leaves of its tree, in order and each under its own label.""",
+     ["bundle_files/source.rt read_judged bundle ok err kept",
+      "bundle_files/folder.rt add_proofs held whole ok err",
+      "bundle_files/store.rt Store::read held found ok err"]),
     ("cnf_text: the iCNF text", """
 The file that is read is what the text stands for, or the fault is the text's first one.""",
      ["cnf_text/icnf.rt read_icnf ok only err"]),
@@ -112,8 +122,8 @@ Not among the definitions are:
 - the enums and structs of the code: each claim names those that its definitions name, and src/ has their variants;
 - how a clause sees a value of the code, as a list, a set or a number: a `Vec` as the list of its items, a `Formula` as
   its clauses, a `Boards` as its case and all nodes' marks. The `impl Model` beside a type says that;
-- what a reader or a writer says of itself in a clause, as `R.remaining` or `W.contents`. The traits `Source` and `Sink`
-  ([cube_report/device.rt](../crates/cube_report/src/device.rt)) and the kit's `Read` and `Write` say that.
+- what a reader, a writer or a store of files says of itself in a clause, as `R.remaining`, `W.contents` or `D.held`. The traits `Source` and `Sink`
+  ([cube_report/device.rt](../crates/cube_report/src/device.rt)), `Store` ([bundle_files/store.rt](../crates/bundle_files/src/store.rt)) and the kit's `Read` and `Write` say that.
 """
 
 LAWS = """
