@@ -74,8 +74,10 @@ where
         × IsBegun (D.held store.old) (file_of (map S.text words.now)) (folder_of (map S.text words.now))
         (I.remaining input.old) (O.contents output.old) (O.contents output.new)) }
 
-    // Status 2: the words can't be taken. They are refused exactly then, unless memory is refused; no words can be taken.
+    // Status 2: the words can't be taken. They are refused exactly then, unless memory is refused, and nothing is read; no words can
+    // be taken.
     ensures usage { AreTaken (map S.text words.now) → result ≢ 2 }
+    ensures unread { result ≡ 2 → (store.new ≡ store.old) × (input.new ≡ input.old) }
     ensures taken { result ≢ 2 → result ≢ 4 → AreTaken (map S.text words.now) }
     ensures none { length words.now ≡ 0 → (result ≢ 2)
         × (file_of (map S.text words.now) ≡ None) × (folder_of (map S.text words.now) ≡ None) }
