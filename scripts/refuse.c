@@ -1,5 +1,5 @@
-/* Preloaded by scripts/refused.sh: the Nth request for memory that the program makes is refused, N from REFUSE. Where a
-   request was refused, the file that REFUSED_MARK names is made. */
+/* Preloaded by scripts/refused.sh: the Nth request for memory that the program makes is refused, N from REFUSE, and its Nth read
+   fails as one that a signal interrupts, N from INTERRUPT. Where that was so, the file that REFUSED_MARK names is made. */
 #define _GNU_SOURCE
 #include <dlfcn.h>
 #include <errno.h>
@@ -10,6 +10,13 @@
 
 static _Atomic long requests;
 
+static void leave_mark(void) {
+    const char *mark = getenv("REFUSED_MARK");
+    if (!mark) return;
+    int file = open(mark, O_CREAT | O_WRONLY, 0600);
+    if (file >= 0) close(file);
+}
+
 static int refuses(void) {
     static _Atomic long wanted = -1;
     if (atomic_load(&wanted) < 0) {
@@ -17,13 +24,20 @@ static int refuses(void) {
         atomic_store(&wanted, word ? atol(word) : 0);
     }
     if (atomic_fetch_add(&requests, 1) + 1 != atomic_load(&wanted)) return 0;
-    const char *mark = getenv("REFUSED_MARK");
-    if (mark) {
-        int file = open(mark, O_CREAT | O_WRONLY, 0600);
-        if (file >= 0) close(file);
-    }
+    leave_mark();
     errno = ENOMEM;
     return 1;
+}
+
+ssize_t read(int file, void *bytes, size_t count) {
+    static _Atomic long reads;
+    static ssize_t (*real)(int, void *, size_t);
+    if (!real) real = (ssize_t (*)(int, void *, size_t))dlsym(RTLD_NEXT, "read");
+    const char *word = getenv("INTERRUPT");
+    if (!word || atomic_fetch_add(&reads, 1) + 1 != atol(word)) return real(file, bytes, count);
+    leave_mark();
+    errno = EINTR;
+    return -1;
 }
 
 void *malloc(size_t size) {

@@ -3,9 +3,9 @@
 # until a run meets no refusal. Each run has to write the row's exact report with its status, or no report, the status 4 and
 # `cubeboard: F6 memory`, or `cubeboard: F14 thread` where the request was made for the start of a thread, which one worker
 # makes none of. So it has with little room for addresses, and with few threads for the user: there one worker has to give the
-# report where four can't start a thread. A test of the reader of proof steps is run with its requests refused, too. It needs a C
-# compiler; where there is none, it says so and tries nothing. A run that hasn't ended after 20 seconds is ended, and
-# fails. The last line counts.
+# report where four can't start a thread. Each read that is interrupted, of whatever is read, gives `cubeboard: F13 device`. A
+# test of the reader of proof steps is run with its requests refused, too. It needs a C compiler; where there is none, it says
+# so and tries nothing. A run that hasn't ended after 20 seconds is ended, and fails. The last line counts.
 root=$(CDPATH= cd -- "$(dirname -- "$0")/.." && pwd) || exit 1
 compiler=
 for word in cc gcc clang; do
@@ -67,14 +67,19 @@ count() {
     fi
 }
 
+# Makes $here/run anew with a row's files: their path without the ending.
+lay_out() {
+    rm -rf "$here/run"
+    mkdir "$here/run"
+    [ -f "$1.icnf" ] && cp "$1.icnf" "$here/run/case.icnf"
+    [ -d "$1.proofs" ] && cp -r "$1.proofs" "$here/run/proofs"
+}
+
 # All requests of one row, by so many workers.
 row() {
     base=$root/tests/rows/$1
     workers=$2
-    rm -rf "$here/run"
-    mkdir "$here/run"
-    [ -f "$base.icnf" ] && cp "$base.icnf" "$here/run/case.icnf"
-    [ -d "$base.proofs" ] && cp -r "$base.proofs" "$here/run/proofs"
+    lay_out "$base"
     set -- --workers "$workers"
     if [ -f "$base.args" ]; then
         while IFS= read -r word; do set -- "$@" "$word"; done < "$base.args"
@@ -94,6 +99,27 @@ row() {
         failed=$((failed + 1))
         echo "refused: $(basename "$base") by $workers workers: $refused requests were refused"
     fi
+}
+
+# All reads of one row, each of which is interrupted in turn: the standard input's, FILE's and those of a folder's files alike.
+reads() {
+    base=$root/tests/rows/$1
+    lay_out "$base"
+    set --
+    if [ -f "$base.args" ]; then
+        while IFS= read -r word; do set -- "$@" "$word"; done < "$base.args"
+    fi
+    request=1
+    while [ "$request" -le "$limit" ]; do
+        rm -f "$here/mark"
+        note "$base.in" env INTERRUPT="$request" REFUSED_MARK="$here/mark" LD_PRELOAD="$here/refuse.so" "$program" "$@"
+        [ -f "$here/mark" ] || break
+        [ "$(cat "$here/status")" = 5 ] && [ ! -s "$here/out" ] && [ "$(cat "$here/err")" = "cubeboard: F13 device" ]
+        count "$(basename "$base"), read $request interrupted" $?
+        request=$((request + 1))
+    done
+    is_exact "$base" && [ "$request" -gt 2 ] && [ "$request" -le "$limit" ]
+    count "$(basename "$base") after $((request - 1)) reads that were interrupted" $?
 }
 
 # One row by so many workers under a limit of the system: what sets it to $1, and the limit.
@@ -162,6 +188,8 @@ for name in two_cubes_refuted missing_leaf_open proof_for_an_inner_node folder_o
         row "$name" "$workers"
     done
 done
+reads two_cubes_refuted
+reads folder_with_missing_leaves
 little_room two_cubes_refuted
 few_threads two_cubes_refuted
 
