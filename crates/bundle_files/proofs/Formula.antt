@@ -1,9 +1,12 @@
 -- Sections that are added to a bundle leave its formula as it is.
-use Rattle.std.proofs.Common.{◌≡◌, ◌∙◌, ◌↔◌, ◌==◌, sym, ap, refl, ℕ, ◌+◌, Bool, true, false, cond, List, [], ◌∷◌, ◌++◌, codes, append_assoc, append-nil, ◌⊎◌, inl, inr, length, arith, Option, Some, None, subst, if◌then◌else◌}
+use Rattle.std.proofs.Common.{◌≡◌, ◌∙◌, ◌↔◌, ◌==◌, sym, ap, refl, ℕ, ◌+◌, Bool, true, false, cond, List, []}
+use Rattle.std.proofs.Common.{◌∷◌, ◌++◌, codes, append_assoc, append-nil, ◌⊎◌, inl, inr, length, arith, Option}
+use Rattle.std.proofs.Common.{Some, None, subst, if◌then◌else◌}
 use Rattle.std.proofs.lemmas.List.Splits.{length-slice_split}
 use Rattle.std.specs.List.{flat_map, slice_split, onto_first}
 use Rattle.cnf_text.specs.Literal.{Literal}
-use Rattle.cnf_text.specs.Tokens.{Token, is_line_end, is_blank, is_comment, words, line_tokens, lines_from, token_lines, joined}
+use Rattle.cnf_text.specs.Tokens.{Token, is_line_end, is_blank, is_comment, words, line_tokens, lines_from}
+use Rattle.cnf_text.specs.Tokens.{token_lines, joined}
 use Rattle.cnf_text.specs.Icnf.{after_header, is_header}
 use Rattle.case_core.specs.Bundle.{lines_of, is_label, line_onto, text_before, icnf_text}
 use Rattle.cube_report.specs.Correct.{IsFormulaOf, IsUnsatisfiable}
@@ -65,7 +68,8 @@ no_token : (number : ℕ) → line_tokens number [] ≡ []
 unfolding line_tokens is_comment words is_blank
 no_token number = refl
 
-from_more : (number : ℕ) (lines : List (List ℕ)) → lines_from number (lines ++ [] ∷ []) ≡ lines_from number lines ++ [] ∷ []
+from_more : (number : ℕ) (lines : List (List ℕ))
+    → lines_from number (lines ++ [] ∷ []) ≡ lines_from number lines ++ [] ∷ []
 from_more number [] = ap (λ (t : List Token). t ∷ []) (no_token number)
 from_more number (line ∷ lines) = ap (λ (l : List (List Token)). line_tokens number line ∷ l) (from_more (number + 1) lines)
 
@@ -82,15 +86,18 @@ lines_end : (text : List ℕ) → token_lines 1 (text ++ 10 ∷ []) ≡ token_li
 unfolding token_lines
 lines_end text = ap (lines_from 1) (lines_more text []) ∙ from_more 1 (lines_of text)
 
-same_if : (text longer : List ℕ) → (longer ≡ text) ⊎ (longer ≡ text ++ 10 ∷ []) → after_header (token_lines 1 longer) ≡ after_header (token_lines 1 text)
+same_if : (text longer : List ℕ) → (longer ≡ text) ⊎ (longer ≡ text ++ 10 ∷ [])
+    → after_header (token_lines 1 longer) ≡ after_header (token_lines 1 text)
 same_if text longer (inl same) = ap (λ (t : List ℕ). after_header (token_lines 1 t)) same
 same_if text longer (inr more) = ap (λ (t : List ℕ). after_header (token_lines 1 t)) more ∙ ap after_header (lines_end text) ∙ header_more (token_lines 1 text)
 
-same_tokens : (bundle rest : List ℕ) → after_header (token_lines 1 (icnf_text (bundle ++ 10 ∷ 108 ∷ 32 ∷ rest))) ≡ after_header (token_lines 1 (icnf_text bundle))
+same_tokens : (bundle rest : List ℕ)
+    → after_header (token_lines 1 (icnf_text (bundle ++ 10 ∷ 108 ∷ 32 ∷ rest))) ≡ after_header (token_lines 1 (icnf_text bundle))
 same_tokens bundle rest = same_if (icnf_text bundle) (icnf_text (bundle ++ 10 ∷ 108 ∷ 32 ∷ rest)) (icnf_more bundle rest)
 
 -- what is added behind a line end and the beginning of a label line changes no clause
-pub formula_kept : (bundle rest : List ℕ) (formula : List (List Literal)) → IsFormulaOf (bundle ++ 10 ∷ 108 ∷ 32 ∷ rest) formula ↔ IsFormulaOf bundle formula
+pub formula_kept : (bundle rest : List ℕ) (formula : List (List Literal))
+    → IsFormulaOf (bundle ++ 10 ∷ 108 ∷ 32 ∷ rest) formula ↔ IsFormulaOf bundle formula
 formula_kept bundle rest formula = (
   λ is. (is.0, (is.1.0, sym (same_tokens bundle rest) ∙ is.1.1, is.1.2), is.2),
   λ is. (is.0, (is.1.0, same_tokens bundle rest ∙ is.1.1, is.1.2), is.2),
@@ -101,7 +108,8 @@ Leaf = List ℕ × Option (List ℕ)
 
 -- sections that are added leave the formula as it is
 one_kept : (bundle name : List ℕ) (proof : Option (List ℕ)) (rest : List ℕ) (formula : List (List Literal))
-    → (IsFormulaOf (bundle ++ rest) formula ↔ IsFormulaOf bundle formula) → IsFormulaOf (bundle ++ (section_text name proof ++ rest)) formula ↔ IsFormulaOf bundle formula
+    → (IsFormulaOf (bundle ++ rest) formula ↔ IsFormulaOf bundle formula)
+    → IsFormulaOf (bundle ++ (section_text name proof ++ rest)) formula ↔ IsFormulaOf bundle formula
 one_kept bundle name None rest formula kept = kept
 one_kept bundle name (Some proof) rest formula kept = formula_kept bundle ((name ++ codes "\n" ++ proof) ++ rest) formula
 
@@ -115,11 +123,13 @@ pub added_keep_formula : (held : Held) (folder : List ℕ) (names : List (List �
     → IsFormulaOf whole formula ↔ IsFormulaOf bundle formula
 added_keep_formula held folder names bundle whole formula added = rw added.text (sections_keep_formula bundle added.leaves formula)
 
-pub proofs_keep_formula : (held : Held) (folder bundle whole : List ℕ) (formula : List (List Literal)) → IsWithProofs held folder bundle whole
+pub proofs_keep_formula : (held : Held) (folder bundle whole : List ℕ) (formula : List (List Literal))
+    → IsWithProofs held folder bundle whole
     → IsFormulaOf whole formula ↔ IsFormulaOf bundle formula
 proofs_keep_formula held folder bundle whole formula with_them = added_keep_formula held folder with_them.0 bundle whole formula with_them.2
 
 -- a bundle whose formula has no model with proofs added to it has a formula with no model
-pub judged_unsatisfiable : (held : Held) (folder : Option (List ℕ)) (bundle whole : List ℕ) → IsJudgedOf held folder bundle whole → IsUnsatisfiable whole → IsUnsatisfiable bundle
+pub judged_unsatisfiable : (held : Held) (folder : Option (List ℕ)) (bundle whole : List ℕ)
+    → IsJudgedOf held folder bundle whole → IsUnsatisfiable whole → IsUnsatisfiable bundle
 judged_unsatisfiable held None bundle whole same none = subst IsUnsatisfiable same none
 judged_unsatisfiable held (Some folder) bundle whole with_them none = λ formula is. none formula ((proofs_keep_formula held folder bundle whole formula with_them).1 is)

@@ -1,5 +1,7 @@
--- Which bundle is judged, by what is known of the files: the input's or a file's, with the proofs that a folder has for its leaves.
-use Rattle.std.specs.Prelude.{◌≡◌, ℕ, zero, suc, ◌+◌, Bool, List, [], ◌∷◌, ◌++◌, map, length, codes, decimal, Option, None, Some, IfSome, is_some, unwrap_or, ◌⊎◌}
+-- Which bundle is judged, by what is known of the files: the input's or a file's, with the proofs that a folder
+-- has for its leaves.
+use Rattle.std.specs.Prelude.{◌≡◌, ℕ, zero, suc, ◌+◌, Bool, List, [], ◌∷◌, ◌++◌, map, length, codes, decimal}
+use Rattle.std.specs.Prelude.{Option, None, Some, IfSome, is_some, unwrap_or, ◌⊎◌}
 use Rattle.std.specs.List.{All, flat_map}
 use Rattle.split_tree.specs.SplitTree.{SplitTree}
 use Rattle.split_tree.specs.Leaves.{missing_nodes, cube_count}
@@ -29,7 +31,8 @@ names_from kind number (suc count) = (kind ++ decimal number) ∷ names_from kin
 
 -- the names of a tree's leaves, in order: 1, 2, .. for the cubes, and m1, m2, .. for the missing leaves
 abbrev pub leaf_names : SplitTree → List (List ℕ)
-leaf_names tree = names_from (codes "") 1 (cube_count tree) ++ names_from (codes "m") 1 (length (missing_nodes tree))
+leaf_names tree =
+    names_from (codes "") 1 (cube_count tree) ++ names_from (codes "m") 1 (length (missing_nodes tree))
 
 -- the leaves whose proofs are looked for: those of the bundle's tree, or none where the bundle has a fault
 abbrev pub AreLeavesOf : List ℕ → List (List ℕ) → Type 0
@@ -46,7 +49,8 @@ abbrev pub section_text : List ℕ → Option (List ℕ) → List ℕ
 section_text name None = []
 section_text name (Some proof) = codes "\nl " ++ name ++ codes "\n" ++ proof
 
--- Leaves with these names were added, in this order: each whose file is there, with the file's bytes as its proof.
+-- Leaves with these names were added, in this order: each whose file is there, with the file's bytes as its
+-- proof.
 pub record AreAdded (held : Held) (folder : List ℕ) (names : List (List ℕ)) (bundle whole : List ℕ) : Type 0 where
   pub leaves : List (List ℕ × Option (List ℕ))
   pub named : map (λ leaf. leaf.0) leaves ≡ names
@@ -55,7 +59,8 @@ pub record AreAdded (held : Held) (folder : List ℕ) (names : List (List ℕ)) 
 
 -- the whole is the bundle with the folder's proofs for all leaves of its tree
 abbrev pub IsWithProofs : Held → List ℕ → List ℕ → List ℕ → Type 0
-IsWithProofs held folder bundle whole = (names : List (List ℕ)) × AreLeavesOf bundle names × AreAdded held folder names bundle whole
+IsWithProofs held folder bundle whole =
+    (names : List (List ℕ)) × AreLeavesOf bundle names × AreAdded held folder names bundle whole
 
 -- the bundle that is judged: the one that was read, with the proofs of the folder that is asked for
 abbrev pub IsJudgedOf : Held → Option (List ℕ) → List ℕ → List ℕ → Type 0
@@ -72,15 +77,16 @@ pub record IsBundleOf (held : Held) (file folder input : Option (List ℕ)) (rea
 -- reading a path appended the bytes of its file, or nothing where there is none
 abbrev pub IsFound : Option (Option (List ℕ)) → List ℕ → List ℕ → Bool → Type 0
 IsFound known old new there =
-    (given : Option (List ℕ)) × IfSome known (λ held. given ≡ held) × (there ≡ is_some given) × (new ≡ old ++ unwrap_or given [])
+    (given : Option (List ℕ)) × IfSome known (λ held. given ≡ held)
+    × (there ≡ is_some given) × (new ≡ old ++ unwrap_or given [])
 
 -- no file lies at the path that is asked for, as far as is known
 abbrev pub IsAbsent : Held → Option (List ℕ) → Type 0
 IsAbsent held None = ⊥
 IsAbsent held (Some path) = Gives held path None
 
--- Why a bundle wasn't read, where so many calls had failed and have: want of memory, without a failed call; or a fault of the
--- device, where a call failed or no file is there.
+-- Why a bundle wasn't read, where so many calls had failed and have: want of memory, without a failed call; or
+-- a fault of the device, where a call failed or no file is there.
 abbrev pub IsUnread : Held → Option (List ℕ) → ℕ → ℕ → Fault → Type 0
 IsUnread held file before after fault =
     ((fault ≡ Memory) × (after ≡ before))

@@ -2,7 +2,8 @@
 ghost use Rattle.std.specs.Prelude.{◌≡◌, ◌<◌, ◌^◌, ◌-◌, ◌++◌, [], ◌∷◌, codes, IfOk, IfErr, OnOk};
 ghost use Rattle.std.specs.String.{string_bytes};
 ghost use Rattle.cube_report.specs.Device.{IsReadFault};
-ghost use Rattle.bundle_files.specs.Files.{IsWithProofs, AreLeavesOf, AreAdded, names_from, proof_path};
+ghost use Rattle.bundle_files.specs.Files.{IsWithProofs, AreLeavesOf, AreAdded, names_from};
+ghost use Rattle.bundle_files.specs.Files.{proof_path};
 
 use crate::store::Store;
 use case_core::{CaseFault, read_tree};
@@ -16,9 +17,10 @@ struct Leaves {
     missing: u32,
 }
 
-/// Adds to a bundle the proofs of a folder: for each leaf of the bundle's tree, in the order of the cubes 1, 2, .. and then the
-/// missing leaves 1, 2, .., a line end, the leaf's label line and the bytes of `FOLDER/K.lrat` or `FOLDER/mJ.lrat`, where there is
-/// such a file. A bundle with a fault has no leaves, and stays as it is.
+/// Adds to a bundle the proofs of a folder: for each leaf of the bundle's tree, in the order of the
+/// cubes 1, 2, .. and then the missing leaves 1, 2, .., a line end, the leaf's label line and the
+/// bytes of `FOLDER/K.lrat` or `FOLDER/mJ.lrat`, where there is such a file. A bundle with a fault
+/// has no leaves, and stays as it is.
 ///
 /// `Device` where a file is there and can't be read, `Memory` where a growth was refused.
 pub fn add_proofs<D: Store>(
@@ -29,16 +31,19 @@ pub fn add_proofs<D: Store>(
 ) -> Result<(), Fault>
     requires { D.failures store.old < 2 ^ 64 - 1 }
     ensures held { D.held store.new ≡ D.held store.old }
-    ensures whole { OnOk result (IsWithProofs (D.held store.old) folder.now bundle.old.items bundle.new.items) }
+    ensures whole { OnOk result
+        (IsWithProofs (D.held store.old) folder.now bundle.old.items bundle.new.items) }
     ensures ok { OnOk result (D.failures store.new ≡ D.failures store.old) }
-    ensures err { IfErr result (λ fault. IsReadFault (D.failures store.old) (D.failures store.new) fault) }
+    ensures err { IfErr result
+        (λ fault. IsReadFault (D.failures store.old) (D.failures store.new) fault) }
 {
     let leaves = leaves_of(alloc, bundle)?;
     add_sections(alloc, store, folder, "", leaves.cubes, bundle)?;
     add_sections(alloc, store, folder, "m", leaves.missing, bundle)
 }
 
-/// The leaves of the bundle's tree. A bundle with a fault has none: no proof is looked for, and the run tells the fault.
+/// The leaves of the bundle's tree. A bundle with a fault has none: no proof is looked for, and the
+/// run tells the fault.
 fn leaves_of(alloc: Global, bundle: &[u8]) -> Result<Leaves, Fault>
     ensures leaves { IfOk result (λ leaves. AreLeavesOf bundle.now
         (names_from (codes "") 1 leaves.cubes ++ names_from (codes "m") 1 leaves.missing)) }
@@ -68,9 +73,12 @@ fn add_sections<D: Store>(
 ) -> Result<(), Fault>
     requires { D.failures store.old < 2 ^ 64 - 1 }
     ensures held { D.held store.new ≡ D.held store.old }
-    ensures added { OnOk result (AreAdded (D.held store.old) folder.now (names_from kind.now 1 count) bundle.old.items bundle.new.items) }
+    ensures added { OnOk result
+        (AreAdded (D.held store.old) folder.now
+        (names_from kind.now 1 count) bundle.old.items bundle.new.items) }
     ensures ok { OnOk result (D.failures store.new ≡ D.failures store.old) }
-    ensures err { IfErr result (λ fault. IsReadFault (D.failures store.old) (D.failures store.new) fault) }
+    ensures err { IfErr result
+        (λ fault. IsReadFault (D.failures store.old) (D.failures store.new) fault) }
 {
     let mut done = 0;
     while done < count {
@@ -91,9 +99,11 @@ fn add_section<D: Store>(
 ) -> Result<(), Fault>
     requires { D.failures store.old < 2 ^ 64 - 1 }
     ensures held { D.held store.new ≡ D.held store.old }
-    ensures added { OnOk result (AreAdded (D.held store.old) folder.now (name.now ∷ []) bundle.old.items bundle.new.items) }
+    ensures added { OnOk result
+        (AreAdded (D.held store.old) folder.now (name.now ∷ []) bundle.old.items bundle.new.items) }
     ensures ok { OnOk result (D.failures store.new ≡ D.failures store.old) }
-    ensures err { IfErr result (λ fault. IsReadFault (D.failures store.old) (D.failures store.new) fault) }
+    ensures err { IfErr result
+        (λ fault. IsReadFault (D.failures store.old) (D.failures store.new) fault) }
 {
     let path = proof_path(alloc, folder, name)?;
     let before = bundle.len();
@@ -114,7 +124,8 @@ fn proof_path(alloc: Global, folder: &str, name: &str) -> Result<String, AllocEr
 
 /// Adds a line end and the label line with this name.
 fn write_label(name: &str, bundle: &mut Vec<u8>) -> Result<(), AllocError>
-    ensures { OnOk result (bundle.new.items ≡ bundle.old.items ++ codes "\nl " ++ name.now ++ codes "\n") }
+    ensures { OnOk result
+        (bundle.new.items ≡ bundle.old.items ++ codes "\nl " ++ name.now ++ codes "\n") }
 {
     bundle.extend_from_slice(b"\nl ")?;
     bundle.extend_from_slice(name.as_bytes())?;

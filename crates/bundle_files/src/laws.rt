@@ -4,8 +4,10 @@ ghost use Rattle.cnf_text.specs.Literal.{Literal};
 ghost use Rattle.cube_report.specs.Correct.{IsFormulaOf};
 ghost use Rattle.bundle_files.specs.Files.{Held, IsWithProofs};
 
-/// Proofs that a folder adds leave the formula as it is: a bundle has, with them and without them, the same clauses.
+/// Proofs that a folder adds leave the formula as it is: a bundle has, with them and without them,
+/// the same clauses.
 pub fn proofs_keep_formula()
-    ensures { (held : Held) (folder bundle whole : List ℕ) (formula : List (List Literal)) → IsWithProofs held folder bundle whole
+    ensures { (held : Held) (folder bundle whole : List ℕ) (formula : List (List Literal))
+        → IsWithProofs held folder bundle whole
         → IsFormulaOf whole formula ↔ IsFormulaOf bundle formula }
 {}

@@ -1,4 +1,5 @@
-//! Where the bytes of a bundle come from: the program's input, a file, and a folder with the proofs of leaves.
+//! Where the bytes of a bundle come from: the program's input, a file, and a folder with the proofs
+//! of leaves.
 #![tactic(auto)]
 
 mod folder;

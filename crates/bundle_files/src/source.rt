@@ -1,5 +1,7 @@
-//! The bundle that is judged: that of a file or of the program's input, with the proofs of a folder.
-ghost use Rattle.std.specs.Prelude.{◌≡◌, List, ℕ, ◌<◌, ◌^◌, ◌-◌, ◌+◌, option_map, IfSome, IfOk, IfErr, OnOk};
+//! The bundle that is judged: that of a file or of the program's input, with the proofs of a
+//! folder.
+ghost use Rattle.std.specs.Prelude.{◌≡◌, List, ℕ, ◌<◌, ◌^◌, ◌-◌, ◌+◌, option_map, IfSome, IfOk};
+ghost use Rattle.std.specs.Prelude.{IfErr, OnOk};
 ghost use Rattle.bundle_files.specs.Files.{IsBundleOf, IsRead, IsUnread};
 
 use crate::folder::add_proofs;
@@ -7,10 +9,11 @@ use crate::store::Store;
 use cube_report::{Fault, Source, read_to_end};
 use std::alloc::Global;
 
-/// The bundle that is judged: the bytes of FILE, or of the input where none is asked for, and, where a folder is asked for, the
-/// proofs of that folder added to them.
+/// The bundle that is judged: the bytes of FILE, or of the input where none is asked for, and,
+/// where a folder is asked for, the proofs of that folder added to them.
 ///
-/// `Device` where a call failed, or no file is at FILE's path, and `Memory` where a growth was refused.
+/// `Device` where a call failed, or no file is at FILE's path, and `Memory` where a growth was
+/// refused.
 pub fn read_judged<D: Store, I: Source>(
     alloc: Global,
     store: &mut D,
@@ -20,11 +23,16 @@ pub fn read_judged<D: Store, I: Source>(
 ) -> Result<Vec<u8>, Fault>
     requires store { D.failures store.old < 2 ^ 64 - 1 }
     requires input { I.failures input.old < 2 ^ 64 - 1 }
-    ensures bundle { IfOk result (λ bundle. (read : List ℕ) × IsBundleOf (D.held store.old) (option_map (λ path. path.now) file.entry)
+    ensures bundle { IfOk result
+        (λ bundle. (read : List ℕ) × IsBundleOf (D.held store.old)
+        (option_map (λ path. path.now) file.entry)
         (option_map (λ path. path.now) folder.entry) (I.remaining input.old) read bundle.items) }
-    ensures ok { OnOk result (D.failures store.new + I.failures input.new ≡ D.failures store.old + I.failures input.old) }
-    ensures err { IfErr result (IsUnread (D.held store.old) (option_map (λ path. path.now) file.entry)
-        (D.failures store.old + I.failures input.old) (D.failures store.new + I.failures input.new)) }
+    ensures ok { OnOk result
+        (D.failures store.new + I.failures input.new ≡ D.failures store.old + I.failures input.old) }
+    ensures err { IfErr result
+        (IsUnread (D.held store.old) (option_map (λ path. path.now) file.entry)
+        (D.failures store.old + I.failures input.old)
+        (D.failures store.new + I.failures input.new)) }
     // Where a file is asked for, the input isn't touched.
     ensures kept { IfSome file.entry (λ _. input.new ≡ input.old) }
 {
@@ -37,7 +45,8 @@ pub fn read_judged<D: Store, I: Source>(
 
 /// The bytes of the file at this path, or those of the input where there is none.
 ///
-/// `Device` where a call failed, or no file is at the path, and `Memory` where a growth was refused.
+/// `Device` where a call failed, or no file is at the path, and `Memory` where a growth was
+/// refused.
 fn read_bundle<D: Store, I: Source>(
     alloc: Global,
     store: &mut D,
@@ -48,10 +57,15 @@ fn read_bundle<D: Store, I: Source>(
     requires input { I.failures input.old < 2 ^ 64 - 1 }
     ensures held { D.held store.new ≡ D.held store.old }
     ensures bundle { IfOk result (λ bundle.
-        IsRead (D.held store.old) (option_map (λ path. path.now) file.entry) (I.remaining input.old) bundle.items) }
-    ensures ok { OnOk result ((D.failures store.new ≡ D.failures store.old) × (I.failures input.new ≡ I.failures input.old)) }
-    ensures err { IfErr result (IsUnread (D.held store.old) (option_map (λ path. path.now) file.entry)
-        (D.failures store.old + I.failures input.old) (D.failures store.new + I.failures input.new)) }
+        IsRead (D.held store.old) (option_map (λ path. path.now) file.entry)
+        (I.remaining input.old) bundle.items) }
+    ensures ok { OnOk result
+        ((D.failures store.new ≡ D.failures store.old) ×
+        (I.failures input.new ≡ I.failures input.old)) }
+    ensures err { IfErr result
+        (IsUnread (D.held store.old) (option_map (λ path. path.now) file.entry)
+        (D.failures store.old + I.failures input.old)
+        (D.failures store.new + I.failures input.new)) }
     // Where a file is asked for, the input isn't touched.
     ensures kept { IfSome file.entry (λ _. input.new ≡ input.old) }
 {

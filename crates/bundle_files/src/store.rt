@@ -1,5 +1,6 @@
 //! What can be read by its path.
-ghost use Rattle.std.specs.Prelude.{◌≡◌, ℕ, List, ◌<◌, ◌+◌, ◌^◌, ◌-◌, Option, None, IfOk, IfErr, OnOk};
+ghost use Rattle.std.specs.Prelude.{◌≡◌, ℕ, List, ◌<◌, ◌+◌, ◌^◌, ◌-◌, Option, None, IfOk, IfErr};
+ghost use Rattle.std.specs.Prelude.{OnOk};
 ghost use Rattle.cube_report.specs.Device.{IsReadFault};
 ghost use Rattle.bundle_files.specs.Files.{IsFound};
 
@@ -16,19 +17,24 @@ pub trait Store {
     // How many calls have failed so far.
     ghost failures: { Self → ℕ };
 
-    /// Appends the bytes of the file at this path, and answers whether there is one; where there is none, nothing changes.
+    /// Appends the bytes of the file at this path, and answers whether there is one; where there is
+    /// none, nothing changes.
     ///
-    /// `Device` where a file is there and can't be opened or read, `Memory` where a growth was refused. The count of failed
-    /// calls, which has to be below its greatest value, rises by one exactly with `Device`.
+    /// `Device` where a file is there and can't be opened or read, `Memory` where a growth was
+    /// refused. The count of failed calls, which has to be below its greatest value, rises by one
+    /// exactly with `Device`.
     fn read(&mut self, path: &str, bytes: &mut Vec<u8>) -> Result<bool, Fault>
         requires { failures self.old < 2 ^ 64 - 1 }
         ensures held { held self.new ≡ held self.old }
-        ensures found { IfOk result (λ there. IsFound (held self.old path.now) bytes.old.items bytes.new.items there) }
+        ensures found { IfOk result
+            (λ there. IsFound (held self.old path.now) bytes.old.items bytes.new.items there) }
         ensures ok { OnOk result (failures self.new ≡ failures self.old) }
-        ensures err { IfErr result (λ fault. IsReadFault (failures self.old) (failures self.new) fault) };
+        ensures err { IfErr result
+            (λ fault. IsReadFault (failures self.old) (failures self.new) fault) };
 }
 
-/// The files of a system, and how many calls on them have failed. What they hold is not known to a contract.
+/// The files of a system, and how many calls on them have failed. What they hold is not known to a
+/// contract.
 #[derive(Drop)]
 pub struct FileStore<'a, R> {
     files: &'a R,

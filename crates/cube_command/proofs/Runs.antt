@@ -1,19 +1,24 @@
 -- What a run says of the bundle and of what was written, and what its status says.
-use Rattle.std.proofs.Common.{◌≡◌, ◌<◌, ◌⊎◌, ◌∙◌, sym, refl, subst, ℕ, Bool, true, false, List, Option, None, Some, Result, Ok, Err, IfOk, IfErr, MatchResult, inl, inr, arith}
+use Rattle.std.proofs.Common.{◌≡◌, ◌<◌, ◌⊎◌, ◌∙◌, sym, refl, subst, ℕ, Bool, true, false, List, Option, None}
+use Rattle.std.proofs.Common.{Some, Result, Ok, Err, IfOk, IfErr, MatchResult, inl, inr, arith}
 use Rattle.std.specs.Io.KnownBytes.{Appends}
 use Rattle.bundle_files.specs.Files.{Held, IsBundleOf, IsRead}
 use Rattle.bundle_files.proofs.Formula.{judged_unsatisfiable}
 use Rattle.cube_report.specs.declared.fault.Fault.{Fault}
-use Rattle.cube_report.specs.declared.fault.Fault.TheVariants.{Header, Token, Unfinished, TooLarge, Limit, Memory, Repeats, NotATree, Overlap, BadLabel, NoSuchLeaf, ProofTwice, Device, Thread}
+use Rattle.cube_report.specs.declared.fault.Fault.TheVariants.{Header, Token, Unfinished, TooLarge, Limit}
+use Rattle.cube_report.specs.declared.fault.Fault.TheVariants.{Memory, Repeats, NotATree, Overlap, BadLabel}
+use Rattle.cube_report.specs.declared.fault.Fault.TheVariants.{NoSuchLeaf, ProofTwice, Device, Thread}
 use Rattle.cube_report.specs.Faults.{IsInputFault}
 use Rattle.cube_report.specs.Correct.{IsCorrect, IsFaultOn, IsUnsatisfiable}
-use Rattle.cube_command.specs.Program.{IsRefused, IsReported, IsTold, IsToldAs, fault_line, status_of, status_of_answer}
+use Rattle.cube_command.specs.Program.{IsRefused, IsReported, IsTold, IsToldAs, fault_line, status_of}
+use Rattle.cube_command.specs.Program.{status_of_answer}
 
 -- ---- the run
 
 -- the report that was written is the one on the bundle that was asked for
 pub reported : (held : Held) (file folder input old new : Option (List ℕ)) (read whole judged : List ℕ) (result : Result Bool Fault) → judged ≡ whole → IsBundleOf held file folder input read whole
-    → IfOk result (λ answer. (text : List ℕ) × IsCorrect judged text answer × Appends old new text) → IfOk result (IsReported held file folder input old new)
+    → IfOk result (λ answer. (text : List ℕ) × IsCorrect judged text answer × Appends old new text)
+    → IfOk result (IsReported held file folder input old new)
 reported held file folder input old new read whole judged (Err fault) same bundle is = tt
 reported held file folder input old new read whole judged (Ok answer) same bundle is = record {
   read = read;
@@ -27,7 +32,8 @@ reported held file folder input old new read whole judged (Ok answer) same bundl
 
 -- the fault is that of the bundle that was asked for
 pub faulty : (held : Held) (file folder input : Option (List ℕ)) (read whole judged : List ℕ) (result : Result Bool Fault) → judged ≡ whole → IsBundleOf held file folder input read whole
-    → IfErr result (λ fault. IsInputFault fault → IsFaultOn judged fault) → IfErr result (λ fault. IsInputFault fault → IsRefused held file folder input fault)
+    → IfErr result (λ fault. IsInputFault fault → IsFaultOn judged fault)
+    → IfErr result (λ fault. IsInputFault fault → IsRefused held file folder input fault)
 faulty held file folder input read whole judged (Ok answer) same bundle is = tt
 faulty held file folder input read whole judged (Err fault) same bundle is = λ input_is. record {
   read = read;
@@ -110,7 +116,8 @@ with_five (ProofTwice line) is = absurd (omega arith)
 
 -- status 0
 pub sound_run : (held : Held) (asked file folder input out_old out_new : Option (List ℕ)) (run : Result Bool Fault) (status : ℕ) (Same : Type 0) (old new : Option (List ℕ)) (before after : ℕ)
-    → file ≡ asked → ToldRun run status Same old new before after → IfOk run (IsReported held file folder input out_old out_new) → status ≡ 0
+    → file ≡ asked → ToldRun run status Same old new before after
+    → IfOk run (IsReported held file folder input out_old out_new) → status ≡ 0
     → (read : List ℕ) × IsRead held asked input read × IsUnsatisfiable read
 sound_run held asked file folder input out_old out_new (Ok true) status Same old new before after same told report is =
     (report.read, subst (λ (f : Option (List ℕ)). IsRead held f input report.read) same report.bundle.is_read, report.sound refl)
@@ -135,7 +142,8 @@ fault_run held asked_file asked_folder file folder input (Ok true) status Same o
 fault_run held asked_file asked_folder file folder input (Ok false) status Same old new before after same same_too told refused is = let one : status ≡ 1 = told.0 in absurd (omega arith)
 fault_run held asked_file asked_folder file folder input (Err fault) status Same old new before after same same_too (inl told) refused is =
     let input_is : IsInputFault fault = input_of_three fault (sym told.0 ∙ is) in (
-      fault, input_is,
+      fault,
+      input_is,
       subst (λ (f : Option (List ℕ)). IsRefused held f asked_folder input fault) same (subst (λ (f : Option (List ℕ)). IsRefused held file f input fault) same_too (refused input_is)),
       told.1,
     )

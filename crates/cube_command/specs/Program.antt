@@ -3,7 +3,9 @@ use Rattle.std.specs.Prelude.{◌≡◌, ◌<◌, ℕ, Bool, List, ◌++◌, tru
 use Rattle.std.specs.Io.KnownBytes.{Appends, Keeps}
 use Rattle.bundle_files.specs.Files.{Held, IsBundleOf}
 use Rattle.cube_report.specs.declared.fault.Fault.{Fault}
-use Rattle.cube_report.specs.declared.fault.Fault.TheVariants.{Header, Token, Unfinished, TooLarge, Limit, Memory, Repeats, NotATree, Overlap, BadLabel, NoSuchLeaf, ProofTwice, Device, Thread}
+use Rattle.cube_report.specs.declared.fault.Fault.TheVariants.{Header, Token, Unfinished, TooLarge, Limit}
+use Rattle.cube_report.specs.declared.fault.Fault.TheVariants.{Memory, Repeats, NotATree, Overlap, BadLabel}
+use Rattle.cube_report.specs.declared.fault.Fault.TheVariants.{NoSuchLeaf, ProofTwice, Device, Thread}
 use Rattle.cube_report.specs.Faults.{IsInputFault, fault_text}
 use Rattle.cube_report.specs.Device.{AppendsBeginning}
 use Rattle.cube_report.specs.Correct.{IsCorrect, IsFaultOn, IsReportOn, IsUnsatisfiable}
@@ -28,8 +30,8 @@ status_of Thread = 4
 abbrev pub IsStatus : ℕ → Type 0
 IsStatus status = (status ≡ 0) ⊎ (status ≡ 1) ⊎ (status ≡ 2) ⊎ (status ≡ 3) ⊎ (status ≡ 4) ⊎ (status ≡ 5)
 
--- The report on the bundle that the words ask for was written, and nothing more; its last line gives this answer, and where it says
--- refuted, the formula of the bundle that was read has no model.
+-- The report on the bundle that the words ask for was written, and nothing more; its last line gives this
+-- answer, and where it says refuted, the formula of the bundle that was read has no model.
 pub record IsReported (held : Held) (file folder input old new : Option (List ℕ)) (answer : Bool) : Type 0 where
   pub read : List ℕ
   pub whole : List ℕ
@@ -61,7 +63,8 @@ fault_line fault = codes "cubeboard: " ++ fault_text fault ++ codes "\n"
 
 -- What a writer holds grew by this line, where no call failed that hadn't, or otherwise by a beginning of it.
 abbrev pub IsTold : Option (List ℕ) → Option (List ℕ) → ℕ → ℕ → List ℕ → Type 0
-IsTold old new before after line = ((after ≡ before) × Appends old new line) ⊎ ((before < after) × AppendsBeginning old new line)
+IsTold old new before after line =
+    ((after ≡ before) × Appends old new line) ⊎ ((before < after) × AppendsBeginning old new line)
 
 -- A fault was told by its line, and this is its status; a fault of the input may be told as want of memory.
 abbrev pub IsToldAs : Fault → ℕ → Option (List ℕ) → Option (List ℕ) → ℕ → ℕ → Type 0

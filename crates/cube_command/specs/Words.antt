@@ -1,7 +1,8 @@
 -- Which words the program takes, and what they ask for.
 use Rattle.std.specs.Prelude.{◌≡◌, ℕ, List, [], ◌∷◌, codes, pos, true, Option, Some, None}
 use Rattle.std.specs.Str.Parse.{IsNumeral, digits_value, without_leading_plus}
-use Rattle.clap.specs.Words.{App, Rule, Text, fault_of, first_of, matches_of, new_app, new_rule, one_of, with_rule}
+use Rattle.clap.specs.Words.{App, Rule, Text, fault_of, first_of, matches_of, new_app, new_rule, one_of}
+use Rattle.clap.specs.Words.{with_rule}
 use Rattle.clap.specs.declared.builder.value_parser.ValueParser.TheVariants.{Signed, NonEmptyString}
 
 -- `--workers` with a number from 1 to 32, and 4 where there is none
@@ -24,7 +25,11 @@ cut_word = record (new_rule (codes "cut")) {
 
 -- `--proofs` with a text that isn't empty
 abbrev pub proofs_word : Rule
-proofs_word = record (new_rule (codes "proofs")) { long = Some (codes "proofs"); value_names = 1; parser = Some NonEmptyString }
+proofs_word = record (new_rule (codes "proofs")) {
+  long = Some (codes "proofs");
+  value_names = 1;
+  parser = Some NonEmptyString;
+}
 
 -- one text without a name
 abbrev pub file_word : Rule
@@ -57,7 +62,8 @@ folder_of words = asked_for (codes "proofs") words
 -- the text is there, and its decimal digits say this number
 abbrev pub Reads : Option Text → ℕ → Type 0
 Reads found number =
-    (text : Text) × (found ≡ Some text) × IsNumeral 10 (without_leading_plus text) × (number ≡ digits_value 10 (without_leading_plus text))
+    (text : Text) × (found ≡ Some text) × IsNumeral 10 (without_leading_plus text)
+    × (number ≡ digits_value 10 (without_leading_plus text))
 
 -- the words say this number under a name, or its default does where they say none
 abbrev pub SaysNumber : Text → List Text → ℕ → Type 0

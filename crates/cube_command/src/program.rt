@@ -1,13 +1,15 @@
 //! The program: from its words and its streams to its status.
 
-ghost use Rattle.std.specs.Prelude.{◌≡◌, ◌≢◌, ◌⊎◌, ◌<◌, ◌+◌, ◌^◌, ◌-◌, List, ℕ, length, map, option_map, true, false, None, IfOk, IfErr, OnErr, IsErrOf};
+ghost use Rattle.std.specs.Prelude.{◌≡◌, ◌≢◌, ◌⊎◌, ◌<◌, ◌+◌, ◌^◌, ◌-◌, List, ℕ, length, map};
+ghost use Rattle.std.specs.Prelude.{option_map, true, false, None, IfOk, IfErr, OnErr, IsErrOf};
 ghost use Rattle.std.specs.Io.KnownBytes.{Keeps};
 ghost use Rattle.clap.specs.Words.{kind_of};
 ghost use Rattle.bundle_files.specs.Files.{IsAbsent, IsRead};
 ghost use Rattle.cube_report.specs.Correct.{IsUnsatisfiable};
 ghost use Rattle.cube_report.specs.Faults.{IsInputFault};
 ghost use Rattle.cube_command.specs.Words.{AreTaken, file_of, folder_of};
-ghost use Rattle.cube_command.specs.Program.{IsStatus, IsReported, IsRefused, IsBegun, IsTold, fault_line};
+ghost use Rattle.cube_command.specs.Program.{IsStatus, IsReported, IsRefused, IsBegun, IsTold};
+ghost use Rattle.cube_command.specs.Program.{fault_line};
 
 use crate::telling::{tell_fault, tell_run};
 use crate::words::{Request, request_of};
@@ -21,17 +23,20 @@ use std::convert::AsStr;
 use std::sync::Wait;
 use std::thread::Threads;
 
-/// The program on these words, which are those after its name: `[--workers N] [--cut D] [--proofs DIR] [FILE]`. It reads a bundle
-/// from FILE, or from `input` where there is none, and writes the report to `output` or, where there is no report, one line to
-/// `errors`. Files are found by `store`. Both writers have to write at once, without a buffer of their own.
+/// The program on these words, which are those after its name: `[--workers N] [--cut D] [--proofs
+/// DIR] [FILE]`. It reads a bundle from FILE, or from `input` where there is none, and writes the
+/// report to `output` or, where there is no report, one line to `errors`. Files are found by
+/// `store`. Both writers have to write at once, without a buffer of their own.
 ///
-/// With `--proofs DIR` the proofs of that folder are added to the bundle: for each cube K and after that for each missing leaf J, in
-/// order, the file `DIR/K.lrat` or `DIR/mJ.lrat`, where it is there, as the section of its leaf. N workers check the proofs, with
-/// boards cut at the depth D; `gate` is called beside each section.
+/// With `--proofs DIR` the proofs of that folder are added to the bundle: for each cube K and after
+/// that for each missing leaf J, in order, the file `DIR/K.lrat` or `DIR/mJ.lrat`, where it is
+/// there, as the section of its leaf. N workers check the proofs, with boards cut at the depth D;
+/// `gate` is called beside each section.
 ///
-/// Answers the status: 0 for a report that says refuted, 1 for one that says open, 2 where the words can't be taken or ask
-/// for help, after the parser's text on `errors`, 3 where the input is refused, 4 where memory or the start of a thread is refused, 5 where a
-/// device failed: also where FILE can't be opened, and where a file of DIR is there and can't be read. A failed write to
+/// Answers the status: 0 for a report that says refuted, 1 for one that says open, 2 where the
+/// words can't be taken or ask for help, after the parser's text on `errors`, 3 where the input is
+/// refused, 4 where memory or the start of a thread is refused, 5 where a device failed: also where
+/// FILE can't be opened, and where a file of DIR is there and can't be read. A failed write to
 /// `errors` doesn't change it.
 pub fn command<R, D, S, I, O, E, G>(
     rt: &R,
@@ -58,24 +63,31 @@ where
 
     // Status 0: the formula of the bundle that was read has no model.
     ensures sound { result ≡ 0 → (read : List ℕ)
-        × IsRead (D.held store.old) (file_of (map S.text words.now)) (I.remaining input.old) read × IsUnsatisfiable read }
-    // And exactly the report was written, on that bundle with the proofs of DIR: it says refuted. Status 1: it says open.
-    ensures refuted { result ≡ 0 → IsReported (D.held store.old) (file_of (map S.text words.now)) (folder_of (map S.text words.now))
+        × IsRead (D.held store.old) (file_of (map S.text words.now)) (I.remaining input.old) read
+        × IsUnsatisfiable read }
+    // And exactly the report was written, on that bundle with the proofs of DIR: it says refuted.
+    // Status 1: it says open.
+    ensures refuted { result ≡ 0 → IsReported (D.held store.old) (file_of (map S.text words.now))
+        (folder_of (map S.text words.now))
         (I.remaining input.old) (O.contents output.old) (O.contents output.new) true }
-    ensures open { result ≡ 1 → IsReported (D.held store.old) (file_of (map S.text words.now)) (folder_of (map S.text words.now))
+    ensures open { result ≡ 1 → IsReported (D.held store.old) (file_of (map S.text words.now))
+        (folder_of (map S.text words.now))
         (I.remaining input.old) (O.contents output.old) (O.contents output.new) false }
     // Then nothing is written to `errors`.
     ensures quiet { result < 2 → errors.new ≡ errors.old }
 
-    // With every other status but 5 nothing is written to `output`; with 5 nothing is, or a beginning of the report where a write failed.
-    ensures nothing { 1 < result → result < 5 → Keeps (O.contents output.old) (O.contents output.new) }
+    // With every other status but 5 nothing is written to `output`; with 5 nothing is, or a
+    // beginning of the report where a write failed.
+    ensures nothing { 1 < result → result < 5 → Keeps (O.contents output.old)
+        (O.contents output.new) }
     ensures beginning { result ≡ 5 → Keeps (O.contents output.old) (O.contents output.new)
         ⊎ ((O.failures output.old < O.failures output.new)
-        × IsBegun (D.held store.old) (file_of (map S.text words.now)) (folder_of (map S.text words.now))
+        × IsBegun (D.held store.old) (file_of (map S.text words.now))
+        (folder_of (map S.text words.now))
         (I.remaining input.old) (O.contents output.old) (O.contents output.new)) }
 
-    // Status 2: the words can't be taken. They are refused exactly then, unless memory is refused, and nothing is read; no words can
-    // be taken.
+    // Status 2: the words can't be taken. They are refused exactly then, unless memory is refused,
+    // and nothing is read; no words can be taken.
     ensures usage { AreTaken (map S.text words.now) → result ≢ 2 }
     ensures unread { result ≡ 2 → (store.new ≡ store.old) × (input.new ≡ input.old) }
     ensures taken { result ≢ 2 → result ≢ 4 → AreTaken (map S.text words.now) }
@@ -83,16 +95,21 @@ where
         × (file_of (map S.text words.now) ≡ None) × (folder_of (map S.text words.now) ≡ None) }
     // Status 3: the bundle has a fault, and its first one is told.
     ensures fault { result ≡ 3 → (fault : Fault) × IsInputFault fault
-        × IsRefused (D.held store.old) (file_of (map S.text words.now)) (folder_of (map S.text words.now)) (I.remaining input.old) fault
-        × IsTold (E.contents errors.old) (E.contents errors.new) (E.failures errors.old) (E.failures errors.new) (fault_line fault) }
+        × IsRefused (D.held store.old) (file_of (map S.text words.now))
+        (folder_of (map S.text words.now)) (I.remaining input.old) fault
+        × IsTold (E.contents errors.old) (E.contents errors.new) (E.failures errors.old)
+        (E.failures errors.new) (fault_line fault) }
     // Status 4: want of memory or of a thread is told.
     ensures memory { result ≡ 4 →
-        IsTold (E.contents errors.old) (E.contents errors.new) (E.failures errors.old) (E.failures errors.new) (fault_line Fault.Memory)
-        ⊎ IsTold (E.contents errors.old) (E.contents errors.new) (E.failures errors.old) (E.failures errors.new) (fault_line Fault.Thread) }
-    // Status 5: a device failed, and this is told. It stands where a call failed that reads or writes the report, and only there or
-    // where FILE isn't there.
+        IsTold (E.contents errors.old) (E.contents errors.new) (E.failures errors.old)
+        (E.failures errors.new) (fault_line Fault.Memory)
+        ⊎ IsTold (E.contents errors.old) (E.contents errors.new) (E.failures errors.old)
+        (E.failures errors.new) (fault_line Fault.Thread) }
+    // Status 5: a device failed, and this is told. It stands where a call failed that reads or
+    // writes the report, and only there or where FILE isn't there.
     ensures device { result ≡ 5 →
-        IsTold (E.contents errors.old) (E.contents errors.new) (E.failures errors.old) (E.failures errors.new) (fault_line Fault.Device) }
+        IsTold (E.contents errors.old) (E.contents errors.new) (E.failures errors.old)
+        (E.failures errors.new) (fault_line Fault.Device) }
     ensures failed { D.failures store.old + I.failures input.old + O.failures output.old
         < D.failures store.new + I.failures input.new + O.failures output.new → result ≡ 5 }
     ensures broken { result ≡ 5 →
@@ -109,7 +126,8 @@ where
     }
 }
 
-/// What the request asks for: whether the report that was written says refuted, or why there is none.
+/// What the request asks for: whether the report that was written says refuted, or why there is
+/// none.
 fn run_request<R, D, I, O, G>(
     rt: &R,
     store: &mut D,
@@ -127,17 +145,24 @@ where
     requires store { D.failures store.old < 2 ^ 64 - 1 }
     requires input { I.failures input.old < 2 ^ 64 - 1 }
     requires output { O.failures output.old < 2 ^ 64 - 1 }
-    ensures report { IfOk result (IsReported (D.held store.old) (option_map (λ text. text.now) request.now.file)
-        (option_map (λ text. text.now) request.now.proofs) (I.remaining input.old) (O.contents output.old) (O.contents output.new)) }
-    ensures fault { IfErr result (λ fault. IsInputFault fault → IsRefused (D.held store.old) (option_map (λ text. text.now) request.now.file)
+    ensures report { IfOk result
+        (IsReported (D.held store.old) (option_map (λ text. text.now) request.now.file)
+        (option_map (λ text. text.now) request.now.proofs) (I.remaining input.old)
+        (O.contents output.old) (O.contents output.new)) }
+    ensures fault { IfErr result
+        (λ fault. IsInputFault fault → IsRefused (D.held store.old)
+        (option_map (λ text. text.now) request.now.file)
         (option_map (λ text. text.now) request.now.proofs) (I.remaining input.old) fault) }
-    ensures nothing { IfErr result (λ fault. fault ≢ Fault.Device → Keeps (O.contents output.old) (O.contents output.new)) }
+    ensures nothing { IfErr result
+        (λ fault. fault ≢ Fault.Device → Keeps (O.contents output.old) (O.contents output.new)) }
     ensures beginning { OnErr result (Keeps (O.contents output.old) (O.contents output.new)
         ⊎ ((O.failures output.old < O.failures output.new)
-        × IsBegun (D.held store.old) (option_map (λ text. text.now) request.now.file) (option_map (λ text. text.now) request.now.proofs)
+        × IsBegun (D.held store.old) (option_map (λ text. text.now) request.now.file)
+        (option_map (λ text. text.now) request.now.proofs)
         (I.remaining input.old) (O.contents output.old) (O.contents output.new))) }
     ensures failed { D.failures store.old + I.failures input.old + O.failures output.old
-        < D.failures store.new + I.failures input.new + O.failures output.new → IsErrOf result Fault.Device }
+        < D.failures store.new + I.failures input.new + O.failures output.new
+        → IsErrOf result Fault.Device }
     ensures broken { IsErrOf result Fault.Device →
         (D.failures store.old + I.failures input.old + O.failures output.old
         < D.failures store.new + I.failures input.new + O.failures output.new)
@@ -147,13 +172,15 @@ where
     write_report(rt, rt.alloc(), &bundle, output, request.settings, gate)
 }
 
-/// The status of words that make no request, after the parser's text, or the line that memory was refused.
+/// The status of words that make no request, after the parser's text, or the line that memory was
+/// refused.
 fn refused<E: Sink>(alloc: Global, errors: &mut E, error: &WordsError) -> u8
     requires { E.failures errors.old < 2 ^ 64 - 1 }
     ensures either { (result ≡ 2) ⊎ (result ≡ 4) }
     ensures usage { kind_of error.now ≡ WordsFault.OutOfMemory → result ≡ 4 }
     ensures memory { result ≡ 4 →
-        IsTold (E.contents errors.old) (E.contents errors.new) (E.failures errors.old) (E.failures errors.new) (fault_line Fault.Memory) }
+        IsTold (E.contents errors.old) (E.contents errors.new) (E.failures errors.old)
+        (E.failures errors.new) (fault_line Fault.Memory) }
 {
     if error.kind() == WordsFault::OutOfMemory {
         return tell_fault(alloc, errors, Fault::Memory);

@@ -3,7 +3,8 @@
 ghost use Rattle.std.specs.Prelude.{◌≡◌, ◌⊎◌, ◌<◌, ◌^◌, ◌-◌, codes, OnOk, IfOk, IfErr, MatchResult};
 ghost use Rattle.std.specs.String.{string_bytes};
 ghost use Rattle.cube_report.specs.Faults.{IsInputFault};
-ghost use Rattle.cube_command.specs.Program.{IsTold, IsToldAs, fault_line, status_of, status_of_answer};
+ghost use Rattle.cube_command.specs.Program.{IsTold, IsToldAs, fault_line, status_of};
+ghost use Rattle.cube_command.specs.Program.{status_of_answer};
 
 use cube_report::{Fault, Sink, write_all};
 use std::alloc::{AllocError, Global};
@@ -14,8 +15,10 @@ use std::io::ErrorKind;
 /// The status of a run, after a line that says what went wrong, if anything did.
 pub fn tell_run<E: Sink>(alloc: Global, errors: &mut E, run: Result<bool, Fault>) -> u8
     requires { E.failures errors.old < 2 ^ 64 - 1 }
-    ensures told { MatchResult run (λ answer. (result ≡ status_of_answer answer) × (errors.new ≡ errors.old))
-        (λ fault. IsToldAs fault result (E.contents errors.old) (E.contents errors.new) (E.failures errors.old) (E.failures errors.new)) }
+    ensures told { MatchResult run
+        (λ answer. (result ≡ status_of_answer answer) × (errors.new ≡ errors.old))
+        (λ fault. IsToldAs fault result (E.contents errors.old) (E.contents errors.new)
+        (E.failures errors.old) (E.failures errors.new)) }
 {
     match run {
         Ok(true) => 0,
@@ -24,10 +27,12 @@ pub fn tell_run<E: Sink>(alloc: Global, errors: &mut E, run: Result<bool, Fault>
     }
 }
 
-/// Says what went wrong, and answers the status. Where the line of a fault of the input finds no memory, it is want of memory that is told.
+/// Says what went wrong, and answers the status. Where the line of a fault of the input finds no
+/// memory, it is want of memory that is told.
 pub fn tell_fault<E: Sink>(alloc: Global, errors: &mut E, fault: Fault) -> u8
     requires { E.failures errors.old < 2 ^ 64 - 1 }
-    ensures told { IsToldAs fault result (E.contents errors.old) (E.contents errors.new) (E.failures errors.old) (E.failures errors.new) }
+    ensures told { IsToldAs fault result (E.contents errors.old) (E.contents errors.new)
+        (E.failures errors.old) (E.failures errors.new) }
 {
     match fault {
         Fault::Memory => tell_memory(errors),
@@ -47,7 +52,8 @@ pub fn tell_fault<E: Sink>(alloc: Global, errors: &mut E, fault: Fault) -> u8
 fn tell_input<E: Sink>(alloc: Global, errors: &mut E, fault: Fault) -> u8
     requires errors { E.failures errors.old < 2 ^ 64 - 1 }
     requires input { IsInputFault fault }
-    ensures told { IsToldAs fault result (E.contents errors.old) (E.contents errors.new) (E.failures errors.old) (E.failures errors.new) }
+    ensures told { IsToldAs fault result (E.contents errors.old) (E.contents errors.new)
+        (E.failures errors.old) (E.failures errors.new) }
 {
     match line_of(alloc, fault) {
         Ok(line) => {
@@ -68,7 +74,8 @@ fn line_of(alloc: Global, fault: Fault) -> Result<String, AllocError>
 /// Writes a line, as far as the device takes it.
 fn tell<E: Sink>(errors: &mut E, line: &[u8])
     requires { E.failures errors.old < 2 ^ 64 - 1 }
-    ensures { IsTold (E.contents errors.old) (E.contents errors.new) (E.failures errors.old) (E.failures errors.new) line.now }
+    ensures { IsTold (E.contents errors.old) (E.contents errors.new) (E.failures errors.old)
+        (E.failures errors.new) line.now }
 {
     let _ = write_all(errors, line);
 }
@@ -94,14 +101,17 @@ fn status_of(fault: Fault) -> u8
     }
 }
 
-/// The words after the program's name, or the status where they can't be read, after a line on `errors`.
+/// The words after the program's name, or the status where they can't be read, after a line on
+/// `errors`.
 pub fn own_words<R: Env + AllocGlobal, E: Sink>(rt: &R, errors: &mut E) -> Result<Vec<String>, u8>
     requires { E.failures errors.old < 2 ^ 64 - 1 }
     ensures ok { OnOk result (errors.new ≡ errors.old) }
     ensures err { IfErr result (λ status.
-        ((status ≡ 2) × IsTold (E.contents errors.old) (E.contents errors.new) (E.failures errors.old) (E.failures errors.new)
+        ((status ≡ 2) × IsTold (E.contents errors.old) (E.contents errors.new)
+        (E.failures errors.old) (E.failures errors.new)
         (codes "cubeboard: a word is no text\n"))
-        ⊎ ((status ≡ 4) × IsTold (E.contents errors.old) (E.contents errors.new) (E.failures errors.old) (E.failures errors.new)
+        ⊎ ((status ≡ 4) × IsTold (E.contents errors.old) (E.contents errors.new)
+        (E.failures errors.old) (E.failures errors.new)
         (fault_line Fault.Memory))) }
 {
     let mut words = match env::args(rt) {
@@ -123,7 +133,8 @@ pub fn own_words<R: Env + AllocGlobal, E: Sink>(rt: &R, errors: &mut E) -> Resul
 fn tell_memory<E: Sink>(errors: &mut E) -> u8
     requires { E.failures errors.old < 2 ^ 64 - 1 }
     ensures status { result ≡ 4 }
-    ensures told { IsTold (E.contents errors.old) (E.contents errors.new) (E.failures errors.old) (E.failures errors.new) (fault_line Fault.Memory) }
+    ensures told { IsTold (E.contents errors.old) (E.contents errors.new) (E.failures errors.old)
+        (E.failures errors.new) (fault_line Fault.Memory) }
 {
     tell(errors, b"cubeboard: F6 memory\n");
     4

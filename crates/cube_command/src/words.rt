@@ -1,8 +1,11 @@
 //! The words of the program: what they ask for, and the help.
 
-ghost use Rattle.std.specs.Prelude.{◌≡◌, ◌<◌, ◌≤◌, ℕ, List, Some, false, map, option_map, codes, IfOk, IfErr};
+ghost use Rattle.std.specs.Prelude.{◌≡◌, ◌<◌, ◌≤◌, ℕ, List, Some, false, map, option_map, codes};
+ghost use Rattle.std.specs.Prelude.{IfOk, IfErr};
 ghost use Rattle.clap.specs.Words.{app_of, found_of, kind_of, new_app, one_text, rule_of};
-ghost use Rattle.cube_command.specs.Words.{AreTaken, Reads, SaysNumber, asked_for, cut_word, file_word, proofs_word, with_numbers, without_program, words_taken, workers_word};
+ghost use Rattle.cube_command.specs.Words.{AreTaken, Reads, SaysNumber, asked_for, cut_word};
+ghost use Rattle.cube_command.specs.Words.{file_word, proofs_word, with_numbers, without_program};
+ghost use Rattle.cube_command.specs.Words.{words_taken, workers_word};
 
 use check_crew::Settings;
 use clap::builder::ValueParser;
@@ -47,18 +50,24 @@ Status: 0 REFUTED, 1 OPEN, 2 words or help, 3 input refused, 4 memory or threads
 5 device.
 Example: printf 'p inccnf\\n1 0\\n-1 0\\na 0\\nl 1\\n3 0 1 2 0\\n' | cubeboard";
 
-/// What these words, without the program's name, ask for; or the parser's text, which is the help where it is asked for.
+/// What these words, without the program's name, ask for; or the parser's text, which is the help
+/// where it is asked for.
 pub fn request_of<'a, S: AsStr>(alloc: Global, words: &'a [S]) -> Result<Request<'a>, Error>
     // The request is what the words say.
-    ensures proofs { IfOk result (λ request. option_map (λ text. text.now) request.proofs ≡ asked_for (codes "proofs") (map S.text words.now)) }
-    ensures file { IfOk result (λ request. option_map (λ text. text.now) request.file ≡ asked_for (codes "file") (map S.text words.now)) }
+    ensures proofs { IfOk result
+        (λ request. option_map (λ text. text.now) request.proofs ≡ asked_for (codes "proofs")
+        (map S.text words.now)) }
+    ensures file { IfOk result
+        (λ request. option_map (λ text. text.now) request.file ≡ asked_for (codes "file")
+        (map S.text words.now)) }
     ensures settings { IfOk result (λ request. (workers cut : ℕ)
         → SaysNumber (codes "workers") (map S.text words.now) workers → 0 < workers → workers ≤ 32
         → SaysNumber (codes "cut") (map S.text words.now) cut → cut ≤ 6
         → (request.settings.workers ≡ workers) × (request.settings.cut ≡ cut)) }
     // Only words that are taken make a request, and they are refused only for want of memory.
     ensures taken { IfOk result (λ _. AreTaken (map S.text words.now)) }
-    ensures refused { IfErr result (λ error. AreTaken (map S.text words.now) → kind_of error ≡ ErrorKind.OutOfMemory) }
+    ensures refused { IfErr result
+        (λ error. AreTaken (map S.text words.now) → kind_of error ≡ ErrorKind.OutOfMemory) }
 {
     let matches = parser(alloc)?.try_get_matches_from(words)?;
     Ok(Request {
@@ -71,7 +80,8 @@ pub fn request_of<'a, S: AsStr>(alloc: Global, words: &'a [S]) -> Result<Request
 /// How the run is set up, by the numbers that were matched.
 fn settings_in(matches: &ArgMatches<'_>) -> Settings
     ensures { (workers cut : ℕ)
-        → Reads (one_text (found_of matches.now) (codes "workers")) workers → 0 < workers → workers ≤ 32
+        → Reads (one_text (found_of matches.now) (codes "workers")) workers → 0 < workers
+        → workers ≤ 32
         → Reads (one_text (found_of matches.now) (codes "cut")) cut → cut ≤ 6
         → (result.workers ≡ workers) × (result.cut ≡ cut) }
 {

@@ -7,8 +7,8 @@ returns-in-Ok g c = record {
   told = inl (
     c.status_of.ensures,
     subst
-      (λ (line : List ℕ).
+        (λ (line : List ℕ).
         IsTold (g.E.Sink.contents c.args.errors.now) (g.E.Sink.contents c.tell.new.errors) (g.E.Sink.failures c.args.errors.now) (g.E.Sink.failures c.tell.new.errors) line)
-      (c.as_bytes.ensures.value ∙ c.in-Ok.ensures) c.tell.ensures,
+        (c.as_bytes.ensures.value ∙ c.in-Ok.ensures) c.tell.ensures,
   );
 }
