@@ -97,6 +97,17 @@ while read -r length last name; do
     done
 done < "$prefixes/answers"
 
+# A large bundle: 300,000 clauses that hold of every assignment, and then two units that don't hold together.
+clear_folder
+awk 'BEGIN {
+    print "p inccnf"
+    for (i = 1; i <= 300000; i++) print i, -i, 0
+    print "1 0\n-1 0\na 0\nl 1\n300003 0 300001 300002 0"
+}' > "$here/in"
+large=$root/tests/rows/unit_then_empty_clause
+run "$here/in"
+compare "a bundle of 300,002 clauses" "$large.out" "$large.err" "$large.status"
+
 # Words that can't be taken, and the help: status 2, no report, and on standard error a text that has what is named first.
 refuses() {
     named=$1
