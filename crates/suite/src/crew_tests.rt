@@ -2,7 +2,7 @@
 //! and that what they find is what one thread finds.
 ghost use Rattle.std.specs.Prelude.{◌≡◌};
 
-use crate::fixtures::{BOTH_CUBES, HALF, ONE_CUBE, OPEN, REFUTED, ROOT, case};
+use crate::fixtures::{BOTH_CUBES, HALF, ONE_CUBE, OPEN, REFUTED, ROOT, TURNS, case};
 use crate::{four, halves};
 use board_hall::Pass;
 use case_core::{Leaf, Target};
@@ -14,9 +14,6 @@ use std::process::Abort;
 use std::sync::Wait;
 use std::sync::atomic::{AtomicU64, Ordering};
 use std::thread::Threads;
-
-/// How often a gate looks before it gives up.
-const TURNS: u32 = 1_000_000;
 
 /// The cubes of both variables, and a proof for each of them.
 const FOUR_CUBES: &str = four!(

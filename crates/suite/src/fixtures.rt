@@ -22,6 +22,9 @@ pub const HALF: u64 = 576_460_752_303_423_488;
 /// The weight of a leaf at depth 2.
 pub const QUARTER: u64 = 288_230_376_151_711_744;
 
+/// How often a gate looks before it gives up.
+pub const TURNS: u32 = 1_000_000;
+
 /// The four clauses over two variables, which have no model together.
 pub const FOUR: &[&[i32]] = &[&[1, 2], &[1, -2], &[-1, 2], &[-1, -2]];
 

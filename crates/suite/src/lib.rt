@@ -8,9 +8,13 @@ mod boards_tests;
 #[cfg(test)]
 mod case_tests;
 #[cfg(test)]
+mod command_gate_tests;
+#[cfg(test)]
 mod command_tests;
 #[cfg(test)]
 mod crew_tests;
+#[cfg(test)]
+mod devices;
 #[cfg(test)]
 mod fixtures;
 #[cfg(test)]

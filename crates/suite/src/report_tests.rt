@@ -1,13 +1,13 @@
 //! Reports and faults of bundles, and runs over streams in memory: each expected report is written
 //! by hand from the formats.
 
-ghost use Rattle.std.specs.Prelude.{Some, ◌<◌, ◌^◌, ◌-◌};
+ghost use Rattle.std.specs.Prelude.{◌<◌, ◌^◌, ◌-◌};
 
+use crate::devices::{Broken, Narrow};
 use crate::fixtures::{OPEN, OPEN_REPORT, REFUTED, REFUTED_REPORT};
 use check_crew::{NoGate, Settings};
 use cube_report::{Counted, Fault, Sink, Source, run_io, run_one};
 use std::alloc::Global;
-use std::io;
 use std::process::Abort;
 use std::sync::Wait;
 use std::test::Fail;
@@ -79,34 +79,6 @@ fn faults(rt: HostRuntime) -> Result<(), Fail> {
     Ok(())
 }
 
-/// A reader of 16 bytes a call that fails at one of its calls, with the fault that a signal makes.
-#[derive(Drop)]
-struct Broken<'t> {
-    left: &'t [u8],
-    calls: u64,
-    fails_at: u64,
-    failed: u64,
-}
-
-impl<'t> Source for Broken<'t> {
-    ghost remaining = { λ s. Some s.left.now };
-
-    ghost failures = { λ s. s.failed };
-
-    fn read(&mut self, buffer: &mut [u8]) -> io::Result<usize> {
-        self.calls = self.calls.wrapping_add(1);
-        if self.calls == self.fails_at {
-            self.failed += 1;
-            return Err(io::Error::from(io::ErrorKind::Interrupted));
-        }
-        let count = self.left.len().min(buffer.len()).min(16);
-        let (now, later) = self.left.split_at(count);
-        buffer[..count].copy_from_slice(now);
-        self.left = later;
-        Ok(count)
-    }
-}
-
 #[test]
 fn a_read_fails(rt: HostRuntime) -> Result<(), Fail> {
     let calls = REFUTED.len() as u64 / 16 + 2;
@@ -118,43 +90,11 @@ fn a_read_fails(rt: HostRuntime) -> Result<(), Fail> {
 
 /// A run whose reader fails at this call says so, and has written nothing.
 fn read_fails_at<R: Abort + Threads + Wait + Sync>(rt: &R, alloc: Global, fails_at: u64) {
-    let mut reader = Broken {
-        left: REFUTED,
-        calls: 0,
-        fails_at,
-        failed: 0,
-    };
+    let mut reader = Broken::new(REFUTED, fails_at);
     let mut written = Vec::new(alloc);
     let result = run_by_two(rt, alloc, &mut reader, &mut Counted::new(&mut written));
     assert!(rt; result == Err(Fault::Device), "at {fails_at}");
     assert!(rt; written.is_empty(), "at {fails_at}");
-}
-
-/// A writer that takes one byte a call and fails at one of its calls.
-#[derive(Drop)]
-struct Narrow {
-    written: Vec<u8>,
-    calls: u64,
-    fails_at: u64,
-    failed: u64,
-}
-
-impl Sink for Narrow {
-    ghost contents = { λ s. Some s.written.items };
-
-    ghost failures = { λ s. s.failed };
-
-    fn write(&mut self, bytes: &[u8]) -> io::Result<usize> {
-        self.calls = self.calls.wrapping_add(1);
-        let Some(first) = bytes.first() else {
-            return Ok(0);
-        };
-        if self.calls == self.fails_at || self.written.push(*first).is_err() {
-            self.failed += 1;
-            return Err(io::Error::from(io::ErrorKind::Interrupted));
-        }
-        Ok(1)
-    }
 }
 
 #[test]
@@ -177,12 +117,7 @@ fn write_fails_at<R: Abort + Threads + Wait + Sync>(
     fails_at: u64,
     before: &[u8],
 ) {
-    let mut writer = Narrow {
-        written: Vec::new(alloc),
-        calls: 0,
-        fails_at,
-        failed: 0,
-    };
+    let mut writer = Narrow::new(alloc, fails_at);
     let result = run_by_two(rt, alloc, &mut Counted::new(REFUTED), &mut writer);
     assert!(rt; result == Err(Fault::Device), "at {fails_at}");
     assert_eq!(rt; writer.written.as_slice(), before, "at {fails_at}");
