@@ -1,16 +1,16 @@
 -- Sections that are added to a bundle leave its formula as it is.
-use Rattle.std.proofs.Common.{◌≡◌, ◌∙◌, ◌↔◌, ◌==◌, sym, ap, refl, ℕ, ◌+◌, Bool, true, false, cond, List, []}
+use Rattle.std.proofs.Common.{◌≡◌, ◌∙◌, ◌↔◌, sym, ap, refl, ℕ, ◌+◌, Bool, true, false, cond, List, []}
 use Rattle.std.proofs.Common.{◌∷◌, ◌++◌, codes, append_assoc, append-nil, ◌⊎◌, inl, inr, length, arith, Option}
 use Rattle.std.proofs.Common.{Some, None, subst, if◌then◌else◌}
 use Rattle.std.proofs.lemmas.List.Splits.{length-slice_split}
-use Rattle.std.specs.List.{flat_map, slice_split, onto_first}
+use Rattle.std.specs.List.{flat_map, onto_first}
 use Rattle.cnf_text.specs.Literal.{Literal}
 use Rattle.cnf_text.specs.Tokens.{Token, is_line_end, is_blank, is_comment, words, line_tokens, lines_from}
 use Rattle.cnf_text.specs.Tokens.{token_lines, joined}
 use Rattle.cnf_text.specs.Icnf.{after_header, is_header}
 use Rattle.case_core.specs.Bundle.{lines_of, is_label, line_onto, text_before, icnf_text}
 use Rattle.cube_report.specs.Correct.{IsFormulaOf, IsUnsatisfiable}
-use Rattle.bundle_files.specs.Files.{AreAdded, Held, IsBundleOf, IsJudgedOf, IsWithProofs, section_text}
+use Rattle.bundle_files.specs.Files.{AreAdded, Held, IsJudgedOf, IsWithProofs, section_text}
 
 no_lines : (text : List ℕ) → lines_of text ≡ [] → ⊥
 no_lines text none =

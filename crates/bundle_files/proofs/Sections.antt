@@ -1,9 +1,9 @@
 -- Leaves whose proofs are added to a bundle, one after the other.
 use Rattle.std.proofs.Common.{◌≡◌, ◌∙◌, sym, ap, ap₂, refl, subst, ℕ, zero, suc, ◌+◌, ◌≤◌, add-zero, is_some}
-use Rattle.std.proofs.Common.{unwrap_or, Bool, true, false, List, [], ◌∷◌, ◌++◌, map, length, decimal, codes}
+use Rattle.std.proofs.Common.{unwrap_or, Bool, true, false, List, [], ◌∷◌, ◌++◌, length, decimal, codes}
 use Rattle.std.proofs.Common.{append_assoc, append-nil, arith}
-use Rattle.std.proofs.Common.{Option, None, Some, IfSome, Result, Ok, Err, OnOk, take}
-use Rattle.std.specs.List.{All, flat_map}
+use Rattle.std.proofs.Common.{Option, None, Some, Result, Ok, Err, OnOk, take}
+use Rattle.std.specs.List.{flat_map}
 use Rattle.std.proofs.lemmas.Grind.{flat_map-append}
 use Rattle.std.proofs.lemmas.List.{map-append}
 use Rattle.std.proofs.lemmas.List.Elements.{All-append, All-cons, All-nil}

@@ -231,9 +231,9 @@ struct Parts {
 /// The parts of a bundle's case, or its fault.
 fn read_parts(alloc: Global, bundle: &[u8]) -> Result<Parts, CaseFault>
     ensures ok { IfOk result (λ parts. IsCaseOf bundle.now (record {
-        formula = parts.formula;
-        tree = parts.tree;
-        sections = map section_of parts.sections.sections.items;
+      formula = parts.formula;
+      tree = parts.tree;
+      sections = map section_of parts.sections.sections.items;
     })) }
     ensures kept { IfOk result (λ parts. IsKept parts.tree (map section_of parts.sections.sections.items) parts.sections.places.items) }
     ensures err { IfErr result (λ fault. fault ≢ CaseFault.Memory → IsFaultOf bundle.now fault) }
