@@ -1,6 +1,6 @@
 -- What a run says of the bundle and of what was written, and what its status says.
-use Rattle.std.proofs.Common.{◌≡◌, ◌<◌, ◌⊎◌, ◌∙◌, sym, refl, subst, ℕ, Bool, true, false, List, Option, None}
-use Rattle.std.proofs.Common.{Some, Result, Ok, Err, IfOk, IfErr, MatchResult, inl, inr, arith}
+use Rattle.std.proofs.Common.{◌≡◌, ◌<◌, ◌⊎◌, ◌∙◌, sym, refl, subst, ℕ, Bool, true, false, List, Option}
+use Rattle.std.proofs.Common.{Result, Ok, Err, IfOk, IfErr, MatchResult, inl, inr, arith}
 use Rattle.std.specs.Io.KnownBytes.{Appends}
 use Rattle.bundle_files.specs.Files.{Held, IsBundleOf, IsRead}
 use Rattle.bundle_files.proofs.Formula.{judged_unsatisfiable}

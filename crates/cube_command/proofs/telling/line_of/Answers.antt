@@ -1,4 +1,4 @@
-use Rattle.std.proofs.Common.{◌∙◌, ◌++◌, sym, append_assoc, codes}
+use Rattle.std.proofs.Common.{◌∙◌, sym, append_assoc, codes}
 use Rattle.std.proofs.lemmas.Result.{IfOk-weaker}
 use Rattle.cube_report.specs.Faults.{fault_text}
 use Rattle.cube_command.proofs.telling.line_of.Goals as goal
