@@ -4,9 +4,11 @@
 mod device;
 mod engine;
 mod fault;
+mod laws;
 mod report;
 
 pub use device::{Counted, Sink, Source};
 pub use engine::{read_to_end, run, run_io, run_one, write_all, write_report};
 pub use fault::Fault;
+pub use laws::{one_answer, one_report};
 pub use report::report_of;

@@ -112,7 +112,7 @@ module _ (refuted : ℕ → Bool) where
       branches_from k 0 whole ≡ open_branches refuted k (subtree_at whole k) ++ branches_from (k + size (subtree_at whole k)) 0 whole
   from_whole whole k l c = from_node whole 0 whole (omega (arith, some_node whole)) (subtree-root whole) k (omega arith) (omega arith) c
 
-  marked_none : (node : ℕ) (t : SplitTree) → marked refuted node t ≡ true → open_branches refuted node t ≡ []
+  pub marked_none : (node : ℕ) (t : SplitTree) → marked refuted node t ≡ true → open_branches refuted node t ≡ []
   marked_none node missing h = rw h refl
   marked_none node (cube j) h = rw h refl
   marked_none node (split v p n) h = rw h refl
@@ -126,7 +126,7 @@ module _ (refuted : ℕ → Bool) where
   not_of true e t = let k : true ≡ false = e in cc
   not_of false e t = let k : false ≡ true = t in cc
 
-  whole_one : (node : ℕ) (t : SplitTree) → marked refuted node t ≡ false → wholly_open refuted node t ≡ true →
+  pub whole_one : (node : ℕ) (t : SplitTree) → marked refuted node t ≡ false → wholly_open refuted node t ≡ true →
       open_branches refuted node t ≡ record { node = node; tree = t } ∷ []
   whole_one node missing h w = rw h refl
   whole_one node (cube j) h w = rw h refl
@@ -161,7 +161,8 @@ module _ (refuted : ℕ → Bool) where
   not_whole_leaf (cube j) node h w = absurd (not_of true (rw h at w) refl)
   not_whole_leaf (split v p n) node h w = (v, p, n, refl)
 
-  opened : (k v : ℕ) (p n t : SplitTree) → t ≡ split v p n → marked refuted k t ≡ false → wholly_open refuted k t ≡ false →
+  pub opened : (k v : ℕ) (p n t : SplitTree) → t ≡ split v p n → marked refuted k t ≡ false →
+      wholly_open refuted k t ≡ false →
       open_branches refuted k t ≡ open_branches refuted (suc k) p ++ open_branches refuted (suc (k + size p)) n
   opened k v p n t e h w = rw e (rw (rw e at w, rw e at h) refl)
 

@@ -17,3 +17,4 @@ pub mod Gathered
 pub mod GatheredPosts
 pub mod GatheredWeights
 pub mod Walks
+pub mod OpenBranches

@@ -1,12 +1,16 @@
 -- Laws of marks and open weights.
-use Rattle.std.specs.Prelude.{ℕ, map, ◌+◌, ◌<◌, ◌≡◌, ◌≢◌, Bool, true, List}
+use Rattle.std.specs.Prelude.{ℕ, map, ◌+◌, ◌<◌, ◌≡◌, ◌≢◌, ◌⊎◌, ◌↔◌, Bool, true, false, List}
+use Rattle.std.specs.List.{Contains}
 use Rattle.cnf_text.specs.Literal.{Literal}
 use Rattle.cnf_text.specs.Formula.{IsRefuted}
 use Rattle.split_tree.specs.SplitTree.{SplitTree, size, subtree_at, depth_at, IsSplit}
+use Rattle.split_tree.specs.Rows.{HasBelow}
+use Rattle.split_tree.specs.Tables.{IsParent}
 use Rattle.split_tree.specs.Leaves.{missing_nodes}
 use Rattle.split_tree.specs.Parts.{part_nodes}
 use Rattle.split_tree.specs.Top.{top}
 use Rattle.mark_board.specs.Places.{top_node, IsPlaceOf}
+use Rattle.mark_board.specs.Marking.{Place}
 use Rattle.mark_board.specs.Marking.{marked, open_weight, open_below, marked_on_top, open_on_top, open_branches, weight_under, AreApart, AreRefuted, IsWithin, Agrees}
 
 -- where each node of the set has no model together with the formula, so has each marked node
@@ -43,6 +47,24 @@ OpenBranchesAddUp = (worth : ℕ → ℕ) (refuted : ℕ → Bool) (tree : Split
 -- no node lies under two of them
 abbrev pub OpenBranchesAreApart : Type 0
 OpenBranchesAreApart = (refuted : ℕ → Bool) (tree : SplitTree) → AreApart 0 (open_branches refuted 0 tree) (size tree)
+
+-- neither this node, nor one above it, nor one under it is marked
+abbrev pub IsWhollyOpen : (ℕ → Bool) → SplitTree → ℕ → Type 0
+IsWhollyOpen refuted tree node =
+    (other : ℕ) → HasBelow tree other node ⊎ HasBelow tree node other →
+    marked refuted other (subtree_at tree other) ≡ false
+
+-- a node of the tree, with the tree below it, that is wholly open, and is the root or has a parent that isn't
+pub record IsOpenBranch (refuted : ℕ → Bool) (tree : SplitTree) (place : Place) : Type 0 where
+  pub within : place.node < size tree
+  pub below : place.tree ≡ subtree_at tree place.node
+  pub whole : IsWhollyOpen refuted tree place.node
+  pub highest : (parent : ℕ) → IsParent tree parent place.node → IsWhollyOpen refuted tree parent → ⊥
+
+-- the open branches are exactly these
+abbrev pub OpenBranchesAreAll : Type 0
+OpenBranchesAreAll = (refuted : ℕ → Bool) (tree : SplitTree) (place : Place) →
+    Contains (open_branches refuted 0 tree) place ↔ IsOpenBranch refuted tree place
 
 -- the leaves of the top board stand for the parts of the tree, in their order
 abbrev pub PartsStandOnTop : Type 0

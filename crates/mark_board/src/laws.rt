@@ -1,6 +1,7 @@
 //! Laws of marks and open weights. Each function does nothing: its contract is the law.
 
 ghost use Rattle.mark_board.specs.Laws.{MarkedHasNoModel, MarkedStaysMarked, OpenAfterPost, TopMarksTheRoot, OpenPartsAddUp, OpenBranchesAddUp, OpenBranchesAreApart, PartsStandOnTop, TopHasTheNodesAboveTheCut};
+ghost use Rattle.mark_board.specs.Laws.{OpenBranchesAreAll};
 
 /// Where each refuted node has no model together with the formula, so has each marked node.
 pub fn marked_has_no_model()
@@ -35,6 +36,11 @@ pub fn open_branches_add_up()
 /// No node lies under two open branches.
 pub fn open_branches_are_apart()
     ensures { OpenBranchesAreApart }
+{}
+
+/// The open branches are exactly the wholly open nodes that are the root or whose parents aren't.
+pub fn open_branches_are_all()
+    ensures { OpenBranchesAreAll }
 {}
 
 /// The leaves of the top board stand for the parts of the tree, in their order.

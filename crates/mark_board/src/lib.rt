@@ -18,7 +18,7 @@ pub use board::Board;
 pub use boards::Boards;
 pub use laws::{
     marked_has_no_model, marked_stays_marked, open_after_post, open_branches_add_up,
-    open_branches_are_apart, open_parts_add_up, parts_stand_on_top,
+    open_branches_are_all, open_branches_are_apart, open_parts_add_up, parts_stand_on_top,
     top_has_the_nodes_above_the_cut, top_marks_the_root,
 };
 pub use mark::Mark;
