@@ -289,11 +289,11 @@ great=$here/great
 faulty=$root/tests/rows/second_section_of_a_cube
 words="--workers 4 --cut 3"
 
-# Whether the last run has a status and an error line: these as files, and what was written so far of which report, as a number of bytes
-# and a file.
+# Whether the last run has a status and an error line, both as files, and its output is so many bytes of a report: the number, a file.
 has_left() {
     cmp -s "$here/status" "$1" && cmp -s "$here/err" "$2" && head -c "$3" "$4" | cmp -s - "$here/out"
 }
+printf '2\n' > "$here/two"
 printf '3\n' > "$here/three"
 printf '5\n' > "$here/five"
 length() { wc -c < "$1"; }
@@ -317,10 +317,14 @@ if [ -w /dev/full ]; then
     echo $? > "$here/status"
     has_left "$here/three" "$here/none" 0 "$here/none"
     count "a full device for the line of a fault" $?
+    timeout 60 "$program" --help < /dev/null > "$here/out" 2> /dev/full
+    echo $? > "$here/status"
+    has_left "$here/two" "$here/none" 0 "$here/none"
+    count "a full device for the help" $?
 fi
 
-# A device that takes at most $2 bytes at each write on descriptor $1 (any number, where that is 0), and fails with the error $4 at the
-# write $3: then the input.
+# Runs with a device on descriptor $1 that takes at most $2 bytes at each write (all, where $2 is 0), and fails with the error $4 at the
+# write $3; $5 is the input.
 write_with() {
     rm -f "$here/mark"
     timeout 60 env WRITE_FILE="$1" WRITE_SHORT="$2" WRITE_FAILS="$3" WRITE_ERROR="$4" WRITE_MARK="$here/mark" \
@@ -455,16 +459,16 @@ for signal in "as it is" ignored; do
     )
     has_left "$faulty.status" "$here/none" 0 "$here/none"
     count "nobody reads the line of a fault, the signal $signal" $?
-    # Readers that go after nothing and after ten bytes, where the report is longer than what a pipe holds.
-    for reader in true "head -c 10"; do
+    # Readers that go after no byte and after ten, where the report is longer than what a pipe holds.
+    for taken in 0 10; do
         rm -f "$here/status"
         (
             [ "$signal" = ignored ] && trap '' PIPE
             timeout 60 "$program" $words < "$great.in" 2> "$here/err"
             echo $? > "$here/status"
-        ) | $reader > "$here/out"
-        has_left "$here/five" "$here/device" "$(length "$here/out")" "$great.out"
-        count "a long report for $reader, the signal $signal" $?
+        ) | head -c "$taken" > "$here/out"
+        has_left "$here/five" "$here/device" "$taken" "$great.out"
+        count "a reader of $taken bytes of a long report, the signal $signal" $?
     done
 done
 echo "threads: $passed passed, $failed failed"
