@@ -1,5 +1,4 @@
-use Rattle.std.proofs.Common.{◌≡◌, ◌-◌, ◌^◌, ◌++◌, List, ℕ, vec_len, length}
-use Rattle.std.specs.Io.KnownBytes.{Consumes}
+use Rattle.std.proofs.Common.{◌≡◌, ◌-◌, ◌^◌, vec_len, length}
 use Rattle.cube_report.proofs.Written.{ReadSoFar}
 use Rattle.cube_report.proofs.engine.read_to_end.Given as goal
 
