@@ -1,7 +1,8 @@
 //! Bundles: their faults, and what is found of their sections.
-use crate::fixtures::{BOTH_CUBES, ONE_CUBE, ROOT, case, cube, finding_of, inner, missing};
-use crate::{four, halves};
 use case_core::{CaseFault, Judged, Reason, Section, Target, read_bundle};
+use fixtures::bundles::{BOTH_CUBES, ONE_CUBE, ROOT};
+use fixtures::cases::{case, cube, finding_of, inner, missing};
+use fixtures::{four, halves};
 use std::alloc::Global;
 use std::process::Abort;
 

@@ -1,5 +1,5 @@
 //! Texts in iCNF form: their first faults, and the clauses and cubes that are read.
-use crate::fixtures::are_lits;
+use crate::literals::are_lits;
 use cnf_text::formula::Clause;
 use cnf_text::icnf::{TextFault, read_icnf};
 use cnf_text::literal::Lit;

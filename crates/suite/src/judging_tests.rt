@@ -1,9 +1,10 @@
 //! Proofs and the judgements that were worked out by hand from the rules of judging. The judge has
 //! to give them, over a base that many checkers share and over a formula of its own, and so has the
 //! plain judge.
-use crate::fixtures::{FOUR, formula, lits};
+use crate::literals::{formula, lits};
 use crate::{nine, plain};
 use cnf_text::literal::Lit;
+use fixtures::bundles::FOUR;
 use hint_check::{Base, Checker, Judged, Reason};
 use std::alloc::Global;
 use std::process::Abort;

@@ -1,5 +1,5 @@
 //! Texts of proofs, and the steps that are read of them one after another.
-use crate::fixtures::are_lits;
+use crate::literals::are_lits;
 use lrat_text::{Group, Step, StepFault, Steps};
 use std::alloc::Global;
 

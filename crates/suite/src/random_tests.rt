@@ -1,9 +1,10 @@
 //! The judge and the plain judge on proofs that are made up step by step, by a linear congruential
 //! generator.
-use crate::fixtures::{FOUR, formula, lits};
 use crate::judging_tests::{REPEATED, judged_over};
+use crate::literals::{formula, lits};
 use crate::plain;
 use cnf_text::literal::Lit;
+use fixtures::bundles::FOUR;
 use hint_check::{Base, Judged, Reason};
 use std::alloc::{AllocError, Global};
 use std::process::Abort;

@@ -1,9 +1,15 @@
 //! Lists of cubes: their clashes, and what is asked of their trees.
-ghost use Rattle.std.specs.Prelude.{◌≤◌};
+ghost use Rattle.std.specs.Prelude.{◌≡◌, ◌≤◌, true, length, map, IfOk};
+ghost use Rattle.std.specs.List.{AllByRecursion};
+ghost use Rattle.cnf_text.specs.Icnf.{total as literal_count};
+ghost use Rattle.cnf_text.specs.Literal.{literal_of};
+ghost use Rattle.split_tree.specs.Clash.{cubes_of as all_of};
+ghost use Rattle.split_tree.specs.SplitTree.{IsTreeOf, numbered};
 
-use crate::fixtures::{HALF, QUARTER, WHOLE, are_lits, built, cubes, lits, tree};
+use crate::literals::{are_lits, cubes, lits};
 use cnf_text::literal::Lit;
-use split_tree::{Leaf, NodeId, Target, Tree, TreeFault};
+use fixtures::bundles::{HALF, QUARTER, WHOLE};
+use split_tree::{Leaf, NodeId, Target, Tree, TreeFault, build};
 use std::alloc::Global;
 use std::process::Abort;
 
@@ -41,6 +47,42 @@ const CLASHES: &[Clash] = &[
     ),
     (&[&[1], &[-1], &[1]], TreeFault::Repeats { cube: 3 }),
 ];
+
+/// Whether the cubes are within the limits that `build` asks for.
+fn are_within(cubes: &[Vec<Lit>]) -> bool
+    ensures count { result ≡ true → length cubes.now ≤ 1048576 }
+    ensures literals { result ≡ true → literal_count (all_of cubes.now) ≤ 16777216 }
+    ensures each { result ≡ true
+        → AllByRecursion (λ cube. length cube ≤ 4096) (all_of cubes.now) }
+{
+    if cubes.len() > 1_048_576 {
+        return false;
+    }
+    let mut literals = 0;
+    for cube in cubes {
+        if cube.len() > 4_096 {
+            return false;
+        }
+        literals += cube.len();
+    }
+    literals <= 16_777_216
+}
+
+/// The tree of cubes, or their fault.
+fn built(rt: &impl Abort, alloc: Global, cubes: &[Vec<Lit>]) -> Result<Tree, TreeFault>
+    ensures { IfOk result (λ tree. IsTreeOf tree (numbered 1 (all_of cubes.now))) }
+{
+    assert!(rt; are_within(cubes));
+    build(alloc, cubes)
+}
+
+/// The tree of the cubes of these numbers.
+fn tree(rt: &impl Abort, alloc: Global, lists: &[&[i32]]) -> Tree
+    ensures { IsTreeOf result
+        (numbered 1 (map (λ numbers. map literal_of numbers.now) lists.now)) }
+{
+    built(rt, alloc, &cubes(rt, alloc, lists)).expect(rt, "no tree")
+}
 
 /// Whether the cubes clash so.
 fn clash(rt: &impl Abort, alloc: Global, cubes: &[Vec<Lit>], wanted: &TreeFault) -> bool {

@@ -1,0 +1,147 @@
+//! The program's words for its workers and its cut, by what a gate sees of them.
+
+use board_hall::Pass;
+use case_core::Target;
+use crossbeam_utils::Backoff;
+use cube_command::{Counted, FileStore, Gate, command};
+use fixtures::bundles::TURNS;
+use fixtures::four;
+use std::process::Abort;
+use std::rt::Files;
+use std::sync::Wait;
+use std::sync::atomic::{AtomicU64, Ordering};
+use std::thread::Threads;
+
+/// The cubes of three variables, and a proof for each of them.
+const EIGHT_CUBES: &str = four!(
+    "a 1 2 3 0\na 1 2 -3 0\na 1 -2 3 0\na 1 -2 -3 0\n",
+    "a -1 2 3 0\na -1 2 -3 0\na -1 -2 3 0\na -1 -2 -3 0\n",
+    "l 1\n8 0 5 6 4 0\nl 2\n8 0 5 6 4 0\nl 3\n8 0 5 6 3 0\nl 4\n8 0 5 6 3 0\n",
+    "l 5\n8 0 5 6 2 0\nl 6\n8 0 5 6 2 0\nl 7\n8 0 5 6 1 0\nl 8\n8 0 5 6 1 0\n"
+);
+
+/// One cube at depth 7, and a proof for it.
+const DEEP: &str = four!("a 1 2 3 4 5 6 7 0\nl 1\n12 0 5 6 4 0\n");
+
+/// The status of the program on these words and this bundle, beside this gate.
+fn status_beside<R: Files + AllocGlobal + Abort + Threads + Wait + Sync, G: Gate + Sync>(
+    rt: &R,
+    words: &[&str],
+    bundle: &str,
+    gate: &G,
+) -> u8 {
+    let mut output = Vec::new(rt.alloc());
+    let mut errors = Vec::new(rt.alloc());
+    command(
+        rt,
+        &mut FileStore::new(rt),
+        words,
+        &mut Counted::new(bundle.as_bytes()),
+        &mut Counted::new(&mut output),
+        &mut Counted::new(&mut errors),
+        gate,
+    )
+}
+
+/// Holds back each worker until as many have come as are awaited, or one of them has waited too
+/// long.
+#[derive(Drop)]
+struct Gathering {
+    awaited: u32,
+    /// A bit for the number of each worker that has come.
+    workers: AtomicU64,
+    /// For how many sections all that are awaited had come.
+    met: AtomicU64,
+    given_up: AtomicU64,
+}
+
+impl Gathering {
+    fn new(awaited: u32) -> Gathering {
+        Gathering {
+            awaited,
+            workers: AtomicU64::new(0),
+            met: AtomicU64::new(0),
+            given_up: AtomicU64::new(0),
+        }
+    }
+}
+
+impl Gate for Gathering {
+    fn before(&self, worker: u32, _target: Target) {
+        self.workers
+            .fetch_or(1u64.wrapping_shl(worker), Ordering::SeqCst);
+        let backoff = Backoff::new();
+        for _ in 0..TURNS {
+            if self.workers.load(Ordering::SeqCst).count_ones() >= self.awaited {
+                self.met.fetch_add(1, Ordering::SeqCst);
+                return;
+            }
+            if self.given_up.load(Ordering::SeqCst) == 1 {
+                return;
+            }
+            backoff.snooze();
+        }
+        self.given_up.store(1, Ordering::SeqCst);
+    }
+
+    fn after(&self, _worker: u32, _target: Target, _pass: &Pass, _weight: u64) {}
+}
+
+// As many workers as the words say are at work at once, with the numbers from 0 on, and no more;
+// four where the words don't say.
+#[test]
+fn workers(rt: HostRuntime) {
+    for (words, count, numbers) in [
+        (["--workers", "1"].as_slice(), 1, 1),
+        (&["--workers", "2"], 2, 3),
+        (&["--workers=3"], 3, 7),
+        (&[], 4, 15),
+        (&["--cut", "0"], 4, 15),
+        (&["--workers", "7"], 7, 127),
+    ] {
+        let gate = Gathering::new(count);
+        assert_eq!(rt; status_beside(&rt, words, EIGHT_CUBES, &gate), 0);
+        assert_eq!(rt; gate.met.load(Ordering::SeqCst), 8, "{words:?}");
+        assert_eq!(rt; gate.workers.load(Ordering::SeqCst), numbers, "{words:?}");
+        let gate = Gathering::new(count + 1);
+        assert_eq!(rt; status_beside(&rt, words, EIGHT_CUBES, &gate), 0);
+        assert_eq!(rt; gate.met.load(Ordering::SeqCst), 0, "{words:?}");
+    }
+}
+
+/// Keeps the open weight that stands on the board of the last target that was posted.
+#[derive(Drop)]
+struct Weighing {
+    weight: AtomicU64,
+}
+
+impl Gate for Weighing {
+    fn before(&self, _worker: u32, _target: Target) {}
+
+    fn after(&self, _worker: u32, _target: Target, _pass: &Pass, weight: u64) {
+        self.weight.store(weight, Ordering::SeqCst);
+    }
+}
+
+// The boards are cut at the depth that the words say, or at depth 3: when the one leaf is refuted,
+// which weighs 2^53, its board's open weight is the rest of the weight 2^(60-D) of its part.
+#[test]
+fn cuts(rt: HostRuntime) {
+    for (words, weight) in [
+        (["--cut", "0"].as_slice(), 1_143_914_305_352_105_984u64),
+        (&["--cut", "1"], 567_453_553_048_682_496),
+        (&["--cut", "2"], 279_223_176_896_970_752),
+        (&["--cut", "3"], 135_107_988_821_114_880),
+        (&["--cut", "4"], 63_050_394_783_186_944),
+        (&["--cut", "5"], 27_021_597_764_222_976),
+        (&["--cut", "6"], 9_007_199_254_740_992),
+        (&[], 135_107_988_821_114_880),
+        (&["--workers", "1"], 135_107_988_821_114_880),
+    ] {
+        let gate = Weighing {
+            weight: AtomicU64::new(1),
+        };
+        assert_eq!(rt; status_beside(&rt, words, DEEP, &gate), 1);
+        assert_eq!(rt; gate.weight.load(Ordering::SeqCst), weight, "{words:?}");
+    }
+}

@@ -1,0 +1,11 @@
+//! The tests of reports and of the program, over their public calls.
+#![tactic(auto)]
+
+#[cfg(test)]
+mod command_gate_tests;
+#[cfg(test)]
+mod command_tests;
+#[cfg(test)]
+mod devices;
+#[cfg(test)]
+mod report_tests;

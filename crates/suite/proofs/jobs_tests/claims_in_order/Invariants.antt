@@ -1,5 +1,0 @@
-use Rattle.cube_jobs.specs.Jobs.{IsPassOf}
-use Rattle.suite.proofs.jobs_tests.claims_in_order.Given as goal
-
-abbrev pub invariant-loop-place : goal.invariant-loop-place
-invariant-loop-place g l = IsPassOf l.jobs l.pass

@@ -1,0 +1,8 @@
+use Rattle.std.proofs.Common.{◌≡◌, ◌++◌, map, drop}
+use Rattle.cnf_text.specs.Literal.{literal_of}
+use Rattle.suite.proofs.literals.formula.Given as goal
+
+abbrev pub invariant-loop-numbers : goal.invariant-loop-numbers
+invariant-loop-numbers g l =
+    l.clauses.items ++ map (λ numbers. map literal_of numbers.now) (drop l.numbers-index l.lists)
+    ≡ map (λ numbers. map literal_of numbers.now) l.lists

@@ -1,0 +1,5 @@
+use Rattle.cube_jobs.specs.Jobs.{IsPassOf}
+use Rattle.thread_suite.proofs.jobs_tests.claim_all.Given as goal
+
+abbrev pub invariant-loop : goal.invariant-loop
+invariant-loop g l = IsPassOf l.jobs l.pass

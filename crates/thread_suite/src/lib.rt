@@ -1,0 +1,11 @@
+//! The tests of the libraries that threads share, over their public calls.
+#![tactic(auto)]
+
+#[cfg(test)]
+mod crew_tests;
+#[cfg(test)]
+mod hall_tests;
+#[cfg(test)]
+mod hall_thread_tests;
+#[cfg(test)]
+mod jobs_tests;
