@@ -1,7 +1,7 @@
 -- Numbers stamped in lists, for the contracts of private functions.
-use Rattle.std.specs.Prelude.{◌≡◌, ℕ, ◌/◌, ◌%◌, ◌<◌, ◌≤◌, ◌==◌, nat_lt, if◌then◌else◌, false, List, [], length, take, slice_index, slice_index_or}
+use Rattle.std.specs.Prelude.{◌≡◌, ℕ, ◌/◌, ◌%◌, ◌<◌, ◌≤◌, ◌==◌, nat_lt, if◌then◌else◌, Bool, true, false, List, [], length, take, slice_index, slice_index_or}
 use Rattle.cnf_text.specs.Literal.{Literal, number_of}
-use Rattle.hint_check.specs.Literals.{has}
+use Rattle.hint_check.specs.Literals.{Literals, has}
 
 -- the stamp of a number in its page, and 0 where it has none
 abbrev pub paged_at : List (List ℕ) → ℕ → ℕ
@@ -41,3 +41,12 @@ NoRepeats literals = (i : ℕ) (d : Literal) → i < length literals → has (ta
 -- the later list begins with the earlier one
 abbrev pub Extends : List Literal → List Literal → Type 0
 Extends before after = take (length before) after ≡ before
+
+-- whether a literal has a stamp in the list that says that it is in the set
+abbrev pub is_shown : List ℕ → ℕ → Literal → Bool
+is_shown stamps stamp l = slice_index stamps (number_of l) == stamp
+
+-- what the stamps show is in the set, and of near literals they show all that is
+pub record Shows (stamps : List ℕ) (stamp : ℕ) (set : Literals) : Type 0 where
+  pub real : (l : Literal) → is_shown stamps stamp l ≡ true → set l ≡ true
+  pub near : (l : Literal) → number_of l < 65536 → is_shown stamps stamp l ≡ set l

@@ -40,9 +40,18 @@ impl Page {
         self.stamps.len()
     }
 
+    /// All its stamps.
+    #[inline(always)]
+    pub fn all(&self) -> &[u32]
+        ensures { result.now ≡ self.now }
+    {
+        &self.stamps
+    }
+
     /// Makes room for so many numbers, and changes no stamp.
     pub fn widen(&mut self, count: usize) -> Result<(), AllocError>
         ensures room { OnOk result (count ≤ length self.new) }
+        ensures bound { length self.old ≤ count → length self.new ≤ count }
         ensures same { (n : ℕ) → slice_index self.new n ≡ slice_index self.old n }
     {
         if self.stamps.len() < count {

@@ -1,5 +1,5 @@
 //! A stamp for each number: in one list for the near numbers, which are most, and in pages for the others.
-ghost use Rattle.std.specs.Prelude.{◌≡◌, ℕ, ◌<◌, ◌≤◌, ◌==◌, if◌then◌else◌, IsTrue, [], OnOk};
+ghost use Rattle.std.specs.Prelude.{◌≡◌, ℕ, ◌<◌, ◌≤◌, ◌==◌, if◌then◌else◌, ◌↔◌, IsTrue, [], length, OnOk};
 ghost use Rattle.hint_check.specs.Stamps.{stamp_at, HasRoom};
 
 use crate::pages::{Page, Pages};
@@ -7,7 +7,7 @@ use std::alloc::{AllocError, Global};
 use std::marker::Model;
 
 /// The near numbers are those below this.
-const NEAR: u32 = 65536;
+pub const NEAR: u32 = 65536;
 
 /// The near numbers have room for so many at least, once one of them was set.
 const FIRST: usize = 256;
@@ -20,11 +20,14 @@ pub struct Stamps {
 }
 
 impl Model for Stamps {
+    ghost use Rattle.std.specs.Prelude.{◌≤◌, length};
     ghost use Rattle.hint_check.specs.Stamps.{Marks};
 
     ghost Value = { Marks };
 
     ghost view = { λ s. (s.near, s.far) };
+
+    ghost invariant = { λ s. length s.near ≤ 65536 };
 }
 
 impl Stamps {
@@ -50,12 +53,31 @@ impl Stamps {
         }
     }
 
-    /// Whether a near number has room.
+    /// The stamps of the near numbers that have room, which are the first ones.
     #[inline(always)]
-    fn is_at_hand(&self, number: u32) -> bool
-        ensures { IsTrue result → HasRoom self.now number }
+    pub fn at_hand(&self) -> &[u32]
+        ensures stamps { result.now ≡ self.now.0 }
+        ensures near { length result.now ≤ 65536 }
     {
-        number < NEAR && (number as usize) < self.near.len()
+        self.near.all()
+    }
+
+    /// Whether a number is near and has room.
+    #[inline(always)]
+    pub fn is_at_hand(&self, number: u32) -> bool
+        ensures room { IsTrue result ↔ (number < length self.now.0) }
+        ensures near { IsTrue result → number < 65536 }
+    {
+        (number as usize) < self.near.len()
+    }
+
+    /// Sets the stamp of a near number that has room.
+    #[inline(always)]
+    pub fn set_at_hand(&mut self, number: u32, stamp: u32)
+        requires { number < length self.old.0 }
+        ensures { (n : ℕ) → stamp_at self.new n ≡ (if number == n then stamp else stamp_at self.old n) }
+    {
+        self.near.set(number as usize, stamp);
     }
 
     /// Makes room for a number, and changes no stamp.
@@ -110,6 +132,7 @@ impl Stamps {
 fn near_room(number: usize, had: usize) -> usize
     requires { number < NEAR }
     ensures more { number < result }
+    ensures kept { had ≤ NEAR → had ≤ result }
     ensures bounded { result ≤ NEAR }
 {
     let doubled = had.saturating_mul(2).max(FIRST);
