@@ -234,7 +234,7 @@ module _ (lits more : List Literal) (first : ℕ) (slots slots' : List Slot) (fa
       ∙ ap (option_or (near_at lits first slots q)) (far-grown lits more far spans_end q)
       ∙ sym (own-get lits first slots far q)
 
-  put_first : {A : Type 0} (b : Bool) (v : A) (x y : Option A) → option_or (cond b (Some v) x) (cond b None y) ≡ cond b (Some v) (option_or x y)
+  put_first : {A : Type 0} (b : Bool) (v : A) (x y : Option A) → option_or (cond b (Some v) x) y ≡ cond b (Some v) (option_or x y)
   put_first true v x y = refl
   put_first false v x y = refl
 
@@ -265,11 +265,11 @@ module _ (lits more : List Literal) (first : ℕ) (slots slots' : List Slot) (fa
         cond-true (nat_le slot.start slot.end) (Some (slice_range (lits ++ more) slot.start slot.end)) None (le-leb slot.start slot.end (omega (arith, starts, ends)))
         ∙ ap Some (ap (λ i. slice_range (lits ++ more) i slot.end) starts ∙ last_part lits more slot.end ends)
 
-    -- the clause of a near id
-    pub own-insert-near : (slot : Slot) → slot.start ≡ length lits → slot.end ≡ length lits + length more → first ≤ id → SetsSlot first slots slots' id slot → ((q : ℕ) → lookup (nat_eq q) far' ≡ cond (nat_eq id q) None (lookup (nat_eq q) far)) → own_clauses (lits ++ more) first slots' far' ≡ fin.insert (own_clauses lits first slots far) id more
-    own-insert-near slot starts ends may sets taken = inserted (λ q.
+    -- the clause of a near id; one that it has in the map is behind it
+    pub own-insert-near : (slot : Slot) → slot.start ≡ length lits → slot.end ≡ length lits + length more → first ≤ id → SetsSlot first slots slots' id slot → far' ≡ far → own_clauses (lits ++ more) first slots' far' ≡ fin.insert (own_clauses lits first slots far) id more
+    own-insert-near slot starts ends may sets same = inserted (λ q.
         ap (λ o. option_or o (far_at (lits ++ more) far' q)) (near-put (lits ++ more) first slots slots' id slot may sets q ∙ ap (λ o. cond (nat_eq id q) o (near_at (lits ++ more) first slots q)) (new-slot slot starts ends))
-        ∙ ap (option_or (cond (nat_eq id q) (Some more) (near_at (lits ++ more) first slots q))) (far-take (lits ++ more) far far' id taken q)
+        ∙ ap (λ es. option_or (cond (nat_eq id q) (Some more) (near_at (lits ++ more) first slots q)) (far_at (lits ++ more) es q)) same
         ∙ put_first (nat_eq id q) more (near_at (lits ++ more) first slots q) (far_at (lits ++ more) far q))
 
     -- the clause of any other

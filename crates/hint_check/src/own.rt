@@ -44,9 +44,12 @@ pub struct OwnClauses {
     /// The literals of all clauses that were put in.
     lits: Vec<Lit>,
     slots: Vec<Slot>,
+    /// An id that came to have a slot later may stand here too: its slot is looked at first.
     far: BTreeMap<u64, Span>,
     /// How many clauses were put in.
     inserted: u64,
+    /// How many literals the slots and the spans have.
+    held: usize,
 }
 
 impl Model for OwnClauses {
@@ -84,6 +87,7 @@ impl OwnClauses {
             slots: Vec::new(alloc),
             far: BTreeMap::new(alloc),
             inserted: 0,
+            held: 0,
         }
     }
 
@@ -111,15 +115,16 @@ impl OwnClauses {
         match near_place(self.first, id, reach, end) {
             Some(place) => {
                 make_slots(&mut self.slots, place)?;
-                take_far(&mut self.far, id);
+                self.held = held_after(self.held, lits.len(), slot_len(self.slots[place]));
                 self.slots[place] = Slot {
                     start: start as u32,
                     end: end as u32,
                 };
             }
             None => {
-                put_far(&mut self.far, id, Span { start, end })?;
-                clear_slot(&mut self.slots, self.first, id);
+                let replaced = put_far(&mut self.far, id, Span { start, end })?;
+                let cleared = clear_slot(&mut self.slots, self.first, id);
+                self.held = held_after(self.held, lits.len(), replaced.saturating_add(cleared));
             }
         }
         Ok(())
@@ -129,8 +134,14 @@ impl OwnClauses {
     pub fn remove(&mut self, id: u64)
         ensures { self.new ≡ map.remove self.old id }
     {
-        clear_slot(&mut self.slots, self.first, id);
-        take_far(&mut self.far, id);
+        let cleared = clear_slot(&mut self.slots, self.first, id);
+        let taken = take_far(&mut self.far, id);
+        self.held = held_after(self.held, 0, cleared.saturating_add(taken));
+    }
+
+    /// How many literals the clauses have, or some more.
+    pub fn held(&self) -> usize {
+        self.held
     }
 
     /// The index of the clauses by their literals.
@@ -180,6 +191,19 @@ fn slot_clause(lits: &[Lit], slot: Slot) -> Option<&[Lit]>
     }
 }
 
+/// How many literals stand where a slot says.
+fn slot_len(slot: Slot) -> usize {
+    slot.end.saturating_sub(slot.start) as usize
+}
+
+/// How many literals stand where a span says, if there is one.
+fn span_len(span: Option<Span>) -> usize {
+    match span {
+        Some(span) => span.end.saturating_sub(span.start),
+        None => 0,
+    }
+}
+
 /// The literals that stand where a span says.
 #[inline(always)]
 fn span_clause(lits: &[Lit], span: Span) -> &[Lit]
@@ -210,6 +234,11 @@ fn span_of(far: &BTreeMap<u64, Span>, id: u64) -> Option<Span>
         Some(span) => Some(*span),
         None => None,
     }
+}
+
+/// How many literals are held after some were put in and some were taken out.
+fn held_after(held: usize, more: usize, gone: usize) -> usize {
+    held.saturating_add(more).saturating_sub(gone)
 }
 
 /// How many slots there may be.
@@ -246,39 +275,42 @@ fn make_slots(slots: &mut Vec<Slot>, place: usize) -> Result<(), AllocError>
     Ok(())
 }
 
-/// Takes the clause out of the slot of an id, where there is one.
-fn clear_slot(slots: &mut Vec<Slot>, first: u64, id: u64)
+/// Takes the clause out of the slot of an id, where there is one, and answers how many literals it had.
+fn clear_slot(slots: &mut Vec<Slot>, first: u64, id: u64) -> usize
     ensures cleared { SetsSlot first slots.old.items slots.new.items id no_slot }
     ensures length { length slots.new.items ≡ length slots.old.items }
 {
     if id < first {
-        return;
+        return 0;
     }
     let place = (id - first) as usize;
-    if place < slots.len() {
-        slots[place] = NO_SLOT;
+    if place >= slots.len() {
+        return 0;
     }
+    let cleared = slot_len(slots[place]);
+    slots[place] = NO_SLOT;
+    cleared
 }
 
-/// Puts a far id's literals where they stand now.
-fn put_far(far: &mut BTreeMap<u64, Span>, id: u64, span: Span) -> Result<(), AllocError>
+/// Notes where a far id's literals stand now, and answers how many it had before.
+fn put_far(far: &mut BTreeMap<u64, Span>, id: u64, span: Span) -> Result<usize, AllocError>
     ensures put { OnOk result ((q : ℕ) →
         lookup (nat_eq q) far.new.entries ≡ cond (nat_eq id q) (Some span) (lookup (nat_eq q) far.old.entries)) }
     ensures ends { OnOk result ((count : ℕ) → SpansEndBy far.old.entries count → span.start ≤ span.end → span.end ≤ count
         → SpansEndBy far.new.entries count) }
     ensures same { OnErr result (far.new.entries ≡ far.old.entries) }
 {
-    far.insert(id, span)?;
-    Ok(())
+    let replaced = far.insert(id, span)?;
+    Ok(span_len(replaced))
 }
 
-/// Takes an id out of the far ones.
-fn take_far(far: &mut BTreeMap<u64, Span>, id: u64)
+/// Takes an id out of the far ones, and answers how many literals it had.
+fn take_far(far: &mut BTreeMap<u64, Span>, id: u64) -> usize
     ensures taken { (q : ℕ) →
         lookup (nat_eq q) far.new.entries ≡ cond (nat_eq id q) None (lookup (nat_eq q) far.old.entries) }
     ensures ends { (count : ℕ) → SpansEndBy far.old.entries count → SpansEndBy far.new.entries count }
 {
-    far.remove(&id);
+    span_len(far.remove(&id))
 }
 
 /// Lists the near ids for the literals of their clauses.
