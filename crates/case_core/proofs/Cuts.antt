@@ -1,11 +1,12 @@
 -- A text that is cut at its first label line.
-use Rattle.std.proofs.Common.{◌≡◌, ℕ, suc, ◌-◌, ◌+◌, true, false, List, [], ◌∷◌, ◌++◌, length, take, refl, sym, ◌∙◌, ap, arith, append_assoc, append-nil, length-append, Option, Bor, MatchOption, None, Some}
+use Rattle.std.proofs.Common.{◌≡◌, ℕ, suc, ◌-◌, ◌+◌, true, false, List, [], ◌∷◌, ◌++◌, length, take, drop, ◌≤◌, refl, sym, ◌∙◌, ap, arith, append_assoc, append-nil, length-append, Option, Bor, MatchOption, None, Some}
 use Rattle.std.specs.Prelude.{count_by}
-use Rattle.std.proofs.Math.Seq.{take-append_seam}
+use Rattle.std.proofs.Math.Seq.{take-append_seam, drop-append-add}
 use Rattle.std.proofs.lemmas.List.Splits.{length-slice_split}
 use Rattle.std.proofs.lemmas.List.Sums.{sum_by-append}
 use Rattle.cnf_text.specs.Tokens.{is_line_end}
 use Rattle.case_core.specs.Bundle.{lines_of, is_label, line_onto, text_before, labelled}
+use Rattle.case_core.specs.Case.{part_in}
 use Rattle.case_core.specs.Cut.{EndsWith, HasNoLabel, FirstLabel}
 
 -- What is cut off the front so far: nothing but lines that are no label lines.
@@ -105,6 +106,18 @@ front_of text end before ends counted =
     let size : length text ≡ length ends.front + length end = ap length ends.parts ∙ length-append ends.front end in
     let place : before ≡ length ends.front = omega arith in
     rw place (ap (take (length ends.front)) ends.parts ∙ take-append_seam ends.front end)
+
+-- what stands below the first line of a text's end, as a part of the text
+pub part_below : (text end line section : List ℕ) (start : ℕ) → EndsWith text end
+    → start ≡ (length text - length end) + length line + 1
+    → part_in end (length line + 1) (length section) ≡ section → part_in text start (length section) ≡ section
+part_below text end line section start ends at is =
+    let size : length text ≡ length ends.front + length end = ap length ends.parts ∙ length-append ends.front end in
+    let place : start ≡ length ends.front + (length line + 1) = omega (arith, size, at) in
+    let same : drop start text ≡ drop (length line + 1) end =
+    ap (λ s. drop s text) place ∙ ap (drop (length ends.front + (length line + 1))) ends.parts
+    ∙ drop-append-add ends.front end (length line + 1) in
+    ap (take (length section)) same ∙ is
 
 pub line_number : (text end : List ℕ) (before count : ℕ) → EndsWith text end → before ≡ length text - length end → count ≡ count_by is_line_end (take before text)
     → count + 1 + length (lines_of end) ≡ length (lines_of text) + 1

@@ -10,7 +10,7 @@ use Rattle.split_tree.proofs.Leaves.{missing_is, missing_at}
 use Rattle.split_tree.specs.declared.node.Leaf.TheVariants.{Cube, Missing}
 use Rattle.split_tree.specs.declared.node.Target.{Target}
 use Rattle.split_tree.specs.declared.node.Target.TheVariants.{Leaf, Node}
-use Rattle.case_core.specs.Case.{SectionOf, section_of, same_target, proof_for, section_at, AreSections, section_by, AreTabled}
+use Rattle.case_core.specs.Case.{SectionOf, section_in, same_target, proof_for, section_at, targets_of, AreSections, section_by, AreTabled}
 use Rattle.case_core.specs.declared.case.Section.{Section}
 use Rattle.case_core.specs.Kept.{is_place, AreKept}
 
@@ -227,19 +227,24 @@ nothing_kept tree n e = record {
 pub few_sections : (tree : SplitTree) (sections : List SectionOf) (places : List ℕ) → AreKept tree sections places → length sections ≤ length places
 few_sections tree sections places k = omega (arith, k.counted, count_by-le-length is_place places)
 
-pub kept_pushed : (tree : SplitTree) (old new : List Section) (s : Section) (places : List ℕ) (node index len : ℕ) → AreKept tree (map section_of old) places → new ≡ old ++ s ∷ []
-    → len ≡ length new → index ≡ node → get_or places index 0 ≡ 0 → node < size tree → IsTargetAt tree node s.target → ((i : ℕ) → IsTargetAt tree i s.target → i ≡ node)
-    → AreKept tree (map section_of new) (set places index len)
-kept_pushed tree old new s places node index len k e counted is free within here only =
-    let items : map section_of new ≡ map section_of old ++ section_of s ∷ [] = ap (map section_of) e ∙ map-append section_of old (s ∷ []) in
-    let long : length new ≡ length old + 1 = ap length e ∙ length-append old (s ∷ []) in
-    let n : len ≡ suc (length (map section_of old)) = omega (arith, length-map old section_of) in
-    let at : get_or places node 0 ≡ 0 = ap (λ i. get_or places i 0) (sym is) ∙ free in
-    rw (items, n, is) (kept_more tree (map section_of old) places (section_of s) node k at within here only)
+-- sections of a text have the targets that they were kept with
+pub targets_in : (text : List ℕ) (sections : List Section) → map (λ section. section.target) sections ≡ targets_of (map (section_in text) sections)
+targets_in text [] = refl
+targets_in text (section ∷ sections) = ap (λ targets. section.target ∷ targets) (targets_in text sections)
 
-pub few_pushed : (tree : SplitTree) (old new : List Section) (s : Section) (places : List ℕ) (node index len : ℕ) → AreKept tree (map section_of old) places → new ≡ old ++ s ∷ []
+pub kept_pushed : (tree : SplitTree) (text : List ℕ) (old new : List Section) (s : Section) (places : List ℕ) (node index len : ℕ) → AreKept tree (map (section_in text) old) places → new ≡ old ++ s ∷ []
+    → len ≡ length new → index ≡ node → get_or places index 0 ≡ 0 → node < size tree → IsTargetAt tree node s.target → ((i : ℕ) → IsTargetAt tree i s.target → i ≡ node)
+    → AreKept tree (map (section_in text) new) (set places index len)
+kept_pushed tree text old new s places node index len k e counted is free within here only =
+    let items : map (section_in text) new ≡ map (section_in text) old ++ section_in text s ∷ [] = ap (map (section_in text)) e ∙ map-append (section_in text) old (s ∷ []) in
+    let long : length new ≡ length old + 1 = ap length e ∙ length-append old (s ∷ []) in
+    let n : len ≡ suc (length (map (section_in text) old)) = omega (arith, length-map old (section_in text)) in
+    let at : get_or places node 0 ≡ 0 = ap (λ i. get_or places i 0) (sym is) ∙ free in
+    rw (items, n, is) (kept_more tree (map (section_in text) old) places (section_in text s) node k at within here only)
+
+pub few_pushed : (tree : SplitTree) (text : List ℕ) (old new : List Section) (s : Section) (places : List ℕ) (node index len : ℕ) → AreKept tree (map (section_in text) old) places → new ≡ old ++ s ∷ []
     → len ≡ length new → index ≡ node → get_or places index 0 ≡ 0 → node < size tree → IsTargetAt tree node s.target → ((i : ℕ) → IsTargetAt tree i s.target → i ≡ node)
     → len ≤ size tree
-few_pushed tree old new s places node index len k e counted is free within here only =
-    let few = few_sections tree _ _ (kept_pushed tree old new s places node index len k e counted is free within here only) in
-    let long : length (set places index len) ≡ size tree = length-set places index len ∙ k.tabled.long in omega (arith, length-map new section_of)
+few_pushed tree text old new s places node index len k e counted is free within here only =
+    let few = few_sections tree _ _ (kept_pushed tree text old new s places node index len k e counted is free within here only) in
+    let long : length (set places index len) ≡ size tree = length-set places index len ∙ k.tabled.long in omega (arith, length-map new (section_in text))

@@ -1,5 +1,5 @@
 -- A case: a formula, the tree of its cubes, and sections for targets of the tree.
-use Rattle.std.specs.Prelude.{◌≡◌, ℕ, ◌<◌, ◌≤◌, ◌+◌, ◌-◌, ◌^◌, ◌==◌, if◌then◌else◌, Bool, false, List, [], ◌∷◌, Option, None, Some, get_or, slice_index, length}
+use Rattle.std.specs.Prelude.{◌≡◌, ℕ, ◌<◌, ◌≤◌, ◌+◌, ◌-◌, ◌^◌, ◌==◌, if◌then◌else◌, Bool, false, List, [], ◌∷◌, Option, None, Some, get_or, slice_index, length, map, take, drop}
 use Rattle.cnf_text.specs.Literal.{Literal}
 use Rattle.split_tree.specs.SplitTree.{SplitTree, size, total}
 use Rattle.split_tree.specs.Leaves.{HasTarget, IsTargetAt}
@@ -13,8 +13,17 @@ pub record SectionOf : Type 0 where
   pub target : Target
   pub proof : List ℕ
 
-abbrev pub section_of : Section → SectionOf
-section_of section = record { target = section.target; proof = section.proof.items }
+-- the part of a text that begins at a place and has this length
+abbrev pub part_in : List ℕ → ℕ → ℕ → List ℕ
+part_in text start length = take length (drop start text)
+
+-- a section of a text: its proof is a part of the text
+abbrev pub section_in : List ℕ → Section → SectionOf
+section_in text section =
+    record { target = section.target; proof = part_in text section.start section.length }
+
+abbrev pub targets_of : List SectionOf → List Target
+targets_of sections = map (λ section. section.target) sections
 
 pub record CaseOf : Type 0 where
   pub formula : List (List Literal)

@@ -1,12 +1,12 @@
 //! The reader of bundles: an iCNF text, and behind it sections, each below a label line.
 
-ghost use Rattle.std.specs.Prelude.{◌≡◌, List, MatchResult, ◌≤◌, ◌+◌, length, map, ◌<◌, ◌≢◌, OnOk, IfOk, IfErr, IfSome, MatchOption, count_by};
+ghost use Rattle.std.specs.Prelude.{◌≡◌, List, MatchResult, ◌≤◌, ◌+◌, length, take, map, ◌<◌, ◌≢◌, OnOk, IfOk, IfErr, IfSome, MatchOption, count_by};
 ghost use Rattle.cnf_text.specs.Tokens.{is_line_end};
 ghost use Rattle.cnf_text.specs.Icnf.{Item, Within};
 ghost use Rattle.cnf_text.specs.Progress.{IsFileOf};
 ghost use Rattle.case_core.specs.Bundle.{lines_of, is_label, text_before, labels_of};
 ghost use Rattle.case_core.specs.Cut.{HasNoLabel, HasNoLetter, AfterPlainLines, FirstLabel, EndsWith, BeginsWithLabel, OneLabel, NextLabel};
-ghost use Rattle.case_core.specs.Case.{section_of, CaseOf, IsKept};
+ghost use Rattle.case_core.specs.Case.{section_in, part_in, CaseOf, IsKept};
 ghost use Rattle.case_core.specs.Naming.{IsLimited};
 ghost use Rattle.case_core.specs.Kept.{AreKept, LabelAt, HasTree, HasClash};
 ghost use Rattle.case_core.specs.Sections.{AreSectionsOf, IsLabelFault, IsCaseOf, IsFaultOf};
@@ -48,6 +48,7 @@ fn line_of_letter(text: &[u8]) -> Option<&[u8]>
 /// The text before the first label line, and the text from that line on, if there is one.
 fn cut(text: &[u8]) -> (&[u8], Option<&[u8]>)
     ensures front { result.0.now ≡ text_before (lines_of text.now) }
+    ensures begins { take (length result.0.now) text.now ≡ result.0.now }
     ensures label { MatchOption result.1 (HasNoLabel text.now) (λ at. FirstLabel text.now at.now) }
 {
     let mut rest = text;
@@ -97,6 +98,8 @@ fn first_part(text: &[u8]) -> Part<'_>
     ensures labels { MatchOption result.next
         (OneLabel text.now result.line.now result.section.now)
         (λ next. NextLabel text.now result.line.now result.section.now next.now) }
+    ensures place { part_in text.now (length result.line.now + 1) (length result.section.now) ≡ result.section.now }
+    ensures within { length result.line.now ≤ length text.now }
     ensures shorter { IfSome result.next (λ next. length next.now < length text.now) }
 {
     let (line, below) = split_line(text);
@@ -124,17 +127,17 @@ fn read_section<'b>(
     text: &'b [u8],
 ) -> Result<Option<&'b [u8]>, CaseFault>
     requires limited { IsLimited tree.now }
-    requires kept { AreKept tree.now (map section_of sections.old.sections.items) sections.old.places.items }
-    requires label { LabelAt tree.now bundle.now (map section_of sections.old.sections.items) text.now }
-    ensures kept { OnOk result (AreKept tree.now (map section_of sections.new.sections.items) sections.new.places.items) }
+    requires kept { AreKept tree.now (map (section_in bundle.now) sections.old.sections.items) sections.old.places.items }
+    requires label { LabelAt tree.now bundle.now (map (section_in bundle.now) sections.old.sections.items) text.now }
+    ensures kept { OnOk result (AreKept tree.now (map (section_in bundle.now) sections.new.sections.items) sections.new.places.items) }
     ensures ok { IfOk result (λ next. MatchOption next
-        (AreSectionsOf tree.now (labels_of bundle.now) (map section_of sections.new.sections.items))
-        (λ rest. LabelAt tree.now bundle.now (map section_of sections.new.sections.items) rest.now)) }
+        (AreSectionsOf tree.now (labels_of bundle.now) (map (section_in bundle.now) sections.new.sections.items))
+        (λ rest. LabelAt tree.now bundle.now (map (section_in bundle.now) sections.new.sections.items) rest.now)) }
     ensures shorter { IfOk result (λ next. IfSome next (λ rest. length rest.now < length text.now)) }
     ensures err { IfErr result (λ fault. fault ≢ CaseFault.Memory → IsLabelFault tree.now (labels_of bundle.now) fault) }
 {
     let part = first_part(text);
-    match sections.add(alloc, tree, part.line, part.section) {
+    match sections.add(alloc, tree, bundle, text, part.line, part.section) {
         Ok(()) => Ok(part.next),
         Err(fault) => Err(fault.on_line(line_at(bundle, text))),
     }
@@ -149,8 +152,8 @@ fn read_sections(
 ) -> Result<Sections, CaseFault>
     requires limited { IsLimited tree.now }
     requires first { MatchOption first (HasNoLabel bundle.now) (λ text. FirstLabel bundle.now text.now) }
-    ensures kept { IfOk result (λ read. AreKept tree.now (map section_of read.sections.items) read.places.items) }
-    ensures ok { IfOk result (λ read. AreSectionsOf tree.now (labels_of bundle.now) (map section_of read.sections.items)) }
+    ensures kept { IfOk result (λ read. AreKept tree.now (map (section_in bundle.now) read.sections.items) read.places.items) }
+    ensures ok { IfOk result (λ read. AreSectionsOf tree.now (labels_of bundle.now) (map (section_in bundle.now) read.sections.items)) }
     ensures err { IfErr result (λ fault. fault ≢ CaseFault.Memory → IsLabelFault tree.now (labels_of bundle.now) fault) }
 {
     let mut sections = Sections::new(alloc, tree)?;
@@ -184,6 +187,18 @@ pub fn read_bundle(alloc: Global, bundle: &[u8]) -> Result<Case, CaseFault>
     // Another is refused for its first fault, unless memory runs out.
     ensures err { IfErr result (λ fault. fault ≢ CaseFault.Memory → IsFaultOf bundle.now fault) }
 {
+    take_bundle(alloc, bundle.to_vec(alloc)?)
+}
+
+/// `read_bundle` for a bundle that is handed over: the case keeps these bytes, and nothing of them is copied.
+pub fn take_bundle(alloc: Global, bundle: Vec<u8>) -> Result<Case, CaseFault>
+    // The case is the bundle's.
+    ensures ok { IfOk result (IsCaseOf bundle.items) }
+    // Each bundle that stands for a case is read, unless memory runs out.
+    ensures only { (case : CaseOf) → IsCaseOf bundle.items case → MatchResult result (λ read. read ≡ case) (λ fault. fault ≡ CaseFault.Memory) }
+    // Another is refused for its first fault, unless memory runs out.
+    ensures err { IfErr result (λ fault. fault ≢ CaseFault.Memory → IsFaultOf bundle.items fault) }
+{
     read_case(alloc, bundle)
 }
 
@@ -201,19 +216,20 @@ pub fn read_tree(alloc: Global, bundle: &[u8]) -> Result<Tree, CaseFault>
 }
 
 /// The case of a bundle, or its fault.
-fn read_case(alloc: Global, bundle: &[u8]) -> Result<Case, CaseFault>
-    ensures ok { IfOk result (IsCaseOf bundle.now) }
-    ensures err { IfErr result (λ fault. fault ≢ CaseFault.Memory → IsFaultOf bundle.now fault) }
+fn read_case(alloc: Global, bundle: Vec<u8>) -> Result<Case, CaseFault>
+    ensures ok { IfOk result (IsCaseOf bundle.items) }
+    ensures err { IfErr result (λ fault. fault ≢ CaseFault.Memory → IsFaultOf bundle.items fault) }
 {
     let Parts {
         formula,
         tree,
         sections,
-    } = read_parts(alloc, bundle)?;
+    } = read_parts(alloc, &bundle)?;
     let Sections { sections, places } = sections;
     let base = Base::owning(alloc, formula)?;
     Ok(Case {
         base,
+        text: bundle,
         tree,
         sections,
         places,
@@ -233,9 +249,9 @@ fn read_parts(alloc: Global, bundle: &[u8]) -> Result<Parts, CaseFault>
     ensures ok { IfOk result (λ parts. IsCaseOf bundle.now (record {
       formula = parts.formula;
       tree = parts.tree;
-      sections = map section_of parts.sections.sections.items;
+      sections = map (section_in bundle.now) parts.sections.sections.items;
     })) }
-    ensures kept { IfOk result (λ parts. IsKept parts.tree (map section_of parts.sections.sections.items) parts.sections.places.items) }
+    ensures kept { IfOk result (λ parts. IsKept parts.tree (map (section_in bundle.now) parts.sections.sections.items) parts.sections.places.items) }
     ensures err { IfErr result (λ fault. fault ≢ CaseFault.Memory → IsFaultOf bundle.now fault) }
 {
     let (icnf, first) = cut(bundle);

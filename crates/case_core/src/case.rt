@@ -1,23 +1,30 @@
 //! A case: a formula, the tree of its cubes, and sections for targets of the tree.
 
+ghost use Rattle.std.specs.Prelude.{◌≡◌};
+ghost use Rattle.case_core.specs.Case.{part_in};
+
 use cnf_text::Formula;
 use hint_check::Base;
 use split_tree::{Target, Tree};
 use std::marker::Model;
 
-/// A target and the text of its proof.
+/// A target, and where the text of its proof stands in the bundle: `Case::proof_at` gives it.
 #[derive(Drop)]
 pub struct Section {
     /// What the proof is for: a leaf, or an inner node.
     pub target: Target,
-    /// The bytes of the proof, in text LRAT.
-    pub proof: Vec<u8>,
+    /// Where the proof begins in the case's text.
+    pub(crate) start: usize,
+    /// The number of the proof's bytes.
+    pub(crate) length: usize,
 }
 
 /// A formula, the tree of its cubes, and sections in the order of the text, no two of them for one target. It doesn't change.
 #[derive(Drop)]
 pub struct Case {
     pub(crate) base: Base<'static>,
+    /// The bundle that was read. The proofs are parts of it.
+    pub(crate) text: Vec<u8>,
     pub(crate) tree: Tree,
     pub(crate) sections: Vec<Section>,
     /// For each node the place of its section, counted from 1, or 0.
@@ -26,23 +33,23 @@ pub struct Case {
 
 impl Model for Case {
     ghost use Rattle.std.specs.Prelude.{map};
-    ghost use Rattle.case_core.specs.Case.{CaseOf, section_of, IsKept};
+    ghost use Rattle.case_core.specs.Case.{CaseOf, section_in, IsKept};
     ghost use Rattle.case_core.specs.Code.{case_code};
 
     ghost Value = { CaseOf };
 
     ghost coded = { case_code };
 
-    ghost view = { λ c. record { formula = c.base; tree = c.tree; sections = map section_of c.sections.items } };
+    ghost view = { λ c. record { formula = c.base; tree = c.tree; sections = map (section_in c.text.items) c.sections.items } };
 
-    ghost invariant = { λ c. IsKept c.tree (map section_of c.sections.items) c.places.items };
+    ghost invariant = { λ c. IsKept c.tree (map (section_in c.text.items) c.sections.items) c.places.items };
 }
 
 impl Case {
-    ghost use Rattle.std.specs.Prelude.{◌≡◌, ℕ, ◌≤◌, ◌^◌, ◌+◌, map, MatchOption, None, Some};
+    ghost use Rattle.std.specs.Prelude.{◌≡◌, ℕ, ◌<◌, ◌≤◌, ◌^◌, ◌+◌, length, map, MatchOption, None, Some};
     ghost use Rattle.split_tree.specs.SplitTree.{total};
     ghost use Rattle.split_tree.specs.Leaves.{HasTarget, IsTargetAt};
-    ghost use Rattle.case_core.specs.Case.{section_of, AreSections, proof_for};
+    ghost use Rattle.case_core.specs.Case.{targets_of, section_at, AreSections, proof_for};
 
     /// The formula: all clauses of the text.
     pub fn formula(&self) -> &Formula
@@ -77,14 +84,31 @@ impl Case {
         if place == 0 {
             return None;
         }
-        Some(&self.sections[place - 1].proof)
+        Some(self.proof_at(place - 1))
+    }
+
+    /// The proof of the section at a place, from 0, in the order of the text.
+    pub fn proof_at(&self, place: usize) -> &[u8]
+        requires { place < length self.now.sections }
+        ensures { result.now ≡ (section_at self.now.sections place).proof }
+    {
+        let section = &self.sections[place];
+        part_of(&self.text, section.start, section.length)
     }
 
     /// The sections, in the order of the text.
     pub fn sections(&self) -> &[Section]
-        ensures sections { map section_of result.now ≡ self.now.sections }
+        ensures targets_are { map (λ section. section.target) result.now ≡ targets_of self.now.sections }
         ensures targets { AreSections self.now.tree self.now.sections }
     {
         &self.sections
     }
+}
+
+/// The part of a text that begins at a place and has this length.
+fn part_of(text: &[u8], start: usize, length: usize) -> &[u8]
+    ensures { result.now ≡ part_in text.now start length }
+{
+    let behind = &text[start.min(text.len())..];
+    &behind[..length.min(behind.len())]
 }

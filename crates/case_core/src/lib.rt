@@ -9,7 +9,7 @@ mod label;
 mod laws;
 mod sections;
 
-pub use bundle::{read_bundle, read_tree};
+pub use bundle::{read_bundle, read_tree, take_bundle};
 pub use case::{Case, Section};
 pub use cnf_text::{Clause, Formula, Lit};
 pub use fault::CaseFault;

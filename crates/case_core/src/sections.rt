@@ -1,6 +1,6 @@
 //! The sections of a bundle, read one label line after the other.
 
-ghost use Rattle.std.specs.Prelude.{◌≡◌, ◌<◌, OnOk, IfOk, IfErr, map};
+ghost use Rattle.std.specs.Prelude.{◌≡◌, ◌<◌, ◌≤◌, ◌+◌, length, OnOk, IfOk, IfErr, map};
 ghost use Rattle.cnf_text.specs.Tokens.{words};
 ghost use Rattle.split_tree.specs.SplitTree.{SplitTree};
 ghost use Rattle.case_core.specs.Label.{label_name};
@@ -19,14 +19,15 @@ pub(crate) struct Sections {
 }
 
 impl Sections {
-    ghost use Rattle.std.specs.Prelude.{◌≡◌, [], ◌∷◌, ◌++◌, OnOk, IfOk, IfErr, map};
+    ghost use Rattle.std.specs.Prelude.{◌≡◌, ◌≤◌, ◌+◌, [], ◌∷◌, ◌++◌, length, OnOk, IfOk, IfErr, map};
     ghost use Rattle.split_tree.specs.Leaves.{HasTarget};
-    ghost use Rattle.case_core.specs.Case.{section_of};
+    ghost use Rattle.case_core.specs.Case.{section_in, part_in};
+    ghost use Rattle.case_core.specs.Cut.{EndsWith};
     ghost use Rattle.case_core.specs.Kept.{AreKept, Refuses, GoesOn};
 
     /// No section.
     pub(crate) fn new(alloc: Global, tree: &Tree) -> Result<Self, AllocError>
-        ensures { IfOk result (λ read. (map section_of read.sections.items ≡ []) × AreKept tree.now [] read.places.items) }
+        ensures { IfOk result (λ read. (read.sections.items ≡ []) × AreKept tree.now [] read.places.items) }
     {
         let places = vec![in alloc; 0u32; tree.size() as usize]?;
         Ok(Sections {
@@ -35,19 +36,25 @@ impl Sections {
         })
     }
 
-    /// One section more, for the target that a label line names.
+    /// One section more, for the target that a label line names. The text is the bundle from that line on, and the
+    /// proof stands below the line.
     pub(crate) fn add(
         &mut self,
         alloc: Global,
         tree: &Tree,
+        bundle: &[u8],
+        text: &[u8],
         line: &[u8],
         proof: &[u8],
     ) -> Result<(), LabelFault>
+        requires ends { EndsWith bundle.now text.now }
+        requires place { part_in text.now (length line.now + 1) (length proof.now) ≡ proof.now }
+        requires within { length line.now ≤ length text.now }
         requires limited { IsLimited tree.now }
-        requires kept { AreKept tree.now (map section_of self.old.sections.items) self.old.places.items }
-        ensures kept { OnOk result (AreKept tree.now (map section_of self.new.sections.items) self.new.places.items) }
-        ensures added { OnOk result (GoesOn tree.now (map section_of self.old.sections.items) (map section_of self.new.sections.items) (label_name (words line.now)) proof.now) }
-        ensures err { IfErr result (Refuses tree.now (map section_of self.old.sections.items) (label_name (words line.now))) }
+        requires kept { AreKept tree.now (map (section_in bundle.now) self.old.sections.items) self.old.places.items }
+        ensures kept { OnOk result (AreKept tree.now (map (section_in bundle.now) self.new.sections.items) self.new.places.items) }
+        ensures added { OnOk result (GoesOn tree.now (map (section_in bundle.now) self.old.sections.items) (map (section_in bundle.now) self.new.sections.items) (label_name (words line.now)) proof.now) }
+        ensures err { IfErr result (Refuses tree.now (map (section_in bundle.now) self.old.sections.items) (label_name (words line.now))) }
     {
         let target = match target_of(alloc, tree, line) {
             Ok(target) => target,
@@ -58,8 +65,11 @@ impl Sections {
         if self.places[node] != 0 {
             return Err(LabelFault::Twice);
         }
-        let proof = proof.to_vec(alloc)?;
-        self.sections.push(Section { target, proof })?;
+        self.sections.push(Section {
+            target,
+            start: bundle.len() - text.len() + line.len() + 1,
+            length: proof.len(),
+        })?;
         let _nodes = tree.size();
         self.places[node] = self.sections.len() as u32;
         Ok(())

@@ -3,13 +3,17 @@
 ghost use Rattle.std.specs.Prelude.{IfOk, length};
 ghost use Rattle.check_crew.specs.Order.{IsOrder};
 
-use case_core::{Case, Section};
+use case_core::Case;
 use std::alloc::{AllocError, Global};
 use std::cmp::Reverse;
 
-/// How long the proof at a place is, or 0 behind the last.
-fn proof_length(sections: &[Section], place: usize) -> usize {
-    sections.get(place).map_or(0, |section| section.proof.len())
+/// How long the proof of the section at a place is, or 0 behind the last.
+fn proof_length(case: &Case, place: usize) -> usize {
+    if place < case.sections().len() {
+        case.proof_at(place).len()
+    } else {
+        0
+    }
 }
 
 /// The places of a case's sections, those of longer proofs first and ties in the order of the
@@ -18,8 +22,8 @@ fn proof_length(sections: &[Section], place: usize) -> usize {
 pub(crate) fn long_proofs_first(alloc: Global, case: &Case) -> Result<Vec<usize>, AllocError>
     ensures { IfOk result (λ order. IsOrder (length case.now.sections) order.items) }
 {
-    let sections = case.sections();
-    let mut order: Vec<usize> = (0..sections.len()).collect(alloc)?;
-    order.sort_by_key(|place| Reverse(proof_length(sections, *place)))?;
+    let count = case.sections().len();
+    let mut order: Vec<usize> = (0..count).collect(alloc)?;
+    order.sort_by_key(|place| Reverse(proof_length(case, *place)))?;
     Ok(order)
 }

@@ -169,7 +169,7 @@ where
         ⊎ IsAbsent (D.held store.old) (option_map (λ text. text.now) request.now.file) }
 {
     let bundle = read_judged(rt.alloc(), store, input, request.file, request.proofs)?;
-    write_report(rt, rt.alloc(), &bundle, output, request.settings, gate)
+    write_report(rt, rt.alloc(), bundle, output, request.settings, gate)
 }
 
 /// The status of words that make no request, after the parser's text, or the line that memory was

@@ -14,7 +14,7 @@ ghost use Rattle.cube_report.specs.Correct.{IsReportOn, IsAnswerOn, IsCorrect, I
 use crate::device::{Sink, Source};
 use crate::fault::Fault;
 use crate::report::report_of;
-use case_core::{Case, examine, read_bundle};
+use case_core::{Case, examine, read_bundle, take_bundle};
 use check_crew::{CrewFault, Gate, Settings, conquer};
 use mark_board::Boards;
 use std::alloc::{AllocError, Global};
@@ -99,15 +99,15 @@ fn outcome_with<T: Threads + Wait + Sync, G: Gate + Sync>(
 fn outcome_of_crew<T: Threads + Wait + Sync, G: Gate + Sync>(
     rt: &T,
     alloc: Global,
-    bundle: &[u8],
+    bundle: Vec<u8>,
     settings: Settings,
     gate: &G,
 ) -> Result<Outcome, Fault>
-    ensures outcome { IfOk result (λ outcome. IsCorrect bundle.now outcome.text.items outcome.refuted) }
-    ensures fault { IfErr result (λ fault. IsInputFault fault → IsFaultOn bundle.now fault) }
+    ensures outcome { IfOk result (λ outcome. IsCorrect bundle.items outcome.text.items outcome.refuted) }
+    ensures fault { IfErr result (λ fault. IsInputFault fault → IsFaultOn bundle.items fault) }
     ensures device { IfErr result (λ fault. fault ≢ Fault.Device) }
 {
-    let case = read_bundle(alloc, bundle)?;
+    let case = take_bundle(alloc, bundle)?;
     Ok(outcome_with(rt, alloc, &case, settings, gate)?)
 }
 
@@ -158,7 +158,7 @@ pub fn run<T: Threads + Wait + Sync, G: Gate + Sync>(
     // Another bundle is refused for its first fault.
     ensures fault { IfErr result (λ fault. fault ≢ Fault.Memory → fault ≢ Fault.Thread → IsFaultOn bundle.now fault) }
 {
-    let outcome = outcome_of_crew(rt, alloc, bundle, settings, gate)?;
+    let outcome = outcome_of_crew(rt, alloc, bundle.to_vec(alloc)?, settings, gate)?;
     Ok(outcome.text)
 }
 
@@ -203,30 +203,31 @@ pub fn run_io<T: Threads + Wait + Sync, R: Source, W: Sink, G: Gate + Sync>(
         (R.failures reader.old < R.failures reader.new ⊎ W.failures writer.old < W.failures writer.new) }
 {
     let input = read_all(alloc, reader)?;
-    write_report(rt, alloc, &input, writer, settings, gate)
+    write_report(rt, alloc, input, writer, settings, gate)
 }
 
-/// Writes the report on a bundle, which workers find as `run` says; answers whether the formula is refuted. Nothing is written before
+/// Writes the report on a bundle that is handed over, which workers find as `run` says; answers whether the formula is refuted. The
+/// bundle's bytes are kept where they are while it is judged. Nothing is written before
 /// all is judged. `Device` where a write failed in this call, and then a beginning of the report was written.
 pub fn write_report<T: Threads + Wait + Sync, W: Sink, G: Gate + Sync>(
     rt: &T,
     alloc: Global,
-    bundle: &[u8],
+    bundle: Vec<u8>,
     writer: &mut W,
     settings: Settings,
     gate: &G,
 ) -> Result<bool, Fault>
     requires { W.failures writer.old < 2 ^ 64 - 1 }
     ensures correct { IfOk result (λ answer. (text : List ℕ)
-        × IsCorrect bundle.now text answer × Appends (W.contents writer.old) (W.contents writer.new) text) }
-    ensures written { OnOk result ((text : List ℕ) × IsReportOn bundle.now text × Appends (W.contents writer.old) (W.contents writer.new) text) }
-    ensures answer { IfOk result (λ answer. IsAnswerOn bundle.now answer) }
-    ensures sound { IfOk result (λ answer. answer ≡ true → IsUnsatisfiable bundle.now) }
-    ensures fault { IfErr result (λ fault. IsInputFault fault → IsFaultOn bundle.now fault) }
+        × IsCorrect bundle.items text answer × Appends (W.contents writer.old) (W.contents writer.new) text) }
+    ensures written { OnOk result ((text : List ℕ) × IsReportOn bundle.items text × Appends (W.contents writer.old) (W.contents writer.new) text) }
+    ensures answer { IfOk result (λ answer. IsAnswerOn bundle.items answer) }
+    ensures sound { IfOk result (λ answer. answer ≡ true → IsUnsatisfiable bundle.items) }
+    ensures fault { IfErr result (λ fault. IsInputFault fault → IsFaultOn bundle.items fault) }
     ensures nothing { OnErr result (W.failures writer.new ≡ W.failures writer.old →
         Keeps (W.contents writer.old) (W.contents writer.new)) }
     ensures beginning { OnErr result (W.failures writer.new ≢ W.failures writer.old →
-        (text : List ℕ) × IsReportOn bundle.now text × AppendsBeginning (W.contents writer.old) (W.contents writer.new) text) }
+        (text : List ℕ) × IsReportOn bundle.items text × AppendsBeginning (W.contents writer.old) (W.contents writer.new) text) }
     ensures device { IsErrOf result Fault.Device ↔ (W.failures writer.old < W.failures writer.new) }
     ensures same { IfErr result (λ fault. fault ≢ Fault.Device → W.failures writer.new ≡ W.failures writer.old) }
     ensures ok { OnOk result (W.failures writer.new ≡ W.failures writer.old) }

@@ -211,20 +211,20 @@ fn refuted_root(rt: HostRuntime) {
     assert!(rt; judged(&rt, rt.alloc(), ROOT, inner(0)) == Some(Judged::Refuted));
 }
 
-/// Whether these are the proofs of the sections, in this order.
-fn are_proofs(sections: &[Section], proofs: &[&str]) -> bool {
+/// Whether these are the proofs of the case's sections, in this order.
+fn are_proofs(case: &Case, proofs: &[&str]) -> bool {
+    let count = case.sections().len();
     for (place, proof) in proofs.iter().enumerate() {
-        match sections.get(place) {
-            Some(section) if section.proof.as_slice() == proof.as_bytes() => {}
-            _ => return false,
+        if place >= count || case.proof_at(place) != proof.as_bytes() {
+            return false;
         }
     }
-    sections.len() == proofs.len()
+    count == proofs.len()
 }
 
 #[test]
 fn sections_in_order(rt: HostRuntime) {
     let case = case(&rt, rt.alloc(), "p inccnf\na 1 0\nl m1\nlast\nl 1\n");
     assert!(rt; case.formula().clauses().is_empty() && case.tree().cube_count() == 1);
-    assert!(rt; are_proofs(case.sections(), &["last\n", ""]));
+    assert!(rt; are_proofs(&case, &["last\n", ""]));
 }

@@ -1,5 +1,5 @@
 use Rattle.std.proofs.Common.{ℕ, ◌+◌, List, map, length, MatchOption, Option, Bor, None, Some}
-use Rattle.case_core.specs.Case.{section_of}
+use Rattle.case_core.specs.Case.{section_in}
 use Rattle.case_core.specs.Bundle.{labels_of}
 use Rattle.case_core.specs.Kept.{AreKept, LabelAt}
 use Rattle.case_core.specs.Sections.{AreSectionsOf}
@@ -7,8 +7,8 @@ use Rattle.case_core.proofs.bundle.read_sections.Given as goal
 
 abbrev pub invariant-loop-next : goal.invariant-loop-next
 invariant-loop-next l = record {
-  kept : AreKept l.tree (map section_of l.sections.sections.items) l.sections.places.items;
-  read : MatchOption l.next (AreSectionsOf l.tree (labels_of l.bundle) (map section_of l.sections.sections.items)) (λ at. LabelAt l.tree l.bundle (map section_of l.sections.sections.items) at.now);
+  kept : AreKept l.tree (map (section_in l.bundle) l.sections.sections.items) l.sections.places.items;
+  read : MatchOption l.next (AreSectionsOf l.tree (labels_of l.bundle) (map (section_in l.bundle) l.sections.sections.items)) (λ at. LabelAt l.tree l.bundle (map (section_in l.bundle) l.sections.sections.items) at.now);
 }
 
 abbrev pub left : Option (Bor (List ℕ)) → ℕ

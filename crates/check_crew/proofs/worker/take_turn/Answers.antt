@@ -8,11 +8,11 @@ use Rattle.check_crew.proofs.worker.take_turn.Goals as goal
 
 pub examine-requires : goal.examine-requires
 examine-requires g c =
-    (section_here c.args.site.case.now c.sections.result.now c.args.place c.index-sections-place.result c.sections.ensures.sections c.sections.ensures.targets c.requires.place).has_target
+    (section_here c.args.site.case.now c.sections.result.now c.args.place c.index-sections-place.result c.sections.ensures.targets_are c.sections.ensures.targets c.requires.place).has_target
 
 pub unreachable-requires : goal.unreachable-requires
 unreachable-requires g c =
-    (section_here c.args.site.case.now c.sections.result.now c.args.place c.index-sections-place.result c.sections.ensures.sections c.sections.ensures.targets c.requires.place).proof
+    (section_here c.args.site.case.now c.sections.result.now c.args.place c.index-sections-place.result c.sections.ensures.targets_are c.sections.ensures.targets c.requires.place).proof
     (rw c.in_default.is at c.in_ok-finding.ensures)
 
 pub place_of-board-requires-clause-node : goal.place_of-board-requires-clause-node
@@ -33,7 +33,7 @@ pub returns-clause-seen : goal.returns-clause-seen
 returns-clause-seen g c =
     let found = rw c.in-Some.is at c.in_ok-finding.ensures in
     let same : c.in-Some.finding.case.now ≡ c.args.site.case.now = found.1 in
-    let here = section_here c.args.site.case.now c.sections.result.now c.args.place c.index-sections-place.result c.sections.ensures.sections c.sections.ensures.targets c.requires.place in
+    let here = section_here c.args.site.case.now c.sections.result.now c.args.place c.index-sections-place.result c.sections.ensures.targets_are c.sections.ensures.targets c.requires.place in
     let of_case = ap (λ (k : CutCase). k.case) c.open_weight-weight.ensures.own.1 ∙ sym c.requires.case in
     section_seen c.args.site.case.now (view_of c.open_weight-weight.new.pass) c.args.place c.in-Some.finding.node _ of_case here.is (rw (same, found.2) at c.in-Some.finding.only)
     (seen_stays _ _ c.open_weight-weight.ensures.stays c.in-Some.finding.node c.post.ensures.seen)

@@ -3,11 +3,11 @@ use Rattle.cube_report.proofs.Posting.{section_target, section_none, one_turn}
 use Rattle.cube_report.proofs.engine.post_findings.Goals as goal
 
 pub examine-requires : goal.examine-requires
-examine-requires c = section_target c.args.case.now c.sections-sections.result.now c.loop-section.section-index c.section-item.result c.sections-sections.ensures.sections
+examine-requires c = section_target c.args.case.now c.sections-sections.result.now c.loop-section.section-index c.section-item.result c.sections-sections.ensures.targets_are
     c.sections-sections.ensures.targets c.loop-section-test.true c.section-item.is
 
 pub unreachable-requires : goal.unreachable-requires
-unreachable-requires c = section_none c.args.case.now c.sections-sections.result.now c.loop-section.section-index c.section-item.result c.sections-sections.ensures.sections
+unreachable-requires c = section_none c.args.case.now c.sections-sections.result.now c.loop-section.section-index c.section-item.result c.sections-sections.ensures.targets_are
     c.sections-sections.ensures.targets c.loop-section-test.true c.section-item.is (rw c.in-None.is at c.in_ok-finding.ensures)
 
 pub loop-section-preserved : goal.loop-section-preserved
@@ -16,7 +16,7 @@ loop-section-preserved c =
     let target = (rw c.in-Some.is at c.in_ok-finding.ensures).2 in
     let is = (rw c.in-Some.is at c.in_ok-finding.ensures).3 in (
       c.post.ensures.same.0 ∙ c.loop-section.invariant.0,
-      one_turn c.args.case.now c.sections-sections.result.now c.loop-section.section-index c.section-item.result c.sections-sections.ensures.sections c.sections-sections.ensures.targets
+      one_turn c.args.case.now c.sections-sections.result.now c.loop-section.section-index c.section-item.result c.sections-sections.ensures.targets_are c.sections-sections.ensures.targets
           c.loop-section-test.true c.section-item.is c.loop-section.boards.marks c.post.new.self.marks c.in-Some.finding.node _ c.in-Some.finding.judged c.post.result
           c.loop-section.invariant.1 target (rw same at c.in-Some.finding.here) (rw same at c.in-Some.finding.only) (rw target is) c.post.ensures.new c.post.ensures.marks,
     )

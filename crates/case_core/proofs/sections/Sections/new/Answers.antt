@@ -1,12 +1,11 @@
-use Rattle.std.proofs.Common.{ℕ, List, [], map, ap, sym, subst}
-use Rattle.case_core.specs.Case.{section_of}
+use Rattle.std.proofs.Common.{ℕ, List, [], sym, subst}
 use Rattle.case_core.specs.Kept.{AreKept}
 use Rattle.case_core.proofs.Tables.{nothing_kept}
 use Rattle.case_core.proofs.sections.Sections.new.Goals as goal
 
 pub returns : goal.returns
 returns c = (
-  ap (map section_of) c.new.ensures.items,
+  c.new.ensures.items,
   subst (λ (places : List ℕ). AreKept c.args.tree.now [] places) (sym (c.in_ok-places.ensures.items_if_clones_equal (λ y e. e)))
       (nothing_kept c.args.tree.now c.size.result c.size.ensures),
 )
