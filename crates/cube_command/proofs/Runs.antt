@@ -16,30 +16,32 @@ use Rattle.cube_command.specs.Program.{status_of_answer}
 -- ---- the run
 
 -- the report that was written is the one on the bundle that was asked for
-pub reported : (held : Held) (file folder input old new : Option (List ℕ)) (read whole judged : List ℕ) (result : Result Bool Fault) → judged ≡ whole → IsBundleOf held file folder input read whole
-    → IfOk result (λ answer. (text : List ℕ) × IsCorrect judged text answer × Appends old new text)
+pub reported : (held : Held) (file folder input old new : Option (List ℕ)) (read whole : List ℕ) (result : Result Bool Fault)
+    → IsBundleOf held file folder input read whole
+    → IfOk result (λ answer. (text : List ℕ) × IsCorrect whole text answer × Appends old new text)
     → IfOk result (IsReported held file folder input old new)
-reported held file folder input old new read whole judged (Err fault) same bundle is = tt
-reported held file folder input old new read whole judged (Ok answer) same bundle is = record {
+reported held file folder input old new read whole (Err fault) bundle is = tt
+reported held file folder input old new read whole (Ok answer) bundle is = record {
   read = read;
   whole = whole;
   bundle = bundle;
   text = is.0;
-  correct = subst (λ (b : List ℕ). IsCorrect b is.0 answer) same is.1;
+  correct = is.1;
   written = is.2;
-  sound = λ says. judged_unsatisfiable held folder read whole bundle.is_judged (subst IsUnsatisfiable same (is.1.sound says));
+  sound = λ says. judged_unsatisfiable held folder read whole bundle.is_judged (is.1.sound says);
 }
 
 -- the fault is that of the bundle that was asked for
-pub faulty : (held : Held) (file folder input : Option (List ℕ)) (read whole judged : List ℕ) (result : Result Bool Fault) → judged ≡ whole → IsBundleOf held file folder input read whole
-    → IfErr result (λ fault. IsInputFault fault → IsFaultOn judged fault)
+pub faulty : (held : Held) (file folder input : Option (List ℕ)) (read whole : List ℕ) (result : Result Bool Fault)
+    → IsBundleOf held file folder input read whole
+    → IfErr result (λ fault. IsInputFault fault → IsFaultOn whole fault)
     → IfErr result (λ fault. IsInputFault fault → IsRefused held file folder input fault)
-faulty held file folder input read whole judged (Ok answer) same bundle is = tt
-faulty held file folder input read whole judged (Err fault) same bundle is = λ input_is. record {
+faulty held file folder input read whole (Ok answer) bundle is = tt
+faulty held file folder input read whole (Err fault) bundle is = λ input_is. record {
   read = read;
   whole = whole;
   bundle = bundle;
-  first = subst (λ (b : List ℕ). IsFaultOn b fault) same (is input_is);
+  first = is input_is;
 }
 
 -- ---- its status

@@ -1,5 +1,5 @@
 //! Bundles: their faults, and what is found of their sections.
-use case_core::{CaseFault, Judged, Reason, Section, Target, read_bundle};
+use case_core::{Case, CaseFault, Judged, Reason, Target, read_bundle};
 use fixtures::bundles::{BOTH_CUBES, ONE_CUBE, ROOT};
 use fixtures::cases::{case, cube, finding_of, inner, missing};
 use fixtures::{four, halves};
