@@ -108,7 +108,7 @@ awk -v page="$here/page" '
     /[^ ]/ { inside = 0 }
 ' "$root/docs/USING.md"
 blocks=$(ls "$here/page" | tr '\n' ' ')
-if [ "$blocks" != "1.1 2.1 3.1 4.1 5.1 5.2 " ]; then
+if [ "$blocks" != "1.1 2.1 3.1 4.1 5.1 5.2 8.1 8.2 " ]; then
     echo "using: the page has the blocks $blocks, which this script doesn't know"
     echo "using: 0 passed, 1 failed"
     exit 1
@@ -122,6 +122,12 @@ block 2.1
 [ "$status" -eq 0 ] && [ ! -s "$here/err" ]
 count "the example: the cubes are there" $?
 from_the_bundle "the example" 16
+block 8.1
+[ "$(grep -c '^s OPEN$' "$here/out")" -eq 4 ] && [ "$(cat ./*.report | grep -c ' refuted$')" -eq 16 ] && [ ! -s "$here/err" ]
+count "the example: four runs refute each cube once, and each leaves the others open" $?
+block 8.2
+[ "$(tr '\n' ' ' < "$here/out")" = "16 16 " ] && [ ! -s "$here/err" ]
+count "the example: each leaf is refuted in one of the four reports" $?
 
 cd "$here/unsplit" || exit 1
 pigeons > formula.cnf
