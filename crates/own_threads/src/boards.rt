@@ -1,0 +1,148 @@
+//! The boards of a case, by this thread and one that it starts.
+
+ghost use Rattle.std.specs.Prelude.{◌≡◌, ◌≤◌, None, length, All, IfOk, vec_len};
+ghost use Rattle.board_hall.specs.Halls.{shared_of, view_of, IsPassOf, IsNewPass};
+ghost use Rattle.mark_board.specs.Findings.{AreFindings};
+ghost use Rattle.check_crew.specs.Seen.{HaveSeenSections};
+ghost use Rattle.own_threads.specs.Halves.{IsReady, HasPosted};
+
+use crate::sections::{Desk, post_first_half, post_second_half};
+use board_hall::{Hall, Pass};
+use case_core::Case;
+use check_crew::CrewFault;
+use mark_board::Boards;
+use std::alloc::{AllocError, Global};
+use std::sync::Wait;
+use std::thread;
+use std::thread::{Scope, Threads};
+
+/// The boards of `case` at a cut from 0 to 6 with the findings of all its sections, by this thread
+/// and one that it starts: this one takes the first half of the sections, from the first one on,
+/// and the other the second half, from the last one back.
+///
+/// The other thread is joined before it answers. `Thread` where its start was refused, and `Memory`
+/// where a growth was refused: a fault hands nothing out.
+pub(crate) fn boards_of<'c, R: Threads + Wait + Sync>(
+    rt: &R,
+    alloc: Global,
+    case: &'c Case,
+    cut: u32,
+) -> Result<Boards<'c>, CrewFault>
+    requires { cut ≤ 6 }
+    ensures case { IfOk result (λ boards. (boards.case ≡ case.now) × (boards.cut ≡ cut)) }
+    ensures findings { IfOk result (λ boards. AreFindings case.now boards.marks) }
+{
+    let (hall, passes) = Hall::open(alloc, case, cut, 2)?;
+    let desk = Desk {
+        case,
+        core: hall.core(),
+        half: case.sections().len() / 2,
+    };
+    let passes = post_all(rt, alloc, desk, passes)?;
+    match hall.close(passes) {
+        Ok(boards) => Ok(boards),
+        Err(_) => unreachable!(),
+    }
+}
+
+/// Posts what is found of all sections with the hall's two passes, and gives both back. What it
+/// ensures is what closing the hall asks for, and that the boards then have all findings.
+fn post_all<R: Threads + Wait + Sync>(
+    rt: &R,
+    alloc: Global,
+    desk: Desk<'_>,
+    mut passes: Vec<Pass>,
+) -> Result<Vec<Pass>, CrewFault>
+    requires ready { IsReady desk.case.now (shared_of desk.core.now) desk.half }
+    requires count { vec_len passes ≡ 2 }
+    requires new { All (IsNewPass (shared_of desk.core.now)) passes.items }
+    ensures count { IfOk result (λ passes. vec_len passes ≡ 2) }
+    ensures own { IfOk result (λ passes.
+        All (IsPassOf (shared_of desk.entry.core.now)) passes.items) }
+    ensures free { IfOk result (λ passes. All (λ pass. (view_of pass).owes ≡ None) passes.items) }
+    ensures seen { IfOk result (λ passes.
+        HaveSeenSections desk.entry.case.now passes.items) }
+{
+    let Some(theirs) = passes.pop() else {
+        unreachable!()
+    };
+    let Some(ours) = passes.pop() else {
+        unreachable!()
+    };
+    let (ours, theirs) = post_halves(rt, alloc, desk, ours, theirs)?;
+    passes.push_reserved(ours);
+    passes.push_reserved(theirs);
+    Ok(passes)
+}
+
+/// Posts what is found of the first half of the sections with the first pass, and of the second
+/// half with the second pass in a thread of its own.
+fn post_halves<R: Threads + Wait + Sync>(
+    rt: &R,
+    alloc: Global,
+    desk: Desk<'_>,
+    ours: Pass,
+    theirs: Pass,
+) -> Result<(Pass, Pass), CrewFault>
+    requires ready { IsReady desk.case.now (shared_of desk.core.now) desk.half }
+    requires ours { IsNewPass (shared_of desk.core.now) ours }
+    requires theirs { IsNewPass (shared_of desk.core.now) theirs }
+    ensures first { IfOk result (λ passes.
+        HasPosted (shared_of desk.entry.core.now) 0 desk.entry.half passes.0) }
+    ensures second { IfOk result (λ passes. HasPosted (shared_of desk.entry.core.now) desk.entry.half
+        (length desk.entry.case.now.sections) passes.1) }
+{
+    let Desk { case, core, half } = desk;
+    thread::scope(
+        thread::scope_env(),
+        rt,
+        move |scope| -> Result<(Pass, Pass), CrewFault>
+            requires ready { IsReady case.now (shared_of core.now) half }
+            requires ours { IsNewPass (shared_of core.now) ours }
+            requires theirs { IsNewPass (shared_of core.now) theirs }
+            ensures first { IfOk result (λ passes.
+                HasPosted (shared_of core.entry.now) 0 half passes.0) }
+            ensures second { IfOk result (λ passes. HasPosted (shared_of core.entry.now) half
+                (length case.entry.now.sections) passes.1) }
+        {
+            let desk = Desk { case, core, half };
+            post_beside(scope, rt, alloc, desk, ours, theirs)
+        },
+    )
+}
+
+/// Starts the other thread, posts the first half beside it, and joins it. `Thread` where its start
+/// was refused.
+fn post_beside<'s, 'e: 's, R: Threads + Wait + Sync>(
+    scope: &'s Scope<'s, &'e ()>,
+    rt: &'e R,
+    alloc: Global,
+    desk: Desk<'e>,
+    ours: Pass,
+    theirs: Pass,
+) -> Result<(Pass, Pass), CrewFault>
+    requires ready { IsReady desk.case.now (shared_of desk.core.now) desk.half }
+    requires ours { IsNewPass (shared_of desk.core.now) ours }
+    requires theirs { IsNewPass (shared_of desk.core.now) theirs }
+    ensures first { IfOk result (λ passes.
+        HasPosted (shared_of desk.entry.core.now) 0 desk.entry.half passes.0) }
+    ensures second { IfOk result (λ passes. HasPosted (shared_of desk.entry.core.now) desk.entry.half
+        (length desk.entry.case.now.sections) passes.1) }
+{
+    let Desk { case, core, half } = desk;
+    let started = scope.spawn_with(
+        desk,
+        move || -> Result<Pass, AllocError>
+            requires ready { IsReady case.now (shared_of core.now) half }
+            requires pass { IsNewPass (shared_of core.now) theirs }
+            ensures { IfOk result (HasPosted (shared_of core.entry.now) half
+                (length case.entry.now.sections)) }
+        { post_second_half(rt, alloc, Desk { case, core, half }, theirs) },
+    );
+    let Ok(other) = started else {
+        return Err(CrewFault::Thread);
+    };
+    let first = post_first_half(rt, alloc, Desk { case, core, half }, ours);
+    let second = other.join(rt);
+    Ok((first?, second?))
+}

@@ -1,0 +1,69 @@
+//! From standard input to standard output.
+
+ghost use Rattle.std.specs.Prelude.{◌≡◌, ◌≢◌, ◌<◌, ◌^◌, ◌-◌, ℕ, List, true, IfOk, IfErr, IfSome};
+ghost use Rattle.std.specs.Io.KnownBytes.{Keeps, Appends};
+ghost use Rattle.cube_report.specs.Correct.{IsCorrect, IsFaultOn, IsUnsatisfiable};
+ghost use Rattle.cube_report.specs.Device.{IsReadFault};
+ghost use Rattle.cube_report.specs.Faults.{IsInputFault};
+
+use crate::report::outcome_of;
+use cube_report::{Fault, Sink, Source, read_to_end, write_all};
+use std::alloc::Global;
+use std::sync::Wait;
+use std::thread::Threads;
+
+/// Reads a bundle to the input's end, and writes the report on it; answers whether the formula is
+/// refuted. Nothing is written before all is read and judged.
+pub(crate) fn check<R: Threads + Wait + Sync, I: Source, O: Sink>(
+    rt: &R,
+    alloc: Global,
+    input: &mut I,
+    output: &mut O,
+) -> Result<bool, Fault>
+    requires input { I.failures input.old < 2 ^ 64 - 1 }
+    requires output { O.failures output.old < 2 ^ 64 - 1 }
+    // What is written is the report on what was read, and the answer is that of its last line.
+    ensures correct { IfOk result (λ answer. IfSome (I.remaining input.old) (λ bundle.
+        (text : List ℕ) × IsCorrect bundle text answer
+        × Appends (O.contents output.old) (O.contents output.new) text)) }
+    // It is true only where the formula has no model.
+    ensures sound { IfOk result (λ answer. answer ≡ true →
+        IfSome (I.remaining input.old) IsUnsatisfiable) }
+    // A fault of the input is that of what was read, its first.
+    ensures fault { IfErr result (λ fault. IsInputFault fault →
+        IfSome (I.remaining input.old) (λ bundle. IsFaultOn bundle fault)) }
+    // Without a report nothing is written, unless a device failed.
+    ensures nothing { IfErr result (λ fault. fault ≢ Fault.Device →
+        Keeps (O.contents output.old) (O.contents output.new)) }
+{
+    let bundle = bytes_of(alloc, input)?;
+    let outcome = outcome_of(rt, alloc, &bundle)?;
+    write_all(output, &outcome.text)?;
+    Ok(outcome.refuted)
+}
+
+/// All bytes up to the input's end.
+fn bytes_of<I: Source>(alloc: Global, input: &mut I) -> Result<Vec<u8>, Fault>
+    requires { I.failures input.old < 2 ^ 64 - 1 }
+    ensures bytes { IfOk result (λ bytes.
+        IfSome (I.remaining input.old) (λ known. bytes.items ≡ known)) }
+    ensures err { IfErr result (IsReadFault (I.failures input.old) (I.failures input.new)) }
+{
+    let mut bytes = Vec::new(alloc);
+    read_to_end(input, &mut bytes)?;
+    Ok(bytes)
+}
+
+/// The status of a run without a report.
+pub(crate) fn status_of(fault: Fault) -> u8
+    ensures memory { fault ≡ Fault.Memory → result ≡ 4 }
+    ensures thread { fault ≡ Fault.Thread → result ≡ 4 }
+    ensures device { fault ≡ Fault.Device → result ≡ 5 }
+    ensures input { IsInputFault fault → result ≡ 3 }
+{
+    match fault {
+        Fault::Memory | Fault::Thread => 4,
+        Fault::Device => 5,
+        _ => 3,
+    }
+}
