@@ -20,3 +20,8 @@ pub record HasPosted (hall : HallOf) (first end : ℕ) (pass : Pass) : Type 0 wh
   pub own : IsPassOf hall pass
   pub free : (view_of pass).owes ≡ None
   pub seen : HasSeenFrom (view_of pass) first end
+
+-- the first pass has seen those of the first half of the sections, and the second pass those of the second half
+pub record HavePosted (case : CaseOf) (hall : HallOf) (half : ℕ) (ours theirs : Pass) : Type 0 where
+  pub first : HasPosted hall 0 half ours
+  pub second : HasPosted hall half (length case.sections) theirs

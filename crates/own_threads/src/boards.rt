@@ -4,7 +4,7 @@ ghost use Rattle.std.specs.Prelude.{◌≡◌, ◌≤◌, None, length, All, IfO
 ghost use Rattle.board_hall.specs.Halls.{shared_of, view_of, IsPassOf, IsNewPass};
 ghost use Rattle.mark_board.specs.Findings.{AreFindings};
 ghost use Rattle.check_crew.specs.Seen.{HaveSeenSections};
-ghost use Rattle.own_threads.specs.Halves.{IsReady, HasPosted};
+ghost use Rattle.own_threads.specs.Halves.{IsReady, HasPosted, HavePosted};
 
 use crate::sections::{Desk, post_first_half, post_second_half};
 use board_hall::{Hall, Pass};
@@ -14,7 +14,7 @@ use mark_board::Boards;
 use std::alloc::{AllocError, Global};
 use std::sync::Wait;
 use std::thread;
-use std::thread::{Scope, Threads};
+use std::thread::Threads;
 
 /// The boards of `case` at a cut from 0 to 6 with the findings of all its sections, by this thread
 /// and one that it starts: this one takes the first half of the sections, from the first one on,
@@ -22,7 +22,7 @@ use std::thread::{Scope, Threads};
 ///
 /// The other thread is joined before it answers. `Thread` where its start was refused, and `Memory`
 /// where a growth was refused: a fault hands nothing out.
-pub(crate) fn boards_of<'c, R: Threads + Wait + Sync>(
+pub fn boards_of<'c, R: Threads + Wait + Sync>(
     rt: &R,
     alloc: Global,
     case: &'c Case,
@@ -87,62 +87,34 @@ fn post_halves<R: Threads + Wait + Sync>(
     requires ready { IsReady desk.case.now (shared_of desk.core.now) desk.half }
     requires ours { IsNewPass (shared_of desk.core.now) ours }
     requires theirs { IsNewPass (shared_of desk.core.now) theirs }
-    ensures first { IfOk result (λ passes.
-        HasPosted (shared_of desk.entry.core.now) 0 desk.entry.half passes.0) }
-    ensures second { IfOk result (λ passes. HasPosted (shared_of desk.entry.core.now) desk.entry.half
-        (length desk.entry.case.now.sections) passes.1) }
+    ensures { IfOk result (λ passes. HavePosted desk.entry.case.now
+        (shared_of desk.entry.core.now) desk.entry.half passes.0 passes.1) }
 {
-    let Desk { case, core, half } = desk;
     thread::scope(
         thread::scope_env(),
         rt,
         move |scope| -> Result<(Pass, Pass), CrewFault>
-            requires ready { IsReady case.now (shared_of core.now) half }
-            requires ours { IsNewPass (shared_of core.now) ours }
-            requires theirs { IsNewPass (shared_of core.now) theirs }
-            ensures first { IfOk result (λ passes.
-                HasPosted (shared_of core.entry.now) 0 half passes.0) }
-            ensures second { IfOk result (λ passes. HasPosted (shared_of core.entry.now) half
-                (length case.entry.now.sections) passes.1) }
+            requires ready { IsReady desk.case.now (shared_of desk.core.now) desk.half }
+            requires ours { IsNewPass (shared_of desk.core.now) ours }
+            requires theirs { IsNewPass (shared_of desk.core.now) theirs }
+            ensures { IfOk result (λ passes. HavePosted desk.entry.case.now
+                (shared_of desk.entry.core.now) desk.entry.half passes.0 passes.1) }
         {
-            let desk = Desk { case, core, half };
-            post_beside(scope, rt, alloc, desk, ours, theirs)
+            let started = scope.spawn_with(
+                desk,
+                move || -> Result<Pass, AllocError>
+                    requires ready { IsReady desk.case.now (shared_of desk.core.now) desk.half }
+                    requires pass { IsNewPass (shared_of desk.core.now) theirs }
+                    ensures { IfOk result (HasPosted (shared_of desk.entry.core.now) desk.entry.half
+                        (length desk.entry.case.now.sections)) }
+                { post_second_half(rt, alloc, desk, theirs) },
+            );
+            let Ok(other) = started else {
+                return Err(CrewFault::Thread);
+            };
+            let first = post_first_half(rt, alloc, desk, ours);
+            let second = other.join(rt);
+            Ok((first?, second?))
         },
     )
-}
-
-/// Starts the other thread, posts the first half beside it, and joins it. `Thread` where its start
-/// was refused.
-fn post_beside<'s, 'e: 's, R: Threads + Wait + Sync>(
-    scope: &'s Scope<'s, &'e ()>,
-    rt: &'e R,
-    alloc: Global,
-    desk: Desk<'e>,
-    ours: Pass,
-    theirs: Pass,
-) -> Result<(Pass, Pass), CrewFault>
-    requires ready { IsReady desk.case.now (shared_of desk.core.now) desk.half }
-    requires ours { IsNewPass (shared_of desk.core.now) ours }
-    requires theirs { IsNewPass (shared_of desk.core.now) theirs }
-    ensures first { IfOk result (λ passes.
-        HasPosted (shared_of desk.entry.core.now) 0 desk.entry.half passes.0) }
-    ensures second { IfOk result (λ passes. HasPosted (shared_of desk.entry.core.now) desk.entry.half
-        (length desk.entry.case.now.sections) passes.1) }
-{
-    let Desk { case, core, half } = desk;
-    let started = scope.spawn_with(
-        desk,
-        move || -> Result<Pass, AllocError>
-            requires ready { IsReady case.now (shared_of core.now) half }
-            requires pass { IsNewPass (shared_of core.now) theirs }
-            ensures { IfOk result (HasPosted (shared_of core.entry.now) half
-                (length case.entry.now.sections)) }
-        { post_second_half(rt, alloc, Desk { case, core, half }, theirs) },
-    );
-    let Ok(other) = started else {
-        return Err(CrewFault::Thread);
-    };
-    let first = post_first_half(rt, alloc, Desk { case, core, half }, ours);
-    let second = other.join(rt);
-    Ok((first?, second?))
 }

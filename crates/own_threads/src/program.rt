@@ -14,7 +14,7 @@ use std::thread::Threads;
 
 /// Reads a bundle to the input's end, and writes the report on it; answers whether the formula is
 /// refuted. Nothing is written before all is read and judged.
-pub(crate) fn check<R: Threads + Wait + Sync, I: Source, O: Sink>(
+pub fn check<R: Threads + Wait + Sync, I: Source, O: Sink>(
     rt: &R,
     alloc: Global,
     input: &mut I,
@@ -55,7 +55,7 @@ fn bytes_of<I: Source>(alloc: Global, input: &mut I) -> Result<Vec<u8>, Fault>
 }
 
 /// The status of a run without a report.
-pub(crate) fn status_of(fault: Fault) -> u8
+pub fn status_of(fault: Fault) -> u8
     ensures memory { fault ≡ Fault.Memory → result ≡ 4 }
     ensures thread { fault ≡ Fault.Thread → result ≡ 4 }
     ensures device { fault ≡ Fault.Device → result ≡ 5 }

@@ -18,14 +18,14 @@ const CUT: u32 = 3;
 
 /// A report, and whether it says refuted.
 #[derive(Drop)]
-pub(crate) struct Outcome {
-    pub(crate) text: Vec<u8>,
-    pub(crate) refuted: bool,
+pub struct Outcome {
+    pub text: Vec<u8>,
+    pub refuted: bool,
 }
 
 /// The report on a bundle, and whether it says refuted, or the bundle's first fault; `Memory` or
 /// `Thread` may stand in the place of any other answer.
-pub(crate) fn outcome_of<R: Threads + Wait + Sync>(
+pub fn outcome_of<R: Threads + Wait + Sync>(
     rt: &R,
     alloc: Global,
     bundle: &[u8],

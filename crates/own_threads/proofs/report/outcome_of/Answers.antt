@@ -1,8 +1,6 @@
-use Rattle.std.proofs.Common.{◌≢◌, refl, ap}
-use Rattle.cube_report.proofs.Crew.{crew_fault, crew_no_device}
+use Rattle.std.proofs.Common.{refl, ap}
 use Rattle.cube_report.proofs.Reports.{correct, told}
-use Rattle.cube_report.specs.declared.fault.Fault.TheVariants.{Device}
-use Rattle.cube_report.specs.Faults.{IsInputFault, fault_of_case, fault_of_crew}
+use Rattle.cube_report.specs.Faults.{IsInputFault, fault_of_case}
 use Rattle.cube_report.specs.Correct.{IsFaultOn}
 use Rattle.own_threads.proofs.report.outcome_of.Goals as goal
 

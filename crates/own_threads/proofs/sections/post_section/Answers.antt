@@ -1,6 +1,6 @@
 use Rattle.std.proofs.Common.{◌≡◌, sym, ◌∙◌, ap}
 use Rattle.board_hall.specs.declared.view.CutCase.{CutCase}
-use Rattle.board_hall.specs.Halls.{core_of, view_of}
+use Rattle.board_hall.specs.Halls.{view_of}
 use Rattle.check_crew.proofs.Places.{section_here}
 use Rattle.check_crew.proofs.Turns.{section_seen}
 use Rattle.own_threads.proofs.sections.post_section.Goals as goal
