@@ -14,12 +14,9 @@ use std::process::ExitCode;
 fn main(rt: HostRuntime) -> ExitCode {
     let mut input = Counted::new(rt.stdin());
     let mut output = Counted::new(rt.stdout());
-    match check(&rt, rt.alloc(), &mut input, &mut output) {
-        Ok(true) => ExitCode::from(0),
-        Ok(false) => ExitCode::from(1),
-        Err(fault) => {
-            let _ = eprintln!(rt; "own_threads: {fault}");
-            ExitCode::from(status_of(fault))
-        }
+    let run = check(&rt, rt.alloc(), &mut input, &mut output);
+    if let Err(fault) = run {
+        let _ = eprintln!(rt; "own_threads: {fault}");
     }
+    ExitCode::from(status_of(run))
 }
