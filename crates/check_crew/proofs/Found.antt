@@ -1,5 +1,5 @@
--- Once each section was claimed, its finding is seen by some worker; and where the finding of each section was seen by some pass,
--- it stands on the boards.
+-- Once each section was claimed, its finding is seen by some worker; and where the finding of each section was seen by
+-- some pass, it stands on the boards.
 use Rattle.std.proofs.Common.{◌≡◌, ◌≢◌, ℕ, suc, ◌<◌, ◌==◌, ◌&&◌, cond, Bool, true, List, [], ◌∷◌, ◌++◌, Option, None, Some, All, length, flat_map, refl, sym, ap, ◌∙◌, subst, arith, inl, inr, ◌⊎◌, append-nil}
 use mathlib.Core.Logic.{dite}
 use native.Mathlib.Decide.{ℕ_discrete}
@@ -76,7 +76,8 @@ module _ (hall : HallOf) (passes : List Pass) (boards : BoardsOf) (gathered : Ga
       seen_marked own pass some.1 node (some.2 node (rw (of_hall, section.target_is) at))
 
   -- where the finding of each section was seen, each node has the mark of its finding
-  pub are_findings : All (IsPassOf hall) passes → HaveSeenSections hall.of.case passes → AreFindings hall.of.case boards.marks
+  pub are_findings : All (IsPassOf hall) passes → HaveSeenSections hall.of.case passes
+      → AreFindings hall.of.case boards.marks
   are_findings own seen = record {
     long = gathered.hold.long;
     each = λ node target at. is_mark node target at (proof_for hall.of.case.sections target) refl;
@@ -100,7 +101,8 @@ module _ (hall : HallOf) (passes : List Pass) (boards : BoardsOf) (gathered : Ga
               absurd (section_marked own seen node section.0 target at section.1 none)
 
 -- where each turn was claimed by some pass, the finding of each section was seen
-pub sections_seen : (case : CaseOf) (order : List ℕ) (passes : List Pass) (job_passes : List JobPassOf) → IsOrder (length case.sections) order → HaveSeenClaims order passes job_passes
+pub sections_seen : (case : CaseOf) (order : List ℕ) (passes : List Pass) (job_passes : List JobPassOf)
+    → IsOrder (length case.sections) order → HaveSeenClaims order passes job_passes
     → EachOnce (length order) (flat_map claims_of job_passes) → HaveSeenSections case passes
 sections_seen case order passes job_passes in_order seen once place within =
     let there = in_order.each place within in

@@ -23,14 +23,14 @@ pub record HasSeen (v : View) (node : ℕ) : Type 0 where
 abbrev pub HasSeenSection : View → ℕ → Type 0
 HasSeenSection v place = (node : ℕ) → IsTargetAt v.of.case.tree node (section_at v.of.case.sections place).target → HasSeen v node
 
--- that of each section of the case is among what one of these passes has seen
-abbrev pub HaveSeenSections : CaseOf → List Pass → Type 0
-HaveSeenSections case passes =
-    (place : ℕ) → place < length case.sections → (pass : Pass) × Contains passes pass × HasSeenSection (view_of pass) place
-
 -- that of the section whose turn it is in this order
 abbrev pub HasSeenTurn : List ℕ → View → ℕ → Type 0
 HasSeenTurn order v turn = HasSeenSection v (slice_index order turn)
+
+-- the finding of each section of the case is among what one of these passes has seen
+abbrev pub HaveSeenSections : CaseOf → List Pass → Type 0
+HaveSeenSections case passes = (place : ℕ) → place < length case.sections
+    → (pass : Pass) × Contains passes pass × HasSeenSection (view_of pass) place
 
 -- the posts that were seen hold the target's finding, and by them the board of the target has this open weight
 pub record IsTold (v : View) (target : Target) (weight : ℕ) : Type 0 where

@@ -39,14 +39,18 @@ pub fn boards_of<'c, R: Threads + Wait + Sync>(
         half: case.sections().len() / 2,
     };
     let passes = post_all(rt, alloc, desk, passes)?;
+    // A hall is closed where all its passes are handed in and none owes a verdict: so it is here,
+    // which is proved.
     match hall.close(passes) {
         Ok(boards) => Ok(boards),
         Err(_) => unreachable!(),
     }
 }
 
-/// Posts what is found of all sections with the hall's two passes, and gives both back. What it
-/// ensures is what closing the hall asks for, and that the boards then have all findings.
+/// Posts what is found of all sections with the hall's two passes, and gives both back.
+///
+/// `count`, `own` and `free` are what closing the hall asks for. `seen` is why the boards then have
+/// all findings: they hold whatever a pass that is handed in has seen.
 fn post_all<R: Threads + Wait + Sync>(
     rt: &R,
     alloc: Global,
@@ -76,7 +80,10 @@ fn post_all<R: Threads + Wait + Sync>(
 }
 
 /// Posts what is found of the first half of the sections with the first pass, and of the second
-/// half with the second pass in a thread of its own.
+/// half with the second pass in a thread of its own. `Thread` where its start was refused.
+///
+/// A closure is checked by itself, so each says again what it needs of what it captures. What the
+/// thread's closure ensures is what `desk` promises, and that is what is known once it is joined.
 fn post_halves<R: Threads + Wait + Sync>(
     rt: &R,
     alloc: Global,

@@ -1,7 +1,7 @@
 //! From standard input to standard output.
 
-ghost use Rattle.std.specs.Prelude.{◌≡◌, ◌≢◌, ◌⊎◌, ◌<◌, ◌^◌, ◌-◌, ℕ, List, true, IfOk, IfErr, IfSome};
-ghost use Rattle.std.specs.Prelude.{if◌then◌else◌};
+ghost use Rattle.std.specs.Prelude.{◌≡◌, ◌≢◌, ◌⊎◌, ◌<◌, ◌^◌, ◌-◌, ℕ, List, true};
+ghost use Rattle.std.specs.Prelude.{if◌then◌else◌, IfOk, IfErr, IfSome};
 ghost use Rattle.std.specs.Io.KnownBytes.{Keeps, Appends};
 ghost use Rattle.cube_report.specs.Correct.{IsCorrect, IsFaultOn, IsUnsatisfiable};
 ghost use Rattle.cube_report.specs.Device.{IsReadFault};
@@ -55,8 +55,8 @@ fn bytes_of<I: Source>(alloc: Global, input: &mut I) -> Result<Vec<u8>, Fault>
     Ok(bytes)
 }
 
-/// The status of a run: 0 or 1 for a report that says refuted or open, 3 where the bundle is refused,
-/// 4 where memory or the start of the thread was, and 5 where a device failed.
+/// The status of a run: 0 or 1 for a report that says refuted or open, 3 where the bundle is
+/// refused, 4 where memory or the start of the thread was, and 5 where a device failed.
 pub fn status_of(run: Result<bool, Fault>) -> u8
     ensures report { IfOk run (λ refuted. result ≡ (if refuted then 0 else 1)) }
     ensures input { IfErr run (λ fault. IsInputFault fault → result ≡ 3) }

@@ -28,8 +28,8 @@ impl<'a> Promise<Result<Pass, AllocError>> for Desk<'a> {
     ghost use Rattle.board_hall.specs.Halls.{shared_of};
     ghost use Rattle.own_threads.specs.Halves.{HasPosted};
 
-    // Whoever joins the thread knows this of its pass. It is all that closing the hall needs of a
-    // thread: that its pass is the hall's and owes nothing, and what it has seen.
+    // Who joins the thread knows this of its pass, and nothing else: that it is the hall's and owes
+    // no verdict, which closing the hall asks for, and what it has seen, which the boards then hold.
     ghost kept_by = { λ desk result. IfOk result
         (HasPosted (shared_of desk.core.now) desk.half (length desk.case.now.sections)) };
 }

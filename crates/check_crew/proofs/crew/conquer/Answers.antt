@@ -31,7 +31,9 @@ returns-clause-findings g c =
     let order = c.in_ok-order.order.items in
     let in_order : IsOrder (length hall.of.case.sections) order = rw of_case c.in_ok-order.ensures in
     let turns : c.in_ok-jobs.jobs.sections ≡ length order = c.in_ok-jobs.ensures.sections ∙ sym c.in_ok-order.ensures.long in
-    let once = subst (λ n. EachOnce n (flat_map claims_of c.in_ok-passes.job_passes.items)) turns (c.if-not-finish.ensures.once (search rules)) in
+    let claims = c.in_ok-passes.job_passes.items in
+    let once = subst (λ n. EachOnce n (flat_map claims_of claims)) turns (c.if-not-finish.ensures.once (search rules)) in
     subst (λ (case : CaseOf). AreFindings case c.in-Ok.boards.marks) of_case
     (are_findings hall c.in_ok-passes.passes.items c.in-Ok.boards c.in-Ok.ensures.boards own
-    (sections_seen hall.of.case order c.in_ok-passes.passes.items c.in_ok-passes.job_passes.items in_order (rw c.deref.ensures.value at passes.seen) once))
+    (sections_seen hall.of.case order c.in_ok-passes.passes.items claims in_order
+    (rw c.deref.ensures.value at passes.seen) once))

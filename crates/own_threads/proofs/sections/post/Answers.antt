@@ -5,5 +5,7 @@ use Rattle.own_threads.proofs.sections.post.Goals as goal
 -- what was seen by the first post is still seen after the second
 pub returns-in-RootMarked-clause-seen : goal.returns-in-RootMarked-clause-seen
 returns-in-RootMarked-clause-seen g c =
-    seen_stays _ _ c.post_part.ensures.stays c.args.finding.node
-    (posted_seen (core_of c.args.core.now) c.args.finding.node c.args.finding.judged c.post.result _ (view_of c.post.new.pass) c.post.ensures.own.1 c.post.ensures.posted)
+    let finding = c.args.finding in
+    let seen = posted_seen (core_of c.args.core.now) finding.node finding.judged c.post.result _
+    (view_of c.post.new.pass) c.post.ensures.own.1 c.post.ensures.posted in
+    seen_stays _ _ c.post_part.ensures.stays finding.node seen

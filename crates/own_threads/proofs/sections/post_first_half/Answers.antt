@@ -1,4 +1,3 @@
-use Rattle.board_hall.specs.Halls.{view_of}
 use Rattle.own_threads.proofs.Halves.{forwards}
 use Rattle.own_threads.proofs.sections.post_first_half.Goals as goal
 
@@ -6,5 +5,6 @@ pub loop-place-preserved : goal.loop-place-preserved
 loop-place-preserved g c = record {
   own = c.post_section.ensures.own;
   free = c.post_section.ensures.free;
-  seen = forwards (view_of c.loop-place.pass) (view_of c.post_section.new.pass) 0 c.loop-place.place c.post_section.ensures.stays c.loop-place.invariant.seen c.in_ok-post_section.ensures.seen;
+  seen = forwards _ _ 0 c.loop-place.place c.post_section.ensures.stays c.loop-place.invariant.seen
+      c.in_ok-post_section.ensures.seen;
 }
