@@ -1,7 +1,7 @@
 //! From standard input to standard output.
 
-ghost use Rattle.std.specs.Prelude.{◌≡◌, ◌≢◌, ◌⊎◌, ◌<◌, ◌^◌, ◌-◌, ℕ, List, true};
-ghost use Rattle.std.specs.Prelude.{if◌then◌else◌, IfOk, IfErr, IfSome};
+ghost use Rattle.std.specs.Prelude.{◌≡◌, ◌≢◌, ◌⊎◌, ◌↔◌, ◌<◌, ◌^◌, ◌-◌, ℕ, List, true};
+ghost use Rattle.std.specs.Prelude.{if◌then◌else◌, IfOk, IfErr, OnOk, IfSome, IsErrOf};
 ghost use Rattle.std.specs.Io.KnownBytes.{Keeps, Appends};
 ghost use Rattle.cube_report.specs.Correct.{IsCorrect, IsFaultOn, IsUnsatisfiable};
 ghost use Rattle.cube_report.specs.Device.{IsReadFault};
@@ -36,6 +36,10 @@ pub fn check<R: Threads + Wait + Sync, I: Source, O: Sink>(
     // Without a report nothing is written, unless a device failed.
     ensures nothing { IfErr result (λ fault. fault ≢ Fault.Device →
         Keeps (O.contents output.old) (O.contents output.new)) }
+    // A device is at fault exactly where a call failed.
+    ensures device { IsErrOf result Fault.Device ↔
+        (I.failures input.old < I.failures input.new
+        ⊎ O.failures output.old < O.failures output.new) }
 {
     let bundle = bytes_of(alloc, input)?;
     let outcome = outcome_of(rt, alloc, &bundle)?;
@@ -48,6 +52,7 @@ fn bytes_of<I: Source>(alloc: Global, input: &mut I) -> Result<Vec<u8>, Fault>
     requires { I.failures input.old < 2 ^ 64 - 1 }
     ensures bytes { IfOk result (λ bytes.
         IfSome (I.remaining input.old) (λ known. bytes.items ≡ known)) }
+    ensures ok { OnOk result (I.failures input.new ≡ I.failures input.old) }
     ensures err { IfErr result (IsReadFault (I.failures input.old) (I.failures input.new)) }
 {
     let mut bytes = Vec::new(alloc);
