@@ -1,4 +1,5 @@
--- Once each section was claimed, its finding is seen by some worker, so it stands on the boards.
+-- Once each section was claimed, its finding is seen by some worker; and where the finding of each section was seen by
+-- some pass, it stands on the boards.
 use Rattle.std.proofs.Common.{◌≡◌, ◌≢◌, ℕ, suc, ◌<◌, ◌==◌, ◌&&◌, cond, Bool, true, List, [], ◌∷◌, ◌++◌, Option, None, Some, All, length, flat_map, refl, sym, ap, ◌∙◌, subst, arith, inl, inr, ◌⊎◌, append-nil}
 use mathlib.Core.Logic.{dite}
 use native.Mathlib.Decide.{ℕ_discrete}
@@ -11,7 +12,7 @@ use Rattle.std.proofs.lemmas.List.Sums.{sum_by-cons}
 use Rattle.std.proofs.lemmas.Grind.{get_or_default_zero}
 use Rattle.split_tree.specs.Leaves.{IsTargetAt}
 use Rattle.split_tree.specs.declared.node.Target.{Target}
-use Rattle.case_core.specs.Case.{SectionOf, proof_for, section_at, same_target}
+use Rattle.case_core.specs.Case.{CaseOf, SectionOf, proof_for, section_at, same_target}
 use Rattle.case_core.proofs.Tables.{same_target-true}
 use Rattle.mark_board.specs.declared.mark.Mark.TheVariants.{Open}
 use Rattle.mark_board.specs.Boards.{BoardsOf}
@@ -26,7 +27,7 @@ use Rattle.board_hall.specs.Halls.{HallOf, IsPassOf, view_of}
 use Rattle.board_hall.specs.Clauses.{Gathers}
 use Rattle.mark_board.specs.Findings.{IsMarkOf, AreFindings}
 use Rattle.check_crew.specs.Order.{IsOrder}
-use Rattle.check_crew.specs.Seen.{HasSeen, HasSeenTurn}
+use Rattle.check_crew.specs.Seen.{HasSeen, HasSeenTurn, HaveSeenSections}
 use Rattle.check_crew.specs.Shifts.{HaveSeenClaims}
 use Rattle.check_crew.proofs.Marks.{open_or_not, marked_more, real_mark, home_of}
 
@@ -55,7 +56,7 @@ section_of_proof (section ∷ sections) target proof is = elim (cases_Bool (same
       (suc later.0, record { within = omega (arith, later.1.within); target_is = later.1.target_is })
 ]
 
-module _ (hall : HallOf) (order : List ℕ) (passes : List Pass) (job_passes : List JobPassOf) (boards : BoardsOf) (gathered : Gathers hall passes boards) where
+module _ (hall : HallOf) (passes : List Pass) (boards : BoardsOf) (gathered : Gathers hall passes boards) where
   -- what one of the passes has seen is marked on the boards
   seen_marked : All (IsPassOf hall) passes → (pass : Pass) → Contains passes pass → (node : ℕ) → HasSeen (view_of pass) node → mark_at boards.marks node ≢ Open
   seen_marked own pass one node seen =
@@ -66,19 +67,18 @@ module _ (hall : HallOf) (order : List ℕ) (passes : List Pass) (job_passes : L
       rw (gathered.hold.marks node seen.board seen.row (rw of_hall at seen.home)) there
 
   -- the mark of a section's target is not open
-  section_marked : All (IsPassOf hall) passes → IsOrder (length hall.of.case.sections) order → HaveSeenClaims order passes job_passes → EachOnce (length order) (flat_map claims_of job_passes)
+  section_marked : All (IsPassOf hall) passes → HaveSeenSections hall.of.case passes
       → (node place : ℕ) (target : Target) → IsTargetAt hall.of.case.tree node target → IsSectionAt hall.of.case.sections target place → mark_at boards.marks node ≢ Open
-  section_marked own in_order seen once node place target at section =
-      let there = in_order.each place section.within in
-      let some = seen there.0 (claimed (length order) there.0 (flat_map claims_of job_passes) once there.1) in
+  section_marked own seen node place target at section =
+      let some = seen place section.within in
       let pass : Pass = some.0 in
       let of_hall : (view_of pass).of ≡ hall.of = (All-contains (IsPassOf hall) passes pass own some.1).1 in
-      let is : slice_index order there.0 ≡ place = sym (get_or_default_zero order there.0 place there.1) ∙ there.2 in
-      seen_marked own pass some.1 node (some.2 node (rw (of_hall, is, section.target_is) at))
+      seen_marked own pass some.1 node (some.2 node (rw (of_hall, section.target_is) at))
 
-  -- each node has the mark of its finding
-  pub are_findings : All (IsPassOf hall) passes → IsOrder (length hall.of.case.sections) order → HaveSeenClaims order passes job_passes → EachOnce (length order) (flat_map claims_of job_passes) → AreFindings hall.of.case boards.marks
-  are_findings own in_order seen once = record {
+  -- where the finding of each section was seen, each node has the mark of its finding
+  pub are_findings : All (IsPassOf hall) passes → HaveSeenSections hall.of.case passes
+      → AreFindings hall.of.case boards.marks
+  are_findings own seen = record {
     long = gathered.hold.long;
     each = λ node target at. is_mark node target at (proof_for hall.of.case.sections target) refl;
   }
@@ -98,7 +98,17 @@ module _ (hall : HallOf) (order : List ℕ) (passes : List Pass) (job_passes : L
           open_mark node target at None e none = rw e none
           open_mark node target at (Some proof) e none =
               let section = section_of_proof hall.of.case.sections target proof e in
-              absurd (section_marked own in_order seen once node section.0 target at section.1 none)
+              absurd (section_marked own seen node section.0 target at section.1 none)
+
+-- where each turn was claimed by some pass, the finding of each section was seen
+pub sections_seen : (case : CaseOf) (order : List ℕ) (passes : List Pass) (job_passes : List JobPassOf)
+    → IsOrder (length case.sections) order → HaveSeenClaims order passes job_passes
+    → EachOnce (length order) (flat_map claims_of job_passes) → HaveSeenSections case passes
+sections_seen case order passes job_passes in_order seen once place within =
+    let there = in_order.each place within in
+    let some = seen there.0 (claimed (length order) there.0 (flat_map claims_of job_passes) once there.1) in
+    let is : slice_index order there.0 ≡ place = sym (get_or_default_zero order there.0 place there.1) ∙ there.2 in
+    (some.0, some.1, rw is at some.2)
 
 -- one worker more has handed in its passes
 pub claims_more : (order : List ℕ) (passes : List Pass) (job_passes : List JobPassOf) (pass : Pass) (job_pass : JobPassOf) → HaveSeenClaims order passes job_passes

@@ -1,5 +1,5 @@
 -- What a worker has seen after one more section.
-use Rattle.std.proofs.Common.{◌≡◌, ◌≢◌, ℕ, List, [], ◌∷◌, ◌++◌, refl, sym, ap, ◌∙◌, subst, inl, inr, append_assoc}
+use Rattle.std.proofs.Common.{◌≡◌, ◌≢◌, ℕ, List, [], ◌∷◌, ◌++◌, refl, sym, ap, ◌∙◌, subst, inl, inr}
 use Rattle.std.proofs.lemmas.Bool.{cases_Bool}
 use Rattle.split_tree.specs.Leaves.{IsTargetAt}
 use Rattle.split_tree.specs.declared.node.Target.{Target}
@@ -13,10 +13,11 @@ use Rattle.board_hall.specs.declared.view.Post.{Post}
 use Rattle.board_hall.specs.declared.view.View.{View}
 use Rattle.board_hall.specs.Posts.{mark_in, is_at, open_by, AreReal}
 use Rattle.board_hall.specs.Clauses.{Stays, IsPosted, Becomes, number_of}
+use Rattle.board_hall.proofs.PostLists.{never_open}
 use Rattle.mark_board.specs.declared.place.Place.{Place}
 use Rattle.mark_board.specs.Boards.{IsPlaceFor}
 use Rattle.check_crew.specs.Seen.{HasSeen, HasSeenSection, IsTold}
-use Rattle.check_crew.proofs.Marks.{real_mark, judged_marks, one_board, place_home}
+use Rattle.check_crew.proofs.Marks.{real_mark, one_board, place_home}
 
 -- a row that is marked stays so
 mark_in-stays : (posts more : List Post) (board row : ℕ) → mark_in posts board row ≢ Open → mark_in (posts ++ more) board row ≢ Open
@@ -37,14 +38,6 @@ seen_stays before after stays node seen = record {
 pub section_stays : (before after : View) → Stays before after → (place : ℕ) → HasSeenSection before place → HasSeenSection after place
 section_stays before after stays place seen node at = seen_stays before after stays node (seen node (rw stays.of_same at at))
 
-pub stays_on : (first second third : View) → Stays first second → Stays second third → Stays first third
-stays_on first second third one two = record {
-  of_same = two.of_same ∙ one.of_same;
-  parts = two.parts ∙ one.parts;
-  more = one.more ++ two.more;
-  seen = two.seen ∙ (ap (λ (xs : List Post). xs ++ two.more) one.seen ∙ append_assoc first.seen one.more two.more);
-}
-
 -- after a post the finding was seen, whatever the answer
 pub posted_seen : (k : CutCase) (node : ℕ) (judged : Judged) (result : Posted) (before after : View) → after.of ≡ k → IsPosted k node judged result before after → HasSeen after node
 posted_seen k node judged result before after same posted = record {
@@ -55,10 +48,10 @@ posted_seen k node judged result before after same posted = record {
 }
   where
     by_answer : (result : Posted) → Becomes k posted.post result before after → mark_in after.seen posted.post.board posted.post.row ≢ Open
-    by_answer Marked becomes = rw becomes.0.mark (judged_marks posted.post.judged)
-    by_answer (RootMarked verdict) becomes = rw becomes.0.mark (judged_marks posted.post.judged)
-    by_answer TopMarked becomes = rw becomes.0.mark (judged_marks posted.post.judged)
-    by_answer (Already finding) becomes = rw becomes.1 (judged_marks posted.post.judged)
+    by_answer Marked becomes = rw becomes.0.mark (never_open posted.post.judged)
+    by_answer (RootMarked verdict) becomes = rw becomes.0.mark (never_open posted.post.judged)
+    by_answer TopMarked becomes = rw becomes.0.mark (never_open posted.post.judged)
+    by_answer (Already finding) becomes = rw becomes.1 (never_open posted.post.judged)
 
 -- the section at a place, where its target's finding was seen
 pub section_seen : (case : CaseOf) (v : View) (place node : ℕ) (target : Target) → v.of.case ≡ case → (section_at case.sections place).target ≡ target

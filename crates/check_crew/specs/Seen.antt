@@ -1,13 +1,16 @@
 -- What a worker has seen of the findings of a case.
-use Rattle.std.specs.Prelude.{◌≡◌, ◌≢◌, ℕ, List, slice_index}
+use Rattle.std.specs.Prelude.{◌≡◌, ◌≢◌, ℕ, ◌<◌, List, length, slice_index}
+use Rattle.std.specs.List.{Contains}
 use Rattle.split_tree.specs.Leaves.{IsTargetAt}
 use Rattle.split_tree.specs.declared.node.Target.{Target}
-use Rattle.case_core.specs.Case.{section_at}
+use Rattle.case_core.specs.Case.{CaseOf, section_at}
 use Rattle.mark_board.specs.declared.mark.Mark.TheVariants.{Open}
 use Rattle.mark_board.specs.Findings.{IsMarkOf}
+use Rattle.board_hall.specs.declared.pass.Pass.{Pass}
 use Rattle.board_hall.specs.declared.view.View.{View}
 use Rattle.board_hall.specs.Posts.{mark_in, open_by}
 use Rattle.board_hall.specs.Clauses.{IsHome}
+use Rattle.board_hall.specs.Halls.{view_of}
 
 -- the finding of a node is among what was seen
 pub record HasSeen (v : View) (node : ℕ) : Type 0 where
@@ -23,6 +26,11 @@ HasSeenSection v place = (node : ℕ) → IsTargetAt v.of.case.tree node (sectio
 -- that of the section whose turn it is in this order
 abbrev pub HasSeenTurn : List ℕ → View → ℕ → Type 0
 HasSeenTurn order v turn = HasSeenSection v (slice_index order turn)
+
+-- the finding of each section of the case is among what one of these passes has seen
+abbrev pub HaveSeenSections : CaseOf → List Pass → Type 0
+HaveSeenSections case passes = (place : ℕ) → place < length case.sections
+    → (pass : Pass) × Contains passes pass × HasSeenSection (view_of pass) place
 
 -- the posts that were seen hold the target's finding, and by them the board of the target has this open weight
 pub record IsTold (v : View) (target : Target) (weight : ℕ) : Type 0 where

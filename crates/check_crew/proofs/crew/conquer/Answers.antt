@@ -7,7 +7,7 @@ use Rattle.mark_board.specs.Findings.{AreFindings}
 use Rattle.board_hall.specs.declared.view.CutCase.{CutCase}
 use Rattle.board_hall.specs.Halls.{HallOf, IsPassOf, hall_of}
 use Rattle.check_crew.specs.Order.{IsOrder}
-use Rattle.check_crew.proofs.Found.{are_findings, some_found_empty, both_true}
+use Rattle.check_crew.proofs.Found.{are_findings, sections_seen, some_found_empty, both_true}
 use Rattle.check_crew.proofs.crew.conquer.Goals as goal
 
 pub unreachable-requires : goal.unreachable-requires
@@ -31,6 +31,9 @@ returns-clause-findings g c =
     let order = c.in_ok-order.order.items in
     let in_order : IsOrder (length hall.of.case.sections) order = rw of_case c.in_ok-order.ensures in
     let turns : c.in_ok-jobs.jobs.sections ≡ length order = c.in_ok-jobs.ensures.sections ∙ sym c.in_ok-order.ensures.long in
-    let once = subst (λ n. EachOnce n (flat_map claims_of c.in_ok-passes.job_passes.items)) turns (c.if-not-finish.ensures.once (search rules)) in
+    let claims = c.in_ok-passes.job_passes.items in
+    let once = subst (λ n. EachOnce n (flat_map claims_of claims)) turns (c.if-not-finish.ensures.once (search rules)) in
     subst (λ (case : CaseOf). AreFindings case c.in-Ok.boards.marks) of_case
-    (are_findings hall order c.in_ok-passes.passes.items c.in_ok-passes.job_passes.items c.in-Ok.boards c.in-Ok.ensures.boards own in_order (rw c.deref.ensures.value at passes.seen) once)
+    (are_findings hall c.in_ok-passes.passes.items c.in-Ok.boards c.in-Ok.ensures.boards own
+    (sections_seen hall.of.case order c.in_ok-passes.passes.items claims in_order
+    (rw c.deref.ensures.value at passes.seen) once))

@@ -1,0 +1,11 @@
+use Rattle.std.proofs.Common.{◌≡◌, None, length}
+use Rattle.board_hall.specs.Halls.{shared_of, view_of, IsPassOf}
+use Rattle.own_threads.specs.Halves.{HasSeenFrom}
+use Rattle.own_threads.proofs.sections.post_second_half.Given as goal
+
+abbrev pub invariant-loop-place : goal.invariant-loop-place
+invariant-loop-place g l = record {
+  own : IsPassOf (shared_of l.desk.core.now) l.pass;
+  free : (view_of l.pass).owes ≡ None;
+  seen : HasSeenFrom (view_of l.pass) l.place (length l.desk.case.now.sections);
+}
