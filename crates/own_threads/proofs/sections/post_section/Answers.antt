@@ -10,20 +10,20 @@ pub examine-requires : goal.examine-requires
 examine-requires g c =
     let sections = c.sections.ensures in
     (section_here c.args.case.now c.sections.result.now _ c.index-sections-place.result
-    sections.sections sections.targets c.requires.place).has_target
+    sections.targets_are sections.targets c.requires.place).has_target
 
 pub unreachable-requires : goal.unreachable-requires
 unreachable-requires g c =
     let sections = c.sections.ensures in
     (section_here c.args.case.now c.sections.result.now _ c.index-sections-place.result
-    sections.sections sections.targets c.requires.place).proof (rw c.in_default.is at c.in_ok-finding.ensures)
+    sections.targets_are sections.targets c.requires.place).proof (rw c.in_default.is at c.in_ok-finding.ensures)
 
 -- a target stands at one node, so who has seen what was found of the node has seen what was found of the section
 pub returns-clause-seen : goal.returns-clause-seen
 returns-clause-seen g c =
     let sections = c.sections.ensures in
     let here = section_here c.args.case.now c.sections.result.now _ c.index-sections-place.result
-    sections.sections sections.targets c.requires.place in
+    sections.targets_are sections.targets c.requires.place in
     let found = rw c.in-Some.is at c.in_ok-finding.ensures in
     let same : c.in-Some.finding.case.now ≡ c.args.case.now = found.1 in
     let of_case = ap (λ (k : CutCase). k.case) c.post.ensures.own.1 ∙ sym c.requires.case in
