@@ -1,4 +1,5 @@
-//! A proof's own clauses by their ids. All their literals stand in one list, each clause's behind those put in before it.
+//! A proof's own clauses by their ids. All their literals stand in one list, each clause's behind
+//! those put in before it.
 ghost use Rattle.std.specs.Prelude.{◌≡◌, ℕ, ◌+◌, ◌-◌, ◌<◌, ◌≤◌, ◌^◌, nat_eq, cond, length, max, List, None, Some, IfSome, OnOk, OnErr};
 ghost use Rattle.std.specs.Map.{lookup};
 ghost use Rattle.std.specs.Option.{option_copied};
@@ -11,8 +12,8 @@ use std::alloc::{AllocError, Global};
 use std::collections::BTreeMap;
 use std::marker::Model;
 
-/// Where the literals of a near id's clause stand: from the start up to the end. There is no clause where the start is
-/// behind the end.
+/// Where the literals of a near id's clause stand: from the start up to the end. There is no clause
+/// where the start is behind the end.
 #[derive(Clone, Copy)]
 pub struct Slot {
     start: u32,
@@ -35,8 +36,8 @@ const FIRST_SLOTS: u64 = 1024;
 /// So many more slots may be made for each clause that was put in.
 const SLOTS_PER_CLAUSE: u64 = 4;
 
-/// Clauses by their ids. The ids from some number on have slots, as far as there are slots; any other id that has a clause
-/// stands in a map.
+/// Clauses by their ids. The ids from some number on have slots, as far as there are slots; any
+/// other id that has a clause stands in a map.
 #[derive(Drop)]
 pub struct OwnClauses {
     /// The id of the first slot.
@@ -247,9 +248,10 @@ fn reach(made: u64, inserted: u64) -> u64 {
     made.max(more.saturating_add(FIRST_SLOTS))
 }
 
-/// The place of an id's slot, where it is within reach and its literals end where a slot can tell it.
+/// The place of an id's slot, where it is within reach and its literals end where a slot can tell.
 fn near_place(first: u64, id: u64, reach: u64, end: usize) -> Option<usize>
-    ensures { IfSome result (λ place. (id ≡ first + place) × (place + 1 < 2 ^ 64) × (end < 2 ^ 32)) }
+    ensures { IfSome result (λ place.
+        (id ≡ first + place) × (place + 1 < 2 ^ 64) × (end < 2 ^ 32)) }
 {
     if id < first || end > u32::MAX as usize {
         return None;
@@ -275,7 +277,8 @@ fn make_slots(slots: &mut Vec<Slot>, place: usize) -> Result<(), AllocError>
     Ok(())
 }
 
-/// Takes the clause out of the slot of an id, where there is one, and answers how many literals it had.
+/// Takes the clause out of the slot of an id, where there is one, and answers how many literals it
+/// had.
 fn clear_slot(slots: &mut Vec<Slot>, first: u64, id: u64) -> usize
     ensures cleared { SetsSlot first slots.old.items slots.new.items id no_slot }
     ensures length { length slots.new.items ≡ length slots.old.items }
@@ -295,9 +298,10 @@ fn clear_slot(slots: &mut Vec<Slot>, first: u64, id: u64) -> usize
 /// Notes where a far id's literals stand now, and answers how many it had before.
 fn put_far(far: &mut BTreeMap<u64, Span>, id: u64, span: Span) -> Result<usize, AllocError>
     ensures put { OnOk result ((q : ℕ) →
-        lookup (nat_eq q) far.new.entries ≡ cond (nat_eq id q) (Some span) (lookup (nat_eq q) far.old.entries)) }
-    ensures ends { OnOk result ((count : ℕ) → SpansEndBy far.old.entries count → span.start ≤ span.end → span.end ≤ count
-        → SpansEndBy far.new.entries count) }
+        lookup (nat_eq q) far.new.entries
+        ≡ cond (nat_eq id q) (Some span) (lookup (nat_eq q) far.old.entries)) }
+    ensures ends { OnOk result ((count : ℕ) → SpansEndBy far.old.entries count
+        → span.start ≤ span.end → span.end ≤ count → SpansEndBy far.new.entries count) }
     ensures same { OnErr result (far.new.entries ≡ far.old.entries) }
 {
     let replaced = far.insert(id, span)?;
@@ -307,8 +311,10 @@ fn put_far(far: &mut BTreeMap<u64, Span>, id: u64, span: Span) -> Result<usize, 
 /// Takes an id out of the far ones, and answers how many literals it had.
 fn take_far(far: &mut BTreeMap<u64, Span>, id: u64) -> usize
     ensures taken { (q : ℕ) →
-        lookup (nat_eq q) far.new.entries ≡ cond (nat_eq id q) None (lookup (nat_eq q) far.old.entries) }
-    ensures ends { (count : ℕ) → SpansEndBy far.old.entries count → SpansEndBy far.new.entries count }
+        lookup (nat_eq q) far.new.entries
+        ≡ cond (nat_eq id q) None (lookup (nat_eq q) far.old.entries) }
+    ensures ends { (count : ℕ) → SpansEndBy far.old.entries count
+        → SpansEndBy far.new.entries count }
 {
     span_len(far.remove(&id))
 }

@@ -3,4 +3,6 @@ use Rattle.hint_check.proofs.OwnMaps.{span-within}
 use Rattle.hint_check.proofs.own.far_clause.Goals as goal
 
 pub span_clause-requires : goal.span_clause-requires
-span_clause-requires c = span-within c.args.far.now.entries (length c.args.lits.now) c.args.id c.in-Some.span c.requires c.in-Some.ensures
+span_clause-requires c =
+    span-within c.args.far.now.entries
+    (length c.args.lits.now) c.args.id c.in-Some.span c.requires c.in-Some.ensures

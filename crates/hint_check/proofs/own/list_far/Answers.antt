@@ -9,10 +9,12 @@ use Rattle.hint_check.proofs.own.list_far.Goals as goal
 pub loop-id-init : goal.loop-id-init
 loop-id-init c =
     let lits = c.args.lits.now in
-    let same : c.into_iter-id-iterator.result ≡ c.args.far.now.entries = c.into_iter-id-iterator.ensures.into_iter_gives.0 in
+    let same : c.into_iter-id-iterator.result ≡ c.args.far.now.entries =
+    c.into_iter-id-iterator.ensures.into_iter_gives.0 in
     record {
       ends = subst (λ far. SpansEndBy far (length lits)) (sym same) c.requires;
-      listed = λ rest all h. subst (λ far. Awaits c.args.index.now (far_entries lits far ++ rest) all) (sym same) h;
+      listed =
+          λ rest all h. subst (λ far. Awaits c.args.index.now (far_entries lits far ++ rest) all) (sym same) h;
     }
 
 pub span_clause-requires : goal.span_clause-requires
@@ -27,10 +29,12 @@ loop-id-preserved c =
     let before = c.loop-id.index in
     let after = c.push_all.new.self in
     record {
-      ends = SpansEndBy-tail e c.next.new.self (length lits) (subst (λ far. SpansEndBy far (length lits)) c.in-Some.ensures.steps c.loop-id.invariant.ends);
+      ends = SpansEndBy-tail e c.next.new.self (length lits)
+          (subst (λ far. SpansEndBy far (length lits)) c.in-Some.ensures.steps c.loop-id.invariant.ends);
       listed = λ rest all h.
           Awaits-next before after (e.0, span_clause lits e.1) (far_entries lits c.next.new.self ++ rest) all
-          (subst (λ far. Awaits before (far_entries lits far ++ rest) all) c.in-Some.ensures.steps (c.loop-id.invariant.listed rest all h))
+          (subst (λ far. Awaits before (far_entries lits far ++ rest) all) c.in-Some.ensures.steps
+          (c.loop-id.invariant.listed rest all h))
           (subst (λ clause. Lists before after clause e.0) c.span_clause.ensures c.in_ok-push_all.ensures);
     }
 
@@ -38,4 +42,6 @@ pub returns : goal.returns
 returns c =
     let lits = c.args.lits.now in
     ListsAll-end c.args.index.now c.loop-id.index (far_entries lits c.args.far.now.entries)
-    (λ rest all h. subst (λ far. Awaits c.loop-id.index (far_entries lits far ++ rest) all) c.in-None.ensures.steps.0 (c.loop-id.invariant.listed rest all h))
+    (λ rest all h. subst
+    (λ far. Awaits c.loop-id.index (far_entries lits far ++ rest) all) c.in-None.ensures.steps.0
+    (c.loop-id.invariant.listed rest all h))

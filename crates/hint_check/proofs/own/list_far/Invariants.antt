@@ -7,6 +7,7 @@ use Rattle.hint_check.proofs.own.list_far.Given as goal
 abbrev pub invariant-loop-id : goal.invariant-loop-id
 invariant-loop-id l = record {
   ends : SpansEndBy l.id-iterator (length l.lits);
-  listed : (rest all : List (ℕ × List Literal)) → Awaits l.fn.index (far_entries l.lits l.fn.far.entries ++ rest) all
+  listed : (rest all : List (ℕ × List Literal))
+      → Awaits l.fn.index (far_entries l.lits l.fn.far.entries ++ rest) all
       → Awaits l.index (far_entries l.lits l.id-iterator ++ rest) all;
 }

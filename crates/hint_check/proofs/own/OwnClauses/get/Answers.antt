@@ -13,7 +13,8 @@ returns-in-Some c =
     ap (λ o. option_or o far) (c.in-Some.ensures
     ∙ ap (λ lits. near_at lits inside.first c.deref-2.result.now id) c.deref.ensures.value
     ∙ ap (λ slots. near_at inside.lits.items inside.first slots id) c.deref-2.ensures.value)
-    ∙ sym (own-get inside.lits.items inside.first inside.slots.items inside.far.entries id) ∙ ap (λ m. fin.get m id) c.self.view_is
+    ∙ sym (own-get inside.lits.items inside.first inside.slots.items inside.far.entries id)
+    ∙ ap (λ m. fin.get m id) c.self.view_is
 
 pub returns-in-None : goal.returns-in-None
 returns-in-None c =
@@ -25,4 +26,5 @@ returns-in-None c =
     ∙ ap (λ o. option_or o far) (c.in-None.ensures
     ∙ ap (λ lits. near_at lits inside.first c.deref-2.result.now id) c.deref.ensures.value
     ∙ ap (λ slots. near_at inside.lits.items inside.first slots id) c.deref-2.ensures.value)
-    ∙ sym (own-get inside.lits.items inside.first inside.slots.items inside.far.entries id) ∙ ap (λ m. fin.get m id) c.self.view_is
+    ∙ sym (own-get inside.lits.items inside.first inside.slots.items inside.far.entries id)
+    ∙ ap (λ m. fin.get m id) c.self.view_is

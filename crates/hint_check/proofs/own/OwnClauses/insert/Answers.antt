@@ -13,11 +13,15 @@ invariant_of-self-in_err-make_slots-in-Some c =
     let inside = c.self.inside in
     let count = length inside.lits.items in
     let more = length c.args.lits.now in
-    let grown = ap length c.in_ok-extend_from_slice.ensures.items ∙ length-append inside.lits.items c.args.lits.now in
+    let grown = ap length c.in_ok-extend_from_slice.ensures.items
+    ∙ length-append inside.lits.items c.args.lits.now in
     let made = c.make_slots.new.slots.items in (
-      subst (SlotsEndBy made) (sym grown) (SlotsEndBy-same inside.slots.items made count more c.self.invariant.0 c.make_slots.ensures.same),
-      subst (SpansEndBy inside.far.entries) (sym grown) (SpansEndBy-more inside.far.entries count more c.self.invariant.1),
-      let bound = c.self.invariant.2 in let longer = c.make_slots.ensures.bound in let place = c.in-Some.ensures in omega (arith, bound, longer, place),
+      subst (SlotsEndBy made) (sym grown)
+          (SlotsEndBy-same inside.slots.items made count more c.self.invariant.0 c.make_slots.ensures.same),
+      subst (SpansEndBy inside.far.entries) (sym grown)
+          (SpansEndBy-more inside.far.entries count more c.self.invariant.1),
+      let bound = c.self.invariant.2 in let longer = c.make_slots.ensures.bound in let place =
+          c.in-Some.ensures in omega (arith, bound, longer, place),
     )
 
 pub returns-in_err-make_slots-in-Some-clause-err : goal.returns-in_err-make_slots-in-Some-clause-err
@@ -27,7 +31,8 @@ returns-in_err-make_slots-in-Some-clause-err c =
     let far = inside.far.entries in
     OnErr-always c.from_residual-in_err-make_slots-in-Some.result _
     (ap (λ all. own_clauses all inside.first made far) c.in_ok-extend_from_slice.ensures.items
-    ∙ own-same inside.lits.items c.args.lits.now inside.first inside.slots.items made far far c.self.invariant.0 c.self.invariant.1 c.make_slots.ensures.same refl
+    ∙ own-same inside.lits.items c.args.lits.now inside.first inside.slots.items made far far c.self.invariant.0
+    c.self.invariant.1 c.make_slots.ensures.same refl
     ∙ c.self.view_is)
 
 pub invariant_of-self-in-Some : goal.invariant_of-self-in-Some
@@ -35,19 +40,25 @@ invariant_of-self-in-Some c =
     let inside = c.self.inside in
     let count = length inside.lits.items in
     let more = length c.args.lits.now in
-    let grown = ap length c.in_ok-extend_from_slice.ensures.items ∙ length-append inside.lits.items c.args.lits.now in
+    let grown = ap length c.in_ok-extend_from_slice.ensures.items
+    ∙ length-append inside.lits.items c.args.lits.now in
     let slots = inside.slots.items in
     let made = c.make_slots.new.slots.items in
     let slot : Slot = record { start = c.len-start.result; end = c.len-end.result } in
     let set = slice_set made c.in-Some.place slot in
     let place = c.in-Some.ensures in
     let sets = SetsSlot-made inside.first slots made set c.args.id slot c.make_slots.ensures.same
-    (SetsSlot-write inside.first made set c.in-Some.place c.args.id slot place.0 c.in_ok-make_slots-in-Some.ensures.room refl) in
-    let at_end : slot.end ≤ count + more = omega (arith, c.len-end.ensures, grown, c.extend_from_slice.new.self.ok.0) in (
-      subst (SlotsEndBy set) (sym grown) (SlotsEndBy-set inside.first slots set c.args.id slot count more c.self.invariant.0 sets at_end),
-      subst (SpansEndBy inside.far.entries) (sym grown) (SpansEndBy-more inside.far.entries count more c.self.invariant.1),
+    (SetsSlot-write inside.first made set c.in-Some.place c.args.id slot place.0
+    c.in_ok-make_slots-in-Some.ensures.room refl) in
+    let at_end : slot.end ≤ count + more =
+    omega (arith, c.len-end.ensures, grown, c.extend_from_slice.new.self.ok.0) in (
+      subst (SlotsEndBy set) (sym grown)
+          (SlotsEndBy-set inside.first slots set c.args.id slot count more c.self.invariant.0 sets at_end),
+      subst (SpansEndBy inside.far.entries) (sym grown)
+          (SpansEndBy-more inside.far.entries count more c.self.invariant.1),
       let same = length-set made c.in-Some.place slot in
-          let bound = c.self.invariant.2 in let longer = c.make_slots.ensures.bound in omega (arith, bound, longer, place, same),
+          let bound = c.self.invariant.2 in let longer =
+          c.make_slots.ensures.bound in omega (arith, bound, longer, place, same),
     )
 
 pub invariant_of-self-in_err-replaced-in-None : goal.invariant_of-self-in_err-replaced-in-None
@@ -55,10 +66,14 @@ invariant_of-self-in_err-replaced-in-None c =
     let inside = c.self.inside in
     let count = length inside.lits.items in
     let more = length c.args.lits.now in
-    let grown = ap length c.in_ok-extend_from_slice.ensures.items ∙ length-append inside.lits.items c.args.lits.now in (
-      subst (SlotsEndBy inside.slots.items) (sym grown) (SlotsEndBy-same inside.slots.items inside.slots.items count more c.self.invariant.0 (λ i. refl)),
-      subst (λ far. SpansEndBy far (length c.extend_from_slice.new.self.items)) (sym c.in_err-replaced-in-None.ensures.same)
-          (subst (SpansEndBy inside.far.entries) (sym grown) (SpansEndBy-more inside.far.entries count more c.self.invariant.1)),
+    let grown = ap length c.in_ok-extend_from_slice.ensures.items
+    ∙ length-append inside.lits.items c.args.lits.now in (
+      subst (SlotsEndBy inside.slots.items) (sym grown)
+          (SlotsEndBy-same inside.slots.items inside.slots.items count more c.self.invariant.0 (λ i. refl)),
+      subst (λ far. SpansEndBy far (length c.extend_from_slice.new.self.items))
+          (sym c.in_err-replaced-in-None.ensures.same)
+          (subst (SpansEndBy inside.far.entries) (sym grown)
+          (SpansEndBy-more inside.far.entries count more c.self.invariant.1)),
       c.self.invariant.2,
     )
 
@@ -70,7 +85,8 @@ returns-in_err-replaced-in-None-clause-err c =
     let after = c.put_far.new.far.entries in
     OnErr-always c.from_residual-in_err-replaced-in-None.result _
     (ap (λ all. own_clauses all inside.first slots after) c.in_ok-extend_from_slice.ensures.items
-    ∙ own-same inside.lits.items c.args.lits.now inside.first slots slots far after c.self.invariant.0 c.self.invariant.1 (λ i. refl) c.in_err-replaced-in-None.ensures.same
+    ∙ own-same inside.lits.items c.args.lits.now inside.first slots slots far after c.self.invariant.0
+    c.self.invariant.1 (λ i. refl) c.in_err-replaced-in-None.ensures.same
     ∙ c.self.view_is)
 
 pub invariant_of-self-in-None : goal.invariant_of-self-in-None
@@ -79,47 +95,60 @@ invariant_of-self-in-None c =
     let count = length inside.lits.items in
     let more = length c.args.lits.now in
     let all = c.extend_from_slice.new.self in
-    let grown = ap length c.in_ok-extend_from_slice.ensures.items ∙ length-append inside.lits.items c.args.lits.now in
+    let grown = ap length c.in_ok-extend_from_slice.ensures.items
+    ∙ length-append inside.lits.items c.args.lits.now in
     let slots = inside.slots.items in
     let cleared = c.clear_slot-cleared.new.slots.items in
     let starts : c.len-start.result ≡ count = omega (arith, c.len-start.ensures, inside.lits.ok.0) in
     let at_end : c.len-end.result ≡ length all.items = omega (arith, c.len-end.ensures, all.ok.0) in (
-      subst (SlotsEndBy cleared) (sym grown) (SlotsEndBy-set inside.first slots cleared c.args.id no_slot count more c.self.invariant.0 c.clear_slot-cleared.ensures.cleared (omega arith)),
-      c.in_ok-replaced-in-None.ensures.ends (length all.items) (subst (SpansEndBy inside.far.entries) (sym grown) (SpansEndBy-more inside.far.entries count more c.self.invariant.1))
+      subst (SlotsEndBy cleared) (sym grown)
+          (SlotsEndBy-set inside.first slots cleared c.args.id no_slot count more c.self.invariant.0
+          c.clear_slot-cleared.ensures.cleared (omega arith)),
+      c.in_ok-replaced-in-None.ensures.ends (length all.items)
+          (subst (SpansEndBy inside.far.entries) (sym grown)
+          (SpansEndBy-more inside.far.entries count more c.self.invariant.1))
           (omega (arith, starts, at_end, grown)) (omega (arith, at_end)),
-      let same = c.clear_slot-cleared.ensures.length in let bound = c.self.invariant.2 in omega (arith, bound, same),
+      let same = c.clear_slot-cleared.ensures.length in let bound =
+          c.self.invariant.2 in omega (arith, bound, same),
     )
 
 pub returns-in_ok-make_slots-in-Some-clause-ok : goal.returns-in_ok-make_slots-in-Some-clause-ok
 returns-in_ok-make_slots-in-Some-clause-ok c =
     let inside = c.self.inside in
     let all = c.extend_from_slice.new.self in
-    let grown = ap length c.in_ok-extend_from_slice.ensures.items ∙ length-append inside.lits.items c.args.lits.now in
+    let grown = ap length c.in_ok-extend_from_slice.ensures.items
+    ∙ length-append inside.lits.items c.args.lits.now in
     let slots = inside.slots.items in
     let made = c.make_slots.new.slots.items in
     let slot : Slot = record { start = c.len-start.result; end = c.len-end.result } in
     let set = slice_set made c.in-Some.place slot in
     let far = inside.far.entries in
-    let after = inside.far.entries in
     let place = c.in-Some.ensures in
     let sets = SetsSlot-made inside.first slots made set c.args.id slot c.make_slots.ensures.same
-    (SetsSlot-write inside.first made set c.in-Some.place c.args.id slot place.0 c.in_ok-make_slots-in-Some.ensures.room refl) in
-    ap (λ ls. own_clauses ls inside.first set after) c.in_ok-extend_from_slice.ensures.items
-    ∙ own-insert-near inside.lits.items c.args.lits.now inside.first slots set far after c.self.invariant.0 c.self.invariant.1 c.args.id slot
-    (omega (arith, c.len-start.ensures, inside.lits.ok.0)) (omega (arith, c.len-end.ensures, grown, all.ok.0)) (omega (arith, place)) sets refl
+    (SetsSlot-write inside.first made set c.in-Some.place c.args.id slot place.0
+    c.in_ok-make_slots-in-Some.ensures.room refl) in
+    ap (λ ls. own_clauses ls inside.first set far) c.in_ok-extend_from_slice.ensures.items
+    ∙ own-insert-near inside.lits.items c.args.lits.now inside.first slots set far far c.self.invariant.0
+    c.self.invariant.1 c.args.id slot
+    (omega (arith, c.len-start.ensures, inside.lits.ok.0)) (omega (arith, c.len-end.ensures, grown, all.ok.0))
+    (omega (arith, place)) sets refl
     ∙ ap (λ m. fin.insert m c.args.id c.args.lits.now) c.self.view_is
 
 pub returns-in_ok-replaced-in-None-clause-ok : goal.returns-in_ok-replaced-in-None-clause-ok
 returns-in_ok-replaced-in-None-clause-ok c =
     let inside = c.self.inside in
     let all = c.extend_from_slice.new.self in
-    let grown = ap length c.in_ok-extend_from_slice.ensures.items ∙ length-append inside.lits.items c.args.lits.now in
+    let grown = ap length c.in_ok-extend_from_slice.ensures.items
+    ∙ length-append inside.lits.items c.args.lits.now in
     let slots = inside.slots.items in
     let cleared = c.clear_slot-cleared.new.slots.items in
     let far = inside.far.entries in
     let after = c.put_far.new.far.entries in
     ap (λ ls. own_clauses ls inside.first cleared after) c.in_ok-extend_from_slice.ensures.items
-    ∙ own-insert-far inside.lits.items c.args.lits.now inside.first slots cleared far after c.self.invariant.0 c.self.invariant.1 c.args.id
+    ∙ own-insert-far inside.lits.items c.args.lits.now inside.first slots cleared far after c.self.invariant.0
+    c.self.invariant.1 c.args.id
     record { start = c.len-start.result; end = c.len-end.result }
-    (omega (arith, c.len-start.ensures, inside.lits.ok.0)) (omega (arith, c.len-end.ensures, grown, all.ok.0)) c.clear_slot-cleared.ensures.cleared c.in_ok-replaced-in-None.ensures.put
+    (omega (arith, c.len-start.ensures, inside.lits.ok.0))
+    (omega (arith, c.len-end.ensures, grown, all.ok.0)) c.clear_slot-cleared.ensures.cleared
+    c.in_ok-replaced-in-None.ensures.put
     ∙ ap (λ m. fin.insert m c.args.id c.args.lits.now) c.self.view_is

@@ -10,4 +10,6 @@ invariant_of-result c = (
 )
 
 pub returns : goal.returns
-returns c = own-none c.new.result.items c.saturating_add.result c.new-2.result.items c.new-3.result.entries c.new-2.ensures.items c.new-3.ensures.empty
+returns c =
+    own-none c.new.result.items c.saturating_add.result c.new-2.result.items c.new-3.result.entries
+    c.new-2.ensures.items c.new-3.ensures.empty
