@@ -237,6 +237,33 @@ fn count(tally: &mut Tally, judged: Judged) {
     *counter = counter.saturating_add(1);
 }
 
+/// A text, how long it was before its last step, and the length after which a proof is begun anew.
+type Growing<'t> = (&'t mut Vec<u8>, usize, usize);
+
+/// Whether both judges say the same of a text. Its last step is taken back where it isn't good.
+fn agree(
+    rt: &impl Abort,
+    alloc: Global,
+    base: &Base,
+    path: &[Lit],
+    growing: Growing,
+    tally: &mut Tally,
+) -> bool {
+    let (text, before, longest) = growing;
+    let slow = plain::judge(rt, alloc, base.formula(), path, text);
+    let fast = judged_over(rt, alloc, base, path, text);
+    count(tally, slow);
+    match slow {
+        Judged::Rejected {
+            step: _,
+            reason: Reason::End,
+        } if text.len() < longest => {}
+        Judged::Rejected { step: _, reason } if reason != Reason::End => text.truncate(before),
+        _ => text.clear(),
+    }
+    slow == fast
+}
+
 /// Random steps after one another. A step that isn't good is taken back, so that the proofs grow;
 /// after a refutation, and where it is long, a proof is begun anew. Each text that is tried goes to
 /// both judges; the answer is the number of texts on which they differ.
@@ -254,19 +281,8 @@ fn differences(
     for _ in 0..TRIES {
         let before = text.len();
         push_step(random, &mut text, given).expect(rt, "memory");
-        let slow = plain::judge(rt, alloc, base.formula(), path, &text);
-        let fast = judged_over(rt, alloc, base, path, &text);
-        count(tally, slow);
-        if slow != fast {
+        if !agree(rt, alloc, base, path, (&mut text, before, LONGEST), tally) {
             differ = differ.saturating_add(1);
-        }
-        match slow {
-            Judged::Rejected {
-                step: _,
-                reason: Reason::End,
-            } if text.len() < LONGEST => {}
-            Judged::Rejected { step: _, reason } if reason != Reason::End => text.truncate(before),
-            _ => text.clear(),
         }
     }
     differ
@@ -342,4 +358,102 @@ fn both_judges_agree(rt: HostRuntime) {
         assert_eq!(rt; differ, 0);
     }
     assert!(rt; least(tally) > 0, "{tally:?}");
+}
+
+/// Ids of clauses over the four: next to one another, in strides, and far apart. Some are far when
+/// few clauses were added, and near later.
+const SPREAD_IDS: [&[u8]; 16] = [
+    b"5",
+    b"6",
+    b"9",
+    b"700",
+    b"1027",
+    b"1028",
+    b"1033",
+    b"1036",
+    b"1040",
+    b"1044",
+    b"1060",
+    b"1100",
+    b"3000",
+    b"1000003",
+    b"1000005",
+    b"4611686018427387904",
+];
+
+/// What follows an id: clauses that the four imply, and two that need what another id names.
+const SPREAD_STEPS: [(&[u8], &[u8]); 8] = [
+    (b"1 0 1 2", b"0"),
+    (b"1 3 0 1 2", b"0"),
+    (b"-5 1 0 1 2", b"0"),
+    (b"1 0", b"0"),
+    (b"1 0", b"0"),
+    (b"5 0 -", b"1 2 0"),
+    (b"0 d", b"0"),
+    (b"0 d", b"0"),
+];
+
+/// A random step that adds a clause under one of these ids, or deletes.
+fn push_spread_step(random: &mut Generator, text: &mut Vec<u8>) -> Result<(), AllocError> {
+    let kind = (random.next() % 8) as usize;
+    let (begins, ends) = SPREAD_STEPS[kind];
+    if kind < 6 {
+        push(text, random.word(&SPREAD_IDS))?;
+    }
+    text.extend_from_slice(begins)?;
+    if kind > 2 {
+        if kind != 5 {
+            text.push(b' ')?;
+        }
+        push(text, random.word(&SPREAD_IDS))?;
+    } else {
+        text.push(b' ')?;
+    }
+    text.extend_from_slice(ends)?;
+    text.push(b'\n')?;
+    Ok(())
+}
+
+/// The steps that are tried with these ids, and the length after which a proof is begun anew.
+const SPREAD_TRIES: u32 = 400;
+
+const LONGEST_SPREAD: usize = 1500;
+
+/// Random steps with these ids after one another, as above.
+fn spread_differences(
+    rt: &impl Abort,
+    alloc: Global,
+    base: &Base,
+    random: &mut Generator,
+    tally: &mut Tally,
+) -> u32 {
+    let mut text = Vec::new(alloc);
+    let mut differ = 0u32;
+    for _ in 0..SPREAD_TRIES {
+        let before = text.len();
+        push_spread_step(random, &mut text).expect(rt, "memory");
+        if !agree(
+            rt,
+            alloc,
+            base,
+            &[],
+            (&mut text, before, LONGEST_SPREAD),
+            tally,
+        ) {
+            differ = differ.saturating_add(1);
+        }
+    }
+    differ
+}
+
+#[test]
+fn both_judges_agree_on_spread_ids(rt: HostRuntime) {
+    let mut random = Generator { state: 7 };
+    let mut tally = NOTHING_YET;
+    let four = formula(&rt, rt.alloc(), FOUR);
+    let base = Base::new(rt.alloc(), &four).expect(&rt, "memory");
+    let differ = spread_differences(&rt, rt.alloc(), &base, &mut random, &mut tally);
+    assert_eq!(rt; differ, 0);
+    let named = tally.id.min(tally.hint).min(tally.candidate);
+    assert!(rt; named.min(tally.good) > 0, "{tally:?}");
 }
