@@ -28,7 +28,8 @@ one_judged case node target first second at has one two =
     one (path_at case.tree node) there.0 (node, at, refl) there.1 ∙ sym (two (path_at case.tree node) there.0 (node, at, refl) there.1)
 
 -- where findings of a node are posted, no part's verdict is
-pub no_part_here : (k : CutCase) (node board row part : ℕ) (post : Post) → IsHome k node board row → IsPartPost k part post → post.board ≡ board → post.row ≡ row → ⊥
+pub no_part_here : (k : CutCase) (node board row part : ℕ) (post : Post) → IsHome k node board row
+    → IsPartPost k part post → post.board ≡ board → post.row ≡ row → ⊥
 no_part_here k node board row part post home of_part board_is row_is =
     let top : board ≡ parts_in k = sym board_is ∙ of_part.on_top in
     let is_top : (board == parts_in k) ≡ true = eq-eqb board (parts_in k) top in

@@ -1,5 +1,7 @@
 -- A text that is cut at its first label line.
-use Rattle.std.proofs.Common.{◌≡◌, ℕ, suc, ◌-◌, ◌+◌, true, false, List, [], ◌∷◌, ◌++◌, length, take, drop, refl, sym, ◌∙◌, ap, arith, append_assoc, append-nil, length-append, Option, Bor, MatchOption, None, Some}
+use Rattle.std.proofs.Common.{◌≡◌, ℕ, suc, ◌-◌, ◌+◌, true, false, List, [], ◌∷◌, ◌++◌, length, take}
+use Rattle.std.proofs.Common.{drop, refl, sym, ◌∙◌, ap, arith, append_assoc, append-nil}
+use Rattle.std.proofs.Common.{length-append, Option, Bor, MatchOption, None, Some}
 use Rattle.std.specs.Prelude.{count_by}
 use Rattle.std.proofs.Math.Seq.{take-append_seam, drop-append-add}
 use Rattle.std.proofs.lemmas.List.Splits.{length-slice_split}
@@ -112,7 +114,8 @@ pub part_below : (text end line section : List ℕ) (start : ℕ) → EndsWith t
     → start ≡ (length text - length end) + length line + 1
     → part_in end (length line + 1) (length section) ≡ section → part_in text start (length section) ≡ section
 part_below text end line section start ends at is =
-    let size : length text ≡ length ends.front + length end = ap length ends.parts ∙ length-append ends.front end in
+    let size : length text ≡ length ends.front + length end = ap length ends.parts
+    ∙ length-append ends.front end in
     let place : start ≡ length ends.front + (length line + 1) = omega (arith, size, at) in
     let same : drop start text ≡ drop (length line + 1) end =
     ap (λ s. drop s text) place ∙ ap (drop (length ends.front + (length line + 1))) ends.parts

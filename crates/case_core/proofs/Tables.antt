@@ -10,7 +10,8 @@ use Rattle.split_tree.proofs.Leaves.{missing_is, missing_at}
 use Rattle.split_tree.specs.declared.node.Leaf.TheVariants.{Cube, Missing}
 use Rattle.split_tree.specs.declared.node.Target.{Target}
 use Rattle.split_tree.specs.declared.node.Target.TheVariants.{Leaf, Node}
-use Rattle.case_core.specs.Case.{SectionOf, section_in, same_target, proof_for, section_at, targets_of, AreSections, section_by, AreTabled}
+use Rattle.case_core.specs.Case.{SectionOf, section_in, same_target, proof_for, section_at}
+use Rattle.case_core.specs.Case.{targets_of, AreSections, section_by, AreTabled}
 use Rattle.case_core.specs.declared.case.Section.{Section}
 use Rattle.case_core.specs.Kept.{is_place, AreKept}
 
@@ -228,7 +229,8 @@ pub few_sections : (tree : SplitTree) (sections : List SectionOf) (places : List
 few_sections tree sections places k = omega (arith, k.counted, count_by-le-length is_place places)
 
 -- sections of a text have the targets that they were kept with
-pub targets_in : (text : List ℕ) (sections : List Section) → map (λ section. section.target) sections ≡ targets_of (map (section_in text) sections)
+pub targets_in : (text : List ℕ) (sections : List Section)
+    → map (λ section. section.target) sections ≡ targets_of (map (section_in text) sections)
 targets_in text [] = refl
 targets_in text (section ∷ sections) = ap (λ targets. section.target ∷ targets) (targets_in text sections)
 
@@ -247,4 +249,5 @@ pub few_pushed : (tree : SplitTree) (text : List ℕ) (old new : List Section) (
     → len ≤ size tree
 few_pushed tree text old new s places node index len k e counted is free within here only =
     let few = few_sections tree _ _ (kept_pushed tree text old new s places node index len k e counted is free within here only) in
-    let long : length (set places index len) ≡ size tree = length-set places index len ∙ k.tabled.long in omega (arith, length-map new (section_in text))
+    let long : length (set places index len) ≡ size tree = length-set places index len
+    ∙ k.tabled.long in omega (arith, length-map new (section_in text))

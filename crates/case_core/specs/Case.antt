@@ -1,5 +1,7 @@
 -- A case: a formula, the tree of its cubes, and sections for targets of the tree.
-use Rattle.std.specs.Prelude.{◌≡◌, ℕ, ◌<◌, ◌≤◌, ◌+◌, ◌-◌, ◌^◌, ◌==◌, if◌then◌else◌, Bool, false, List, [], ◌∷◌, Option, None, Some, get_or, slice_index, length, map, take, drop}
+use Rattle.std.specs.Prelude.{◌≡◌, ℕ, ◌<◌, ◌≤◌, ◌+◌, ◌-◌, ◌^◌, ◌==◌, if◌then◌else◌, Bool, false}
+use Rattle.std.specs.Prelude.{List, [], ◌∷◌, Option, None, Some, get_or, slice_index, length, map}
+use Rattle.std.specs.Prelude.{take, drop}
 use Rattle.cnf_text.specs.Literal.{Literal}
 use Rattle.split_tree.specs.SplitTree.{SplitTree, size, total}
 use Rattle.split_tree.specs.Leaves.{HasTarget, IsTargetAt}

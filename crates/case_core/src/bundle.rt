@@ -1,6 +1,7 @@
 //! The reader of bundles: an iCNF text, and behind it sections, each below a label line.
 
-ghost use Rattle.std.specs.Prelude.{◌≡◌, List, MatchResult, ◌≤◌, ◌+◌, length, take, map, ◌<◌, ◌≢◌, OnOk, IfOk, IfErr, IfSome, MatchOption, count_by};
+ghost use Rattle.std.specs.Prelude.{◌≡◌, List, MatchResult, ◌≤◌, ◌+◌, length, take, map, ◌<◌, ◌≢◌};
+ghost use Rattle.std.specs.Prelude.{OnOk, IfOk, IfErr, IfSome, MatchOption, count_by};
 ghost use Rattle.cnf_text.specs.Tokens.{is_line_end};
 ghost use Rattle.cnf_text.specs.Icnf.{Item, Within};
 ghost use Rattle.cnf_text.specs.Progress.{IsFileOf};
@@ -34,7 +35,8 @@ fn is_label(line: &[u8]) -> bool
 
 /// The text from the line on that holds the first byte `l`, or `None` where no byte is one. Only such a line can be a label line.
 fn line_of_letter(text: &[u8]) -> Option<&[u8]>
-    ensures found { MatchOption result (HasNoLetter text.now) (λ at. AfterPlainLines text.now at.now) }
+    ensures found { MatchOption result (HasNoLetter text.now)
+        (λ at. AfterPlainLines text.now at.now) }
     ensures within { IfSome result (λ at. length at.now ≤ length text.now) }
 {
     let letter = memchr(b'l', text)?;
@@ -98,7 +100,8 @@ fn first_part(text: &[u8]) -> Part<'_>
     ensures labels { MatchOption result.next
         (OneLabel text.now result.line.now result.section.now)
         (λ next. NextLabel text.now result.line.now result.section.now next.now) }
-    ensures place { part_in text.now (length result.line.now + 1) (length result.section.now) ≡ result.section.now }
+    ensures place { part_in text.now (length result.line.now + 1)
+        (length result.section.now) ≡ result.section.now }
     ensures within { length result.line.now ≤ length text.now }
     ensures shorter { IfSome result.next (λ next. length next.now < length text.now) }
 {
@@ -127,14 +130,22 @@ fn read_section<'b>(
     text: &'b [u8],
 ) -> Result<Option<&'b [u8]>, CaseFault>
     requires limited { IsLimited tree.now }
-    requires kept { AreKept tree.now (map (section_in bundle.now) sections.old.sections.items) sections.old.places.items }
-    requires label { LabelAt tree.now bundle.now (map (section_in bundle.now) sections.old.sections.items) text.now }
-    ensures kept { OnOk result (AreKept tree.now (map (section_in bundle.now) sections.new.sections.items) sections.new.places.items) }
+    requires kept { AreKept tree.now
+        (map (section_in bundle.now) sections.old.sections.items) sections.old.places.items }
+    requires label { LabelAt tree.now bundle.now
+        (map (section_in bundle.now) sections.old.sections.items) text.now }
+    ensures kept { OnOk result
+        (AreKept tree.now
+        (map (section_in bundle.now) sections.new.sections.items) sections.new.places.items) }
     ensures ok { IfOk result (λ next. MatchOption next
-        (AreSectionsOf tree.now (labels_of bundle.now) (map (section_in bundle.now) sections.new.sections.items))
-        (λ rest. LabelAt tree.now bundle.now (map (section_in bundle.now) sections.new.sections.items) rest.now)) }
-    ensures shorter { IfOk result (λ next. IfSome next (λ rest. length rest.now < length text.now)) }
-    ensures err { IfErr result (λ fault. fault ≢ CaseFault.Memory → IsLabelFault tree.now (labels_of bundle.now) fault) }
+        (AreSectionsOf tree.now (labels_of bundle.now)
+        (map (section_in bundle.now) sections.new.sections.items))
+        (λ rest. LabelAt tree.now bundle.now
+        (map (section_in bundle.now) sections.new.sections.items) rest.now)) }
+    ensures shorter { IfOk result
+        (λ next. IfSome next (λ rest. length rest.now < length text.now)) }
+    ensures err { IfErr result
+        (λ fault. fault ≢ CaseFault.Memory → IsLabelFault tree.now (labels_of bundle.now) fault) }
 {
     let part = first_part(text);
     match sections.add(alloc, tree, bundle, text, part.line, part.section) {
@@ -151,10 +162,16 @@ fn read_sections(
     first: Option<&[u8]>,
 ) -> Result<Sections, CaseFault>
     requires limited { IsLimited tree.now }
-    requires first { MatchOption first (HasNoLabel bundle.now) (λ text. FirstLabel bundle.now text.now) }
-    ensures kept { IfOk result (λ read. AreKept tree.now (map (section_in bundle.now) read.sections.items) read.places.items) }
-    ensures ok { IfOk result (λ read. AreSectionsOf tree.now (labels_of bundle.now) (map (section_in bundle.now) read.sections.items)) }
-    ensures err { IfErr result (λ fault. fault ≢ CaseFault.Memory → IsLabelFault tree.now (labels_of bundle.now) fault) }
+    requires first { MatchOption first (HasNoLabel bundle.now)
+        (λ text. FirstLabel bundle.now text.now) }
+    ensures kept { IfOk result
+        (λ read. AreKept tree.now
+        (map (section_in bundle.now) read.sections.items) read.places.items) }
+    ensures ok { IfOk result
+        (λ read. AreSectionsOf tree.now (labels_of bundle.now)
+        (map (section_in bundle.now) read.sections.items)) }
+    ensures err { IfErr result
+        (λ fault. fault ≢ CaseFault.Memory → IsLabelFault tree.now (labels_of bundle.now) fault) }
 {
     let mut sections = Sections::new(alloc, tree)?;
     let mut next = first;
@@ -167,8 +184,12 @@ fn read_sections(
 /// The tree of a file's cubes, or why they have none.
 fn tree_of(alloc: Global, file: &IcnfFile) -> Result<Tree, CaseFault>
     requires { (items : List Item) × Within items × IsFileOf file.now items }
-    ensures ok { IfOk result (λ tree. (items : List Item) → Within items → IsFileOf file.now items → HasTree tree items) }
-    ensures err { IfErr result (λ fault. fault ≢ CaseFault.Memory → (items : List Item) → IsFileOf file.now items → HasClash items fault) }
+    ensures ok { IfOk result
+        (λ tree. (items : List Item) → Within items → IsFileOf file.now items
+        → HasTree tree items) }
+    ensures err { IfErr result
+        (λ fault. fault ≢ CaseFault.Memory → (items : List Item) → IsFileOf file.now items
+        → HasClash items fault) }
 {
     Ok(build(alloc, &file.cubes)?)
 }
@@ -183,7 +204,8 @@ pub fn read_bundle(alloc: Global, bundle: &[u8]) -> Result<Case, CaseFault>
     // The case is the bundle's.
     ensures ok { IfOk result (IsCaseOf bundle.now) }
     // Each bundle that stands for a case is read, unless memory runs out.
-    ensures only { (case : CaseOf) → IsCaseOf bundle.now case → MatchResult result (λ read. read ≡ case) (λ fault. fault ≡ CaseFault.Memory) }
+    ensures only { (case : CaseOf) → IsCaseOf bundle.now case
+        → MatchResult result (λ read. read ≡ case) (λ fault. fault ≡ CaseFault.Memory) }
     // Another is refused for its first fault, unless memory runs out.
     ensures err { IfErr result (λ fault. fault ≢ CaseFault.Memory → IsFaultOf bundle.now fault) }
 {
@@ -195,7 +217,8 @@ pub fn take_bundle(alloc: Global, bundle: Vec<u8>) -> Result<Case, CaseFault>
     // The case is the bundle's.
     ensures ok { IfOk result (IsCaseOf bundle.items) }
     // Each bundle that stands for a case is read, unless memory runs out.
-    ensures only { (case : CaseOf) → IsCaseOf bundle.items case → MatchResult result (λ read. read ≡ case) (λ fault. fault ≡ CaseFault.Memory) }
+    ensures only { (case : CaseOf) → IsCaseOf bundle.items case
+        → MatchResult result (λ read. read ≡ case) (λ fault. fault ≡ CaseFault.Memory) }
     // Another is refused for its first fault, unless memory runs out.
     ensures err { IfErr result (λ fault. fault ≢ CaseFault.Memory → IsFaultOf bundle.items fault) }
 {
@@ -207,7 +230,8 @@ pub fn take_bundle(alloc: Global, bundle: Vec<u8>) -> Result<Case, CaseFault>
 /// It answers as `read_bundle` does, with the case's tree in the place of the case.
 pub fn read_tree(alloc: Global, bundle: &[u8]) -> Result<Tree, CaseFault>
     // The tree is that of the bundle's case.
-    ensures ok { IfOk result (λ tree. (case : CaseOf) × IsCaseOf bundle.now case × (case.tree ≡ tree)) }
+    ensures ok { IfOk result
+        (λ tree. (case : CaseOf) × IsCaseOf bundle.now case × (case.tree ≡ tree)) }
     // A bundle without a case is refused for its first fault, unless memory runs out.
     ensures err { IfErr result (λ fault. fault ≢ CaseFault.Memory → IsFaultOf bundle.now fault) }
 {
@@ -251,7 +275,9 @@ fn read_parts(alloc: Global, bundle: &[u8]) -> Result<Parts, CaseFault>
       tree = parts.tree;
       sections = map (section_in bundle.now) parts.sections.sections.items;
     })) }
-    ensures kept { IfOk result (λ parts. IsKept parts.tree (map (section_in bundle.now) parts.sections.sections.items) parts.sections.places.items) }
+    ensures kept { IfOk result
+        (λ parts. IsKept parts.tree
+        (map (section_in bundle.now) parts.sections.sections.items) parts.sections.places.items) }
     ensures err { IfErr result (λ fault. fault ≢ CaseFault.Memory → IsFaultOf bundle.now fault) }
 {
     let (icnf, first) = cut(bundle);

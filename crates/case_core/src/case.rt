@@ -40,9 +40,14 @@ impl Model for Case {
 
     ghost coded = { case_code };
 
-    ghost view = { λ c. record { formula = c.base; tree = c.tree; sections = map (section_in c.text.items) c.sections.items } };
+    ghost view = { λ c. record {
+      formula = c.base;
+      tree = c.tree;
+      sections = map (section_in c.text.items) c.sections.items;
+    } };
 
-    ghost invariant = { λ c. IsKept c.tree (map (section_in c.text.items) c.sections.items) c.places.items };
+    ghost invariant = { λ c.
+        IsKept c.tree (map (section_in c.text.items) c.sections.items) c.places.items };
 }
 
 impl Case {
@@ -76,8 +81,10 @@ impl Case {
     /// The proof of the section for a target, or `None` where it has none. It asks for a target of the tree.
     pub fn proof_for(&self, target: Target) -> Option<&[u8]>
         requires { HasTarget self.now.tree target }
-        ensures found { MatchOption result (proof_for self.now.sections target ≡ None) (λ proof. proof_for self.now.sections target ≡ Some proof.now) }
-        ensures one_place { (i j : ℕ) → IsTargetAt self.now.tree i target → IsTargetAt self.now.tree j target → i ≡ j }
+        ensures found { MatchOption result (proof_for self.now.sections target ≡ None)
+            (λ proof. proof_for self.now.sections target ≡ Some proof.now) }
+        ensures one_place { (i j : ℕ) → IsTargetAt self.now.tree i target
+            → IsTargetAt self.now.tree j target → i ≡ j }
     {
         let node = self.tree.node_of_target(target);
         let place = self.places[node.index()] as usize;

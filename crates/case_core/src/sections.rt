@@ -27,7 +27,8 @@ impl Sections {
 
     /// No section.
     pub(crate) fn new(alloc: Global, tree: &Tree) -> Result<Self, AllocError>
-        ensures { IfOk result (λ read. (read.sections.items ≡ []) × AreKept tree.now [] read.places.items) }
+        ensures { IfOk result
+            (λ read. (read.sections.items ≡ []) × AreKept tree.now [] read.places.items) }
     {
         let places = vec![in alloc; 0u32; tree.size() as usize]?;
         Ok(Sections {
@@ -51,10 +52,18 @@ impl Sections {
         requires place { part_in text.now (length line.now + 1) (length proof.now) ≡ proof.now }
         requires within { length line.now ≤ length text.now }
         requires limited { IsLimited tree.now }
-        requires kept { AreKept tree.now (map (section_in bundle.now) self.old.sections.items) self.old.places.items }
-        ensures kept { OnOk result (AreKept tree.now (map (section_in bundle.now) self.new.sections.items) self.new.places.items) }
-        ensures added { OnOk result (GoesOn tree.now (map (section_in bundle.now) self.old.sections.items) (map (section_in bundle.now) self.new.sections.items) (label_name (words line.now)) proof.now) }
-        ensures err { IfErr result (Refuses tree.now (map (section_in bundle.now) self.old.sections.items) (label_name (words line.now))) }
+        requires kept { AreKept tree.now
+            (map (section_in bundle.now) self.old.sections.items) self.old.places.items }
+        ensures kept { OnOk result
+            (AreKept tree.now
+            (map (section_in bundle.now) self.new.sections.items) self.new.places.items) }
+        ensures added { OnOk result
+            (GoesOn tree.now (map (section_in bundle.now) self.old.sections.items)
+            (map (section_in bundle.now) self.new.sections.items)
+            (label_name (words line.now)) proof.now) }
+        ensures err { IfErr result
+            (Refuses tree.now (map (section_in bundle.now) self.old.sections.items)
+            (label_name (words line.now))) }
     {
         let target = match target_of(alloc, tree, line) {
             Ok(target) => target,

@@ -99,19 +99,24 @@ correct bundle case report answer is stated = record {
 }
 
 -- what a run answers for bytes is what it answers for the bytes that were read
-pub sound_of : (known : Option (List ℕ)) (read : List ℕ) (result : Result Bool Fault) → IfSome known (λ left. read ≡ left)
-    → IfOk result (λ answer. answer ≡ true → IsUnsatisfiable read) → IfOk result (λ answer. answer ≡ true → IfSome known IsUnsatisfiable)
+pub sound_of : (known : Option (List ℕ)) (read : List ℕ) (result : Result Bool Fault)
+    → IfSome known (λ left. read ≡ left)
+    → IfOk result (λ answer. answer ≡ true → IsUnsatisfiable read)
+    → IfOk result (λ answer. answer ≡ true → IfSome known IsUnsatisfiable)
 sound_of known read (Ok answer) is h = λ says. of_known IsUnsatisfiable known read is (h says)
 sound_of known read (Err fault) is h = tt
 
-pub fault_of : (known : Option (List ℕ)) (read : List ℕ) (result : Result Bool Fault) → IfSome known (λ left. read ≡ left)
-    → IfErr result (λ fault. IsInputFault fault → IsFaultOn read fault) → IfErr result (λ fault. IsInputFault fault → IfSome known (λ input. IsFaultOn input fault))
+pub fault_of : (known : Option (List ℕ)) (read : List ℕ) (result : Result Bool Fault)
+    → IfSome known (λ left. read ≡ left)
+    → IfErr result (λ fault. IsInputFault fault → IsFaultOn read fault)
+    → IfErr result (λ fault. IsInputFault fault → IfSome known (λ input. IsFaultOn input fault))
 fault_of known read (Ok answer) is h = tt
 fault_of known read (Err fault) is h = λ input. of_known (λ b. IsFaultOn b fault) known read is (h input)
 
 -- what was begun for bytes was begun for the bytes that were read
 pub begun_of : (Failed : Type 0) (P : List ℕ → Type 0) (known : Option (List ℕ)) (read : List ℕ) (result : Result Bool Fault)
-    → IfSome known (λ left. read ≡ left) → OnErr result (Failed → P read) → OnErr result (IfSome known (λ input. Failed → P input))
+    → IfSome known (λ left. read ≡ left) → OnErr result (Failed → P read)
+    → OnErr result (IfSome known (λ input. Failed → P input))
 begun_of Failed P known read (Ok answer) is h = tt
 begun_of Failed P None read (Err fault) is h = tt
 begun_of Failed P (Some left) read (Err fault) is h = λ failed. subst P is (h failed)

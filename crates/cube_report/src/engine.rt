@@ -103,7 +103,8 @@ fn outcome_of_crew<T: Threads + Wait + Sync, G: Gate + Sync>(
     settings: Settings,
     gate: &G,
 ) -> Result<Outcome, Fault>
-    ensures outcome { IfOk result (λ outcome. IsCorrect bundle.items outcome.text.items outcome.refuted) }
+    ensures outcome { IfOk result
+        (λ outcome. IsCorrect bundle.items outcome.text.items outcome.refuted) }
     ensures fault { IfErr result (λ fault. IsInputFault fault → IsFaultOn bundle.items fault) }
     ensures device { IfErr result (λ fault. fault ≢ Fault.Device) }
 {
@@ -113,7 +114,8 @@ fn outcome_of_crew<T: Threads + Wait + Sync, G: Gate + Sync>(
 
 /// The report on a bundle, and whether it says refuted, by this thread.
 fn outcome_of(alloc: Global, bundle: &[u8]) -> Result<Outcome, Fault>
-    ensures outcome { IfOk result (λ outcome. IsCorrect bundle.now outcome.text.items outcome.refuted) }
+    ensures outcome { IfOk result
+        (λ outcome. IsCorrect bundle.now outcome.text.items outcome.refuted) }
     ensures fault { IfErr result (λ fault. fault ≢ Fault.Memory → IsFaultOn bundle.now fault) }
     ensures device { IfErr result (λ fault. fault ≢ Fault.Device) }
 {
@@ -127,7 +129,8 @@ pub fn run_one(alloc: Global, bundle: &[u8]) -> Result<Vec<u8>, Fault>
     // The text is the report on the case that the bundle stands for.
     ensures text { IfOk result (λ text. IsReportOn bundle.now text.items) }
     // With the answer of its last line, it is all that a run promises.
-    ensures correct { IfOk result (λ text. (answer : Bool) × IsCorrect bundle.now text.items answer) }
+    ensures correct { IfOk result
+        (λ text. (answer : Bool) × IsCorrect bundle.now text.items answer) }
     // It says refuted only where the formula has no model.
     ensures sound { IfOk result (λ text. SaysRefuted text.items → IsUnsatisfiable bundle.now) }
     // Another bundle is refused for its first fault.
@@ -152,11 +155,13 @@ pub fn run<T: Threads + Wait + Sync, G: Gate + Sync>(
     // The text is the report on the case that the bundle stands for.
     ensures text { IfOk result (λ text. IsReportOn bundle.now text.items) }
     // With the answer of its last line, it is all that a run promises.
-    ensures correct { IfOk result (λ text. (answer : Bool) × IsCorrect bundle.now text.items answer) }
+    ensures correct { IfOk result
+        (λ text. (answer : Bool) × IsCorrect bundle.now text.items answer) }
     // It says refuted only where the formula has no model.
     ensures sound { IfOk result (λ text. SaysRefuted text.items → IsUnsatisfiable bundle.now) }
     // Another bundle is refused for its first fault.
-    ensures fault { IfErr result (λ fault. fault ≢ Fault.Memory → fault ≢ Fault.Thread → IsFaultOn bundle.now fault) }
+    ensures fault { IfErr result
+        (λ fault. fault ≢ Fault.Memory → fault ≢ Fault.Thread → IsFaultOn bundle.now fault) }
 {
     let outcome = outcome_of_crew(rt, alloc, bundle.to_vec(alloc)?, settings, gate)?;
     Ok(outcome.text)
@@ -183,10 +188,12 @@ pub fn run_io<T: Threads + Wait + Sync, R: Source, W: Sink, G: Gate + Sync>(
         × IsCorrect input text answer × Appends (W.contents writer.old) (W.contents writer.new) text)) }
     ensures written { OnOk result (IfSome (R.remaining reader.old) (λ input.
         (text : List ℕ) × IsReportOn input text × Appends (W.contents writer.old) (W.contents writer.new) text)) }
-    ensures answer { IfOk result (λ answer. IfSome (R.remaining reader.old) (λ input. IsAnswerOn input answer)) }
+    ensures answer { IfOk result
+        (λ answer. IfSome (R.remaining reader.old) (λ input. IsAnswerOn input answer)) }
 
     // It is true only where the formula has no model.
-    ensures sound { IfOk result (λ answer. answer ≡ true → IfSome (R.remaining reader.old) IsUnsatisfiable) }
+    ensures sound { IfOk result
+        (λ answer. answer ≡ true → IfSome (R.remaining reader.old) IsUnsatisfiable) }
 
     // A fault of the input is that of what was read.
     ensures fault { IfErr result (λ fault. IsInputFault fault →
@@ -220,7 +227,9 @@ pub fn write_report<T: Threads + Wait + Sync, W: Sink, G: Gate + Sync>(
     requires { W.failures writer.old < 2 ^ 64 - 1 }
     ensures correct { IfOk result (λ answer. (text : List ℕ)
         × IsCorrect bundle.items text answer × Appends (W.contents writer.old) (W.contents writer.new) text) }
-    ensures written { OnOk result ((text : List ℕ) × IsReportOn bundle.items text × Appends (W.contents writer.old) (W.contents writer.new) text) }
+    ensures written { OnOk result
+        ((text : List ℕ) × IsReportOn bundle.items text
+        × Appends (W.contents writer.old) (W.contents writer.new) text) }
     ensures answer { IfOk result (λ answer. IsAnswerOn bundle.items answer) }
     ensures sound { IfOk result (λ answer. answer ≡ true → IsUnsatisfiable bundle.items) }
     ensures fault { IfErr result (λ fault. IsInputFault fault → IsFaultOn bundle.items fault) }
@@ -229,7 +238,8 @@ pub fn write_report<T: Threads + Wait + Sync, W: Sink, G: Gate + Sync>(
     ensures beginning { OnErr result (W.failures writer.new ≢ W.failures writer.old →
         (text : List ℕ) × IsReportOn bundle.items text × AppendsBeginning (W.contents writer.old) (W.contents writer.new) text) }
     ensures device { IsErrOf result Fault.Device ↔ (W.failures writer.old < W.failures writer.new) }
-    ensures same { IfErr result (λ fault. fault ≢ Fault.Device → W.failures writer.new ≡ W.failures writer.old) }
+    ensures same { IfErr result
+        (λ fault. fault ≢ Fault.Device → W.failures writer.new ≡ W.failures writer.old) }
     ensures ok { OnOk result (W.failures writer.new ≡ W.failures writer.old) }
 {
     let outcome = outcome_of_crew(rt, alloc, bundle, settings, gate)?;
@@ -240,9 +250,11 @@ pub fn write_report<T: Threads + Wait + Sync, W: Sink, G: Gate + Sync>(
 /// All bytes up to the reader's end.
 fn read_all<R: Source>(alloc: Global, reader: &mut R) -> Result<Vec<u8>, Fault>
     requires { R.failures reader.old < 2 ^ 64 - 1 }
-    ensures bytes { IfOk result (λ input. IfSome (R.remaining reader.old) (λ left. input.items ≡ left)) }
+    ensures bytes { IfOk result
+        (λ input. IfSome (R.remaining reader.old) (λ left. input.items ≡ left)) }
     ensures ok { OnOk result (R.failures reader.new ≡ R.failures reader.old) }
-    ensures err { IfErr result (λ fault. IsReadFault (R.failures reader.old) (R.failures reader.new) fault) }
+    ensures err { IfErr result
+        (λ fault. IsReadFault (R.failures reader.old) (R.failures reader.new) fault) }
 {
     let mut input = Vec::new(alloc);
     read_to_end(reader, &mut input)?;
@@ -257,7 +269,8 @@ pub fn read_to_end<R: Source>(reader: &mut R, bytes: &mut Vec<u8>) -> Result<(),
     ensures read { OnOk result (IsReadOf (R.remaining reader.old) bytes.old.items bytes.new.items) }
     ensures stays { StartsWith bytes.new.items bytes.old.items }
     ensures ok { OnOk result (R.failures reader.new ≡ R.failures reader.old) }
-    ensures err { IfErr result (λ fault. IsReadFault (R.failures reader.old) (R.failures reader.new) fault) }
+    ensures err { IfErr result
+        (λ fault. IsReadFault (R.failures reader.old) (R.failures reader.new) fault) }
 {
     let mut buffer = [0u8; 65536];
     loop {
@@ -276,8 +289,10 @@ pub fn write_all<W: Sink>(writer: &mut W, text: &[u8]) -> Result<(), Fault>
     requires { W.failures writer.old < 2 ^ 64 - 1 }
     ensures ok { OnOk result (Appends (W.contents writer.old) (W.contents writer.new) text.now) }
     ensures same { OnOk result (W.failures writer.new ≡ W.failures writer.old) }
-    ensures beginning { OnErr result (AppendsBeginning (W.contents writer.old) (W.contents writer.new) text.now) }
-    ensures err { IfErr result (λ fault. (fault ≡ Fault.Device) × (W.failures writer.new ≡ W.failures writer.old + 1)) }
+    ensures beginning { OnErr result
+        (AppendsBeginning (W.contents writer.old) (W.contents writer.new) text.now) }
+    ensures err { IfErr result
+        (λ fault. (fault ≡ Fault.Device) × (W.failures writer.new ≡ W.failures writer.old + 1)) }
 {
     let mut done = 0;
     while done < text.len() {

@@ -1,5 +1,8 @@
 -- The proof's own clauses, seen as a finite map.
-use Rattle.std.proofs.Common.{◌≡◌, ◌+◌, ◌-◌, ◌<◌, ◌≤◌, ℕ, zero, suc, Bool, true, false, cond, nat_eq, Option, Some, None, List, [], ◌∷◌, ◌++◌, length, get_or, take, drop, slice_set, refl, sym, ap, ◌∙◌, subst, arith, inl, inr, append_assoc}
+use Rattle.std.proofs.Common.{◌≡◌, ◌+◌, ◌-◌, ◌<◌, ◌≤◌, ℕ, zero, suc, Bool, true, false, cond}
+use Rattle.std.proofs.Common.{nat_eq, Option, Some, None, List, [], ◌∷◌, ◌++◌, length, get_or, take}
+use Rattle.std.proofs.Common.{drop, slice_set, refl, sym, ap, ◌∙◌, subst, arith, inl, inr}
+use Rattle.std.proofs.Common.{append_assoc}
 use Rattle.std.specs.Prelude.{nat_lt, nat_le, if◌then◌else◌, slice_range}
 use Rattle.std.specs.Option.{IfSome, option_or, option_map}
 use Rattle.std.specs.Map.{lookup, remove_entry}
@@ -8,13 +11,16 @@ use Rattle.std.specs.Ordering.{nat_cmp, eq_by_cmp, match_ordering}
 use Rattle.std.specs.declared.cmp.Ordering.TheVariants.{Less, Equal, Greater}
 use Rattle.std.specs.Cmp.{nat_cmp_total}
 use Rattle.std.specs.FinMap as fin
-use Rattle.std.proofs.lemmas.Bool.{cases_Bool, cases_lt, both_ways, cond-true, cond-false, eqb-true, eq-eqb, ne_eqb, lt-ltb, le-ltb, lt-leb, le-leb}
+use Rattle.std.proofs.lemmas.Bool.{cases_Bool, cases_lt, both_ways, cond-true, cond-false, eqb-true}
+use Rattle.std.proofs.lemmas.Bool.{eq-eqb, ne_eqb, lt-ltb, le-ltb, lt-leb, le-leb}
 use Rattle.std.proofs.lemmas.List.{get_or-set_same, get_or-set_other, take-append-le, drop-append-le, length-drop}
 use Rattle.std.proofs.Math.Seq.{drop-append_seam, take-length}
 use Rattle.cnf_text.specs.Literal.{Literal}
 use Rattle.hint_check.specs.declared.own.Slot.{Slot}
 use Rattle.hint_check.specs.declared.own.Span.{Span}
-use Rattle.hint_check.specs.Own.{no_slot, slot_at, slot_clause, span_clause, near_at, far_at, entry_of, near_entries, far_entries, own_clauses, SlotsEndBy, SpansEndBy, SetsSlot, ListsAll}
+use Rattle.hint_check.specs.Own.{no_slot, slot_at, slot_clause, span_clause, near_at, far_at}
+use Rattle.hint_check.specs.Own.{entry_of, near_entries, far_entries, own_clauses, SlotsEndBy}
+use Rattle.hint_check.specs.Own.{SpansEndBy, SetsSlot, ListsAll}
 use Rattle.hint_check.proofs.OverlayMaps.{find-append, same_test, same_test_back}
 use Rattle.hint_check.specs.Literals.{has}
 use Rattle.hint_check.specs.Index.{Rows, is_listed, Lists, Indexes, Awaits}

@@ -2,10 +2,13 @@
 use Rattle.std.proofs.Common.{◌≡◌, ◌==◌, ◌+◌, ◌-◌, ◌<◌, ◌≤◌, ◌/◌, ◌%◌, ℕ, zero, suc, Bool, true, false, ◌||◌, List, [], ◌∷◌, ◌++◌, length, get_or, take, slice_index, min, subst, refl, sym, ap, ◌∙◌, arith, inl, inr}
 use Rattle.std.proofs.lemmas.Bool.{cases_Bool, cases_lt, both_ways, cond-true, cond-false, lt-ltb, le-ltb, ne_eqb, or_left, eqb-true, eq-eqb}
 use Rattle.std.specs.Prelude.{if◌then◌else◌, nat_lt, slice_set}
-use Rattle.std.proofs.lemmas.List.{get_or_past, get_or-set_same, get_or-set_other, take_at, take_all, take-append-le, take-take, length_push, length-take, length-take-le}
+use Rattle.std.proofs.lemmas.List.{get_or_past, get_or-set_same, get_or-set_other, take_at}
+use Rattle.std.proofs.lemmas.List.{take_all, take-append-le, take-take, length_push, length-take}
+use Rattle.std.proofs.lemmas.List.{length-take-le}
 use Rattle.cnf_text.specs.Literal.{Literal, number_of, same}
 use Rattle.hint_check.specs.Literals.{has, with_literal}
-use Rattle.hint_check.specs.Stamps.{Marks, stamp_at, paged_at, HasRoom, StampsAre, NoneAbove, NoRepeats, Extends, is_shown, Shows}
+use Rattle.hint_check.specs.Stamps.{Marks, stamp_at, paged_at, HasRoom, StampsAre, NoneAbove}
+use Rattle.hint_check.specs.Stamps.{NoRepeats, Extends, is_shown, Shows}
 use Rattle.hint_check.proofs.Literals.{number-same, same-true, same-refl, has-push}
 
 -- ---- near numbers and others
@@ -62,7 +65,8 @@ unfolding StampsAre
 Sound-parts marks epoch trail h = h.1
 
 -- what the near stamps at hand show
-pub shows-trail : (marks : Marks) (epoch : ℕ) (trail : List Literal) → Sound marks epoch trail → length marks.0 ≤ 65536
+pub shows-trail : (marks : Marks) (epoch : ℕ) (trail : List Literal) → Sound marks epoch trail
+    → length marks.0 ≤ 65536
     → Shows marks.0 epoch (has trail)
 shows-trail marks epoch trail sound few = record {
   real = λ l shown. elim (cases_lt (number_of l) 65536) [
@@ -78,7 +82,8 @@ shows-trail marks epoch trail sound few = record {
   where
     is_near : (l : Literal) → number_of l < 65536 → is_shown marks.0 epoch l ≡ has trail l
     is_near l low =
-        ap (λ stamp. stamp == epoch) (sym (near-at marks (number_of l) low)) ∙ Sound-parts marks epoch trail sound l
+        ap (λ stamp. stamp == epoch) (sym (near-at marks (number_of l) low))
+        ∙ Sound-parts marks epoch trail sound l
 
 none-NoRepeats : NoRepeats []
 unfolding NoRepeats

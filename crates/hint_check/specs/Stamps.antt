@@ -1,5 +1,6 @@
 -- Numbers stamped in lists, for the contracts of private functions.
-use Rattle.std.specs.Prelude.{◌≡◌, ℕ, ◌/◌, ◌%◌, ◌<◌, ◌≤◌, ◌==◌, nat_lt, if◌then◌else◌, Bool, true, false, List, [], length, take, slice_index, slice_index_or}
+use Rattle.std.specs.Prelude.{◌≡◌, ℕ, ◌/◌, ◌%◌, ◌<◌, ◌≤◌, ◌==◌, nat_lt, if◌then◌else◌, Bool, true}
+use Rattle.std.specs.Prelude.{false, List, [], length, take, slice_index, slice_index_or}
 use Rattle.cnf_text.specs.Literal.{Literal, number_of}
 use Rattle.hint_check.specs.Literals.{Literals, has}
 

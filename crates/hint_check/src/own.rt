@@ -1,10 +1,13 @@
 //! A proof's own clauses by their ids. All their literals stand in one list, each clause's behind
 //! those put in before it.
-ghost use Rattle.std.specs.Prelude.{◌≡◌, ℕ, ◌+◌, ◌-◌, ◌<◌, ◌≤◌, ◌^◌, nat_eq, cond, length, max, List, None, Some, IfSome, OnOk, OnErr};
+ghost use Rattle.std.specs.Prelude.{◌≡◌, ℕ, ◌+◌, ◌-◌, ◌<◌, ◌≤◌, ◌^◌, nat_eq, cond, length, max};
+ghost use Rattle.std.specs.Prelude.{List, None, Some, IfSome, OnOk, OnErr};
 ghost use Rattle.std.specs.Map.{lookup};
 ghost use Rattle.std.specs.Option.{option_copied};
 ghost use Rattle.cnf_text.specs.Literal.{Literal};
-ghost use Rattle.hint_check.specs.Own.{no_slot, slot_at, near_at, far_at, SlotsEndBy, SpansEndBy, slot_clause, span_clause, near_entries, far_entries, SetsSlot, ListsAll};
+ghost use Rattle.hint_check.specs.Own.{no_slot, slot_at, near_at, far_at, SlotsEndBy, SpansEndBy};
+ghost use Rattle.hint_check.specs.Own.{slot_clause, span_clause, near_entries, far_entries};
+ghost use Rattle.hint_check.specs.Own.{SetsSlot, ListsAll};
 
 use crate::index::Index;
 use cnf_text::literal::Lit;

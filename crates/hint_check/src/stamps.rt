@@ -75,7 +75,8 @@ impl Stamps {
     #[inline(always)]
     pub fn set_at_hand(&mut self, number: u32, stamp: u32)
         requires { number < length self.old.0 }
-        ensures { (n : ℕ) → stamp_at self.new n ≡ (if number == n then stamp else stamp_at self.old n) }
+        ensures { (n : ℕ)
+            → stamp_at self.new n ≡ (if number == n then stamp else stamp_at self.old n) }
     {
         self.near.set(number as usize, stamp);
     }
@@ -110,7 +111,8 @@ impl Stamps {
     #[inline(always)]
     pub fn set(&mut self, number: u32, stamp: u32)
         requires { HasRoom self.old number }
-        ensures { (n : ℕ) → stamp_at self.new n ≡ (if number == n then stamp else stamp_at self.old n) }
+        ensures { (n : ℕ)
+            → stamp_at self.new n ≡ (if number == n then stamp else stamp_at self.old n) }
     {
         if number < NEAR {
             self.near.set(number as usize, stamp);

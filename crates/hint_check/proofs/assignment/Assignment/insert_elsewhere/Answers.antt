@@ -7,10 +7,12 @@ use Rattle.hint_check.proofs.Stamping.{Sound, Sound-same, Sound-push, with_liter
 use Rattle.hint_check.proofs.assignment.Assignment.insert_elsewhere.Goals as goal
 
 pub returns-then-contains-clause-set : goal.returns-then-contains-clause-set
-returns-then-contains-clause-set c = with_literal-there c.args.self.now c.args.lit (sym c.contains.ensures ∙ c.if-contains.true)
+returns-then-contains-clause-set c = with_literal-there c.args.self.now c.args.lit (sym c.contains.ensures
+    ∙ c.if-contains.true)
 
 pub returns-clause-set : goal.returns-clause-set
-returns-clause-set c = ap has c.in_ok-push.ensures.items ∙ has-push c.self.inside.trail.items c.args.lit ∙ ap (λ trail. with_literal (has trail) c.args.lit) c.self.view_is
+returns-clause-set c = ap has c.in_ok-push.ensures.items ∙ has-push c.self.inside.trail.items c.args.lit
+    ∙ ap (λ trail. with_literal (has trail) c.args.lit) c.self.view_is
 
 pub returns-clause-kept : goal.returns-clause-kept
 returns-clause-kept c =
@@ -31,8 +33,10 @@ invariant_of-self-in_err-push c =
 pub invariant_of-self-2 : goal.invariant_of-self-2
 invariant_of-self-2 c =
     let inside = c.self.inside in
-    let absent : has inside.trail.items c.args.lit ≡ false = ap (λ trail. has trail c.args.lit) c.self.view_is ∙ sym c.contains.ensures ∙ c.if-contains.false in
+    let absent : has inside.trail.items c.args.lit ≡ false = ap (λ trail. has trail c.args.lit) c.self.view_is
+    ∙ sym c.contains.ensures ∙ c.if-contains.false in
     subst (Sound c.set.new.self inside.epoch) (sym c.in_ok-push.ensures.items)
     (Sound-push c.make_room.new.self c.set.new.self inside.epoch inside.trail.items c.args.lit
     (Sound-same inside.stamps c.make_room.new.self inside.epoch inside.trail.items c.self.invariant c.make_room.ensures.same) absent
-    (λ n. c.set.ensures n ∙ ap (λ k. if k == n then inside.epoch else stamp_at c.make_room.new.self n) c.number-2.ensures.value))
+    (λ n. c.set.ensures n
+    ∙ ap (λ k. if k == n then inside.epoch else stamp_at c.make_room.new.self n) c.number-2.ensures.value))

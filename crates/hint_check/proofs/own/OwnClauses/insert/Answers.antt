@@ -5,7 +5,9 @@ use Rattle.std.proofs.Math.ListN.{length-set}
 use Rattle.hint_check.specs.declared.own.Slot.{Slot}
 use Rattle.hint_check.specs.Own.{no_slot, own_clauses, SlotsEndBy, SpansEndBy}
 use Rattle.hint_check.proofs.OverlayMaps.{OnErr-always}
-use Rattle.hint_check.proofs.OwnMaps.{own-same, own-insert-near, own-insert-far, SetsSlot-made, SetsSlot-write, SlotsEndBy-same, SlotsEndBy-set, SpansEndBy-more}
+use Rattle.hint_check.proofs.OwnMaps.{own-same, own-insert-near, own-insert-far, SetsSlot-made}
+use Rattle.hint_check.proofs.OwnMaps.{SetsSlot-write, SlotsEndBy-same, SlotsEndBy-set}
+use Rattle.hint_check.proofs.OwnMaps.{SpansEndBy-more}
 use Rattle.hint_check.proofs.own.OwnClauses.insert.Goals as goal
 
 pub invariant_of-self-in_err-make_slots-in-Some : goal.invariant_of-self-in_err-make_slots-in-Some
