@@ -213,8 +213,8 @@ pub fn run_io<T: Threads + Wait + Sync, R: Source, W: Sink, G: Gate + Sync>(
     write_report(rt, alloc, input, writer, settings, gate)
 }
 
-/// Writes the report on a bundle that is handed over, which workers find as `run` says; answers whether the formula is refuted. The
-/// bundle's bytes are kept where they are while it is judged. Nothing is written before
+/// Writes the report on a bundle that is handed over, which workers find as `run` says; answers whether
+/// the formula is refuted. The bundle's bytes are kept where they are while it is judged. Nothing is written before
 /// all is judged. `Device` where a write failed in this call, and then a beginning of the report was written.
 pub fn write_report<T: Threads + Wait + Sync, W: Sink, G: Gate + Sync>(
     rt: &T,
@@ -236,7 +236,8 @@ pub fn write_report<T: Threads + Wait + Sync, W: Sink, G: Gate + Sync>(
     ensures nothing { OnErr result (W.failures writer.new ≡ W.failures writer.old →
         Keeps (W.contents writer.old) (W.contents writer.new)) }
     ensures beginning { OnErr result (W.failures writer.new ≢ W.failures writer.old →
-        (text : List ℕ) × IsReportOn bundle.items text × AppendsBeginning (W.contents writer.old) (W.contents writer.new) text) }
+        (text : List ℕ) × IsReportOn bundle.items text
+        × AppendsBeginning (W.contents writer.old) (W.contents writer.new) text) }
     ensures device { IsErrOf result Fault.Device ↔ (W.failures writer.old < W.failures writer.new) }
     ensures same { IfErr result
         (λ fault. fault ≢ Fault.Device → W.failures writer.new ≡ W.failures writer.old) }

@@ -144,7 +144,7 @@ impl OwnClauses {
     }
 
     /// How many literals the clauses have, or some more.
-    pub fn held(&self) -> usize {
+    pub(crate) fn held(&self) -> usize {
         self.held
     }
 
