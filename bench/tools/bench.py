@@ -10,8 +10,8 @@ from typing import NamedTuple
 
 ANCHOR = os.path.abspath(os.environ.get("ANCHOR", "bin/lratref"))
 RUNS = int(os.environ.get("RUNS", "5"))
-# Without WORKERS the program is run as it is, on one thread, and the anchor with one worker. With it, both get the option.
-WORKERS = os.environ.get("WORKERS", "").split()
+# Both get the option `--workers` with each of these numbers.
+WORKERS = os.environ.get("WORKERS", "1").split()
 
 
 class Run(NamedTuple):
@@ -60,16 +60,15 @@ def facts(words):
 
 def compare(program, words, workers):
     """The runs of the anchor and those of the program, in turn, after one that warms the page cache."""
-    anchor_words = ["--workers", workers or "1"] + words
-    program_words = (["--workers", workers] if workers else []) + words
-    run(ANCHOR, anchor_words)
+    words = ["--workers", workers] + words
+    run(ANCHOR, words)
     anchor, other = [], []
     for turn in range(RUNS):
         for first in (turn % 2 == 0, turn % 2 != 0):
             if first:
-                anchor.append(run(ANCHOR, anchor_words))
+                anchor.append(run(ANCHOR, words))
             else:
-                other.append(run(program, program_words))
+                other.append(run(program, words))
     return anchor, other
 
 
@@ -86,7 +85,7 @@ def show(words, workers, anchor, other):
     busy = [max(statistics.median(r.processor for r in runs), 1e-6) for runs in (anchor, other)]
     memory = [max(r.megabytes for r in runs) for runs in (anchor, other)]
     print(
-        f"{name:<28}{size:>8.1f}{leaves:>7}{steps:>10}{workers or '1':>4}{seconds[0]:>10.3f}{seconds[1]:>10.3f}"
+        f"{name:<28}{size:>8.1f}{leaves:>7}{steps:>10}{workers:>4}{seconds[0]:>10.3f}{seconds[1]:>10.3f}"
         f"{seconds[1] / seconds[0]:>7.2f}{busy[1] / busy[0]:>7.2f}{memory[0]:>10.0f}{memory[1]:>10.0f}"
         f"  {'equal' if same else 'DIFFERS'}",
         flush=True,
@@ -102,7 +101,7 @@ def main():
     )
     lines = []
     for words in cases_of(sys.argv[2:] or ["smoke", "medium"]):
-        for workers in WORKERS or [None]:
+        for workers in WORKERS:
             lines.append(show(words, workers, *compare(program, words, workers)))
     differ = sum(not same for same, _, _ in lines)
     print(f"reports that differ: {differ}")

@@ -3,9 +3,10 @@ ghost use Rattle.std.specs.Prelude.{◌≡◌, ◌≤◌, IfSome};
 ghost use Rattle.mark_board.specs.BoardPosts.{IsPostedOn};
 ghost use Rattle.mark_board.specs.declared.place.Place.TheVariants.{Top};
 
+use crate::cases::{case, finding_of};
 use case_core::{Case, Leaf, Reason, Target};
 use fixtures::bundles::{BOTH_CUBES, HALF, REJECTED, ROOT_AND_CUBE, WHOLE};
-use fixtures::cases::{case, cube, finding_of, inner};
+use fixtures::targets::{cube, inner};
 use mark_board::{Board, Mark, PartPosted, PartVerdict, Place, Posted};
 use std::alloc::Global;
 use std::process::Abort;

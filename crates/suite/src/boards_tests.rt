@@ -1,10 +1,11 @@
 //! All boards of a cut together, before and after findings are posted on them.
 ghost use Rattle.std.specs.Prelude.{◌≤◌};
 
+use crate::cases::{case, finding_of};
 use case_core::{Case, Reason, Target};
 use fixtures::bundles::{BOTH_CUBES, HALF, ONE_CUBE, QUARTER, ROOT, WHOLE};
-use fixtures::cases::{case, cube, finding_of, has_target, inner, missing};
 use fixtures::four;
+use fixtures::targets::{cube, has_target, inner, missing};
 use mark_board::{Boards, Mark};
 use std::alloc::Global;
 use std::process::Abort;

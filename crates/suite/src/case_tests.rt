@@ -1,7 +1,8 @@
 //! Bundles: their faults, and what is found of their sections.
+use crate::cases::{case, finding_of};
 use case_core::{Case, CaseFault, Judged, Reason, Target, read_bundle};
 use fixtures::bundles::{BOTH_CUBES, ONE_CUBE, ROOT};
-use fixtures::cases::{case, cube, finding_of, inner, missing};
+use fixtures::targets::{cube, inner, missing};
 use fixtures::{four, halves};
 use std::alloc::Global;
 use std::process::Abort;

@@ -8,6 +8,8 @@ mod boards_tests;
 #[cfg(test)]
 mod case_tests;
 #[cfg(test)]
+mod cases;
+#[cfg(test)]
 mod icnf_tests;
 #[cfg(test)]
 mod judging_tests;

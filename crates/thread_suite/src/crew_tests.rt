@@ -2,6 +2,7 @@
 //! and that what they find is what one thread finds.
 ghost use Rattle.std.specs.Prelude.{◌≡◌};
 
+use crate::cases::case;
 use board_hall::Pass;
 use case_core::{Leaf, Target};
 use check_crew::{Gate, NoGate, Settings, conquer};
@@ -11,7 +12,6 @@ use fixtures::bundles::{
     BOTH_CUBES, BOTH_CUBES_REPORT, FOUR_CUBES, FOUR_CUBES_REPORT, HALF, ONE_CUBE, OPEN, REFUTED,
     ROOT, TURNS,
 };
-use fixtures::cases::case;
 use fixtures::{four, halves};
 use std::alloc::Global;
 use std::process::Abort;

@@ -8,11 +8,12 @@ ghost use Rattle.board_hall.specs.Clauses.{IsVerdictOf};
 ghost use Rattle.board_hall.specs.Halls.{hall_of, core_of, view_of, IsPassOf, IsNewPass};
 ghost use Rattle.board_hall.specs.Terms.{cut_case};
 
+use crate::cases::{case, finding_of};
 use board_hall::{Core, Hall, Pass};
 use case_core::{Case, Finding, NodeId, Reason, Target};
 use fixtures::bundles::{BOTH_CUBES, HALF, QUARTER, REJECTED, ROOT, ROOT_AND_CUBE, WHOLE};
-use fixtures::cases::{case, cube, finding_of, has_target, inner};
 use fixtures::four;
+use fixtures::targets::{cube, has_target, inner};
 use mark_board::{Mark, PartPosted, PartVerdict, Place, Posted};
 use std::alloc::Global;
 use std::process::Abort;

@@ -4,6 +4,7 @@ ghost use Rattle.mark_board.specs.Board.{IsPlace};
 ghost use Rattle.board_hall.specs.Halls.{hall_of, shared_of, core_of, view_of, promised};
 ghost use Rattle.board_hall.specs.Halls.{IsPassOf};
 
+use crate::cases::{case, finding_of};
 use crate::hall_tests::{closed, hall_for_two, need_part, next_pass, one, two, with};
 use board_hall::{Core, Hall, Pass, SameHall};
 use case_core::{Case, Target};
@@ -11,7 +12,7 @@ use cube_report::report_of;
 use fixtures::bundles::{
     BOTH_CUBES, BOTH_CUBES_REPORT, FOUR_CUBES, FOUR_CUBES_REPORT, HALF, QUARTER, WHOLE,
 };
-use fixtures::cases::{case, cube, finding_of};
+use fixtures::targets::cube;
 use mark_board::{Place, Posted};
 use std::alloc::Global;
 use std::process::Abort;

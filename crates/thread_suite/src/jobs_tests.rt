@@ -3,9 +3,9 @@
 ghost use Rattle.std.specs.Prelude.{◌≡◌, All};
 ghost use Rattle.cube_jobs.specs.Jobs.{IsPassOf};
 
+use crate::cases::case;
 use cube_jobs::{JobPass, Jobs};
 use fixtures::bundles::BOTH_CUBES;
-use fixtures::cases::case;
 use std::alloc::Global;
 use std::process::Abort;
 use std::sync::Wait;

@@ -2,6 +2,8 @@
 #![tactic(auto)]
 
 #[cfg(test)]
+mod cases;
+#[cfg(test)]
 mod crew_tests;
 #[cfg(test)]
 mod hall_tests;
