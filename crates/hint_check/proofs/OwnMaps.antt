@@ -23,7 +23,7 @@ use Rattle.hint_check.specs.Own.{entry_of, near_entries, far_entries, own_clause
 use Rattle.hint_check.specs.Own.{SpansEndBy, SetsSlot, ListsAll}
 use Rattle.hint_check.proofs.OverlayMaps.{find-append, same_test, same_test_back}
 use Rattle.hint_check.specs.Literals.{has}
-use Rattle.hint_check.specs.Index.{Rows, is_listed, Lists, Indexes, Awaits}
+use Rattle.hint_check.specs.Index.{Links, is_listed, Lists, Indexes, Awaits}
 use Rattle.hint_check.proofs.Indexing.{Awaits-all, Awaits-next, Awaits-none}
 
 -- ---- look-ups in the map of far ids
@@ -492,7 +492,7 @@ slot-within slots count place slot h is = subst (λ s. s.end ≤ count) (sym is)
 
 -- ---- the index of all clauses, from the rows of none
 
-pub ListsAll-end : (before after : Rows) (entries : List (ℕ × List Literal))
+pub ListsAll-end : (before after : Links) (entries : List (ℕ × List Literal))
     → ((rest all : List (ℕ × List Literal)) → Awaits before (entries ++ rest) all → Awaits after rest all)
     → ListsAll before after entries
 unfolding ListsAll
@@ -517,11 +517,11 @@ any_default [] i d e below = absurd (omega arith)
 any_default (slot ∷ slots) zero d e below = refl
 any_default (slot ∷ slots) (suc i) d e below = any_default slots i d e (omega arith)
 
-regrouped : (rows : Rows) (xs ys zs all : List (ℕ × List Literal)) → Awaits rows ((xs ++ ys) ++ zs) all
+regrouped : (rows : Links) (xs ys zs all : List (ℕ × List Literal)) → Awaits rows ((xs ++ ys) ++ zs) all
     → Awaits rows (xs ++ (ys ++ zs)) all
 regrouped rows xs ys zs all h = subst (λ es. Awaits rows es all) (append_assoc xs ys zs) h
 
-pub near-next : (rows : Rows) (lits : List Literal) (id : ℕ) (slots : List Slot) (i : ℕ)
+pub near-next : (rows : Links) (lits : List Literal) (id : ℕ) (slots : List Slot) (i : ℕ)
     (rest all : List (ℕ × List Literal)) → i < length slots
     → Awaits rows (near_entries lits id (drop i slots) ++ rest) all
     → Awaits rows
@@ -536,14 +536,14 @@ near-next rows lits id slots i rest all within h =
     (let e : suc i ≡ i + 1 = omega arith in e)) h)
 
 -- the clause of one entry is listed
-pub listed-one : (before after : Rows) (id : ℕ) (clause : List Literal) (x : Option (List Literal))
+pub listed-one : (before after : Links) (id : ℕ) (clause : List Literal) (x : Option (List Literal))
     (rest all : List (ℕ × List Literal)) → x ≡ Some clause → Lists before after clause id
     → Awaits before (entry_of id x ++ rest) all → Awaits after rest all
 listed-one before after id clause x rest all is lists h =
     Awaits-next before after (id, clause) rest all
     (subst (λ o. Awaits before (entry_of id o ++ rest) all) is h) lists
 
-pub listed-none : (rows : Rows) (id : ℕ) (x : Option (List Literal)) (rest all : List (ℕ × List Literal))
+pub listed-none : (rows : Links) (id : ℕ) (x : Option (List Literal)) (rest all : List (ℕ × List Literal))
     → x ≡ None → Awaits rows (entry_of id x ++ rest) all → Awaits rows rest all
 listed-none rows id x rest all is h = subst (λ o. Awaits rows (entry_of id o ++ rest) all) is h
 
@@ -551,7 +551,7 @@ append-nil : {A : Type 0} (xs : List A) → xs ++ [] ≡ xs
 append-nil [] = refl
 append-nil (x ∷ xs) = ap (λ ys. x ∷ ys) (append-nil xs)
 
-pub own-Indexes : (start middle rows : Rows) (lits : List Literal) (first : ℕ) (slots : List Slot)
+pub own-Indexes : (start middle rows : Links) (lits : List Literal) (first : ℕ) (slots : List Slot)
     (far : List (ℕ × Span)) → ListsAll start middle (near_entries lits first slots)
     → ListsAll middle rows (far_entries lits far) → Indexes rows (fin.entries (own_clauses lits first slots far))
 unfolding ListsAll own_clauses Indexes

@@ -6,7 +6,7 @@ use Rattle.std.specs.Map.{lookup}
 use Rattle.std.specs.FinMap as map
 use Rattle.cnf_text.specs.Literal.{Literal}
 use Rattle.hint_check.specs.Live.{Live}
-use Rattle.hint_check.specs.Index.{Rows, Awaits}
+use Rattle.hint_check.specs.Index.{Links, Awaits}
 use Rattle.hint_check.specs.declared.own.Slot.{Slot}
 use Rattle.hint_check.specs.declared.own.Span.{Span}
 
@@ -63,6 +63,6 @@ SetsSlot first before after id slot =
     (q : ℕ) → first ≤ q → slot_at after (q - first) ≡ cond (nat_eq id q) slot (slot_at before (q - first))
 
 -- each id of these entries is listed for each literal of its clause, beside what was listed
-unfoldable pub ListsAll : Rows → Rows → List (ℕ × List Literal) → Type 0
+unfoldable pub ListsAll : Links → Links → List (ℕ × List Literal) → Type 0
 ListsAll before after entries =
     (rest all : List (ℕ × List Literal)) → Awaits before (entries ++ rest) all → Awaits after rest all
