@@ -1,12 +1,12 @@
 -- Chains of links: for each number the ids that were listed for it, from the last one back.
-use Rattle.std.proofs.Common.{◌+◌, ◌-◌, ◌<◌, ◌≤◌, length, get_or, take, arith, ◌≡◌, ℕ, true, false, nat_eq, List, [], ◌∷◌, ◌++◌, refl, sym, ap, ◌∙◌, inl, inr, subst}
+use Rattle.std.proofs.Common.{◌+◌, ◌-◌, ◌<◌, ◌≤◌, length, get_or, take, arith, ◌≡◌, ◌==◌, ◌&&◌, ℕ, Bool, true, false, nat_eq, List, [], ◌∷◌, ◌++◌, refl, sym, ap, ◌∙◌, inl, inr, subst}
 use Rattle.std.specs.Prelude.{if◌then◌else◌, nat_lt, slice_set, Some, cond}
 use Rattle.std.specs.Map.{lookup}
 use Rattle.std.specs.Option.{unwrap_or}
-use Rattle.std.proofs.lemmas.Bool.{cases_Bool, cases_lt, eqb-true, eq-eqb, ne_eqb, lt-ltb, le-ltb, both_ways, cond-true, cond-false}
+use Rattle.std.proofs.lemmas.Bool.{cases_Bool, cases_lt, eqb-true, eq-eqb, ne_eqb, lt-ltb, le-ltb, ltb-true, both_ways, and_parts, and_from, false_from_ne_true, cond-true, cond-false}
 use Rattle.std.proofs.lemmas.List.{take_more, take_all, take-append-le, get_or_append_left, get_or_push, length_push, get_or-set_same, get_or-set_other, append-nil, append_assoc}
 use Rattle.hint_check.specs.declared.index.Link.{Link}
-use Rattle.hint_check.specs.Index.{Links, no_link, ids_at, IsLast, LeadBack, last_place, NotesLast, SetsPlace, Adds}
+use Rattle.hint_check.specs.Index.{Links, no_link, ids_at, once, IsLast, LeadBack, last_place, NotesLast, SetsPlace, Adds}
 
 -- one more link
 pub ids_at-push : (links : Links) (x : Link) (n : ℕ)
@@ -20,9 +20,9 @@ ids_at-push (l ∷ links) x n =
     ∙ elim (nat_eq x.number n) as (λ b. (if b then x.id ∷ ids_at links n else ids_at links n) ++ own
     ≡ (if b then x.id ∷ (ids_at links n ++ own) else ids_at links n ++ own)) [ true ↦ refl | false ↦ refl ]
 
-pub Adds-push : (links : Links) (x : Link) → Adds links (links ++ x ∷ []) x.number x.id
-unfolding Adds
-Adds-push links x n = ids_at-push links x n
+-- whether the link in this place, counted from 1, is there and has the id
+abbrev pub has_id : Links → ℕ → ℕ → Bool
+has_id links place id = nat_lt 0 place && (get_or links (place - 1) no_link).id == id
 
 -- nothing is noted where there is no link
 pub LeadBack-none : LeadBack []
@@ -71,9 +71,9 @@ module _ (links : Links) (n : ℕ) (first ids : List ℕ) (place : ℕ) (link : 
   Walks-smaller = omega (arith, back.0, some)
 
   -- the ids from a link on: its own, and those from the one before it on
-  step-ids : ids_at (take place links) n ≡ link.id ∷ ids_at (take link.before links) n
+  pub first-id : ids_at (take place links) n ≡ link.id ∷ ids_at (take link.before links) n
   unfolding IsLast
-  step-ids =
+  first-id =
       ap (λ k. ids_at (take k links) n) (let e : place ≡ place - 1 + 1 = omega (arith, some) in e)
       ∙ ap (λ ls. ids_at ls n) (take_more links (place - 1) no_link (omega (arith, walks.0, some)))
       ∙ ap (λ l. ids_at (take (place - 1) links ++ l ∷ []) n) (sym is)
@@ -86,9 +86,19 @@ module _ (links : Links) (n : ℕ) (first ids : List ℕ) (place : ℕ) (link : 
   unfolding IsLast
   Walks-step = (
     omega (arith, back.0, walks.0),
-    append_assoc ids (link.id ∷ []) (ids_at (take link.before links) n) ∙ ap (λ more. ids ++ more) (sym step-ids) ∙ walks.1,
+    append_assoc ids (link.id ∷ []) (ids_at (take link.before links) n) ∙ ap (λ more. ids ++ more) (sym first-id) ∙ walks.1,
     back.2,
   )
+
+-- where a number's last link stands
+module _ (links : Links) (near : List ℕ) (far : List (ℕ × ℕ)) (notes : NotesLast links near far) (n : ℕ) where
+  pub start-ids : ids_at (take (last_place near far n) links) n ≡ ids_at links n
+  unfolding NotesLast IsLast
+  start-ids = (notes n).1 ∙ ap (λ ls. ids_at ls n) (take_all (length links) links (omega arith))
+
+  pub start-within : last_place near far n ≤ length links
+  unfolding NotesLast IsLast
+  start-within = (notes n).0
 
 -- one more link, which leads back to the last one of its number
 module _ (links : Links) (near : List ℕ) (far : List (ℕ × ℕ)) (x : Link) (leads : LeadBack links) (notes : NotesLast links near far)
@@ -206,3 +216,65 @@ module _ (near : List ℕ) (far : List (ℕ × ℕ)) (number place : ℕ) where
                   ∙ sym (far-place near far n over) ∙ sym (cond-false (nat_eq number n) place (last_place near far n) apart)
             ]
       ]
+
+-- ---- an id listed once
+
+none-listed : (links : Links) (n id : ℕ) → once id (ids_at (take 0 links) n) ≡ id ∷ ids_at (take 0 links) n
+none-listed links n id = refl
+
+module _ (links : Links) (near : List ℕ) (far : List (ℕ × ℕ)) (leads : LeadBack links) (notes : NotesLast links near far) (n id : ℕ) where
+  abbrev last : Link
+  last = get_or links (last_place near far n - 1) no_link
+
+  -- where the number has a link, its ids are the last link's and others
+  last-first : 0 < last_place near far n → (more : List ℕ) × (ids_at links n ≡ last.id ∷ more)
+  last-first some =
+      let walks = Walks-start links near far n (last_place near far n) [] notes refl in (
+        ids_at (take last.before links) n,
+        sym (start-ids links near far notes n) ∙ first-id links n [] [] (last_place near far n) last leads some walks refl,
+      )
+
+  pub once-there : has_id links (last_place near far n) id ≡ true → once id (ids_at links n) ≡ ids_at links n
+  once-there there =
+      let parts = and_parts (nat_lt 0 (last_place near far n)) (last.id == id) there in
+      let found = last-first (ltb-true 0 (last_place near far n) parts.0) in
+      ap (once id) found.1 ∙ cond-true (last.id == id) (last.id ∷ found.0) (id ∷ last.id ∷ found.0) parts.1 ∙ sym found.1
+
+  pub once-more : has_id links (last_place near far n) id ≡ false → once id (ids_at links n) ≡ id ∷ ids_at links n
+  once-more apart =
+      elim (cases_lt 0 (last_place near far n)) [
+        | inl some ↦
+            let found = last-first some in
+            let differ : (last.id == id) ≡ false =
+            false_from_ne_true (last.id == id) (λ same. both_ways (has_id links (last_place near far n) id) apart
+            (and_from (nat_lt 0 (last_place near far n)) (last.id == id) (lt-ltb 0 (last_place near far n) some) same)) in
+            ap (once id) found.1 ∙ cond-false (last.id == id) (last.id ∷ found.0) (id ∷ last.id ∷ found.0) differ ∙ ap (λ ids. id ∷ ids) (sym found.1)
+        | inr none ↦
+            let empty : ids_at links n ≡ [] = sym (start-ids links near far notes n)
+            ∙ ap (λ k. ids_at (take k links) n) (let e : last_place near far n ≡ 0 = omega (arith, none) in e) in
+            ap (once id) empty ∙ ap (λ ids. id ∷ ids) (sym empty)
+      ]
+
+-- one more link lists its id, where the last one has another
+pub Adds-push : (links : Links) (x : Link) → once x.id (ids_at links x.number) ≡ x.id ∷ ids_at links x.number
+    → Adds links (links ++ x ∷ []) x.number x.id
+unfolding Adds
+Adds-push links x more n =
+    ids_at-push links x n
+    ∙ elim (cases_Bool (nat_eq x.number n)) [
+      | inl this ↦ cond-true (nat_eq x.number n) (x.id ∷ ids_at links n) (ids_at links n) this
+          ∙ ap (λ k. x.id ∷ ids_at links k) (sym (eqb-true x.number n this)) ∙ sym more ∙ ap (λ k. once x.id (ids_at links k)) (eqb-true x.number n this)
+          ∙ sym (cond-true (nat_eq x.number n) (once x.id (ids_at links n)) (ids_at links n) this)
+      | inr other ↦ cond-false (nat_eq x.number n) (x.id ∷ ids_at links n) (ids_at links n) other
+          ∙ sym (cond-false (nat_eq x.number n) (once x.id (ids_at links n)) (ids_at links n) other)
+    ]
+
+-- nothing is added where the id is listed as the last one
+pub Adds-nothing : (links : Links) (number id : ℕ) → once id (ids_at links number) ≡ ids_at links number → Adds links links number id
+unfolding Adds
+Adds-nothing links number id there n =
+    elim (cases_Bool (nat_eq number n)) [
+      | inl this ↦ ap (ids_at links) (sym (eqb-true number n this)) ∙ sym there ∙ ap (λ k. once id (ids_at links k)) (eqb-true number n this)
+          ∙ sym (cond-true (nat_eq number n) (once id (ids_at links n)) (ids_at links n) this)
+      | inr other ↦ sym (cond-false (nat_eq number n) (once id (ids_at links n)) (ids_at links n) other)
+    ]

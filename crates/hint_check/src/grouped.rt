@@ -1,19 +1,19 @@
 //! The ids for which a step has groups of hints.
 ghost use Rattle.std.specs.Prelude.{◌≡◌, ◌==◌, nat_eq, IfOk};
-ghost use Rattle.std.specs.HashSet.{contains};
+ghost use Rattle.std.specs.BTreeSet.{contains};
 ghost use Rattle.std.specs.List.{list_any};
 ghost use Rattle.std.specs.Option.{IfSome};
 ghost use Rattle.hint_check.specs.Grouped.{Names, has_group};
 
 use lrat_text::StepBuffer;
 use std::alloc::{AllocError, Global};
-use std::collections::HashSet;
+use std::collections::BTreeSet;
 
 /// Up to this many groups are looked at one by one, with no set.
 const FEW: usize = 8;
 
 /// The candidates of a step's groups, to be looked up in one step each, and no set where the groups are few.
-pub fn candidates(alloc: Global, step: &StepBuffer) -> Result<Option<HashSet<u64>>, AllocError>
+pub fn candidates(alloc: Global, step: &StepBuffer) -> Result<Option<BTreeSet<u64>>, AllocError>
     ensures { IfOk result (λ ids. IfSome ids (λ set. Names set step.now.groups)) }
 {
     if step.group_count() <= FEW {
@@ -22,10 +22,10 @@ pub fn candidates(alloc: Global, step: &StepBuffer) -> Result<Option<HashSet<u64
     Ok(Some(candidate_set(alloc, step)?))
 }
 
-fn candidate_set(alloc: Global, step: &StepBuffer) -> Result<HashSet<u64>, AllocError>
+fn candidate_set(alloc: Global, step: &StepBuffer) -> Result<BTreeSet<u64>, AllocError>
     ensures { IfOk result (λ ids. Names ids step.now.groups) }
 {
-    let mut ids = HashSet::new(alloc);
+    let mut ids = BTreeSet::new(alloc);
     for place in 0..step.group_count() {
         let (candidate, _) = step.group(place);
         ids.insert(candidate)?;
@@ -34,7 +34,7 @@ fn candidate_set(alloc: Global, step: &StepBuffer) -> Result<HashSet<u64>, Alloc
 }
 
 /// Whether a step has a group for an id. The set is that of the step's candidates.
-pub fn has_group(grouped: &Option<HashSet<u64>>, step: &StepBuffer, id: u64) -> bool
+pub fn has_group(grouped: &Option<BTreeSet<u64>>, step: &StepBuffer, id: u64) -> bool
     requires { IfSome grouped.now (λ set. Names set step.now.groups) }
     ensures { result ≡ has_group step.now.groups id }
 {

@@ -143,9 +143,10 @@ impl OwnClauses {
         self.held = held_after(self.held, 0, cleared.saturating_add(taken));
     }
 
-    /// How many literals the clauses have, or some more.
-    pub(crate) fn held(&self) -> usize {
-        self.held
+    /// What it costs to make an index: a turn for each slot, and a link for each literal that the
+    /// clauses have, or some more.
+    pub(crate) fn index_cost(&self) -> usize {
+        self.held.saturating_add(self.slots.len())
     }
 
     /// The index of the clauses by their literals.

@@ -1,3 +1,5 @@
+use Rattle.std.proofs.Common.{Some}
+use Rattle.hint_check.proofs.OwnMaps.{updated}
 use Rattle.hint_check.proofs.Chains.{SetsPlace-near, SetsPlace-far}
 use Rattle.hint_check.proofs.index.set_place.Goals as goal
 
@@ -9,4 +11,5 @@ returns-in_ok-make_near-clause-set c =
 pub returns-in_ok-insert-clause-set : goal.returns-in_ok-insert-clause-set
 returns-in_ok-insert-clause-set c =
     SetsPlace-far c.args.near.now.items c.args.far.now.entries c.args.number c.args.place c.insert.new.self.entries
-    c.if-number-lt-NEAR.false c.in_ok-insert.ensures.updates.0
+    c.if-number-lt-NEAR.false
+    (updated c.args.far.now.entries c.insert.new.self.entries c.args.number (Some c.args.place) c.in_ok-insert.ensures.updates.0)
