@@ -118,12 +118,12 @@ impl OwnClauses {
         let reach = reach(self.slots.len() as u64, self.inserted);
         match near_place(self.first, id, reach, end) {
             Some(place) => {
-                make_slots(&mut self.slots, place)?;
-                self.held = held_after(self.held, lits.len(), slot_len(self.slots[place]));
-                self.slots[place] = Slot {
+                let slot = Slot {
                     start: start as u32,
                     end: end as u32,
                 };
+                let replaced = put_slot(&mut self.slots, place, slot)?;
+                self.held = held_after(self.held, lits.len(), replaced);
             }
             None => {
                 let replaced = put_far(&mut self.far, id, Span { start, end })?;
@@ -223,6 +223,9 @@ fn far_clause<'l>(lits: &'l [Lit], far: &BTreeMap<u64, Span>, id: u64) -> Option
     requires { SpansEndBy far.now.entries (length lits.now) }
     ensures { option_copied result ≡ far_at lits.now far.now.entries id }
 {
+    if far.is_empty() {
+        return None;
+    }
     match span_of(far, id) {
         Some(span) => Some(span_clause(lits, span)),
         None => None,
@@ -280,6 +283,26 @@ fn make_slots(slots: &mut Vec<Slot>, place: usize) -> Result<(), AllocError>
     Ok(())
 }
 
+/// Puts a slot at a place, which mostly is the next one, and answers how many literals it had before.
+#[inline(always)]
+fn put_slot(slots: &mut Vec<Slot>, place: usize, slot: Slot) -> Result<usize, AllocError>
+    requires { place + 1 < 2 ^ 64 }
+    ensures put { OnOk result ((i : ℕ) →
+        slot_at slots.new.items i ≡ cond (nat_eq place i) slot (slot_at slots.old.items i)) }
+    ensures bound { length slots.new.items ≤ max (length slots.old.items) (place + 1) }
+    ensures same { OnErr result ((i : ℕ)
+        → slot_at slots.new.items i ≡ slot_at slots.old.items i) }
+{
+    if place == slots.len() {
+        slots.push(slot)?;
+        return Ok(0);
+    }
+    make_slots(slots, place)?;
+    let replaced = slot_len(slots[place]);
+    slots[place] = slot;
+    Ok(replaced)
+}
+
 /// Takes the clause out of the slot of an id, where there is one, and answers how many literals it
 /// had.
 fn clear_slot(slots: &mut Vec<Slot>, first: u64, id: u64) -> usize
@@ -319,6 +342,9 @@ fn take_far(far: &mut BTreeMap<u64, Span>, id: u64) -> usize
     ensures ends { (count : ℕ) → SpansEndBy far.old.entries count
         → SpansEndBy far.new.entries count }
 {
+    if far.is_empty() {
+        return 0;
+    }
     span_len(far.remove(&id))
 }
 
