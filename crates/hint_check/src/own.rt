@@ -80,6 +80,7 @@ impl OwnClauses {
     ghost use Rattle.std.specs.Option.{option_copied};
     ghost use Rattle.std.specs.FinMap as map;
     ghost use Rattle.hint_check.specs.Index.{Indexes};
+    ghost use Rattle.hint_check.specs.View.{own_seen, EndsWithin};
 
     /// No clause is there. The ids above the count may have slots.
     pub fn new(alloc: Global, count: usize) -> OwnClauses
@@ -100,9 +101,20 @@ impl OwnClauses {
     pub fn get(&self, id: u64) -> Option<&[Lit]>
         ensures { option_copied result ≡ map.get self.now id }
     {
-        match near_clause(&self.lits, &self.slots, self.first, id) {
-            Some(lits) => Some(lits),
-            None => far_clause(&self.lits, &self.far, id),
+        self.view().get(id)
+    }
+
+    /// The clauses as they stand, to be held by value.
+    #[inline(always)]
+    pub fn view(&self) -> OwnView<'_>
+        ensures seen { own_seen result ≡ self.now }
+        ensures ends { EndsWithin result }
+    {
+        OwnView {
+            first: self.first,
+            lits: &self.lits,
+            slots: &self.slots,
+            far: &self.far,
         }
     }
 
@@ -156,6 +168,34 @@ impl OwnClauses {
         list_near(&mut index, &self.lits, &self.slots, self.first)?;
         list_far(&mut index, &self.lits, &self.far)?;
         Ok(index)
+    }
+}
+
+/// The clauses as they stand: what looks up one after another holds them by value.
+#[derive(Clone, Copy)]
+pub struct OwnView<'o> {
+    first: u64,
+    lits: &'o [Lit],
+    slots: &'o [Slot],
+    far: &'o BTreeMap<u64, Span>,
+}
+
+impl<'o> OwnView<'o> {
+    ghost use Rattle.std.specs.Prelude.{◌≡◌};
+    ghost use Rattle.std.specs.Option.{option_copied};
+    ghost use Rattle.std.specs.FinMap as map;
+    ghost use Rattle.hint_check.specs.View.{own_seen, EndsWithin};
+
+    /// The literals of the clause of an id.
+    #[inline(always)]
+    pub fn get(self, id: u64) -> Option<&'o [Lit]>
+        requires { EndsWithin self }
+        ensures { option_copied result ≡ map.get (own_seen self.entry) id }
+    {
+        match near_clause(self.lits, self.slots, self.first, id) {
+            Some(lits) => Some(lits),
+            None => far_clause(self.lits, self.far, id),
+        }
     }
 }
 
