@@ -12,6 +12,7 @@ use Rattle.std.specs.declared.cmp.Ordering.TheVariants.{Less, Equal, Greater}
 use Rattle.std.specs.Cmp.{nat_cmp_total}
 use Rattle.std.specs.FinMap as fin
 use Rattle.std.proofs.lemmas.Bool.{cases_Bool, cases_lt, both_ways, cond-true, cond-false, eqb-true}
+use Rattle.std.proofs.lemmas.Bool.Decides.{nat_tests}
 use Rattle.std.proofs.lemmas.Bool.{eq-eqb, ne_eqb, lt-ltb, le-ltb, lt-leb, le-leb}
 use Rattle.std.proofs.lemmas.List.{get_or-set_same, get_or-set_other, take-append-le, drop-append-le, length-drop}
 use Rattle.std.proofs.Math.Seq.{drop-append_seam, take-length}
@@ -224,29 +225,46 @@ near-same : (lits : List Literal) (first : ℕ) (before after : List Slot)
 near-same lits first before after same q =
     ap (λ slot. if nat_lt q first then None else slot_clause lits slot) (same (q - first))
 
--- a slot that is there is written
-pub SetsSlot-write : (first : ℕ) (before after : List Slot) (place id : ℕ) (slot : Slot) → id ≡ first + place
-    → place < length before → after ≡ slice_set before place slot → SetsSlot first before after id slot
-unfolding SetsSlot
-SetsSlot-write first before after place id slot is room set q high =
-    ap (λ slots. slot_at slots (q - first)) set
-    ∙ elim (cases_Bool (nat_eq id q)) [
-      | inl here ↦ let e : id ≡ q = eqb-true id q here in
-          ap (slot_at (slice_set before place slot)) (let p : q - first ≡ place = omega (arith, e, is) in p)
-          ∙ get_or-set_same before place slot no_slot room
-          ∙ sym (cond-true (nat_eq id q) slot (slot_at before (q - first)) here)
-      | inr apart ↦ get_or-set_other before place (q - first) slot no_slot
-          (λ e. let same : id ≡ q = omega (arith, e, is, high) in both_ways (nat_eq id q) apart (eq-eqb id q same))
-          ∙ sym (cond-false (nat_eq id q) slot (slot_at before (q - first)) apart)
-    ]
-
--- the slots may have grown before
-pub SetsSlot-made : (first : ℕ) (before made after : List Slot) (id : ℕ) (slot : Slot)
-    → ((i : ℕ) → slot_at made i ≡ slot_at before i) → SetsSlot first made after id slot
+-- the slot at one place is set, and no other
+pub SetsSlot-put : (first : ℕ) (before after : List Slot) (place id : ℕ) (slot : Slot) → id ≡ first + place
+    → ((i : ℕ) → slot_at after i ≡ cond (nat_eq place i) slot (slot_at before i))
     → SetsSlot first before after id slot
 unfolding SetsSlot
-SetsSlot-made first before made after id slot same sets q high = sets q high
-    ∙ ap (cond (nat_eq id q) slot) (same (q - first))
+SetsSlot-put first before after place id slot is put q high =
+    put (q - first)
+    ∙ ap (λ b. cond b slot (slot_at before (q - first)))
+    (let same : nat_eq place (q - first) ≡ nat_eq id q = grind (arith, nat_tests) in same)
+
+-- a slot that is there is written
+pub slot-written : (before : List Slot) (place i : ℕ) (slot : Slot) → place < length before
+    → slot_at (slice_set before place slot) i ≡ cond (nat_eq place i) slot (slot_at before i)
+slot-written before place i slot room =
+    elim (cases_Bool (nat_eq place i)) [
+      | inl here ↦ ap (slot_at (slice_set before place slot)) (sym (eqb-true place i here))
+          ∙ get_or-set_same before place slot no_slot room
+          ∙ sym (cond-true (nat_eq place i) slot (slot_at before i) here)
+      | inr apart ↦ get_or-set_other before place i slot no_slot
+          (λ e. both_ways (nat_eq place i) apart (eq-eqb place i (sym e)))
+          ∙ sym (cond-false (nat_eq place i) slot (slot_at before i) apart)
+    ]
+
+-- the next slot is put behind the others
+pub slot-pushed : (before : List Slot) (slot : Slot) (i : ℕ)
+    → slot_at (before ++ slot ∷ []) i ≡ cond (nat_eq (length before) i) slot (slot_at before i)
+slot-pushed [] slot zero = refl
+slot-pushed [] slot (suc i) = sym (cond-false (nat_eq 0 (suc i)) slot no_slot (ne_eqb 0 (suc i) (λ e. omega (arith, e))))
+slot-pushed (s ∷ before) slot zero =
+    sym (cond-false (nat_eq (suc (length before)) 0) slot s (ne_eqb (suc (length before)) 0 (λ e. omega (arith, e))))
+slot-pushed (s ∷ before) slot (suc i) =
+    slot-pushed before slot i
+    ∙ ap (λ b. cond b slot (slot_at before i))
+    (let same : nat_eq (length before) i ≡ nat_eq (suc (length before)) (suc i) = grind (arith, nat_tests) in same)
+
+pub SetsSlot-write : (first : ℕ) (before after : List Slot) (place id : ℕ) (slot : Slot) → id ≡ first + place
+    → place < length before → after ≡ slice_set before place slot → SetsSlot first before after id slot
+SetsSlot-write first before after place id slot is room set =
+    SetsSlot-put first before after place id slot is
+    (λ i. ap (λ slots. slot_at slots i) set ∙ slot-written before place i slot room)
 
 past : (slots : List Slot) (i : ℕ) → length slots ≤ i → slot_at slots i ≡ no_slot
 past [] i h = refl

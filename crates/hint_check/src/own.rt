@@ -80,6 +80,7 @@ impl OwnClauses {
     ghost use Rattle.std.specs.Option.{option_copied};
     ghost use Rattle.std.specs.FinMap as map;
     ghost use Rattle.hint_check.specs.Index.{Indexes};
+    ghost use Rattle.hint_check.specs.View.{own_seen, EndsWithin};
 
     /// No clause is there. The ids above the count may have slots.
     pub fn new(alloc: Global, count: usize) -> OwnClauses
@@ -100,9 +101,20 @@ impl OwnClauses {
     pub fn get(&self, id: u64) -> Option<&[Lit]>
         ensures { option_copied result ≡ map.get self.now id }
     {
-        match near_clause(&self.lits, &self.slots, self.first, id) {
-            Some(lits) => Some(lits),
-            None => far_clause(&self.lits, &self.far, id),
+        self.view().get(id)
+    }
+
+    /// The clauses as they stand, to be held by value.
+    #[inline(always)]
+    pub fn view(&self) -> OwnView<'_>
+        ensures seen { own_seen result ≡ self.now }
+        ensures ends { EndsWithin result }
+    {
+        OwnView {
+            first: self.first,
+            lits: &self.lits,
+            slots: &self.slots,
+            far: &self.far,
         }
     }
 
@@ -118,12 +130,12 @@ impl OwnClauses {
         let reach = reach(self.slots.len() as u64, self.inserted);
         match near_place(self.first, id, reach, end) {
             Some(place) => {
-                make_slots(&mut self.slots, place)?;
-                self.held = held_after(self.held, lits.len(), slot_len(self.slots[place]));
-                self.slots[place] = Slot {
+                let slot = Slot {
                     start: start as u32,
                     end: end as u32,
                 };
+                let replaced = put_slot(&mut self.slots, place, slot)?;
+                self.held = held_after(self.held, lits.len(), replaced);
             }
             None => {
                 let replaced = put_far(&mut self.far, id, Span { start, end })?;
@@ -157,6 +169,34 @@ impl OwnClauses {
         list_near(&mut index, &self.lits, &self.slots, self.first)?;
         list_far(&mut index, &self.lits, &self.far)?;
         Ok(index)
+    }
+}
+
+/// The clauses as they stand: what looks up one after another holds them by value.
+#[derive(Clone, Copy)]
+pub struct OwnView<'o> {
+    first: u64,
+    lits: &'o [Lit],
+    slots: &'o [Slot],
+    far: &'o BTreeMap<u64, Span>,
+}
+
+impl<'o> OwnView<'o> {
+    ghost use Rattle.std.specs.Prelude.{◌≡◌};
+    ghost use Rattle.std.specs.Option.{option_copied};
+    ghost use Rattle.std.specs.FinMap as map;
+    ghost use Rattle.hint_check.specs.View.{own_seen, EndsWithin};
+
+    /// The literals of the clause of an id.
+    #[inline(always)]
+    pub fn get(self, id: u64) -> Option<&'o [Lit]>
+        requires { EndsWithin self }
+        ensures { option_copied result ≡ map.get (own_seen self.entry) id }
+    {
+        match near_clause(self.lits, self.slots, self.first, id) {
+            Some(lits) => Some(lits),
+            None => far_clause(self.lits, self.far, id),
+        }
     }
 }
 
@@ -224,6 +264,9 @@ fn far_clause<'l>(lits: &'l [Lit], far: &BTreeMap<u64, Span>, id: u64) -> Option
     requires { SpansEndBy far.now.entries (length lits.now) }
     ensures { option_copied result ≡ far_at lits.now far.now.entries id }
 {
+    if far.is_empty() {
+        return None;
+    }
     match span_of(far, id) {
         Some(span) => Some(span_clause(lits, span)),
         None => None,
@@ -281,6 +324,26 @@ fn make_slots(slots: &mut Vec<Slot>, place: usize) -> Result<(), AllocError>
     Ok(())
 }
 
+/// Puts a slot at a place, which mostly is the next one, and answers how many literals it had before.
+#[inline(always)]
+fn put_slot(slots: &mut Vec<Slot>, place: usize, slot: Slot) -> Result<usize, AllocError>
+    requires { place + 1 < 2 ^ 64 }
+    ensures put { OnOk result ((i : ℕ) →
+        slot_at slots.new.items i ≡ cond (nat_eq place i) slot (slot_at slots.old.items i)) }
+    ensures bound { length slots.new.items ≤ max (length slots.old.items) (place + 1) }
+    ensures same { OnErr result ((i : ℕ)
+        → slot_at slots.new.items i ≡ slot_at slots.old.items i) }
+{
+    if place == slots.len() {
+        slots.push(slot)?;
+        return Ok(0);
+    }
+    make_slots(slots, place)?;
+    let replaced = slot_len(slots[place]);
+    slots[place] = slot;
+    Ok(replaced)
+}
+
 /// Takes the clause out of the slot of an id, where there is one, and answers how many literals it
 /// had.
 fn clear_slot(slots: &mut Vec<Slot>, first: u64, id: u64) -> usize
@@ -320,6 +383,9 @@ fn take_far(far: &mut BTreeMap<u64, Span>, id: u64) -> usize
     ensures ends { (count : ℕ) → SpansEndBy far.old.entries count
         → SpansEndBy far.new.entries count }
 {
+    if far.is_empty() {
+        return 0;
+    }
     span_len(far.remove(&id))
 }
 

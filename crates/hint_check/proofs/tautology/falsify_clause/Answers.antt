@@ -1,10 +1,49 @@
-use Rattle.std.proofs.Common.{ap, ◌∙◌}
-use Rattle.hint_check.specs.Literals.{meets, negations, with_literals}
-use Rattle.hint_check.proofs.Candidates.{meets-negations}
+use Rattle.std.proofs.Common.{◌+◌, ◌||◌, drop, sym, ap, ◌∙◌, arith}
+use Rattle.std.proofs.lemmas.List.{at_drop_all}
+use Rattle.cnf_text.specs.Literal.{negation}
+use Rattle.hint_check.specs.Literals.{has, meets, negations, with_literal, with_literals}
+use Rattle.hint_check.specs.Addition.{no_literals}
+use Rattle.hint_check.proofs.Candidates.{at_literal, with_literals-none, with_literals-more}
+use Rattle.hint_check.proofs.Candidates.{meets-negations, found-turn, found-end}
 use Rattle.hint_check.proofs.tautology.falsify_clause.Goals as goal
+
+pub loop-lit-init : goal.loop-lit-init
+loop-lit-init c = record {
+  set = ap (λ set. with_literals set (negations c.args.clause.now)) c.clear.ensures;
+  tautology = meets-negations c.args.clause.now;
+}
+
+pub loop-lit-preserved : goal.loop-lit-preserved
+loop-lit-preserved c =
+    let clause = c.args.clause.now in
+    let i = c.loop-lit.lit-index in
+    let l = c.lit-item.result in
+    let before = has c.loop-lit.assignment in
+    let full = with_literals no_literals (negations clause) in
+    let rest = drop (i + 1) clause in
+    let here = sym (at_literal (λ ls. with_literals before (negations ls)) clause i l c.loop-lit-test.true c.lit-item.is)
+    ∙ c.loop-lit.invariant.set in
+    record {
+      set = ap (λ set. with_literals set (negations rest))
+          (c.in_ok-insert.ensures.set ∙ ap (with_literal before) c.negated.ensures)
+          ∙ sym (with_literals-more before (negation l) (negations rest)) ∙ here;
+      tautology = found-turn full before c.loop-lit.found _ l rest here
+          (ap (λ b. c.loop-lit.found || b) c.contains-found.ensures)
+          ∙ sym (at_literal (λ ls. c.loop-lit.found || meets full ls) clause i l c.loop-lit-test.true c.lit-item.is)
+          ∙ c.loop-lit.invariant.tautology;
+    }
 
 pub returns-clause-tautology : goal.returns-clause-tautology
 returns-clause-tautology c =
     let clause = c.args.clause.now in
-    c.meets.ensures ∙ ap (λ set. meets set clause) (c.in_ok-falsify.ensures ∙ ap (λ set. with_literals set (negations clause)) c.clear.ensures)
-    ∙ meets-negations clause
+    let full = with_literals no_literals (negations clause) in
+    sym (found-end full c.loop-lit.found)
+    ∙ sym (at_drop_all (λ ls. c.loop-lit.found || meets full ls) clause c.loop-lit.lit-index (omega arith))
+    ∙ c.loop-lit.invariant.tautology
+
+pub returns-clause-set : goal.returns-clause-set
+returns-clause-set c =
+    let before = has c.loop-lit.assignment in
+    sym (with_literals-none before)
+    ∙ sym (at_drop_all (λ ls. with_literals before (negations ls)) c.args.clause.now c.loop-lit.lit-index (omega arith))
+    ∙ c.loop-lit.invariant.set

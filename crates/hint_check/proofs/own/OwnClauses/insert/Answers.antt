@@ -1,40 +1,39 @@
-use Rattle.std.proofs.Common.{◌≡◌, ◌+◌, ◌≤◌, length, slice_set, refl, sym, ap, ◌∙◌, subst, arith}
+use Rattle.std.proofs.Common.{◌≡◌, ◌+◌, ◌≤◌, length, refl, sym, ap, ◌∙◌, subst, arith}
 use Rattle.std.specs.FinMap as fin
 use Rattle.std.proofs.lemmas.List.{length-append}
-use Rattle.std.proofs.Math.ListN.{length-set}
 use Rattle.hint_check.specs.declared.own.Slot.{Slot}
 use Rattle.hint_check.specs.Own.{no_slot, own_clauses, SlotsEndBy, SpansEndBy}
 use Rattle.hint_check.proofs.OverlayMaps.{OnErr-always}
-use Rattle.hint_check.proofs.OwnMaps.{own-same, own-insert-near, own-insert-far, SetsSlot-made}
-use Rattle.hint_check.proofs.OwnMaps.{SetsSlot-write, SlotsEndBy-same, SlotsEndBy-set}
+use Rattle.hint_check.proofs.OwnMaps.{own-same, own-insert-near, own-insert-far, SetsSlot-put}
+use Rattle.hint_check.proofs.OwnMaps.{SlotsEndBy-same, SlotsEndBy-set}
 use Rattle.hint_check.proofs.OwnMaps.{SpansEndBy-more}
 use Rattle.hint_check.proofs.own.OwnClauses.insert.Goals as goal
 
-pub invariant_of-self-in_err-make_slots-in-Some : goal.invariant_of-self-in_err-make_slots-in-Some
-invariant_of-self-in_err-make_slots-in-Some c =
+pub invariant_of-self-in_err-replaced-in-Some : goal.invariant_of-self-in_err-replaced-in-Some
+invariant_of-self-in_err-replaced-in-Some c =
     let inside = c.self.inside in
     let count = length inside.lits.items in
     let more = length c.args.lits.now in
     let grown = ap length c.in_ok-extend_from_slice.ensures.items
     ∙ length-append inside.lits.items c.args.lits.now in
-    let made = c.make_slots.new.slots.items in (
+    let made = c.put_slot.new.slots.items in (
       subst (SlotsEndBy made) (sym grown)
-          (SlotsEndBy-same inside.slots.items made count more c.self.invariant.0 c.make_slots.ensures.same),
+          (SlotsEndBy-same inside.slots.items made count more c.self.invariant.0 c.in_err-replaced-in-Some.ensures.same),
       subst (SpansEndBy inside.far.entries) (sym grown)
           (SpansEndBy-more inside.far.entries count more c.self.invariant.1),
-      let bound = c.self.invariant.2 in let longer = c.make_slots.ensures.bound in let place =
+      let bound = c.self.invariant.2 in let longer = c.put_slot.ensures.bound in let place =
           c.in-Some.ensures in omega (arith, bound, longer, place),
     )
 
-pub returns-in_err-make_slots-in-Some-clause-err : goal.returns-in_err-make_slots-in-Some-clause-err
-returns-in_err-make_slots-in-Some-clause-err c =
+pub returns-in_err-replaced-in-Some-clause-err : goal.returns-in_err-replaced-in-Some-clause-err
+returns-in_err-replaced-in-Some-clause-err c =
     let inside = c.self.inside in
-    let made = c.make_slots.new.slots.items in
+    let made = c.put_slot.new.slots.items in
     let far = inside.far.entries in
-    OnErr-always c.from_residual-in_err-make_slots-in-Some.result _
+    OnErr-always c.from_residual-in_err-replaced-in-Some.result _
     (ap (λ all. own_clauses all inside.first made far) c.in_ok-extend_from_slice.ensures.items
     ∙ own-same inside.lits.items c.args.lits.now inside.first inside.slots.items made far far c.self.invariant.0
-    c.self.invariant.1 c.make_slots.ensures.same refl
+    c.self.invariant.1 c.in_err-replaced-in-Some.ensures.same refl
     ∙ c.self.view_is)
 
 pub invariant_of-self-in-Some : goal.invariant_of-self-in-Some
@@ -45,22 +44,19 @@ invariant_of-self-in-Some c =
     let grown = ap length c.in_ok-extend_from_slice.ensures.items
     ∙ length-append inside.lits.items c.args.lits.now in
     let slots = inside.slots.items in
-    let made = c.make_slots.new.slots.items in
+    let set = c.put_slot.new.slots.items in
     let slot : Slot = record { start = c.len-start.result; end = c.len-end.result } in
-    let set = slice_set made c.in-Some.place slot in
     let place = c.in-Some.ensures in
-    let sets = SetsSlot-made inside.first slots made set c.args.id slot c.make_slots.ensures.same
-    (SetsSlot-write inside.first made set c.in-Some.place c.args.id slot place.0
-    c.in_ok-make_slots-in-Some.ensures.room refl) in
+    let sets = SetsSlot-put inside.first slots set c.in-Some.place c.args.id slot place.0
+    c.in_ok-replaced-in-Some.ensures.put in
     let at_end : slot.end ≤ count + more =
     omega (arith, c.len-end.ensures, grown, c.extend_from_slice.new.self.ok.0) in (
       subst (SlotsEndBy set) (sym grown)
           (SlotsEndBy-set inside.first slots set c.args.id slot count more c.self.invariant.0 sets at_end),
       subst (SpansEndBy inside.far.entries) (sym grown)
           (SpansEndBy-more inside.far.entries count more c.self.invariant.1),
-      let same = length-set made c.in-Some.place slot in
-          let bound = c.self.invariant.2 in let longer =
-          c.make_slots.ensures.bound in omega (arith, bound, longer, place, same),
+      let bound = c.self.invariant.2 in let longer =
+          c.put_slot.ensures.bound in omega (arith, bound, longer, place),
     )
 
 pub invariant_of-self-in_err-replaced-in-None : goal.invariant_of-self-in_err-replaced-in-None
@@ -114,21 +110,19 @@ invariant_of-self-in-None c =
           c.self.invariant.2 in omega (arith, bound, same),
     )
 
-pub returns-in_ok-make_slots-in-Some-clause-ok : goal.returns-in_ok-make_slots-in-Some-clause-ok
-returns-in_ok-make_slots-in-Some-clause-ok c =
+pub returns-in_ok-replaced-in-Some-clause-ok : goal.returns-in_ok-replaced-in-Some-clause-ok
+returns-in_ok-replaced-in-Some-clause-ok c =
     let inside = c.self.inside in
     let all = c.extend_from_slice.new.self in
     let grown = ap length c.in_ok-extend_from_slice.ensures.items
     ∙ length-append inside.lits.items c.args.lits.now in
     let slots = inside.slots.items in
-    let made = c.make_slots.new.slots.items in
+    let set = c.put_slot.new.slots.items in
     let slot : Slot = record { start = c.len-start.result; end = c.len-end.result } in
-    let set = slice_set made c.in-Some.place slot in
     let far = inside.far.entries in
     let place = c.in-Some.ensures in
-    let sets = SetsSlot-made inside.first slots made set c.args.id slot c.make_slots.ensures.same
-    (SetsSlot-write inside.first made set c.in-Some.place c.args.id slot place.0
-    c.in_ok-make_slots-in-Some.ensures.room refl) in
+    let sets = SetsSlot-put inside.first slots set c.in-Some.place c.args.id slot place.0
+    c.in_ok-replaced-in-Some.ensures.put in
     ap (λ ls. own_clauses ls inside.first set far) c.in_ok-extend_from_slice.ensures.items
     ∙ own-insert-near inside.lits.items c.args.lits.now inside.first slots set far far c.self.invariant.0
     c.self.invariant.1 c.args.id slot
