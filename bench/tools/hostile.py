@@ -11,6 +11,8 @@ Lines = Iterator[str]
 # Each formula begins with these four clauses, which refute themselves.
 CORE = ["1 2 0", "1 -2 0", "-1 2 0", "-1 -2 0"]
 WHOLE = ["a 0", "l 1"]
+# What the kit's hash maps and sets hash by, and how many entries a group of theirs has on average when they grow.
+HASH_SEED, HASH_FACTOR, GROUP_LOAD = 0x243F6A8885A308D3, 0x9E3779B97F4A7C15, 9
 FARTHEST_VARIABLE = 268_435_455
 NEAR_VARIABLE = 32_767
 
@@ -24,14 +26,17 @@ def refutation(first: int) -> list[str]:
     return [f"{first} 1 0 1 2 0", f"{first + 1} 0 {first} 3 4 0"]
 
 
-def look_ups(ids: Sequence[int], window: int) -> Lines:
-    """A leaf whose hints name its own clauses, as far back as the window; all stay live. The ids end with one for the end."""
-    yield from CORE + WHOLE
+def lemmas(ids: Sequence[int], window: int) -> Lines:
+    """Additions whose hints name those before them, as far back as the window."""
     r = random.Random(5)
-    for place, own in enumerate(ids[:-1]):
+    for place, own in enumerate(ids):
         hints = [ids[r.randrange(max(0, place - window), place)] for _ in range(8)] if place else []
         yield f"{own} 1 3 4 5 6 7 8 {9 + place % 1000} 0 {text_of(hints)} 1 2 0"
-    yield from refutation(ids[-1])
+
+
+def look_ups(ids: Sequence[int], window: int) -> Lines:
+    """A leaf with many live clauses of its own, whose hints name them. The last id stays for the end."""
+    return itertools.chain(CORE, WHOLE, lemmas(ids[:-1], window), refutation(ids[-1]))
 
 
 def harmless(size: int) -> Lines:
@@ -55,7 +60,7 @@ def strided_ids(size: int) -> Lines:
 
 def far_ids(size: int) -> Lines:
     """Ids anywhere up to 2^62."""
-    return look_ups(random.Random(7).sample(range(5, 1 << 61), 40_000 * size), 1 << 30)
+    return look_ups(random.Random(7).sample(range(5, 1 << 62), 40_000 * size), 1 << 30)
 
 
 def colliding_ids(size: int) -> Lines:
@@ -156,7 +161,7 @@ def long_clause(size: int) -> Lines:
 
 def repeated_hint(size: int) -> Lines:
     """A step that holds all literals of a long clause but one, and names the clause in as many hints."""
-    lits = range(3, 3 + 8192 * size)
+    lits = range(3, 3 + 8000 * size)
     yield from CORE + [text_of(lits) + " 0"] + WHOLE
     yield f"6 1 {text_of(lits[1:])} 0{' 5' * len(lits)} 1 2 0"
     yield from refutation(7)
@@ -180,6 +185,32 @@ def stale_index(size: int) -> Lines:
     for own in gone:
         yield f"{own} 3 0 0\n0 d {own} 0"
     yield from refutation(gone.stop)
+
+
+def kit_hash(key: int, length: int) -> int:
+    """The hash of a key of 4 or 8 bytes in the kit's hash maps."""
+    product = (HASH_SEED ^ (key if length == 8 else key << 32 | key)) * (HASH_FACTOR ^ 2 * length)
+    folded = (product ^ product >> 64) & 0xFFFF_FFFF_FFFF_FFFF
+    return (folded ^ folded >> 32) & 0xFFFF_FFFF
+
+
+def close_together(keys: Iterable[int], length: int, count: int) -> list[int]:
+    """So many of the keys that the kit puts into the first sixteenth of its groups."""
+    groups = 1 << ((count - 1) // GROUP_LOAD).bit_length()
+    return list(itertools.islice((key for key in keys if kit_hash(key, length) % groups < groups // 16), count))
+
+
+def colliding_groups(size: int) -> Lines:
+    """A RAT step with groups for very many ids whose hashes are close together."""
+    ids = close_together(range(1 << 32, 1 << 62), 8, 2**14 * size)
+    return itertools.chain(CORE, WHOLE, [f"5 3 0 -{' -'.join(map(str, ids))} 0"], refutation(6))
+
+
+def colliding_variables(size: int) -> Lines:
+    """A formula of three literals a clause over variables whose literals' hashes are close together."""
+    numbers = close_together(range(2 * NEAR_VARIABLE + 2, 2 * FARTHEST_VARIABLE, 2), 4, 3 * 2**12 * size)
+    clauses = [f"{a // 2} {b // 2} {c // 2} 0" for a, b, c in zip(*[iter(numbers)] * 3)]
+    return itertools.chain(CORE, clauses, WHOLE, refutation(5 + len(clauses)))
 
 
 def leaves_with(depth: int, own: int, step: str) -> Lines:
@@ -221,7 +252,7 @@ def far_pages(size: int) -> Lines:
 KINDS: list[Callable[[int], Lines]] = [
     harmless, harmless_formula, strided_ids, far_ids, colliding_ids, one_deletion, many_groups, many_candidates, far_variables,
     empty_sections, deep_tree, equal_cubes, long_clause, repeated_hint, repeated_literal, stale_index, leaf_deletions,
-    leaf_variables, leaf_index, far_pages,
+    leaf_variables, leaf_index, far_pages, colliding_groups, colliding_variables,
 ]  # fmt: skip
 
 
