@@ -101,6 +101,15 @@ def many_candidates(size: int) -> Lines:
     yield from refutation(5 + 2 * count)
 
 
+def many_tautologies(size: int) -> Lines:
+    """Short RAT steps, each with all of the formula as candidates; all of them are tautologies, so no group is needed."""
+    count = 1024 * size
+    yield from CORE + ["-3 4 -4 5 6 7 8 9 10 0"] * count + WHOLE
+    for own in range(5 + count, 5 + 2 * count):
+        yield f"{own} 3 11 0 0"
+    yield from refutation(5 + 2 * count)
+
+
 def far_variables(size: int) -> Lines:
     """A formula of three literals a clause over variables up to 268,000,000."""
     r = random.Random(8)
@@ -139,11 +148,26 @@ def deep_tree(size: int) -> Lines:
         yield from refutation(5 + depth)
 
 
+def missing_leaves(size: int) -> Lines:
+    """One cube of 1,024 to 4,096 literals, and a small proof for each branch that has no cube, whose path is as long."""
+    depth = 1024 * size
+    yield from CORE + [f"a {text_of(range(3, 3 + depth))} 0"]
+    for name in ["1", *(f"m{number}" for number in range(1, depth + 1))]:
+        yield f"l {name}"
+        yield from refutation(5 + depth)
+
+
 def equal_cubes(size: int) -> Lines:
     """As many equal cubes as each has literals."""
     count = 1024 * size
     cube = f"a {text_of(range(3, 3 + count))} 0"
     return itertools.chain(CORE, itertools.repeat(cube, count))
+
+
+def late_clash(size: int) -> Lines:
+    """All cubes of 15 to 17 variables, and a last one that the first one begins; the answer is one line, F9."""
+    depth = 14 + size.bit_length()
+    return itertools.chain(CORE, cubes(depth), [f"a {text_of(range(3, 4 + depth))} 0"])
 
 
 def long_clause(size: int) -> Lines:
@@ -173,6 +197,21 @@ def repeated_literal(size: int) -> Lines:
     yield from CORE + ["3 " * count + "0"] + WHOLE
     yield f"6 1 0{' 5' * count} 1 2 0"
     yield from refutation(7)
+
+
+def repeated_candidate(size: int) -> Lines:
+    """A clause that repeats the negation of the pivot of four RAT steps, and holds a true literal behind that."""
+    yield from CORE + ["-3 " * 4096 * size + "4 0"] + WHOLE
+    for own in range(6, 10):
+        yield f"{own} 3 -4 0 0"
+    yield from refutation(10)
+
+
+def skipped_group(size: int) -> Lines:
+    """A RAT step that has as many groups for one long clause, which is no candidate, as that has literals."""
+    lits = range(4, 4 + 8000 * size)
+    step = "6 3 0" + " -5" * len(lits) + " 0"
+    return itertools.chain(CORE, [text_of(lits) + " 0"], WHOLE, [step], refutation(7))
 
 
 def stale_index(size: int) -> Lines:
@@ -223,10 +262,10 @@ def leaves_with(depth: int, own: int, step: str) -> Lines:
 
 def leaf_deletions(size: int) -> Lines:
     """A formula of very many clauses, and many leaves that delete one of them each."""
-    count = 2**18 * size
+    count = 2**19 * size
+    depth = 11 + size.bit_length()
     yield from CORE
-    yield from itertools.repeat("3 4 0", count)
-    depth = 10 + size.bit_length()
+    yield from itertools.repeat("3 0", count)
     yield from leaves_with(depth, 5 + count + depth, "0 d 5 0")
 
 
@@ -250,9 +289,9 @@ def far_pages(size: int) -> Lines:
 
 
 KINDS: list[Callable[[int], Lines]] = [
-    harmless, harmless_formula, strided_ids, far_ids, colliding_ids, one_deletion, many_groups, many_candidates, far_variables,
-    empty_sections, deep_tree, equal_cubes, long_clause, repeated_hint, repeated_literal, stale_index, leaf_deletions,
-    leaf_variables, leaf_index, far_pages, colliding_groups, colliding_variables,
+    harmless, harmless_formula, strided_ids, far_ids, colliding_ids, one_deletion, many_groups, many_candidates, many_tautologies,
+    far_variables, far_pages, colliding_groups, colliding_variables, empty_sections, deep_tree, missing_leaves, equal_cubes,
+    late_clash, long_clause, repeated_hint, repeated_literal, repeated_candidate, skipped_group, stale_index, leaf_deletions, leaf_variables, leaf_index,
 ]  # fmt: skip
 
 
