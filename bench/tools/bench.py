@@ -113,14 +113,15 @@ def nanoseconds(line, side):
 def show_growth(lines):
     """For each kind of the set `hostile` what a byte costs at its three sizes, and that in terms of harmless bytes."""
     found = {(line.name.removeprefix("hostile/"), line.workers): line for line in lines if line.name.startswith("hostile/")}
-    kinds = [(name[:-2], workers) for name, workers in found if name.endswith("-3")]
+    names = dict.fromkeys((name[:-2], workers) for name, workers in found)
+    kinds = [(kind, workers) for kind, workers in names if all((f"{kind}-{size}", workers) in found for size in (1, 2, 3))]
     if kinds:
-        print(f"\n{'nanoseconds a byte':<28}{'w':>4}{'':>10}{'size 1':>10}{'size 2':>10}{'size 3':>10}{'growth':>8}{'harmless':>10}")
+        print(f"\n{'nanoseconds a byte':<28}{'w':>4}{'':>10}{'size 1':>12}{'size 2':>12}{'size 3':>12}{'growth':>8}{'harmless':>10}")
     for kind, workers in kinds:
         for side, who in ((1, "program"), (0, "anchor")):
             costs = [nanoseconds(found[f"{kind}-{size}", workers], side) for size in (1, 2, 3)]
             harmless = nanoseconds(found["harmless-3", workers], side)
-            numbers = "".join(f"{cost:>10.1f}" for cost in costs)
+            numbers = "".join(f"{cost:>12.1f}" for cost in costs)
             print(f"{kind:<28}{workers:>4}{who:>10}{numbers}{costs[2] / costs[0]:>8.2f}{costs[2] / harmless:>10.1f}")
 
 

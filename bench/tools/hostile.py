@@ -289,9 +289,13 @@ def far_pages(size: int) -> Lines:
 
 
 KINDS: list[Callable[[int], Lines]] = [
-    harmless, harmless_formula, strided_ids, far_ids, colliding_ids, one_deletion, many_groups, many_candidates, many_tautologies,
-    far_variables, far_pages, colliding_groups, colliding_variables, empty_sections, deep_tree, missing_leaves, equal_cubes,
-    late_clash, long_clause, repeated_hint, repeated_literal, repeated_candidate, skipped_group, stale_index, leaf_deletions, leaf_variables, leaf_index,
+    harmless, harmless_formula,
+    strided_ids, far_ids, colliding_ids, colliding_groups, one_deletion,
+    many_groups, many_candidates, many_tautologies, repeated_candidate, skipped_group, stale_index,
+    long_clause, repeated_hint, repeated_literal,
+    far_variables, far_pages, colliding_variables,
+    leaf_variables, leaf_index, leaf_deletions,
+    empty_sections, deep_tree, missing_leaves, equal_cubes, late_clash,
 ]  # fmt: skip
 
 
