@@ -1,5 +1,5 @@
 #!/bin/bash
-# make_corpus.sh [smoke|medium|all]      builds the tools into bin/ and the bundles into corpus/, one after another.
+# make_corpus.sh [smoke|medium|all|hostile]      builds the tools into bin/ and the bundles into corpus/, one after another.
 # Needs cadical, python3, rustc and gcc. A bundle that is there is kept; remove it to make it again.
 set -eu
 cd "$(dirname "$0")"
@@ -67,6 +67,11 @@ medium() {
     corpus medium php20-er 16 "php 20" --drat corpus/resolution.drat
 }
 
+hostile() {
+    mkdir -p corpus/hostile
+    python3 tools/hostile.py corpus/hostile
+}
+
 case "${1:-smoke}" in
     smoke) smoke ;;
     medium) medium ;;
@@ -74,7 +79,8 @@ case "${1:-smoke}" in
         smoke
         medium
         ;;
-    *) echo "make_corpus.sh [smoke|medium|all]" >&2 && exit 2 ;;
+    hostile) hostile ;;
+    *) echo "make_corpus.sh [smoke|medium|all|hostile]" >&2 && exit 2 ;;
 esac
 rm -f corpus/formula.cnf corpus/cubes corpus/resolution.drat corpus/new.icnf
-du -sh corpus/smoke corpus/medium
+du -sh corpus/*/

@@ -22,6 +22,18 @@ class Run(NamedTuple):
     report: bytes
 
 
+class Line(NamedTuple):
+    """A line of the table: the ratios are program over anchor, the seconds of processor time those of anchor and program."""
+
+    name: str
+    workers: str
+    megabytes: float
+    same: bool
+    wall: float
+    processor: float
+    busy: list[float]
+
+
 def cases_of(words):
     """The program's words for each bundle of these sets, and for each of these files."""
     cases = []
@@ -77,7 +89,7 @@ def geometric_mean(ratios):
 
 
 def show(words, workers, anchor, other):
-    """One line of the table; whether the reports are equal, and the ratios of wall time and processor time."""
+    """Prints one line of the table."""
     name = words[-1].removeprefix("corpus/").removesuffix(".icnf")
     size, leaves, steps = facts(words)
     same = len({(r.status, r.report) for r in anchor + other}) == 1
@@ -90,7 +102,27 @@ def show(words, workers, anchor, other):
         f"  {'equal' if same else 'DIFFERS'}",
         flush=True,
     )
-    return same, seconds[1] / seconds[0], busy[1] / busy[0]
+    return Line(name, workers, size, same, seconds[1] / seconds[0], busy[1] / busy[0], busy)
+
+
+def nanoseconds(line, side):
+    """Processor time for each byte, of the anchor (0) or the program (1)."""
+    return line.busy[side] * 1e3 / line.megabytes
+
+
+def show_growth(lines):
+    """For each kind of the set `hostile` what a byte costs at its three sizes, and that in terms of harmless bytes."""
+    found = {(line.name.removeprefix("hostile/"), line.workers): line for line in lines if line.name.startswith("hostile/")}
+    names = dict.fromkeys((name[:-2], workers) for name, workers in found)
+    kinds = [(kind, workers) for kind, workers in names if all((f"{kind}-{size}", workers) in found for size in (1, 2, 3))]
+    if kinds:
+        print(f"\n{'nanoseconds a byte':<28}{'w':>4}{'':>10}{'size 1':>12}{'size 2':>12}{'size 3':>12}{'growth':>8}{'harmless':>10}")
+    for kind, workers in kinds:
+        for side, who in ((1, "program"), (0, "anchor")):
+            costs = [nanoseconds(found[f"{kind}-{size}", workers], side) for size in (1, 2, 3)]
+            harmless = nanoseconds(found["harmless-3", workers], side)
+            numbers = "".join(f"{cost:>12.1f}" for cost in costs)
+            print(f"{kind:<28}{workers:>4}{who:>10}{numbers}{costs[2] / costs[0]:>8.2f}{costs[2] / harmless:>10.1f}")
 
 
 def main():
@@ -103,10 +135,11 @@ def main():
     for words in cases_of(sys.argv[2:] or ["smoke", "medium"]):
         for workers in WORKERS:
             lines.append(show(words, workers, *compare(program, words, workers)))
-    differ = sum(not same for same, _, _ in lines)
+    differ = sum(not line.same for line in lines)
     print(f"reports that differ: {differ}")
-    print(f"geometric mean of the ratios of processor time: {geometric_mean([cpu for _, _, cpu in lines]):.3f}")
-    print(f"geometric mean of the ratios of wall time: {geometric_mean([wall for _, wall, _ in lines]):.3f}")
+    print(f"geometric mean of the ratios of processor time: {geometric_mean([line.processor for line in lines]):.3f}")
+    print(f"geometric mean of the ratios of wall time: {geometric_mean([line.wall for line in lines]):.3f}")
+    show_growth(lines)
     return 1 if differ else 0
 
 

@@ -1,0 +1,45 @@
+#!/bin/bash
+# large_folder.sh PROGRAM [GIGABYTES=2] [PROOFS=4096]
+# Runs PROGRAM with four workers on a folder of so many proofs, a power of two, that are so many gigabytes in all, and says how much memory
+# it took. The status is 1 where that is more than 5/4 of the gigabytes, or where the report isn't that all leaves are refuted.
+# The folder is made in TMPDIR (/tmp), where there has to be room for it, and removed afterwards.
+set -eu
+program=$(realpath "${1:?a program}")
+gigabytes=${2:-2}
+proofs=${3:-4096}
+cd "$(dirname "$0")"
+
+within() { awk -v a="$1" -v b="$2" 'BEGIN {exit !(a <= b)}'; } # whether a number is at most another
+room=$(df --output=avail -B1 "${TMPDIR:-/tmp}" | tail -n 1)
+if ! within "$gigabytes" "$(awk -v room="$room" 'BEGIN {print room / 1.2e9}')"; then
+    echo "large_folder.sh: no room for $gigabytes GB in ${TMPDIR:-/tmp}" >&2
+    exit 1
+fi
+if [ ! -x bin/measure ]; then
+    mkdir -p bin
+    gcc -O2 -o bin/measure tools/measure.c
+fi
+folder=$(mktemp -d)
+trap 'rm -rf "$folder"' EXIT
+
+python3 tools/large_folder.py "$folder" "$gigabytes" "$proofs"
+bytes=$(find "$folder/proofs" -name '*.lrat' -printf '%s\n' | awk '{n += $1} END {printf "%.0f", n}')
+told=$(bin/measure "$folder/out" "$program" --workers 4 --proofs "$folder/proofs" "$folder/case.icnf")
+read -r wall processor kilobytes status <<< "$told"
+awk -v bytes="$bytes" -v proofs="$proofs" -v wall="$wall" -v processor="$processor" -v kilobytes="$kilobytes" 'BEGIN {
+    printf "%d proofs, %.3f GB: %.2f s, %.2f s of processor time, %.3f GB at most in memory, %.3f for each byte of proof\n",
+        proofs, bytes / 1e9, wall / 1e9, processor / 1e6, kilobytes * 1024 / 1e9, kilobytes * 1024 / bytes
+}'
+failed=0
+if [ "$status" -ne 0 ] || ! cmp -s "$folder/report" "$folder/out"; then
+    echo "the report isn't that all leaves are refuted (status $status)"
+    failed=1
+fi
+limit=$(awk -v gigabytes="$gigabytes" 'BEGIN {print gigabytes * 1.25}')
+if within "$(awk -v kilobytes="$kilobytes" 'BEGIN {print kilobytes * 1024 / 1e9}')" "$limit"; then
+    echo "within $limit GB"
+else
+    echo "more than $limit GB"
+    failed=1
+fi
+exit "$failed"
