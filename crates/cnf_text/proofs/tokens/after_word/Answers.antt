@@ -1,5 +1,5 @@
 use Rattle.std.proofs.Common.{◌∙◌, sym, arith}
-use Rattle.cnf_text.proofs.Words.{after_blank}
+use Rattle.cnf_text.proofs.LineWords.{after_blank}
 use Rattle.cnf_text.proofs.tokens.after_word.Goals as goal
 
 pub returns-in-len1-up-clause-same : goal.returns-in-len1-up-clause-same

@@ -1,5 +1,5 @@
 use Rattle.std.proofs.Common.{Some, ap, refl, sym, ◌∙◌, ◌∷◌, take}
-use Rattle.cnf_text.proofs.Words.{digits_are_word}
+use Rattle.cnf_text.proofs.LineWords.{digits_are_word}
 use Rattle.cnf_text.proofs.Digits.{decimal_of_digits}
 use Rattle.cnf_text.proofs.tokens.short_number.Goals as goal
 
