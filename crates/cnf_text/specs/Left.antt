@@ -3,7 +3,7 @@ use Rattle.std.specs.Prelude.{◌≡◌, ℕ, if◌then◌else◌, List, [], ◌
 use Rattle.std.specs.List.{slice_split, flat_map}
 use Rattle.cnf_text.specs.Tokens.{is_line_end, is_comment, words}
 use Rattle.cnf_text.specs.Told.{IsToldAs}
-use Rattle.cnf_text.specs.declared.tokens.Word.{Word}
+use Rattle.cnf_text.specs.declared.words.Word.{Word}
 
 -- the words of a line, of a comment none
 unfoldable pub line_words : List ℕ → List (List ℕ)

@@ -4,11 +4,31 @@ ghost use Rattle.std.specs.Prelude.{◌≡◌, ◌∷◌, [], ◌≤◌, ◌<◌
 ghost use Rattle.std.specs.List.{slice_split};
 ghost use Rattle.cnf_text.specs.Tokens.{tokens_of, is_line_end, is_blank};
 ghost use Rattle.cnf_text.specs.Numbers.{decimal};
+ghost use Rattle.cnf_text.specs.Told.{IsToldAs};
 ghost use Rattle.cnf_text.specs.Left.{words_of_lines, words_left, IsNextWord};
 
-use crate::numbers::{Number, digits_at_front};
-use crate::tokens::{Word, is_blank, is_comment, split_line, word_len, word_of};
+use crate::numbers::{Number, digits_at_front, read_number};
+use crate::tokens::{is_blank, is_comment, split_line, word_len};
 use std::marker::Model;
+
+/// A word as the number that it spells, or as one that spells none.
+#[derive(Clone, Copy)]
+pub enum Word<'t> {
+    /// It spells this number.
+    Number(Number),
+    /// It spells no number; these are its bytes.
+    Other(&'t [u8]),
+}
+
+/// What a word is told as.
+fn word_of(bytes: &[u8]) -> Word<'_>
+    ensures { IsToldAs bytes.now result }
+{
+    match read_number(bytes) {
+        Some(number) => Word::Number(number),
+        None => Word::Other(bytes),
+    }
+}
 
 /// The words of a text that are left, from a place within a line on: those of that line, and those of each line below
 /// it that is no comment.
@@ -19,6 +39,7 @@ pub struct Words<'t> {
 
 impl<'t> Model for Words<'t> {
     ghost use Rattle.std.specs.Prelude.{ℕ, List};
+    ghost use Rattle.cnf_text.specs.Told.{IsToldAs};
     ghost use Rattle.cnf_text.specs.Left.{words_left};
 
     ghost Value = { List (List ℕ) };

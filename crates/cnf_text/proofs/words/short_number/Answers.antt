@@ -44,16 +44,16 @@ returns-then-behind-eq10-clause-found c =
     )
 
 pub returns-then-behind-eq32-clause-at_once : goal.returns-then-behind-eq32-clause-at_once
-returns-then-behind-eq32-clause-at_once c = λ _. 
+returns-then-behind-eq32-clause-at_once c = λ _.
     visible_at c.args.text.now c.digits_at_front-digits.result.count c.if-digits-eq0.false (omega arith)
     (ap (list_all is_ascii_digit) (sym (front_of_front c.args.text.now 9 _ (omega arith))) ∙ c.digits_at_front-digits.ensures.digits)
 
 pub returns-then-begin-ne99-clause-at_once : goal.returns-then-begin-ne99-clause-at_once
-returns-then-begin-ne99-clause-at_once c = λ _. 
+returns-then-begin-ne99-clause-at_once c = λ _.
     visible_at c.args.text.now c.digits_at_front-digits.result.count c.if-digits-eq0.false (omega arith)
     (ap (list_all is_ascii_digit) (sym (front_of_front c.args.text.now 9 _ (omega arith))) ∙ c.digits_at_front-digits.ensures.digits)
 
 pub returns-then-behind-eq10-clause-at_once : goal.returns-then-behind-eq10-clause-at_once
-returns-then-behind-eq10-clause-at_once c = λ _. 
+returns-then-behind-eq10-clause-at_once c = λ _.
     visible_at c.args.text.now c.digits_at_front-digits.result.count c.if-digits-eq0.false (omega arith)
     (ap (list_all is_ascii_digit) (sym (front_of_front c.args.text.now 9 _ (omega arith))) ∙ c.digits_at_front-digits.ensures.digits)
