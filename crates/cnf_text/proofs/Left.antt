@@ -212,12 +212,15 @@ number_and_end bs n some within all behind = (digits_left bs n some within all (
 onto_word : (b : ℕ) (front word : List ℕ) (others more : List (List ℕ)) → front ∷ others ≡ word ∷ more → (b ∷ front) ∷ others ≡ (b ∷ word) ∷ more
 onto_word b front word others more e = cc
 
+one_further : (b : ℕ) (bs : List ℕ) → is_blank b ≡ false → position_or_len is_blank (b ∷ bs) ≡ suc (position_or_len is_blank bs)
+one_further b bs visible = rw visible (one_more (position_or_len is_blank bs))
+
 -- one more visible byte before a word
 pub minus_left : (bs word : List ℕ) (more : List (List ℕ)) → is_blank (get_or bs 0 0) ≡ false → words_left bs ≡ word ∷ more → words_left (45 ∷ bs) ≡ (45 ∷ word) ∷ more
 minus_left [] word more visible is = absurd (let none = sym nothing_left ∙ is in cc)
 minus_left (b ∷ bs) word more visible is =
     let whole : words_left (45 ∷ b ∷ bs) ≡ (45 ∷ take (position_or_len is_blank (b ∷ bs)) (b ∷ bs)) ∷ words_left (drop (position_or_len is_blank (b ∷ bs)) (b ∷ bs)) =
-    left_word (45 ∷ b ∷ bs) (omega arith) (visible_above 45 (omega arith)) ∙ rw (visible_above 45 (omega arith), one_more) refl in
+    left_word (45 ∷ b ∷ bs) (omega arith) (visible_above 45 (omega arith)) ∙ rw (one_further 45 (b ∷ bs) (visible_above 45 (omega arith))) refl in
     whole ∙ onto_word 45 _ word _ more (sym (left_word (b ∷ bs) (omega arith) visible) ∙ is)
 
 pub minus_first : (bs word : List ℕ) (more : List (List ℕ)) → 0 < length bs → get_or bs 0 0 ≡ 45 → is_blank (get_or (take (length bs - 1) (drop 1 bs)) 0 0) ≡ false

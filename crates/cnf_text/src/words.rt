@@ -88,7 +88,7 @@ impl<'t> Words<'t> {
     }
 }
 
-/// The number with which a text begins at once, and the text behind it. It is without a sign and has less than `FRONT`
+/// The number with which a text begins at once, and the text behind it. It is without a sign and has at most `FRONT`
 /// digits, and a space or a line's end follows them. Where that is the end of a line below which a line begins that
 /// is surely no comment, the text behind it begins there. `None` says nothing of the text.
 #[inline(always)]
@@ -100,7 +100,7 @@ fn short_number(text: &[u8]) -> Option<(u64, &[u8])>
         return None;
     }
     let digits = digits_at_front(&text[..FRONT]);
-    if digits.count == 0 || digits.count >= FRONT {
+    if digits.count == 0 {
         return None;
     }
     let behind = text[digits.count];
