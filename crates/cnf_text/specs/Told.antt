@@ -2,8 +2,8 @@
 use Rattle.std.specs.Prelude.{◌≡◌, ℕ, List, Some, None}
 use Rattle.std.specs.Option.{option_map}
 use Rattle.cnf_text.specs.Numbers.{number_of, capped}
-use Rattle.cnf_text.specs.declared.tokens.Word.{Word}
-use Rattle.cnf_text.specs.declared.tokens.Word.TheVariants as told
+use Rattle.cnf_text.specs.declared.words.Word.{Word}
+use Rattle.cnf_text.specs.declared.words.Word.TheVariants as told
 
 abbrev pub IsToldAs : List ℕ → Word → Type 0
 IsToldAs bytes (told.Number number) = option_map capped (number_of bytes) ≡ Some number

@@ -4,11 +4,11 @@ use Rattle.lrat_text.proofs.Buffers.{deletion_read}
 use Rattle.lrat_text.proofs.Decoding.{no_step_deletion}
 use Rattle.lrat_text.proofs.steps.read_deletion.Goals as goal
 
-pub returns-in_err-read_ids-clause-err : goal.returns-in_err-read_ids-clause-err
-returns-in_err-read_ids-clause-err c =
+pub returns-in_err-rest-clause-err : goal.returns-in_err-rest-clause-err
+returns-in_err-rest-clause-err c =
     let p = err_from_is_err_and c.from_residual.result c.from_residual.ensures.1 in
-    rw (p.1, p.2) (λ other front. no_step_deletion front _ (c.in_err-read_ids.ensures.err other))
+    rw (p.1, p.2) (λ other front. no_step_deletion front _ (c.in_err-rest.ensures.err other))
 
 pub returns-clause-ok : goal.returns-clause-ok
 returns-clause-ok c = λ front bound.
-    deletion_read front _ _ _ c.read_ids.new.ids.items bound (c.len-buffer-inside.ensures ∙ c.read_ids.new.ids.ok.0) c.in_ok-read_ids.ensures.ok
+    deletion_read front _ _ _ c.read_ids.new.ids.items bound (c.len-buffer-inside.ensures ∙ c.read_ids.new.ids.ok.0) c.in_ok-rest.ensures.ok
