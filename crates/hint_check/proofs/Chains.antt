@@ -29,10 +29,10 @@ pub LeadBack-none : LeadBack []
 unfolding LeadBack
 LeadBack-none place below = absurd (omega (arith, below))
 
-pub NotesLast-none : NotesLast [] [] []
+pub NotesLast-none : (reach : ℕ) → NotesLast [] reach [] []
 unfolding NotesLast IsLast
-NotesLast-none n =
-    elim (nat_lt n 65536) as (λ b. ((if b then get_or [] n 0 else 0) ≤ 0)
+NotesLast-none reach n =
+    elim (nat_lt n reach) as (λ b. ((if b then get_or [] n 0 else 0) ≤ 0)
     × (ids_at (take (if b then get_or [] n 0 else 0) []) n ≡ ids_at (take 0 []) n)
     × (0 < (if b then get_or [] n 0 else 0) → (get_or [] ((if b then get_or [] n 0 else 0) - 1) no_link).number ≡ n))
     [ true ↦ (omega arith, refl, λ some. absurd (omega (arith, some))) | false ↦ (omega arith, refl, λ some. absurd (omega (arith, some))) ]
@@ -43,10 +43,10 @@ Walks links n first ids place =
     (place ≤ length links) × (ids ++ ids_at (take place links) n ≡ first ++ ids_at links n)
     × (0 < place → (get_or links (place - 1) no_link).number ≡ n)
 
-pub Walks-start : (links : Links) (near : List ℕ) (far : List (ℕ × ℕ)) (n place : ℕ) (first : List ℕ)
-    → NotesLast links near far → place ≡ last_place near far n → Walks links n first first place
+pub Walks-start : (links : Links) (reach : ℕ) (near : List ℕ) (far : List (ℕ × ℕ)) (n place : ℕ) (first : List ℕ)
+    → NotesLast links reach near far → place ≡ last_place reach near far n → Walks links n first first place
 unfolding NotesLast IsLast
-Walks-start links near far n place first notes is =
+Walks-start links reach near far n place first notes is =
     let last = subst (λ p. IsLast links n (length links) p) (sym is) (notes n) in
     (last.0, ap (λ ids. first ++ ids) (last.1 ∙ ap (λ ls. ids_at ls n) (take_all (length links) links (omega arith))), last.2)
 
@@ -91,18 +91,18 @@ module _ (links : Links) (n : ℕ) (first ids : List ℕ) (place : ℕ) (link : 
   )
 
 -- where a number's last link stands
-module _ (links : Links) (near : List ℕ) (far : List (ℕ × ℕ)) (notes : NotesLast links near far) (n : ℕ) where
-  pub start-ids : ids_at (take (last_place near far n) links) n ≡ ids_at links n
+module _ (links : Links) (reach : ℕ) (near : List ℕ) (far : List (ℕ × ℕ)) (notes : NotesLast links reach near far) (n : ℕ) where
+  pub start-ids : ids_at (take (last_place reach near far n) links) n ≡ ids_at links n
   unfolding NotesLast IsLast
   start-ids = (notes n).1 ∙ ap (λ ls. ids_at ls n) (take_all (length links) links (omega arith))
 
-  pub start-within : last_place near far n ≤ length links
+  pub start-within : last_place reach near far n ≤ length links
   unfolding NotesLast IsLast
   start-within = (notes n).0
 
 -- one more link, which leads back to the last one of its number
-module _ (links : Links) (near : List ℕ) (far : List (ℕ × ℕ)) (x : Link) (leads : LeadBack links) (notes : NotesLast links near far)
-    (back : x.before ≡ last_place near far x.number) where
+module _ (links : Links) (reach : ℕ) (near : List ℕ) (far : List (ℕ × ℕ)) (x : Link) (leads : LeadBack links) (notes : NotesLast links reach near far)
+    (back : x.before ≡ last_place reach near far x.number) where
   abbrev pub pushed : Links
   pushed = links ++ x ∷ []
 
@@ -128,18 +128,18 @@ module _ (links : Links) (near : List ℕ) (far : List (ℕ × ℕ)) (x : Link) 
             let at : length links ≡ place = let more = length_push links x in omega (arith, below, more, new) in
             subst (λ l. IsLast pushed l.number place l.before) (sym (get_or_push links x no_link place at))
             (subst (λ p. IsLast pushed x.number place p) (sym back)
-            (subst (λ p. IsLast pushed x.number p (last_place near far x.number)) at
-            (carried x.number (length links) (last_place near far x.number) (omega arith) (notes x.number))))
+            (subst (λ p. IsLast pushed x.number p (last_place reach near far x.number)) at
+            (carried x.number (length links) (last_place reach near far x.number) (omega arith) (notes x.number))))
       ]
 
-  pub NotesLast-push : (near' : List ℕ) (far' : List (ℕ × ℕ)) → SetsPlace near far near' far' x.number (length pushed) → NotesLast pushed near' far'
+  pub NotesLast-push : (near' : List ℕ) (far' : List (ℕ × ℕ)) → SetsPlace reach near far near' far' x.number (length pushed) → NotesLast pushed reach near' far'
   unfolding NotesLast SetsPlace IsLast
   NotesLast-push near' far' sets n =
       subst (λ p. IsLast pushed n (length pushed) p) (sym (sets n))
       (elim (cases_Bool (nat_eq x.number n)) [
         | inl this ↦
             subst (λ p. IsLast pushed n (length pushed) p)
-            (sym (cond-true (nat_eq x.number n) (length pushed) (last_place near far n) this)) (
+            (sym (cond-true (nat_eq x.number n) (length pushed) (last_place reach near far n) this)) (
               omega arith,
               refl,
               λ some. ap (λ l. l.number)
@@ -147,9 +147,9 @@ module _ (links : Links) (near : List ℕ) (far : List (ℕ × ℕ)) (x : Link) 
                   ∙ eqb-true x.number n this,
             )
         | inr other ↦
-            let was = carried n (length links) (last_place near far n) (omega arith) (notes n) in
+            let was = carried n (length links) (last_place reach near far n) (omega arith) (notes n) in
             subst (λ p. IsLast pushed n (length pushed) p)
-            (sym (cond-false (nat_eq x.number n) (length pushed) (last_place near far n) other)) (
+            (sym (cond-false (nat_eq x.number n) (length pushed) (last_place reach near far n) other)) (
               let more = length_push links x in omega (arith, more, was.0),
               was.1 ∙ ap (λ ls. ids_at ls n) (take-append-le (length links) links (x ∷ []) (omega arith) ∙ take_all (length links) links (omega arith))
                   ∙ sym (cond-false (nat_eq x.number n) (x.id ∷ ids_at links n) (ids_at links n) other)
@@ -159,61 +159,61 @@ module _ (links : Links) (near : List ℕ) (far : List (ℕ × ℕ)) (x : Link) 
       ])
 
 -- other lists that note the same
-pub NotesLast-same : (links : Links) (near near' : List ℕ) (far far' : List (ℕ × ℕ))
-    → ((n : ℕ) → last_place near' far' n ≡ last_place near far n) → NotesLast links near far → NotesLast links near' far'
+pub NotesLast-same : (links : Links) (reach : ℕ) (near near' : List ℕ) (far far' : List (ℕ × ℕ))
+    → ((n : ℕ) → last_place reach near' far' n ≡ last_place reach near far n) → NotesLast links reach near far → NotesLast links reach near' far'
 unfolding NotesLast
-NotesLast-same links near near' far far' same notes n = subst (λ p. IsLast links n (length links) p) (sym (same n)) (notes n)
+NotesLast-same links reach near near' far far' same notes n = subst (λ p. IsLast links n (length links) p) (sym (same n)) (notes n)
 
 -- ---- what is noted for a number
 
-near-place : (near : List ℕ) (far : List (ℕ × ℕ)) (n : ℕ) → n < 65536 → last_place near far n ≡ get_or near n 0
-near-place near far n low = cond-true (nat_lt n 65536) (get_or near n 0) (unwrap_or (lookup (nat_eq n) far) 0) (lt-ltb n 65536 low)
+near-place : (reach : ℕ) (near : List ℕ) (far : List (ℕ × ℕ)) (n : ℕ) → n < reach → last_place reach near far n ≡ get_or near n 0
+near-place reach near far n low = cond-true (nat_lt n reach) (get_or near n 0) (unwrap_or (lookup (nat_eq n) far) 0) (lt-ltb n reach low)
 
-far-place : (near : List ℕ) (far : List (ℕ × ℕ)) (n : ℕ) → 65536 ≤ n → last_place near far n ≡ unwrap_or (lookup (nat_eq n) far) 0
-far-place near far n high = cond-false (nat_lt n 65536) (get_or near n 0) (unwrap_or (lookup (nat_eq n) far) 0) (le-ltb n 65536 high)
+far-place : (reach : ℕ) (near : List ℕ) (far : List (ℕ × ℕ)) (n : ℕ) → reach ≤ n → last_place reach near far n ≡ unwrap_or (lookup (nat_eq n) far) 0
+far-place reach near far n high = cond-false (nat_lt n reach) (get_or near n 0) (unwrap_or (lookup (nat_eq n) far) 0) (le-ltb n reach high)
 
-pub last_place-near : (near : List ℕ) (far : List (ℕ × ℕ)) (n place : ℕ) → n < 65536 → place ≡ get_or near n 0 → place ≡ last_place near far n
-last_place-near near far n place low is = is ∙ sym (near-place near far n low)
+pub last_place-near : (reach : ℕ) (near : List ℕ) (far : List (ℕ × ℕ)) (n place : ℕ) → n < reach → place ≡ get_or near n 0 → place ≡ last_place reach near far n
+last_place-near reach near far n place low is = is ∙ sym (near-place reach near far n low)
 
-pub last_place-far : (near : List ℕ) (far : List (ℕ × ℕ)) (n place : ℕ) → 65536 ≤ n → place ≡ unwrap_or (lookup (nat_eq n) far) 0
-    → place ≡ last_place near far n
-last_place-far near far n place high is = is ∙ sym (far-place near far n high)
+pub last_place-far : (reach : ℕ) (near : List ℕ) (far : List (ℕ × ℕ)) (n place : ℕ) → reach ≤ n → place ≡ unwrap_or (lookup (nat_eq n) far) 0
+    → place ≡ last_place reach near far n
+last_place-far reach near far n place high is = is ∙ sym (far-place reach near far n high)
 
-module _ (near : List ℕ) (far : List (ℕ × ℕ)) (number place : ℕ) where
-  other : (n : ℕ) (p : ℕ) → (number ≡ n → ⊥) → p ≡ last_place near far n → p ≡ (if nat_eq number n then place else last_place near far n)
-  other n p apart is = is ∙ sym (cond-false (nat_eq number n) place (last_place near far n) (ne_eqb number n apart))
+module _ (reach : ℕ) (near : List ℕ) (far : List (ℕ × ℕ)) (number place : ℕ) where
+  other : (n : ℕ) (p : ℕ) → (number ≡ n → ⊥) → p ≡ last_place reach near far n → p ≡ (if nat_eq number n then place else last_place reach near far n)
+  other n p apart is = is ∙ sym (cond-false (nat_eq number n) place (last_place reach near far n) (ne_eqb number n apart))
 
-  pub SetsPlace-near : (made : List ℕ) → number < 65536 → ((n : ℕ) → get_or made n 0 ≡ get_or near n 0) → number < length made
-      → SetsPlace near far (slice_set made number place) far number place
+  pub SetsPlace-near : (made : List ℕ) → number < reach → ((n : ℕ) → get_or made n 0 ≡ get_or near n 0) → number < length made
+      → SetsPlace reach near far (slice_set made number place) far number place
   unfolding SetsPlace
   SetsPlace-near made low same room n =
-      elim (cases_lt n 65536) [
-        | inl under ↦ near-place (slice_set made number place) far n under
+      elim (cases_lt n reach) [
+        | inl under ↦ near-place reach (slice_set made number place) far n under
             ∙ elim (cases_Bool (nat_eq number n)) [
               | inl this ↦ ap (λ k. get_or (slice_set made number place) k 0) (sym (eqb-true number n this)) ∙ get_or-set_same made number place 0 room
-                  ∙ sym (cond-true (nat_eq number n) place (last_place near far n) this)
+                  ∙ sym (cond-true (nat_eq number n) place (last_place reach near far n) this)
               | inr apart ↦ let differ : number ≡ n → ⊥ = λ e. both_ways (nat_eq number n) apart (eq-eqb number n e) in
                   other n (get_or (slice_set made number place) n 0) differ
-                  (get_or-set_other made number n place 0 (λ e. differ (sym e)) ∙ same n ∙ sym (near-place near far n under))
+                  (get_or-set_other made number n place 0 (λ e. differ (sym e)) ∙ same n ∙ sym (near-place reach near far n under))
             ]
-        | inr over ↦ other n (last_place (slice_set made number place) far n) (λ e. omega (arith, e, low, over))
-            (far-place (slice_set made number place) far n over ∙ sym (far-place near far n over))
+        | inr over ↦ other n (last_place reach (slice_set made number place) far n) (λ e. omega (arith, e, low, over))
+            (far-place reach (slice_set made number place) far n over ∙ sym (far-place reach near far n over))
       ]
 
-  pub SetsPlace-far : (far' : List (ℕ × ℕ)) → 65536 ≤ number
+  pub SetsPlace-far : (far' : List (ℕ × ℕ)) → reach ≤ number
       → ((q : ℕ) → lookup (nat_eq q) far' ≡ cond (nat_eq number q) (Some place) (lookup (nat_eq q) far))
-      → SetsPlace near far near far' number place
+      → SetsPlace reach near far near far' number place
   unfolding SetsPlace
   SetsPlace-far far' high put n =
-      elim (cases_lt n 65536) [
-        | inl under ↦ other n (last_place near far' n) (λ e. omega (arith, e, high, under))
-            (near-place near far' n under ∙ sym (near-place near far n under))
-        | inr over ↦ far-place near far' n over ∙ ap (λ o. unwrap_or o 0) (put n)
+      elim (cases_lt n reach) [
+        | inl under ↦ other n (last_place reach near far' n) (λ e. omega (arith, e, high, under))
+            (near-place reach near far' n under ∙ sym (near-place reach near far n under))
+        | inr over ↦ far-place reach near far' n over ∙ ap (λ o. unwrap_or o 0) (put n)
             ∙ elim (cases_Bool (nat_eq number n)) [
               | inl this ↦ ap (λ o. unwrap_or o 0) (cond-true (nat_eq number n) (Some place) (lookup (nat_eq n) far) this)
-                  ∙ sym (cond-true (nat_eq number n) place (last_place near far n) this)
+                  ∙ sym (cond-true (nat_eq number n) place (last_place reach near far n) this)
               | inr apart ↦ ap (λ o. unwrap_or o 0) (cond-false (nat_eq number n) (Some place) (lookup (nat_eq n) far) apart)
-                  ∙ sym (far-place near far n over) ∙ sym (cond-false (nat_eq number n) place (last_place near far n) apart)
+                  ∙ sym (far-place reach near far n over) ∙ sym (cond-false (nat_eq number n) place (last_place reach near far n) apart)
             ]
       ]
 
@@ -222,36 +222,36 @@ module _ (near : List ℕ) (far : List (ℕ × ℕ)) (number place : ℕ) where
 none-listed : (links : Links) (n id : ℕ) → once id (ids_at (take 0 links) n) ≡ id ∷ ids_at (take 0 links) n
 none-listed links n id = refl
 
-module _ (links : Links) (near : List ℕ) (far : List (ℕ × ℕ)) (leads : LeadBack links) (notes : NotesLast links near far) (n id : ℕ) where
+module _ (links : Links) (reach : ℕ) (near : List ℕ) (far : List (ℕ × ℕ)) (leads : LeadBack links) (notes : NotesLast links reach near far) (n id : ℕ) where
   abbrev last : Link
-  last = get_or links (last_place near far n - 1) no_link
+  last = get_or links (last_place reach near far n - 1) no_link
 
   -- where the number has a link, its ids are the last link's and others
-  last-first : 0 < last_place near far n → (more : List ℕ) × (ids_at links n ≡ last.id ∷ more)
+  last-first : 0 < last_place reach near far n → (more : List ℕ) × (ids_at links n ≡ last.id ∷ more)
   last-first some =
-      let walks = Walks-start links near far n (last_place near far n) [] notes refl in (
+      let walks = Walks-start links reach near far n (last_place reach near far n) [] notes refl in (
         ids_at (take last.before links) n,
-        sym (start-ids links near far notes n) ∙ first-id links n [] [] (last_place near far n) last leads some walks refl,
+        sym (start-ids links reach near far notes n) ∙ first-id links n [] [] (last_place reach near far n) last leads some walks refl,
       )
 
-  pub once-there : has_id links (last_place near far n) id ≡ true → once id (ids_at links n) ≡ ids_at links n
+  pub once-there : has_id links (last_place reach near far n) id ≡ true → once id (ids_at links n) ≡ ids_at links n
   once-there there =
-      let parts = and_parts (nat_lt 0 (last_place near far n)) (last.id == id) there in
-      let found = last-first (ltb-true 0 (last_place near far n) parts.0) in
+      let parts = and_parts (nat_lt 0 (last_place reach near far n)) (last.id == id) there in
+      let found = last-first (ltb-true 0 (last_place reach near far n) parts.0) in
       ap (once id) found.1 ∙ cond-true (last.id == id) (last.id ∷ found.0) (id ∷ last.id ∷ found.0) parts.1 ∙ sym found.1
 
-  pub once-more : has_id links (last_place near far n) id ≡ false → once id (ids_at links n) ≡ id ∷ ids_at links n
+  pub once-more : has_id links (last_place reach near far n) id ≡ false → once id (ids_at links n) ≡ id ∷ ids_at links n
   once-more apart =
-      elim (cases_lt 0 (last_place near far n)) [
+      elim (cases_lt 0 (last_place reach near far n)) [
         | inl some ↦
             let found = last-first some in
             let differ : (last.id == id) ≡ false =
-            false_from_ne_true (last.id == id) (λ same. both_ways (has_id links (last_place near far n) id) apart
-            (and_from (nat_lt 0 (last_place near far n)) (last.id == id) (lt-ltb 0 (last_place near far n) some) same)) in
+            false_from_ne_true (last.id == id) (λ same. both_ways (has_id links (last_place reach near far n) id) apart
+            (and_from (nat_lt 0 (last_place reach near far n)) (last.id == id) (lt-ltb 0 (last_place reach near far n) some) same)) in
             ap (once id) found.1 ∙ cond-false (last.id == id) (last.id ∷ found.0) (id ∷ last.id ∷ found.0) differ ∙ ap (λ ids. id ∷ ids) (sym found.1)
         | inr none ↦
-            let empty : ids_at links n ≡ [] = sym (start-ids links near far notes n)
-            ∙ ap (λ k. ids_at (take k links) n) (let e : last_place near far n ≡ 0 = omega (arith, none) in e) in
+            let empty : ids_at links n ≡ [] = sym (start-ids links reach near far notes n)
+            ∙ ap (λ k. ids_at (take k links) n) (let e : last_place reach near far n ≡ 0 = omega (arith, none) in e) in
             ap (once id) empty ∙ ap (λ ids. id ∷ ids) (sym empty)
       ]
 

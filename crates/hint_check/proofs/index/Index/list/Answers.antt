@@ -8,9 +8,9 @@ use Rattle.hint_check.proofs.index.Index.list.Goals as goal
 pub loop-place-init : goal.loop-place-init
 loop-place-init c =
     let inside = c.self.inside in
-    Walks-start inside.links.items inside.near.items inside.far.entries (number_of c.args.lit) c.last_place-place.result c.args.ids.now.items
-    c.self.invariant.1 (c.last_place-place.ensures ∙ ap (λ near. last_place near inside.far.entries c.number.result) c.deref.ensures.value
-    ∙ ap (last_place inside.near.items inside.far.entries) c.number.ensures.value)
+    Walks-start inside.links.items inside.reach inside.near.items inside.far.entries (number_of c.args.lit) c.last_place-place.result c.args.ids.now.items
+    c.self.invariant.1 (c.last_place-place.ensures ∙ ap (λ near. last_place inside.reach near inside.far.entries c.number.result) c.deref.ensures.value
+    ∙ ap (last_place inside.reach inside.near.items inside.far.entries) c.number.ensures.value)
 
 pub index-link-requires : goal.index-link-requires
 index-link-requires c =
