@@ -1,27 +1,29 @@
 -- Stamps, and the literals that they say are set.
-use Rattle.std.proofs.Common.{◌≡◌, ◌==◌, ◌+◌, ◌-◌, ◌<◌, ◌≤◌, ◌/◌, ◌%◌, ℕ, zero, suc, Bool, true, false, ◌||◌, List, [], ◌∷◌, ◌++◌, length, get_or, take, slice_index, min, subst, refl, sym, ap, ◌∙◌, arith, inl, inr}
+use Rattle.std.proofs.Common.{◌≡◌, ◌==◌, ◌+◌, ◌-◌, ◌<◌, ◌≤◌, ℕ, zero, suc, Bool, true, false, ◌||◌, List, [], ◌∷◌, ◌++◌, length, get_or, take, slice_index, min, subst, refl, sym, ap, ◌∙◌, arith, inl, inr}
 use Rattle.std.proofs.lemmas.Bool.{cases_Bool, cases_lt, both_ways, cond-true, cond-false, lt-ltb, le-ltb, ne_eqb, or_left, eqb-true, eq-eqb}
-use Rattle.std.specs.Prelude.{if◌then◌else◌, nat_lt, slice_set}
+use Rattle.std.specs.Prelude.{if◌then◌else◌, nat_eq, nat_lt, is_some, slice_set, cond, Option, Some, None}
+use Rattle.std.specs.Map.{lookup}
+use Rattle.std.specs.Option.{unwrap_or}
 use Rattle.std.proofs.lemmas.List.{get_or_past, get_or-set_same, get_or-set_other, take_at}
 use Rattle.std.proofs.lemmas.List.{take_all, take-append-le, take-take, length_push, length-take}
 use Rattle.std.proofs.lemmas.List.{length-take-le}
 use Rattle.cnf_text.specs.Literal.{Literal, number_of, same}
 use Rattle.hint_check.specs.Literals.{has, with_literal}
-use Rattle.hint_check.specs.Stamps.{Marks, stamp_at, paged_at, HasRoom, StampsAre, NoneAbove}
+use Rattle.hint_check.specs.Stamps.{Marks, stamp_at, mapped_at, HasRoom, StampsAre, NoneAbove}
 use Rattle.hint_check.specs.Stamps.{NoRepeats, Extends, is_shown, Shows}
 use Rattle.hint_check.proofs.Literals.{number-same, same-true, same-refl, has-push}
 
 -- ---- near numbers and others
 
-pub near-at : (marks : Marks) (n : ℕ) → n < 65536 → stamp_at marks n ≡ slice_index marks.0 n
-near-at marks n near = cond-true (nat_lt n 65536) (slice_index marks.0 n) (paged_at marks.1 n) (lt-ltb n 65536 near)
+pub near-at : (marks : Marks) (n : ℕ) → n < 2097152 → stamp_at marks n ≡ slice_index marks.0 n
+near-at marks n near = cond-true (nat_lt n 2097152) (slice_index marks.0 n) (mapped_at marks.1 n) (lt-ltb n 2097152 near)
 
-pub far-at : (marks : Marks) (n : ℕ) → 65536 ≤ n → stamp_at marks n ≡ paged_at marks.1 n
-far-at marks n far = cond-false (nat_lt n 65536) (slice_index marks.0 n) (paged_at marks.1 n) (le-ltb n 65536 far)
+pub far-at : (marks : Marks) (n : ℕ) → 2097152 ≤ n → stamp_at marks n ≡ mapped_at marks.1 n
+far-at marks n far = cond-false (nat_lt n 2097152) (slice_index marks.0 n) (mapped_at marks.1 n) (le-ltb n 2097152 far)
 
 -- where both parts answer alike, so do both together
-pub same-parts : (marks after : Marks) → ((n : ℕ) → slice_index after.0 n ≡ slice_index marks.0 n) → ((n : ℕ) → paged_at after.1 n ≡ paged_at marks.1 n) → (n : ℕ) → stamp_at after n ≡ stamp_at marks n
-same-parts marks after near far n = elim (nat_lt n 65536) as (λ b. (if b then slice_index after.0 n else paged_at after.1 n) ≡ (if b then slice_index marks.0 n else paged_at marks.1 n)) [ true ↦ near n | false ↦ far n ]
+pub same-parts : (marks after : Marks) → ((n : ℕ) → slice_index after.0 n ≡ slice_index marks.0 n) → ((n : ℕ) → mapped_at after.1 n ≡ mapped_at marks.1 n) → (n : ℕ) → stamp_at after n ≡ stamp_at marks n
+same-parts marks after near far n = elim (nat_lt n 2097152) as (λ b. (if b then slice_index after.0 n else mapped_at after.1 n) ≡ (if b then slice_index marks.0 n else mapped_at marks.1 n)) [ true ↦ near n | false ↦ far n ]
 
 set_one : (stamps : List ℕ) (number stamp n : ℕ) → number < length stamps → slice_index (slice_set stamps number stamp) n ≡ (if number == n then stamp else slice_index stamps n)
 set_one stamps number stamp n room =
@@ -37,9 +39,9 @@ unset_other : (number n stamp old : ℕ) → (number ≡ n → ⊥) → old ≡ 
 unset_other number n stamp old apart = sym (cond-false (number == n) stamp old (ne_eqb number n apart))
 
 -- one near stamp set
-pub near-set : (marks : Marks) (after : List ℕ) (number stamp : ℕ) → number < 65536 → number < length marks.0 → after ≡ slice_set marks.0 number stamp → (n : ℕ) → stamp_at (after, marks.1) n ≡ (if number == n then stamp else stamp_at marks n)
+pub near-set : (marks : Marks) (after : List ℕ) (number stamp : ℕ) → number < 2097152 → number < length marks.0 → after ≡ slice_set marks.0 number stamp → (n : ℕ) → stamp_at (after, marks.1) n ≡ (if number == n then stamp else stamp_at marks n)
 near-set marks after number stamp near room is n =
-    elim (cases_lt n 65536) [
+    elim (cases_lt n 2097152) [
       | inl low ↦ near-at (after, marks.1) n low ∙ ap (λ stamps. slice_index stamps n) is ∙ set_one marks.0 number stamp n room
           ∙ ap (λ old. if number == n then stamp else old) (sym (near-at marks n low))
       | inr high ↦ far-at (after, marks.1) n high ∙ sym (far-at marks n high)
@@ -47,9 +49,9 @@ near-set marks after number stamp near room is n =
     ]
 
 -- one other stamp set
-pub far-set : (marks : Marks) (after : List (List ℕ)) (number stamp : ℕ) → 65536 ≤ number → ((n : ℕ) → paged_at after n ≡ (if number == n then stamp else paged_at marks.1 n)) → (n : ℕ) → stamp_at (marks.0, after) n ≡ (if number == n then stamp else stamp_at marks n)
+pub far-set : (marks : Marks) (after : List (ℕ × ℕ)) (number stamp : ℕ) → 2097152 ≤ number → ((n : ℕ) → mapped_at after n ≡ (if number == n then stamp else mapped_at marks.1 n)) → (n : ℕ) → stamp_at (marks.0, after) n ≡ (if number == n then stamp else stamp_at marks n)
 far-set marks after number stamp far set n =
-    elim (cases_lt n 65536) [
+    elim (cases_lt n 2097152) [
       | inl low ↦ near-at (marks.0, after) n low ∙ sym (near-at marks n low)
           ∙ unset_other number n stamp (stamp_at marks n) (λ e. omega (arith, e, far, low))
       | inr high ↦ far-at (marks.0, after) n high ∙ set n ∙ ap (λ old. if number == n then stamp else old) (sym (far-at marks n high))
@@ -66,10 +68,10 @@ Sound-parts marks epoch trail h = h.1
 
 -- what the near stamps at hand show
 pub shows-trail : (marks : Marks) (epoch : ℕ) (trail : List Literal) → Sound marks epoch trail
-    → length marks.0 ≤ 65536
+    → length marks.0 ≤ 2097152
     → Shows marks.0 epoch (has trail)
 shows-trail marks epoch trail sound few = record {
-  real = λ l shown. elim (cases_lt (number_of l) 65536) [
+  real = λ l shown. elim (cases_lt (number_of l) 2097152) [
     | inl low ↦ sym (is_near l low) ∙ shown
     | inr high ↦
         let none : slice_index marks.0 (number_of l) ≡ 0 = get_or_past marks.0 (number_of l) 0 (omega (arith, few, high)) in
@@ -80,7 +82,7 @@ shows-trail marks epoch trail sound few = record {
   near = λ l low. is_near l low;
 }
   where
-    is_near : (l : Literal) → number_of l < 65536 → is_shown marks.0 epoch l ≡ has trail l
+    is_near : (l : Literal) → number_of l < 2097152 → is_shown marks.0 epoch l ≡ has trail l
     is_near l low =
         ap (λ stamp. stamp == epoch) (sym (near-at marks (number_of l) low))
         ∙ Sound-parts marks epoch trail sound l
@@ -107,7 +109,7 @@ unfolding NoneAbove
 Sound-next marks epoch trail after h none = Sound-none marks (epoch + 1) after none (λ n. let low = h.2 n in omega (arith, low))
 
 stamp_at-none : (n : ℕ) → stamp_at ([], []) n ≡ 0
-stamp_at-none n = elim (nat_lt n 65536) as (λ b. (if b then slice_index [] n else paged_at [] n) ≡ 0) [ true ↦ refl | false ↦ refl ]
+stamp_at-none n = elim (nat_lt n 2097152) as (λ b. (if b then slice_index [] n else mapped_at [] n) ≡ 0) [ true ↦ refl | false ↦ refl ]
 
 pub Sound-start : (marks : Marks) (trail : List Literal) → marks ≡ ([], []) → trail ≡ [] → Sound marks 1 trail
 Sound-start marks trail empty none = Sound-none marks 1 trail none (λ n. let zero_there = ap (λ ms. stamp_at ms n) empty ∙ stamp_at-none n in omega (arith, zero_there))
@@ -194,6 +196,11 @@ past [] i h = refl
 past (x ∷ xs) zero h = absurd (omega arith)
 past (x ∷ xs) (suc i) h = past xs i (omega arith)
 
+-- a stamp other than 0 has an entry
+entry-of_stamp : (found : Option ℕ) → 1 ≤ unwrap_or found 0 → is_some found ≡ true
+entry-of_stamp (Some stamp) some = refl
+entry-of_stamp None some = absurd (omega (arith, some))
+
 -- a stamp other than 0 has room
 room-of_stamp : (marks : Marks) (number : ℕ) → 1 ≤ stamp_at marks number → HasRoom marks number
 room-of_stamp marks number some = (
@@ -201,11 +208,7 @@ room-of_stamp marks number some = (
     | inl within ↦ within
     | inr beyond ↦ let none = near-at marks number near ∙ past marks.0 number beyond in absurd (omega (arith, none, some))
   ],
-  λ far. let page = get_or marks.1 (number / 1024) [] in
-      elim (cases_lt (number % 1024) (length page)) [
-        | inl within ↦ within
-        | inr beyond ↦ let none = far-at marks number far ∙ past page (number % 1024) beyond in absurd (omega (arith, none, some))
-      ],
+  λ far. entry-of_stamp (lookup (nat_eq number) marks.1) (let is = far-at marks number far in omega (arith, is, some)),
 )
 
 -- the last literal that was set has room
@@ -242,3 +245,26 @@ take_one_less all now n m is one within =
     let long : length now ≡ n = ap length is ∙ length-take-le n all within in
     let less : length now - 1 ≡ m = omega (arith, long, one) in
     ap (λ k. take k now) less ∙ ap (take m) is ∙ take-take m n all (omega (arith, one))
+
+-- ---- stamps in a map
+
+-- a number without an entry gets one with the stamp 0
+pub mapped-zero : (before after : List (ℕ × ℕ)) (number n : ℕ) → lookup (nat_eq number) before ≡ None
+    → ((q : ℕ) → lookup (nat_eq q) after ≡ cond (nat_eq number q) (Some 0) (lookup (nat_eq q) before))
+    → mapped_at after n ≡ mapped_at before n
+mapped-zero before after number n none put =
+    ap (λ o. unwrap_or o 0) (put n)
+    ∙ elim (cases_Bool (nat_eq number n)) [
+      | inl this ↦ ap (λ o. unwrap_or o 0) (cond-true (nat_eq number n) (Some 0) (lookup (nat_eq n) before) this)
+          ∙ sym (ap (λ k. mapped_at before k) (sym (eqb-true number n this)) ∙ ap (λ o. unwrap_or o 0) none)
+      | inr other ↦ ap (λ o. unwrap_or o 0) (cond-false (nat_eq number n) (Some 0) (lookup (nat_eq n) before) other)
+    ]
+
+-- the stamp of a number put in the place of another
+pub mapped-put : (before after : List (ℕ × ℕ)) (number stamp n : ℕ)
+    → ((q : ℕ) → lookup (nat_eq q) after ≡ cond (nat_eq number q) (Some stamp) (lookup (nat_eq q) before))
+    → mapped_at after n ≡ (if number == n then stamp else mapped_at before n)
+mapped-put before after number stamp n put =
+    ap (λ o. unwrap_or o 0) (put n)
+    ∙ elim (nat_eq number n) as (λ b. unwrap_or (cond b (Some stamp) (lookup (nat_eq n) before)) 0 ≡ (if b then stamp else mapped_at before n))
+    [ true ↦ refl | false ↦ refl ]

@@ -1,31 +1,30 @@
--- Numbers stamped in lists, for the contracts of private functions.
-use Rattle.std.specs.Prelude.{◌≡◌, ℕ, ◌/◌, ◌%◌, ◌<◌, ◌≤◌, ◌==◌, nat_lt, if◌then◌else◌, Bool, true}
-use Rattle.std.specs.Prelude.{false, List, [], length, take, slice_index, slice_index_or}
+-- Numbers stamped in a list and a map, for the contracts of private functions.
+use Rattle.std.specs.Prelude.{◌≡◌, ℕ, ◌<◌, ◌≤◌, ◌==◌, nat_eq, nat_lt, is_some, if◌then◌else◌, Bool, true}
+use Rattle.std.specs.Prelude.{false, List, length, take, slice_index, slice_index_or}
+use Rattle.std.specs.Map.{lookup}
+use Rattle.std.specs.Option.{unwrap_or}
 use Rattle.cnf_text.specs.Literal.{Literal, number_of}
 use Rattle.hint_check.specs.Literals.{Literals, has}
 
--- the stamp of a number in its page, and 0 where it has none
-abbrev pub paged_at : List (List ℕ) → ℕ → ℕ
-paged_at pages number = slice_index (slice_index_or pages (number / 1024) []) (number % 1024)
+-- the stamp of a number in a map, and 0 where it has no entry
+abbrev pub mapped_at : List (ℕ × ℕ) → ℕ → ℕ
+mapped_at stamps number = unwrap_or (lookup (nat_eq number) stamps) 0
 
-abbrev pub page_of : List (List ℕ) → ℕ → List ℕ
-page_of pages number = slice_index_or pages (number / 1024) []
+-- there is an entry for the number
+abbrev pub HasEntry : List (ℕ × ℕ) → ℕ → Type 0
+HasEntry stamps number = is_some (lookup (nat_eq number) stamps) ≡ true
 
--- there is a page for the number
-abbrev pub HasPage : List (List ℕ) → ℕ → Type 0
-HasPage pages number = number % 1024 < length (page_of pages number)
-
--- the stamps of the near numbers, and the pages of the others
+-- the stamps of the near numbers, and those of the others
 abbrev pub Marks : Type 0
-Marks = List ℕ × List (List ℕ)
+Marks = List ℕ × List (ℕ × ℕ)
 
 -- the stamp of a number, and 0 where it has no room
 abbrev pub stamp_at : Marks → ℕ → ℕ
-stamp_at marks number = if nat_lt number 65536 then slice_index marks.0 number else paged_at marks.1 number
+stamp_at marks number = if nat_lt number 2097152 then slice_index marks.0 number else mapped_at marks.1 number
 
 -- there is room for the stamp of the number
 abbrev pub HasRoom : Marks → ℕ → Type 0
-HasRoom marks number = (number < 65536 → number < length marks.0) × (65536 ≤ number → HasPage marks.1 number)
+HasRoom marks number = (number < 2097152 → number < length marks.0) × (2097152 ≤ number → HasEntry marks.1 number)
 
 -- the literals that have this stamp are those of the list
 unfoldable pub StampsAre : Marks → ℕ → List Literal → Type 0
@@ -50,4 +49,4 @@ is_shown stamps stamp l = slice_index stamps (number_of l) == stamp
 -- what the stamps show is in the set, and of near literals they show all that is
 pub record Shows (stamps : List ℕ) (stamp : ℕ) (set : Literals) : Type 0 where
   pub real : (l : Literal) → is_shown stamps stamp l ≡ true → set l ≡ true
-  pub near : (l : Literal) → number_of l < 65536 → is_shown stamps stamp l ≡ set l
+  pub near : (l : Literal) → number_of l < 2097152 → is_shown stamps stamp l ≡ set l

@@ -1,13 +1,13 @@
-//! A stamp for each number: in one list for the near numbers, which are most, and in pages for the others.
+//! A stamp for each number: in one list for the near numbers, which are most, and in a map for the others.
 ghost use Rattle.std.specs.Prelude.{◌≡◌, ℕ, ◌<◌, ◌≤◌, ◌==◌, if◌then◌else◌, ◌↔◌, IsTrue, [], length, OnOk};
 ghost use Rattle.hint_check.specs.Stamps.{stamp_at, HasRoom};
 
-use crate::pages::{Page, Pages};
+use crate::stamp_parts::{StampList, StampMap};
 use std::alloc::{AllocError, Global};
 use std::marker::Model;
 
 /// The near numbers are those below this.
-pub const NEAR: u32 = 65536;
+pub const NEAR: u32 = 2097152;
 
 /// The near numbers have room for so many at least, once one of them was set.
 const FIRST: usize = 256;
@@ -15,8 +15,8 @@ const FIRST: usize = 256;
 /// A stamp for each number, 0 where none was set.
 #[derive(Drop)]
 pub struct Stamps {
-    near: Page,
-    far: Pages,
+    near: StampList,
+    far: StampMap,
 }
 
 impl Model for Stamps {
@@ -27,7 +27,7 @@ impl Model for Stamps {
 
     ghost view = { λ s. (s.near, s.far) };
 
-    ghost invariant = { λ s. length s.near ≤ 65536 };
+    ghost invariant = { λ s. length s.near ≤ 2097152 };
 }
 
 impl Stamps {
@@ -36,8 +36,8 @@ impl Stamps {
         ensures { result ≡ ([], []) }
     {
         Stamps {
-            near: Page::none(alloc),
-            far: Pages::new(alloc),
+            near: StampList::none(alloc),
+            far: StampMap::new(alloc),
         }
     }
 
@@ -57,7 +57,7 @@ impl Stamps {
     #[inline(always)]
     pub fn at_hand(&self) -> &[u32]
         ensures stamps { result.now ≡ self.now.0 }
-        ensures near { length result.now ≤ 65536 }
+        ensures near { length result.now ≤ 2097152 }
     {
         self.near.all()
     }
@@ -66,7 +66,7 @@ impl Stamps {
     #[inline(always)]
     pub fn is_at_hand(&self, number: u32) -> bool
         ensures room { IsTrue result ↔ (number < length self.now.0) }
-        ensures near { IsTrue result → number < 65536 }
+        ensures near { IsTrue result → number < 2097152 }
     {
         (number as usize) < self.near.len()
     }
@@ -103,7 +103,7 @@ impl Stamps {
             let room = near_room(number as usize, self.near.len());
             self.near.widen(room)
         } else {
-            self.far.make_page(number)
+            self.far.make_entry(number)
         }
     }
 
