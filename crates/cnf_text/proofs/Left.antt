@@ -9,7 +9,7 @@ use Rattle.std.proofs.lemmas.List.Sums.{position_or_len_is}
 use Rattle.std.proofs.lemmas.Bool.{cases_Bool, eqb-true, ne_eqb}
 use Rattle.cnf_text.specs.Tokens.{Token, is_line_end, is_blank, is_comment, words, tokens_at, line_tokens, lines_from, token_lines, tokens_of, joined}
 use Rattle.cnf_text.specs.Numbers.{decimal, number_of, capped}
-use Rattle.cnf_text.specs.Left.{line_words, words_of_lines, words_within, words_left}
+use Rattle.cnf_text.specs.Words.{line_words, words_of_lines, words_within, words_left}
 use Rattle.cnf_text.proofs.LineWords.{one_more, plus_none, words_blank, words_none, words_first, starts, digits_visible}
 use Rattle.cnf_text.proofs.Digits.{number_below, same_capped}
 use Rattle.cnf_text.proofs.Counts.{count-tokens}

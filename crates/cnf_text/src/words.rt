@@ -4,8 +4,7 @@ ghost use Rattle.std.specs.Prelude.{◌≡◌, ◌∷◌, [], ◌≤◌, ◌<◌
 ghost use Rattle.std.specs.List.{slice_split};
 ghost use Rattle.cnf_text.specs.Tokens.{tokens_of, is_line_end, is_blank};
 ghost use Rattle.cnf_text.specs.Numbers.{decimal};
-ghost use Rattle.cnf_text.specs.Told.{IsToldAs};
-ghost use Rattle.cnf_text.specs.Left.{words_of_lines, words_left, IsNextWord};
+ghost use Rattle.cnf_text.specs.Words.{words_of_lines, words_left, IsToldAs, IsNextWord};
 
 use crate::numbers::{Number, digits_at_front, read_number};
 use crate::tokens::{is_blank, is_comment, split_line, word_len};
@@ -39,8 +38,7 @@ pub struct Words<'t> {
 
 impl<'t> Model for Words<'t> {
     ghost use Rattle.std.specs.Prelude.{ℕ, List};
-    ghost use Rattle.cnf_text.specs.Told.{IsToldAs};
-    ghost use Rattle.cnf_text.specs.Left.{words_left};
+    ghost use Rattle.cnf_text.specs.Words.{words_left};
 
     ghost Value = { List (List ℕ) };
 

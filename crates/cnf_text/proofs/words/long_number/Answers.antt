@@ -2,7 +2,7 @@ use Rattle.std.proofs.Common.{◌≡◌, ◌<◌, ◌∷◌, Some, ap, sym, ◌�
 use Rattle.std.proofs.lemmas.List.{length-drop}
 use Rattle.std.proofs.lemmas.Bool.{eqb-true}
 use Rattle.cnf_text.specs.Tokens.{is_blank}
-use Rattle.cnf_text.specs.Left.{words_left}
+use Rattle.cnf_text.specs.Words.{words_left}
 use Rattle.cnf_text.proofs.Left.{digits_left, first_behind}
 use Rattle.cnf_text.proofs.Digits.{decimal_of_digits}
 use Rattle.cnf_text.proofs.words.long_number.Goals as goal

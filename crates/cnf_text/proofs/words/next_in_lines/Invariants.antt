@@ -1,5 +1,5 @@
 use Rattle.std.proofs.Common.{◌≡◌, length}
-use Rattle.cnf_text.specs.Left.{words_left}
+use Rattle.cnf_text.specs.Words.{words_left}
 use Rattle.cnf_text.proofs.words.next_in_lines.Given as goal
 
 abbrev pub invariant-loop-left : goal.invariant-loop-left

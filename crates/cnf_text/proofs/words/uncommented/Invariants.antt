@@ -1,7 +1,7 @@
 use Rattle.std.proofs.Common.{◌≡◌, ◌≤◌, length}
 use Rattle.std.specs.List.{slice_split}
 use Rattle.cnf_text.specs.Tokens.{is_line_end}
-use Rattle.cnf_text.specs.Left.{words_of_lines}
+use Rattle.cnf_text.specs.Words.{words_of_lines}
 use Rattle.cnf_text.proofs.words.uncommented.Given as goal
 
 abbrev pub invariant-loop-below : goal.invariant-loop-below
