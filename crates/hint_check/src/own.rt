@@ -323,7 +323,8 @@ fn make_slots(slots: &mut Vec<Slot>, place: usize) -> Result<(), AllocError>
     Ok(())
 }
 
-/// Puts a slot at a place, which mostly is the next one, and answers how many literals it had before.
+/// Puts a slot at a place, which mostly is the next one, and answers how many literals it had
+/// before.
 #[inline(always)]
 fn put_slot(slots: &mut Vec<Slot>, place: usize, slot: Slot) -> Result<usize, AllocError>
     requires { place + 1 < 2 ^ 64 }
