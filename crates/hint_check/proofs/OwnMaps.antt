@@ -252,9 +252,11 @@ slot-written before place i slot room =
 pub slot-pushed : (before : List Slot) (slot : Slot) (i : ℕ)
     → slot_at (before ++ slot ∷ []) i ≡ cond (nat_eq (length before) i) slot (slot_at before i)
 slot-pushed [] slot zero = refl
-slot-pushed [] slot (suc i) = sym (cond-false (nat_eq 0 (suc i)) slot no_slot (ne_eqb 0 (suc i) (λ e. omega (arith, e))))
+slot-pushed [] slot (suc i) =
+    sym (cond-false (nat_eq 0 (suc i)) slot no_slot (ne_eqb 0 (suc i) (λ e. omega (arith, e))))
 slot-pushed (s ∷ before) slot zero =
-    sym (cond-false (nat_eq (suc (length before)) 0) slot s (ne_eqb (suc (length before)) 0 (λ e. omega (arith, e))))
+    sym (cond-false (nat_eq (suc (length before)) 0) slot s
+    (ne_eqb (suc (length before)) 0 (λ e. omega (arith, e))))
 slot-pushed (s ∷ before) slot (suc i) =
     slot-pushed before slot i
     ∙ ap (λ b. cond b slot (slot_at before i))

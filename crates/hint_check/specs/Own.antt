@@ -20,6 +20,10 @@ slot_at slots place = slice_index_or slots place no_slot
 abbrev pub slot_clause : List Literal → Slot → Option (List Literal)
 slot_clause lits slot = if nat_le slot.start slot.end then Some (slice_range lits slot.start slot.end) else None
 
+-- how many literals stand there
+abbrev pub slot_length : Slot → ℕ
+slot_length slot = slot.end - slot.start
+
 abbrev pub span_clause : List Literal → Span → List Literal
 span_clause lits span = slice_range lits span.start span.end
 

@@ -1,13 +1,13 @@
 //! A proof's own clauses by their ids. All their literals stand in one list, each clause's behind
 //! those put in before it.
 ghost use Rattle.std.specs.Prelude.{◌≡◌, ℕ, ◌+◌, ◌-◌, ◌<◌, ◌≤◌, ◌^◌, nat_eq, cond, length, max};
-ghost use Rattle.std.specs.Prelude.{List, None, Some, IfSome, OnOk, OnErr};
+ghost use Rattle.std.specs.Prelude.{List, None, Some, IfSome, IfOk, OnOk, OnErr};
 ghost use Rattle.std.specs.Map.{lookup};
 ghost use Rattle.std.specs.Option.{option_copied};
 ghost use Rattle.cnf_text.specs.Literal.{Literal};
 ghost use Rattle.hint_check.specs.Own.{no_slot, slot_at, near_at, far_at, SlotsEndBy, SpansEndBy};
 ghost use Rattle.hint_check.specs.Own.{slot_clause, span_clause, near_entries, far_entries};
-ghost use Rattle.hint_check.specs.Own.{SetsSlot, ListsAll};
+ghost use Rattle.hint_check.specs.Own.{slot_length, SetsSlot, ListsAll};
 
 use crate::index::Index;
 use cnf_text::literal::Lit;
@@ -237,7 +237,9 @@ fn slot_clause(lits: &[Lit], slot: Slot) -> Option<&[Lit]>
 }
 
 /// How many literals stand where a slot says.
-fn slot_len(slot: Slot) -> usize {
+fn slot_len(slot: Slot) -> usize
+    ensures { result ≡ slot_length slot }
+{
     slot.end.saturating_sub(slot.start) as usize
 }
 
@@ -324,12 +326,14 @@ fn make_slots(slots: &mut Vec<Slot>, place: usize) -> Result<(), AllocError>
     Ok(())
 }
 
-/// Puts a slot at a place, which mostly is the next one, and answers how many literals it had before.
+/// Puts a slot at a place, which mostly is the next one, and answers how many literals it had
+/// before.
 #[inline(always)]
 fn put_slot(slots: &mut Vec<Slot>, place: usize, slot: Slot) -> Result<usize, AllocError>
     requires { place + 1 < 2 ^ 64 }
     ensures put { OnOk result ((i : ℕ) →
         slot_at slots.new.items i ≡ cond (nat_eq place i) slot (slot_at slots.old.items i)) }
+    ensures count { IfOk result (λ had. had ≡ slot_length (slot_at slots.old.items place)) }
     ensures bound { length slots.new.items ≤ max (length slots.old.items) (place + 1) }
     ensures same { OnErr result ((i : ℕ)
         → slot_at slots.new.items i ≡ slot_at slots.old.items i) }

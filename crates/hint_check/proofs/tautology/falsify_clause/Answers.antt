@@ -21,7 +21,8 @@ loop-lit-preserved c =
     let before = has c.loop-lit.assignment in
     let full = with_literals no_literals (negations clause) in
     let rest = drop (i + 1) clause in
-    let here = sym (at_literal (λ ls. with_literals before (negations ls)) clause i l c.loop-lit-test.true c.lit-item.is)
+    let at_it = c.loop-lit-test.true in
+    let here = sym (at_literal (λ ls. with_literals before (negations ls)) clause i l at_it c.lit-item.is)
     ∙ c.loop-lit.invariant.set in
     record {
       set = ap (λ set. with_literals set (negations rest))
@@ -29,7 +30,7 @@ loop-lit-preserved c =
           ∙ sym (with_literals-more before (negation l) (negations rest)) ∙ here;
       tautology = found-turn full before c.loop-lit.found _ l rest here
           (ap (λ b. c.loop-lit.found || b) c.contains-found.ensures)
-          ∙ sym (at_literal (λ ls. c.loop-lit.found || meets full ls) clause i l c.loop-lit-test.true c.lit-item.is)
+          ∙ sym (at_literal (λ ls. c.loop-lit.found || meets full ls) clause i l at_it c.lit-item.is)
           ∙ c.loop-lit.invariant.tautology;
     }
 
@@ -45,5 +46,6 @@ pub returns-clause-set : goal.returns-clause-set
 returns-clause-set c =
     let before = has c.loop-lit.assignment in
     sym (with_literals-none before)
-    ∙ sym (at_drop_all (λ ls. with_literals before (negations ls)) c.args.clause.now c.loop-lit.lit-index (omega arith))
+    ∙ sym (at_drop_all (λ ls. with_literals before (negations ls)) c.args.clause.now
+    c.loop-lit.lit-index (omega arith))
     ∙ c.loop-lit.invariant.set

@@ -8,7 +8,8 @@ use Rattle.hint_check.proofs.live.LiveView.get.Goals.{then-id-self+in_default, e
 pub returns-in-Some : goal.returns-in-Some
 returns-in-Some c =
     let view = c.args.self in
-    overlay-base view.clauses.now view.dropped.now (own_seen view.own) c.args.id c.in-Some.lits.now c.in-Some.ensures
+    overlay-base view.clauses.now view.dropped.now (own_seen view.own) c.args.id c.in-Some.lits.now
+    c.in-Some.ensures
 
 pub returns : goal.returns
 returns c =

@@ -18,7 +18,8 @@ invariant_of-self-in_err-replaced-in-Some c =
     ∙ length-append inside.lits.items c.args.lits.now in
     let made = c.put_slot.new.slots.items in (
       subst (SlotsEndBy made) (sym grown)
-          (SlotsEndBy-same inside.slots.items made count more c.self.invariant.0 c.in_err-replaced-in-Some.ensures.same),
+          (SlotsEndBy-same inside.slots.items made count more c.self.invariant.0
+          c.in_err-replaced-in-Some.ensures.same),
       subst (SpansEndBy inside.far.entries) (sym grown)
           (SpansEndBy-more inside.far.entries count more c.self.invariant.1),
       let bound = c.self.invariant.2 in let longer = c.put_slot.ensures.bound in let place =
