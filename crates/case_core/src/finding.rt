@@ -7,11 +7,12 @@ ghost use Rattle.case_core.specs.Case.{proof_for};
 ghost use Rattle.case_core.specs.Finding.{IsFinding, HasSection, IsSound, IsJudged, IsTargetAt-prop, target_of};
 
 use crate::case::Case;
-use hint_check::{Checker, Judged};
+use hint_check::{Checker, Judged, Scratch};
 use split_tree::{Leaf, NodeId, Target};
 use std::alloc::{AllocError, Global};
 
-/// The judgement of a target's section in its case. Only `examine` makes one.
+/// The judgement of a target's section in its case. Only `examine` and
+/// `examine_with` make one.
 #[derive(Drop)]
 pub struct Finding<'c> {
     case: &'c Case,
@@ -73,9 +74,24 @@ pub fn examine<'c>(
     ensures { IfOk result (λ found. MatchOption found (proof_for case.now.sections target ≡ None)
         (λ finding. HasSection case.now target × (finding.case.now ≡ case.now) × (target_of finding.leaf finding.node ≡ target) × IsFinding case.now target finding.judged)) }
 {
+    let mut scratch = Scratch::new(alloc);
+    examine_with(alloc, &mut scratch, case, target)
+}
+
+/// The same, on a scratch that may have served for other sections, of other cases too.
+pub fn examine_with<'c>(
+    alloc: Global,
+    scratch: &mut Scratch,
+    case: &'c Case,
+    target: Target,
+) -> Result<Option<Finding<'c>>, AllocError>
+    requires { HasTarget case.now.tree target }
+    ensures { IfOk result (λ found. MatchOption found (proof_for case.now.sections target ≡ None)
+        (λ finding. HasSection case.now target × (finding.case.now ≡ case.now) × (target_of finding.leaf finding.node ≡ target) × IsFinding case.now target finding.judged)) }
+{
     let asked = target;
     let placed = target;
-    let Some(judged) = judged_in(alloc, case, asked)? else {
+    let Some(judged) = judged_in(alloc, scratch, case, asked)? else {
         return Ok(None);
     };
     let node = case.tree().node_of_target(placed).number();
@@ -98,7 +114,12 @@ fn leaf_of(target: Target) -> Option<Leaf>
 }
 
 /// What is said of the target's proof, if it has one.
-fn judged_in(alloc: Global, case: &Case, target: Target) -> Result<Option<Judged>, AllocError>
+fn judged_in(
+    alloc: Global,
+    scratch: &mut Scratch,
+    case: &Case,
+    target: Target,
+) -> Result<Option<Judged>, AllocError>
     requires { HasTarget case.now.tree target }
     ensures { IfOk result (λ found. MatchOption found (proof_for case.now.sections target ≡ None)
         (λ judged. HasSection case.now target × IsFinding case.now target judged × IsSound case.now target judged)) }
@@ -106,15 +127,21 @@ fn judged_in(alloc: Global, case: &Case, target: Target) -> Result<Option<Judged
     let Some(proof) = case.proof_for(target) else {
         return Ok(None);
     };
-    Ok(Some(judge(alloc, case, target, proof)?))
+    Ok(Some(judge(alloc, scratch, case, target, proof)?))
 }
 
 /// What is said of a proof from the formula and the target's path.
-fn judge(alloc: Global, case: &Case, target: Target, proof: &[u8]) -> Result<Judged, AllocError>
+fn judge(
+    alloc: Global,
+    scratch: &mut Scratch,
+    case: &Case,
+    target: Target,
+    proof: &[u8],
+) -> Result<Judged, AllocError>
     requires { HasTarget case.now.tree target }
     ensures { IfOk result (λ judged. IsJudged case.now target proof.now judged) }
 {
     let path = case.tree().path_of(alloc, target)?;
     let checker = Checker::over(alloc, case.base(), &path)?;
-    checker.judge(alloc, proof)
+    checker.judge_with(alloc, scratch, proof)
 }
