@@ -36,7 +36,8 @@ unfolding words_left words
 nothing_left = refl
 
 -- a blank that ends no line
-pub left_blank : (b : ℕ) (bs : List ℕ) → is_blank b ≡ true → is_line_end b ≡ false → words_left (b ∷ bs) ≡ words_left bs
+pub left_blank : (b : ℕ) (bs : List ℕ) → is_blank b ≡ true → is_line_end b ≡ false
+    → words_left (b ∷ bs) ≡ words_left bs
 unfolding words_left
 left_blank b bs blank inside =
     let cut = first_line bs in
@@ -48,7 +49,8 @@ left_blank b bs blank inside =
 pub left_end : (bs : List ℕ) → words_left (10 ∷ bs) ≡ words_of_lines (slice_split is_line_end bs)
 unfolding words_left
 left_end bs =
-    ap words_within (slice_split-cons_yes is_line_end 10 bs refl) ∙ ap (λ found. found ++ words_of_lines (slice_split is_line_end bs)) words_none
+    ap words_within (slice_split-cons_yes is_line_end 10 bs refl)
+    ∙ ap (λ found. found ++ words_of_lines (slice_split is_line_end bs)) words_none
 
 other_words : (line : List ℕ) → is_comment line ≡ false → words line ≡ line_words line
 unfolding line_words
@@ -59,13 +61,17 @@ unfolding line_words
 no_words line h = rw h refl
 
 -- whole lines whose first is no comment
-pub left_whole : (bs line : List ℕ) (lines : List (List ℕ)) → slice_split is_line_end bs ≡ line ∷ lines → is_comment line ≡ false → words_left bs ≡ words_of_lines (slice_split is_line_end bs)
+pub left_whole : (bs line : List ℕ) (lines : List (List ℕ)) → slice_split is_line_end bs ≡ line ∷ lines
+    → is_comment line ≡ false → words_left bs ≡ words_of_lines (slice_split is_line_end bs)
 unfolding words_left
 left_whole bs line lines parts other =
-    ap words_within parts ∙ ap (λ found. found ++ words_of_lines lines) (other_words line other) ∙ sym (ap words_of_lines parts)
+    ap words_within parts
+    ∙ ap (λ found. found ++ words_of_lines lines) (other_words line other)
+    ∙ sym (ap words_of_lines parts)
 
 -- and those whose first is one
-pub comment_left : (bs line : List ℕ) (lines : List (List ℕ)) → slice_split is_line_end bs ≡ line ∷ lines → is_comment line ≡ true → words_of_lines (slice_split is_line_end bs) ≡ words_of_lines lines
+pub comment_left : (bs line : List ℕ) (lines : List (List ℕ)) → slice_split is_line_end bs ≡ line ∷ lines
+    → is_comment line ≡ true → words_of_lines (slice_split is_line_end bs) ≡ words_of_lines lines
 comment_left bs line lines parts comment =
     ap words_of_lines parts ∙ ap (λ found. found ++ words_of_lines lines) (no_words line comment)
 
@@ -84,7 +90,8 @@ cut_at_once b bs blank = elim (cases_Bool (is_line_end b)) [
       record { line = []; lines = slice_split is_line_end bs; parts = parts; here = refl; front = refl; behind = parts }
   | inr h ↦
       let more = first_line bs in
-      let parts : slice_split is_line_end (b ∷ bs) ≡ (b ∷ more.line) ∷ more.lines = slice_split-cons_no is_line_end b bs h ∙ ap (onto_first b) more.parts in
+      let parts : slice_split is_line_end (b ∷ bs) ≡ (b ∷ more.line) ∷ more.lines =
+      slice_split-cons_no is_line_end b bs h ∙ ap (onto_first b) more.parts in
       record { line = b ∷ more.line; lines = more.lines; parts = parts; here = rw blank refl; front = refl; behind = parts }
 ]
 
@@ -118,21 +125,25 @@ pub left_word : (bs : List ℕ) → 0 < length bs → is_blank (get_or bs 0 0) �
 unfolding words_left
 left_word bs some visible =
     let cut = word_cut bs in
-    let long : 0 < length (take (position_or_len is_blank cut.line) cut.line) = rw (cut.here, cut.front) (starts bs some visible) in
+    let long : 0 < length (take (position_or_len is_blank cut.line) cut.line) =
+    rw (cut.here, cut.front) (starts bs some visible) in
     ap words_within cut.parts
     ∙ ap (λ found. found ++ words_of_lines cut.lines) (words_first cut.line long)
     ∙ rw (cut.here, cut.front) (ap (λ more. take (position_or_len is_blank bs) bs ∷ more) (sym (ap words_within cut.behind)))
 
 -- digits up to a blank are the first word
-pub digits_left : (bs : List ℕ) (n : ℕ) → (n ≡ 0 → ⊥) → n ≤ length bs → list_all is_ascii_digit (take n bs) ≡ true → (n < length bs → is_blank (get_or bs n 0) ≡ true)
+pub digits_left : (bs : List ℕ) (n : ℕ) → (n ≡ 0 → ⊥) → n ≤ length bs
+    → list_all is_ascii_digit (take n bs) ≡ true → (n < length bs → is_blank (get_or bs n 0) ≡ true)
     → (words_left bs ≡ take n bs ∷ words_left (drop n bs)) × (is_blank (get_or bs 0 0) ≡ false)
 digits_left bs n some within all ends =
-    let stops : position_or_len is_blank bs ≡ n = position_or_len_is is_blank bs n 0 within (λ i h. digits_visible bs n i all h (omega arith)) ends in
+    let stops : position_or_len is_blank bs ≡ n =
+    position_or_len_is is_blank bs n 0 within (λ i h. digits_visible bs n i all h (omega arith)) ends in
     let visible : is_blank (get_or bs 0 0) ≡ false = digits_visible bs n 0 all (omega arith) (omega arith) in
     ((left_word bs (omega arith) visible) ∙ rw stops refl, visible)
 
 -- what is left behind a first line that was cut off, where that line is no comment and where it is one
-pub left_line : (bs line : List ℕ) (rest : Option (Bor (List ℕ))) → MatchOption rest (slice_split is_line_end bs ≡ line ∷ []) (λ r. slice_split is_line_end bs ≡ line ∷ slice_split is_line_end r.now)
+pub left_line : (bs line : List ℕ) (rest : Option (Bor (List ℕ)))
+    → MatchOption rest (slice_split is_line_end bs ≡ line ∷ []) (λ r. slice_split is_line_end bs ≡ line ∷ slice_split is_line_end r.now)
     → is_comment line ≡ false → words_left bs ≡ words_of_lines (slice_split is_line_end bs)
 left_line bs line None parts other = left_whole bs line [] parts other
 left_line bs line (Some r) parts other = left_whole bs line (slice_split is_line_end r.now) parts other
@@ -148,14 +159,16 @@ line_again n line = elim (cases_Bool (is_comment line)) [
   | inr h ↦ rw h (plain_words n (words line))
 ]
 
-lines_again : (n : ℕ) (lines : List (List ℕ)) → map (λ (t : Token). t.bytes) (joined (lines_from n lines)) ≡ words_of_lines lines
+lines_again : (n : ℕ) (lines : List (List ℕ))
+    → map (λ (t : Token). t.bytes) (joined (lines_from n lines)) ≡ words_of_lines lines
 lines_again n [] = refl
 lines_again n (line ∷ lines) =
     map-append (λ (t : Token). t.bytes) (line_tokens n line) (joined (lines_from (n + 1) lines))
     ∙ rw (line_again n line, lines_again (n + 1) lines) refl
 
 -- the words of a text's lines are its tokens without their lines
-pub words_of_tokens : (bs : List ℕ) → words_of_lines (slice_split is_line_end bs) ≡ map (λ (t : Token). t.bytes) (tokens_of bs)
+pub words_of_tokens : (bs : List ℕ)
+    → words_of_lines (slice_split is_line_end bs) ≡ map (λ (t : Token). t.bytes) (tokens_of bs)
 unfolding token_lines
 words_of_tokens bs = sym (lines_again 1 (slice_split is_line_end bs))
 
@@ -166,13 +179,16 @@ drop_at : (bs : List ℕ) (n b : ℕ) → n < length bs → get_or bs n 0 ≡ b 
 drop_at bs n b within here = rw (add-one, ← here) (drop-cons bs n 0 within)
 
 -- digits and a space behind them
-pub number_and_space : (bs : List ℕ) (n : ℕ) → (n ≡ 0 → ⊥) → n < length bs → list_all is_ascii_digit (take n bs) ≡ true → get_or bs n 0 ≡ 32 → words_left bs ≡ take n bs ∷ words_left (drop (n + 1) bs)
+pub number_and_space : (bs : List ℕ) (n : ℕ) → (n ≡ 0 → ⊥) → n < length bs
+    → list_all is_ascii_digit (take n bs) ≡ true → get_or bs n 0 ≡ 32
+    → words_left bs ≡ take n bs ∷ words_left (drop (n + 1) bs)
 unfolding is_blank
 number_and_space bs n some within all behind =
     (digits_left bs n some (omega arith) all (λ _. rw behind refl)).0
     ∙ ap (λ more. take n bs ∷ more) (ap words_left (drop_at bs n 32 within behind) ∙ left_blank 32 (drop (n + 1) bs) refl refl)
 
-pub visible_at : (bs : List ℕ) (n : ℕ) → (n ≡ 0 → ⊥) → n ≤ length bs → list_all is_ascii_digit (take n bs) ≡ true → is_blank (get_or bs 0 0) ≡ false
+pub visible_at : (bs : List ℕ) (n : ℕ) → (n ≡ 0 → ⊥) → n ≤ length bs
+    → list_all is_ascii_digit (take n bs) ≡ true → is_blank (get_or bs 0 0) ≡ false
 visible_at bs n some within all = digits_visible bs n 0 all (omega arith) (omega arith)
 
 visible_above : (b : ℕ) → 32 < b → is_blank b ≡ false
@@ -184,18 +200,23 @@ unfolding is_comment
 plain_line b line visible other = rw visible (ne_eqb b 99 other)
 
 -- whole lines whose first begins with a byte that is neither a blank nor a c
-plain_at_once : (bs : List ℕ) → 0 < length bs → 32 < get_or bs 0 0 → (get_or bs 0 0 ≡ 99 → ⊥) → words_left bs ≡ words_of_lines (slice_split is_line_end bs)
+plain_at_once : (bs : List ℕ) → 0 < length bs → 32 < get_or bs 0 0 → (get_or bs 0 0 ≡ 99 → ⊥)
+    → words_left bs ≡ words_of_lines (slice_split is_line_end bs)
 plain_at_once [] some above other = absurd (omega arith)
 plain_at_once (b ∷ bs) some above other =
     let visible = visible_above b above in
     let cut = first_line bs in
-    left_whole (b ∷ bs) (b ∷ cut.line) cut.lines (slice_split-cons_no is_line_end b bs (visible_inside b visible) ∙ ap (onto_first b) cut.parts) (plain_line b cut.line visible other)
+    let parts : slice_split is_line_end (b ∷ bs) ≡ (b ∷ cut.line) ∷ cut.lines =
+    slice_split-cons_no is_line_end b bs (visible_inside b visible) ∙ ap (onto_first b) cut.parts in
+    left_whole (b ∷ bs) (b ∷ cut.line) cut.lines parts (plain_line b cut.line visible other)
 
 pub first_behind : (bs : List ℕ) (k : ℕ) → get_or (drop k bs) 0 0 ≡ get_or bs k 0
 first_behind bs k = get_or-drop k bs 0 0 ∙ ap (λ i. get_or bs i 0) (plus_none k)
 
 -- digits, a line's end, and a line that is surely no comment
-pub number_and_line : (bs : List ℕ) (n : ℕ) → (n ≡ 0 → ⊥) → n + 1 < length bs → list_all is_ascii_digit (take n bs) ≡ true → get_or bs n 0 ≡ 10 → 32 < get_or bs (n + 1) 0 → (get_or bs (n + 1) 0 ≡ 99 → ⊥)
+pub number_and_line : (bs : List ℕ) (n : ℕ) → (n ≡ 0 → ⊥) → n + 1 < length bs
+    → list_all is_ascii_digit (take n bs) ≡ true → get_or bs n 0 ≡ 10 → 32 < get_or bs (n + 1) 0
+    → (get_or bs (n + 1) 0 ≡ 99 → ⊥)
     → words_left bs ≡ take n bs ∷ words_left (drop (n + 1) bs)
 unfolding is_blank
 number_and_line bs n some within all behind above other =
@@ -205,25 +226,33 @@ number_and_line bs n some within all behind above other =
     ∙ sym (plain_at_once (drop (n + 1) bs) (omega (arith, length-drop (n + 1) bs)) (rw first above) (λ e. other (sym first ∙ e))))
 
 -- digits and a line's end
-pub number_and_end : (bs : List ℕ) (n : ℕ) → (n ≡ 0 → ⊥) → n ≤ length bs → list_all is_ascii_digit (take n bs) ≡ true → get_or bs n 0 ≡ 10 → words_left bs ≡ take n bs ∷ words_left (drop n bs)
+pub number_and_end : (bs : List ℕ) (n : ℕ) → (n ≡ 0 → ⊥) → n ≤ length bs
+    → list_all is_ascii_digit (take n bs) ≡ true → get_or bs n 0 ≡ 10
+    → words_left bs ≡ take n bs ∷ words_left (drop n bs)
 unfolding is_blank
 number_and_end bs n some within all behind = (digits_left bs n some within all (λ _. rw behind refl)).0
 
-onto_word : (b : ℕ) (front word : List ℕ) (others more : List (List ℕ)) → front ∷ others ≡ word ∷ more → (b ∷ front) ∷ others ≡ (b ∷ word) ∷ more
+onto_word : (b : ℕ) (front word : List ℕ) (others more : List (List ℕ)) → front ∷ others ≡ word ∷ more
+    → (b ∷ front) ∷ others ≡ (b ∷ word) ∷ more
 onto_word b front word others more e = cc
 
-one_further : (b : ℕ) (bs : List ℕ) → is_blank b ≡ false → position_or_len is_blank (b ∷ bs) ≡ suc (position_or_len is_blank bs)
+one_further : (b : ℕ) (bs : List ℕ) → is_blank b ≡ false
+    → position_or_len is_blank (b ∷ bs) ≡ suc (position_or_len is_blank bs)
 one_further b bs visible = rw visible (one_more (position_or_len is_blank bs))
 
 -- one more visible byte before a word
-pub minus_left : (bs word : List ℕ) (more : List (List ℕ)) → is_blank (get_or bs 0 0) ≡ false → words_left bs ≡ word ∷ more → words_left (45 ∷ bs) ≡ (45 ∷ word) ∷ more
+pub minus_left : (bs word : List ℕ) (more : List (List ℕ)) → is_blank (get_or bs 0 0) ≡ false
+    → words_left bs ≡ word ∷ more → words_left (45 ∷ bs) ≡ (45 ∷ word) ∷ more
 minus_left [] word more visible is = absurd (let none = sym nothing_left ∙ is in cc)
 minus_left (b ∷ bs) word more visible is =
-    let whole : words_left (45 ∷ b ∷ bs) ≡ (45 ∷ take (position_or_len is_blank (b ∷ bs)) (b ∷ bs)) ∷ words_left (drop (position_or_len is_blank (b ∷ bs)) (b ∷ bs)) =
-    left_word (45 ∷ b ∷ bs) (omega arith) (visible_above 45 (omega arith)) ∙ rw (one_further 45 (b ∷ bs) (visible_above 45 (omega arith))) refl in
+    let minus : is_blank 45 ≡ false = visible_above 45 (omega arith) in
+    let n = position_or_len is_blank (b ∷ bs) in
+    let whole : words_left (45 ∷ b ∷ bs) ≡ (45 ∷ take n (b ∷ bs)) ∷ words_left (drop n (b ∷ bs)) =
+    left_word (45 ∷ b ∷ bs) (omega arith) minus ∙ rw (one_further 45 (b ∷ bs) minus) refl in
     whole ∙ onto_word 45 _ word _ more (sym (left_word (b ∷ bs) (omega arith) visible) ∙ is)
 
-pub minus_first : (bs word : List ℕ) (more : List (List ℕ)) → 0 < length bs → get_or bs 0 0 ≡ 45 → is_blank (get_or (take (length bs - 1) (drop 1 bs)) 0 0) ≡ false
+pub minus_first : (bs word : List ℕ) (more : List (List ℕ)) → 0 < length bs → get_or bs 0 0 ≡ 45
+    → is_blank (get_or (take (length bs - 1) (drop 1 bs)) 0 0) ≡ false
     → words_left (take (length bs - 1) (drop 1 bs)) ≡ word ∷ more → words_left bs ≡ (45 ∷ word) ∷ more
 minus_first [] word more some minus visible is = absurd (omega arith)
 minus_first (b ∷ bs) word more some minus visible is =
@@ -231,16 +260,22 @@ minus_first (b ∷ bs) word more some minus visible is =
     ap (λ first. words_left (first ∷ bs)) minus ∙ minus_left bs word more (rw whole at visible) (rw whole at is)
 
 -- a number below zero, within the limit of 64 bits
-pub told_below : (word : List ℕ) (n : ℕ) → decimal word ≡ Some n → (n ≡ 0 → ⊥) → n < 18446744073709551616 → option_map capped (number_of (45 ∷ word)) ≡ Some (record { negative = true; magnitude = n })
+pub told_below : (word : List ℕ) (n : ℕ) → decimal word ≡ Some n → (n ≡ 0 → ⊥) → n < 18446744073709551616
+    → option_map capped (number_of (45 ∷ word)) ≡ Some (record { negative = true; magnitude = n })
 told_below word n value some small =
-    ap (option_map capped) (number_below (45 ∷ word) refl) ∙ rw (value, ne_eqb n 0 some) (ap (λ m. Some (record { negative = true; magnitude = m })) (same_capped n small))
+    ap (option_map capped) (number_below (45 ∷ word) refl)
+    ∙ rw (value, ne_eqb n 0 some) (ap (λ m. Some (record { negative = true; magnitude = m })) (same_capped n small))
 
 -- a text of which the first byte was cut off
-pub behind_blank : (bs : List ℕ) → 0 < length bs → is_blank (get_or bs 0 0) ≡ true → is_line_end (get_or bs 0 0) ≡ false → words_left (take (length bs - 1) (drop 1 bs)) ≡ words_left bs
-behind_blank bs some blank inside = rw take_rest (sym (left_blank (get_or bs 0 0) (drop 1 bs) blank inside) ∙ sym (ap words_left (drop_at bs 0 _ some refl)))
+pub behind_blank : (bs : List ℕ) → 0 < length bs → is_blank (get_or bs 0 0) ≡ true
+    → is_line_end (get_or bs 0 0) ≡ false → words_left (take (length bs - 1) (drop 1 bs)) ≡ words_left bs
+behind_blank bs some blank inside =
+    rw take_rest (sym (left_blank (get_or bs 0 0) (drop 1 bs) blank inside) ∙ sym (ap words_left (drop_at bs 0 _ some refl)))
 
-pub behind_end : (bs : List ℕ) → 0 < length bs → get_or bs 0 0 ≡ 10 → words_of_lines (slice_split is_line_end (take (length bs - 1) (drop 1 bs))) ≡ words_left bs
-behind_end bs some ends = rw take_rest (sym (left_end (drop 1 bs)) ∙ sym (ap words_left (drop_at bs 0 10 some ends)))
+pub behind_end : (bs : List ℕ) → 0 < length bs → get_or bs 0 0 ≡ 10
+    → words_of_lines (slice_split is_line_end (take (length bs - 1) (drop 1 bs))) ≡ words_left bs
+behind_end bs some ends =
+    rw take_rest (sym (left_end (drop 1 bs)) ∙ sym (ap words_left (drop_at bs 0 10 some ends)))
 
 pub none_left : (bs : List ℕ) → length bs < 1 → words_left bs ≡ []
 none_left [] none = nothing_left

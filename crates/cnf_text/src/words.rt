@@ -29,8 +29,8 @@ fn word_of(bytes: &[u8]) -> Word<'_>
     }
 }
 
-/// The words of a text that are left, from a place within a line on: those of that line, and those of each line below
-/// it that is no comment.
+/// The words of a text that are left, from a place within a line on: those of that line, and those of
+/// each line below it that is no comment.
 #[derive(Drop)]
 pub struct Words<'t> {
     text: &'t [u8],
@@ -67,11 +67,13 @@ impl<'t> Words<'t> {
         Words { text: self.text }
     }
 
-    /// The next word, as the number that it spells where it spells one, and the words behind it; `None` where none is
-    /// left. Most words are short numbers without a sign.
+    /// The next word, as the number that it spells where it spells one, and the words behind it;
+    /// `None` where none is left. Most words are short numbers without a sign.
     #[inline(always)]
     pub fn next(self) -> Option<(Word<'t>, Words<'t>)>
-        ensures { MatchOption result (self.entry ≡ []) (λ found. IsNextWord self.entry found.0 found.1) }
+        ensures { MatchOption result
+            (self.entry ≡ [])
+            (λ found. IsNextWord self.entry found.0 found.1) }
     {
         match short_number(self.text) {
             Some((magnitude, rest)) => Some((
@@ -86,12 +88,15 @@ impl<'t> Words<'t> {
     }
 }
 
-/// The number with which a text begins at once, and the text behind it. It is without a sign and has at most `FRONT`
-/// digits, and a space or a line's end follows them. Where that is the end of a line below which a line begins that
-/// is surely no comment, the text behind it begins there. `None` says nothing of the text.
+/// The number with which a text begins at once, and the text behind it. It is without a sign and has
+/// at most `FRONT` digits, and a space or a line's end follows them. Where a line begins behind that
+/// end which is surely no comment, the text behind the number begins there. `None` says nothing of
+/// the text.
 #[inline(always)]
 fn short_number(text: &[u8]) -> Option<(u64, &[u8])>
-    ensures found { IfSome result (λ found. (word : List ℕ) × (words_left text.now ≡ word ∷ words_left found.1.now) × (decimal word ≡ Some found.0) × (found.0 < 2 ^ 64)) }
+    ensures found { IfSome result (λ found. (word : List ℕ)
+        × (words_left text.now ≡ word ∷ words_left found.1.now)
+        × (decimal word ≡ Some found.0) × (found.0 < 2 ^ 64)) }
     ensures at_once { IsSome result → is_blank (slice_index text.now 0) ≡ false }
 {
     if text.len() < FRONT + 2 {
@@ -118,7 +123,9 @@ fn short_number(text: &[u8]) -> Option<(u64, &[u8])>
 /// The next word where it is no short number without a sign.
 #[inline(never)]
 fn next_elsewhere(text: &[u8]) -> Option<(Word<'_>, Words<'_>)>
-    ensures { MatchOption result (words_left text.now ≡ []) (λ found. IsNextWord (words_left text.now) found.0 found.1) }
+    ensures { MatchOption result
+        (words_left text.now ≡ [])
+        (λ found. IsNextWord (words_left text.now) found.0 found.1) }
 {
     if let Some(found) = short_negative(text) {
         return Some(found);
@@ -152,7 +159,9 @@ fn short_negative(text: &[u8]) -> Option<(Word<'_>, Words<'_>)>
 /// The next word, behind blanks, line ends and comments.
 #[inline(never)]
 fn next_in_lines(text: &[u8]) -> Option<(Word<'_>, Words<'_>)>
-    ensures { MatchOption result (words_left text.now ≡ []) (λ found. IsNextWord (words_left text.now) found.0 found.1) }
+    ensures { MatchOption result
+        (words_left text.now ≡ [])
+        (λ found. IsNextWord (words_left text.now) found.0 found.1) }
 {
     let mut left = text;
     loop {
@@ -194,10 +203,12 @@ fn word_at_once(text: &[u8]) -> (Word<'_>, Words<'_>)
     )
 }
 
-/// The number with which a text begins at once, and the text behind it. It is without a sign, and it is not too large to
-/// be read at once. `None` says nothing of the text.
+/// The number with which a text begins at once, and the text behind it. It is without a sign, and it
+/// is not too large to be read at once. `None` says nothing of the text.
 fn long_number(text: &[u8]) -> Option<(u64, &[u8])>
-    ensures { IfSome result (λ found. (word : List ℕ) × (words_left text.now ≡ word ∷ words_left found.1.now) × (decimal word ≡ Some found.0) × (found.0 < 2 ^ 64)) }
+    ensures { IfSome result (λ found. (word : List ℕ)
+        × (words_left text.now ≡ word ∷ words_left found.1.now)
+        × (decimal word ≡ Some found.0) × (found.0 < 2 ^ 64)) }
 {
     let digits = digits_at_front(text);
     if digits.count == 0 {
