@@ -10,7 +10,7 @@ ghost use Rattle.check_crew.specs.Shifts.{IsShiftOf, AreReady};
 
 use crate::gate::Gate;
 use board_hall::{Core, Pass};
-use case_core::{Case, Finding, examine};
+use case_core::{Case, Finding, Scratch, examine_with};
 use cube_jobs::{JobPass, Jobs};
 use mark_board::Posted;
 use std::alloc::{AllocError, Global};
@@ -51,6 +51,7 @@ fn take_turn<R: Wait, G: Gate>(
     site: Site<'_>,
     gate: &G,
     worker: u32,
+    scratch: &mut Scratch,
     pass: &mut Pass,
     place: usize,
 ) -> Result<(), AllocError>
@@ -68,7 +69,7 @@ fn take_turn<R: Wait, G: Gate>(
     let announced = target;
     let asked = target;
     gate.before(worker, announced);
-    let Some(finding) = examine(alloc, case, asked)? else {
+    let Some(finding) = examine_with(alloc, scratch, case, asked)? else {
         unreachable!()
     };
     let board = core.place_of(case, finding.node());
@@ -94,8 +95,8 @@ fn post<'c, R: Wait>(rt: &R, case: &'c Case, core: &Core, pass: &mut Pass, findi
     }
 }
 
-/// Claims turns, examines their sections and posts what is found, until no turn is left or memory
-/// is refused.
+/// Claims turns, examines their sections on one scratch and posts what is found, until no turn is
+/// left or memory is refused.
 pub(crate) fn work<R: Wait, G: Gate>(
     rt: &R,
     alloc: Global,
@@ -117,6 +118,7 @@ pub(crate) fn work<R: Wait, G: Gate>(
         jobs,
         order,
     } = site;
+    let mut scratch = Scratch::new(alloc);
     for _ in rt.forever() {
         let Some(turn) = jobs.claim(rt, &mut job_pass) else {
             return Shift {
@@ -131,7 +133,16 @@ pub(crate) fn work<R: Wait, G: Gate>(
             jobs,
             order,
         };
-        let Ok(()) = take_turn(rt, alloc, site, gate, worker, &mut pass, order[turn]) else {
+        let Ok(()) = take_turn(
+            rt,
+            alloc,
+            site,
+            gate,
+            worker,
+            &mut scratch,
+            &mut pass,
+            order[turn],
+        ) else {
             return Shift {
                 pass,
                 job_pass,

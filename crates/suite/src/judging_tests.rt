@@ -5,7 +5,7 @@ use crate::literals::{formula, lits};
 use crate::{nine, plain};
 use cnf_text::literal::Lit;
 use fixtures::bundles::FOUR;
-use hint_check::{Base, Checker, Judged, Reason};
+use hint_check::{Base, Checker, Judged, Reason, Scratch};
 use std::alloc::Global;
 use std::process::Abort;
 
@@ -311,6 +311,21 @@ pub fn judged_over(
     checker.judge(alloc, text).expect(rt, "memory")
 }
 
+/// The same on a scratch that served other judgements.
+pub fn judged_on(
+    rt: &impl Abort,
+    alloc: Global,
+    scratch: &mut Scratch,
+    base: &Base,
+    path: &[Lit],
+    text: &[u8],
+) -> Judged {
+    let checker = Checker::over(alloc, base, path).expect(rt, "memory");
+    checker
+        .judge_with(alloc, scratch, text)
+        .expect(rt, "memory")
+}
+
 /// What the judge says over a formula of its own: that of a base.
 fn judged_alone(rt: &impl Abort, alloc: Global, base: &Base, path: &[Lit], text: &[u8]) -> Judged {
     let checker = Checker::new(alloc, base.formula(), path).expect(rt, "memory");
@@ -364,6 +379,26 @@ fn first_wrong_lent(
     first_wrong(rt, alloc, &base, clauses, proofs)
 }
 
+/// The same of the judge alone, on a scratch on which each proof leaves what its last step wrote.
+fn first_wrong_on(
+    rt: &impl Abort,
+    alloc: Global,
+    scratch: &mut Scratch,
+    clauses: &[&[i32]],
+    proofs: &[Proof],
+) -> Option<&'static str> {
+    let formula = formula(rt, alloc, clauses);
+    let base = Base::new(alloc, &formula).expect(rt, "memory");
+    for proof in proofs {
+        let (path, text, fault) = *proof;
+        let path = lits(rt, alloc, path);
+        if judged_on(rt, alloc, scratch, &base, &path, text.as_bytes()) != expected(fault) {
+            return Some(text);
+        }
+    }
+    None
+}
+
 /// The same over a base that owns its formula.
 fn first_wrong_owned(
     rt: &impl Abort,
@@ -394,6 +429,15 @@ const TABLES: &[Table] = &[
 fn expected_of_every_judge(rt: HostRuntime) {
     for (clauses, proofs) in TABLES {
         assert_eq!(rt; first_wrong_lent(&rt, rt.alloc(), clauses, proofs), None);
+    }
+}
+
+#[test]
+fn expected_on_one_scratch(rt: HostRuntime) {
+    let mut scratch = Scratch::new(rt.alloc());
+    for (clauses, proofs) in TABLES {
+        let wrong = first_wrong_on(&rt, rt.alloc(), &mut scratch, clauses, proofs);
+        assert_eq!(rt; wrong, None);
     }
 }
 

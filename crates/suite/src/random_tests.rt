@@ -1,11 +1,11 @@
 //! The judge and the plain judge on proofs that are made up step by step, by a linear congruential
 //! generator.
-use crate::judging_tests::{REPEATED, judged_over};
+use crate::judging_tests::{REPEATED, judged_on, judged_over};
 use crate::literals::{formula, lits};
 use crate::plain;
 use cnf_text::literal::Lit;
 use fixtures::bundles::FOUR;
-use hint_check::{Base, Judged, Reason};
+use hint_check::{Base, Judged, Reason, Scratch};
 use std::alloc::{AllocError, Global};
 use std::process::Abort;
 
@@ -241,10 +241,12 @@ fn count(tally: &mut Tally, judged: Judged) {
 /// A text, how long it was before its last step, and the length after which a proof is begun anew.
 type Growing<'t> = (&'t mut Vec<u8>, usize, usize);
 
-/// Whether both judges say the same of a text. Its last step is taken back where it isn't good.
+/// Whether both judges say the same of a text, and the fast one also on a scratch that judged other
+/// texts. Its last step is taken back where it isn't good.
 fn agree(
     rt: &impl Abort,
     alloc: Global,
+    scratch: &mut Scratch,
     base: &Base,
     path: &[Lit],
     growing: Growing,
@@ -253,6 +255,7 @@ fn agree(
     let (text, before, longest) = growing;
     let slow = plain::judge(rt, alloc, base.formula(), path, text);
     let fast = judged_over(rt, alloc, base, path, text);
+    let kept = judged_on(rt, alloc, scratch, base, path, text);
     count(tally, slow);
     match slow {
         Judged::Rejected {
@@ -262,7 +265,7 @@ fn agree(
         Judged::Rejected { step: _, reason } if reason != Reason::End => text.truncate(before),
         _ => text.clear(),
     }
-    slow == fast
+    slow == fast && slow == kept
 }
 
 /// Random steps after one another. A step that isn't good is taken back, so that the proofs grow;
@@ -278,11 +281,13 @@ fn differences(
     tally: &mut Tally,
 ) -> u32 {
     let mut text = Vec::new(alloc);
+    let mut scratch = Scratch::new(alloc);
     let mut differ = 0u32;
     for _ in 0..TRIES {
         let before = text.len();
         push_step(random, &mut text, given).expect(rt, "memory");
-        if !agree(rt, alloc, base, path, (&mut text, before, LONGEST), tally) {
+        let growing = (&mut text, before, LONGEST);
+        if !agree(rt, alloc, &mut scratch, base, path, growing, tally) {
             differ = differ.saturating_add(1);
         }
     }
@@ -429,18 +434,13 @@ fn spread_differences(
     tally: &mut Tally,
 ) -> u32 {
     let mut text = Vec::new(alloc);
+    let mut scratch = Scratch::new(alloc);
     let mut differ = 0u32;
     for _ in 0..SPREAD_TRIES {
         let before = text.len();
         push_spread_step(random, &mut text).expect(rt, "memory");
-        if !agree(
-            rt,
-            alloc,
-            base,
-            &[],
-            (&mut text, before, LONGEST_SPREAD),
-            tally,
-        ) {
+        let growing = (&mut text, before, LONGEST_SPREAD);
+        if !agree(rt, alloc, &mut scratch, base, &[], growing, tally) {
             differ = differ.saturating_add(1);
         }
     }

@@ -6,8 +6,8 @@ use Rattle.check_crew.proofs.Places.{section_here}
 use Rattle.check_crew.proofs.Turns.{seen_stays, section_seen, told}
 use Rattle.check_crew.proofs.worker.take_turn.Goals as goal
 
-pub examine-requires : goal.examine-requires
-examine-requires g c =
+pub examine_with-requires : goal.examine_with-requires
+examine_with-requires g c =
     (section_here c.args.site.case.now c.sections.result.now c.args.place c.index-sections-place.result c.sections.ensures.targets_are c.sections.ensures.targets c.requires.place).has_target
 
 pub unreachable-requires : goal.unreachable-requires
