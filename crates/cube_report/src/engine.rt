@@ -14,7 +14,7 @@ ghost use Rattle.cube_report.specs.Correct.{IsReportOn, IsAnswerOn, IsCorrect, I
 use crate::device::{Sink, Source};
 use crate::fault::Fault;
 use crate::report::report_of;
-use case_core::{Case, examine, read_bundle, take_bundle};
+use case_core::{Case, Scratch, examine_with, read_bundle, take_bundle};
 use check_crew::{CrewFault, Gate, Settings, conquer};
 use mark_board::Boards;
 use std::alloc::{AllocError, Global};
@@ -39,9 +39,10 @@ fn post_findings<'c>(
     ensures case { OnOk result (boards.new.case ≡ case.now) }
     ensures findings { OnOk result (AreFindings case.now boards.new.marks) }
 {
+    let mut scratch = Scratch::new(alloc);
     let sections = case.sections();
     for section in sections {
-        match examine(alloc, case, section.target)? {
+        match examine_with(alloc, &mut scratch, case, section.target)? {
             Some(finding) => {
                 let _ = boards.post(finding);
             }

@@ -2,8 +2,8 @@ use Rattle.std.proofs.Common.{◌≡◌, ◌∙◌}
 use Rattle.cube_report.proofs.Posting.{section_target, section_none, one_turn}
 use Rattle.cube_report.proofs.engine.post_findings.Goals as goal
 
-pub examine-requires : goal.examine-requires
-examine-requires c = section_target c.args.case.now c.sections-sections.result.now c.loop-section.section-index c.section-item.result c.sections-sections.ensures.targets_are
+pub examine_with-requires : goal.examine_with-requires
+examine_with-requires c = section_target c.args.case.now c.sections-sections.result.now c.loop-section.section-index c.section-item.result c.sections-sections.ensures.targets_are
     c.sections-sections.ensures.targets c.loop-section-test.true c.section-item.is
 
 pub unreachable-requires : goal.unreachable-requires
