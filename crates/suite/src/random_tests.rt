@@ -123,8 +123,22 @@ const NAMED_IDS: [&[u8]; 16] = [
 
 /// Literals, most of them of the formulas.
 const LITERALS: [&[u8]; 16] = [
-    b"1", b"-1", b"2", b"-2", b"3", b"-3", b"1", b"-1", b"2", b"-2", b"3", b"-3", b"4", b"-1300",
-    b"5", b"-200000003",
+    b"1",
+    b"-1",
+    b"2",
+    b"-2",
+    b"3",
+    b"-3",
+    b"1",
+    b"-1",
+    b"2",
+    b"-2",
+    b"3",
+    b"-3",
+    b"4",
+    b"-1300",
+    b"5",
+    b"-200000003",
 ];
 
 /// The steps that are tried on each formula and path, and the length after which a proof is begun
