@@ -62,9 +62,25 @@ smoke() {
 medium() {
     corpus medium php9 32 "php 9"
     corpus medium tseitin25-trim 64 "tseitin 25 4 1" --trim
+    corpus medium mul8-trim 56 "miter_mul 8" --trim
+    corpus medium add24 16 "miter_add 24 4 4"
+    # cube 3 has a model: it stays open
+    corpus medium rand3-260-sat 128 "rand3 260 1140 5" --trim --renumber
+    corpus medium bmc-wide 32 "bmc 3 30 60 1"
+    corpus medium vdw97 64 "vdw2 97 3 10"
+    corpus medium vdw97-4096 4096 "vdw2 97 3 10" --trim --renumber
     corpus medium sparse-rat 256 "sparse 200 900 4000 5500 1" --pure
     resolution 20
     corpus medium php20-er 16 "php 20" --drat corpus/resolution.drat
+    if [ ! -s corpus/medium/php9-stride.icnf ]; then
+        python3 tools/stride.py corpus/medium/php9.icnf corpus/medium/php9-stride.icnf 997
+    fi
+    if [ ! -d corpus/medium/folder ]; then
+        split "php 9" 256
+        mkdir corpus/medium/folder
+        python3 tools/bundle.py corpus/medium/folder/case.icnf corpus/formula.cnf corpus/cubes --trim \
+            --folder corpus/medium/folder/proofs
+    fi
 }
 
 hostile() {

@@ -193,11 +193,26 @@ class Circuit(Cnf):
         return self.xor(a, self.xor(b, c)), self.or_(self.and_(a, self.or_(b, c)), self.and_(b, c))
 
     def ripple(self, x, y):
-        carry = -self.true
+        return self.carried(x, y, self.full, -self.true)
+
+    def carried(self, x, y, adder, carry):
+        """Bit by bit, each with the carry of the one before; the last one's carry behind them."""
         out = []
         for a, b in zip(x, y):
-            s, carry = self.full(a, b, carry)
+            s, carry = adder(a, b, carry)
             out.append(s)
+        return out + [carry]
+
+    def carry_select(self, x, y, block):
+        """Blocks that are each added up twice, without a carry and with one; the carry of the block before chooses."""
+        carry = -self.true
+        out = []
+        for i in range(0, len(x), block):
+            a, b = x[i : i + block], y[i : i + block]
+            without = self.carried(a, b, self.other_full, -self.true)
+            with_one = self.carried(a, b, self.other_full, self.true)
+            out += [self.choose(carry, p, q) for p, q in zip(with_one[:-1], without[:-1])]
+            carry = self.choose(carry, with_one[-1], without[-1])
         return out + [carry]
 
 
@@ -225,6 +240,20 @@ def miter_mul(n):
             columns[k + 1].append(carry)
         out.append(c[0] if c else zero)
     f.clauses.append([f.xor(p, r) for p, r in zip(rows, out)])
+    return f
+
+
+def miter_add(bits, block, words):
+    """Words added up one after another, bit by bit, against a tree of carry-select adders: do they ever differ?"""
+    f = Circuit()
+    inputs = [[f.var() for _ in range(bits)] for _ in range(words)]
+    chain = inputs[0]
+    for word in inputs[1:]:
+        chain = f.ripple(chain, word)[:bits]
+    waiting = [list(word) for word in reversed(inputs)]
+    while len(waiting) > 1:
+        waiting.append(f.carry_select(waiting.pop(0), waiting.pop(0), block)[:bits])
+    f.clauses.append([f.xor(p, q) for p, q in zip(chain, waiting[0])])
     return f
 
 
@@ -311,7 +340,7 @@ def php_er(holes):
     sys.stdout.write("".join(" ".join(map(str, c + [0])) + "\n" for c in out))
 
 
-FAMILIES = [php, tseitin, schur, squares, vdw2, rand3, sparse, miter_mul, bmc]
+FAMILIES = [php, tseitin, schur, squares, vdw2, rand3, sparse, miter_mul, miter_add, bmc]
 
 if __name__ == "__main__":
     family, numbers = sys.argv[1], [int(word) for word in sys.argv[2:]]
