@@ -6,7 +6,8 @@
     python3 scripts/definitions.py --count    prints how many definitions and lines each claim stands on
     --root DIR                                the repository, by default the folder above this script's
 
-It stops where a clause of a claim isn't in the code, or where a name in one, or in a definition, can't be resolved.
+It stops where a clause of a claim isn't in the code, where a name in one, or in a definition, can't be resolved, and
+where a public contract or another crate names a word of specs/Inner.
 """
 import argparse
 import re
@@ -40,7 +41,7 @@ proof is judged to be from the formula and the node's path, or open where it has
       "cube_report/report.rt report_of -"]),
     ("Streams and status", """
 What the program and `run_io` have written where something fails, which lines go to standard error, and which status comes when.""",
-     ["cube_command/program.rt command status quiet nothing beginning usage taken none memory device failed broken",
+     ["cube_command/program.rt command status quiet nothing beginning usage unread taken none memory device failed broken",
       "cube_command/telling.rt own_words ok err",
       "cube_report/engine.rt run_io nothing beginning device"]),
     ("bundle_files: the bundle that is judged", """
@@ -71,12 +72,15 @@ judgement of its section, and the type of a finding keeps that a refuted target 
       "case_core/finding.rt Finding here only has_section is sound"]),
     ("mark_board: marks, open weight and open branches", """
 A post marks the node of its finding and no other. Marks, open weight and open branches are the definition's, by all
-nodes' marks. A refuted target has no model with its path, and where the root is marked the formula has none.""",
+nodes' marks. A refuted target has no model with its path, and where the root is marked the formula has none. On a
+single board the findings of a node stand at its own row, and the verdict of a part at the part's.""",
      ["mark_board/boards.rt Boards::post same new marks",
       "mark_board/boards.rt Boards::mark_of mark sound",
       "mark_board/boards.rt Boards::root_marked marked sound",
       "mark_board/boards.rt Boards::open_weight -",
-      "mark_board/boards.rt Boards::open_branches -"]),
+      "mark_board/boards.rt Boards::open_branches -",
+      "mark_board/board.rt Board::row_of -",
+      "mark_board/board.rt Board::row_of_part -"]),
     ("board_hall: boards shared by threads", """
 Whenever a board's lock is free, it is the board of exactly what was posted on it: what it marks has no model together with the
 formula, an inner node is marked exactly where its own refutation was posted or both its branches are marked, and its open
@@ -112,7 +116,8 @@ sign, a clause is a list of literals, a formula is a list of clauses, and a text
 numbers.
 
 From the second claim on, a list has only what no claim before it has listed, so that each definition is read once.
-Lines are counted without blank lines and comments. A type counts with its constructors and fields. What a call asks of
+Lines are counted without blank lines and comments, and one that is broken for its width
+counts once. A type counts with its constructors and fields. What a call asks of
 its caller counts with its clauses.
 
 Not among the definitions are:
@@ -417,6 +422,18 @@ class Repository:
             found.add(target)
         return found
 
+    def check_inner(self):
+        """The words of specs/Inner are for private contracts of their own crate."""
+        public = self.reach([clause for clause in self.clauses if clause.public], False)
+        for target in sorted(public, key=str):
+            if target.kind == "definition" and target.path.startswith("Inner."):
+                raise Problem("%s/specs: a public contract stands on %s" % (target.crate, target.name))
+        scopes = [(crate, scope) for (crate, _), scope in self.scopes.items()]
+        for crate, scope in scopes + [(clause.crate, clause.scope) for clause in self.clauses]:
+            for target in scope.values():
+                if target.kind in ("definition", "room") and target.path.startswith("Inner.") and target.crate != crate:
+                    raise Problem("%s names %s, a word of private contracts of %s" % (crate, target.name, target.crate))
+
     def clauses_of_claim(self, line):
         """The clauses that a line of a claim lists, and what the call asks of its caller."""
         place, owner, *names = line.split()
@@ -465,7 +482,7 @@ def written(repository):
 
 def counted(repository, targets):
     own = [repository.definitions[target] for target in targets if target.kind == "definition"]
-    return len(own), sum(len(definition.lines) for definition in own)
+    return len(own), sum(not line.startswith("    ") for definition in own for line in definition.lines)
 
 
 def list_of(repository, targets, seen, counts):
@@ -515,7 +532,9 @@ def difference(old, new):
 
 def run(options):
     path = options.root / "docs" / "DEFINITIONS.md"
-    text, counts = written(Repository(options.root))
+    repository = Repository(options.root)
+    repository.check_inner()
+    text, counts = written(repository)
     if options.count:
         for number, sizes in enumerate(counts, 1):
             print("claim %d: %d definitions, %d lines" % ((number,) + sizes))

@@ -1,11 +1,16 @@
 -- What the clauses of a hall's calls say.
-use Rattle.std.specs.Prelude.{◌<◌, ◌⊎◌, ◌==◌, if◌then◌else◌, All, true, false, length, ◌≡◌, ℕ, List, [], ◌∷◌, ◌++◌, None, Some}
+use Rattle.std.specs.Prelude.{◌≡◌, ◌<◌, ℕ, List, ◌∷◌, ◌++◌, Some, ◌⊎◌, ◌==◌, if◌then◌else◌, All, true, false, length, [], None}
+use Rattle.mark_board.specs.declared.mark.Mark.TheVariants.{Open}
+use Rattle.board_hall.specs.declared.view.View.{View}
+use Rattle.board_hall.specs.declared.view.CutCase.{CutCase}
+use Rattle.board_hall.specs.declared.view.Post.{Post}
+use Rattle.board_hall.specs.Posts.{parts_in, mark_in, Among, AreReal, board_count, place_of, posts_of, root_by, IsPartPost}
+use Rattle.board_hall.specs.Hall.{HallState, Reached}
 use Rattle.hint_check.specs.declared.Judged.{Judged}
 use Rattle.split_tree.specs.SplitTree.{size}
 use Rattle.split_tree.specs.Leaves.{IsTargetAt}
 use Rattle.split_tree.specs.declared.node.Target.{Target}
 use Rattle.mark_board.specs.declared.mark.Mark.{Mark}
-use Rattle.mark_board.specs.declared.mark.Mark.TheVariants.{Open}
 use Rattle.mark_board.specs.declared.part.PartVerdict.{PartVerdict}
 use Rattle.mark_board.specs.declared.place.Place.{Place}
 use Rattle.mark_board.specs.declared.place.Place.TheVariants.{Part, Top}
@@ -15,19 +20,18 @@ use Rattle.mark_board.specs.declared.posted.PartPosted.{PartPosted}
 use Rattle.mark_board.specs.declared.posted.PartPosted.TheVariants as part_posted
 use Rattle.mark_board.specs.Board.{IsRow, HasTargets}
 use Rattle.mark_board.specs.Boards.{BoardsOf}
-use Rattle.mark_board.specs.Places.{mark_as}
-use Rattle.mark_board.specs.Rows.{mark_at}
-use Rattle.mark_board.specs.Shown.{verdict_of}
+use Rattle.mark_board.specs.Findings.{mark_as}
+use Rattle.mark_board.specs.Marking.{mark_at}
+use Rattle.mark_board.specs.VerdictOf.{verdict_of}
 use Rattle.board_hall.specs.declared.pass.Pass.{Pass}
-use Rattle.board_hall.specs.declared.view.View.{View}
-use Rattle.board_hall.specs.declared.view.CutCase.{CutCase}
-use Rattle.board_hall.specs.declared.view.Post.{Post}
-use Rattle.board_hall.specs.Posts.{parts_in, boards_of, place_of, posts_of, mark_in, root_by, Among, AreReal, IsPartPost}
-use Rattle.board_hall.specs.Told.{Own}
-use Rattle.board_hall.specs.Hall.{HallState, Reached}
 use Rattle.board_hall.specs.Halls.{HallOf, view_of}
 
--- after a call the pass is one of the same hall, stands for as many, and has seen all that it had seen
+-- the posts of the pass on board b are among these
+abbrev pub Own : View → ℕ → List Post → Type 0
+Own v b posts = (x : Post) → Among x v.posts → x.board ≡ b → Among x posts
+
+-- after a call the pass is one of the same hall, stands for as many, and has seen all that it had
+-- seen
 pub record Stays (v w : View) : Type 0 where
   pub of_same : w.of ≡ v.of
   pub parts : w.parts ≡ v.parts
@@ -44,13 +48,13 @@ pub record PostsNothing (v w : View) : Type 0 where
   pub owes : w.owes ≡ v.owes
 
 -- the number of the board at a place
-abbrev pub number_of : CutCase → Place → ℕ
-number_of k (Part part) = part
-number_of k Top = parts_in k
+abbrev pub board_number : CutCase → Place → ℕ
+board_number k (Part part) = part
+board_number k Top = parts_in k
 
 -- findings of the node are posted on board b, at this row
 pub record IsHome (k : CutCase) (node b row : ℕ) : Type 0 where
-  pub inside : b < boards_of k
+  pub inside : b < board_count k
   pub is_row : IsRow k.cut k.case.tree (place_of k b) node row
   pub has_targets : HasTargets k.cut k.case.tree (place_of k b) row
 
@@ -80,13 +84,21 @@ pub record IsVerdictOf (k : CutCase) (part : ℕ) (verdict : PartVerdict) : Type
   pub part_is : (verdict_of verdict).part ≡ part
   pub within : part < parts_in k
 
--- What a pass posted and owes after a post, by the answer. Where the target had a finding, the pass posted nothing, and has seen that
--- the target has the mark of the finding that it handed in.
+-- What a pass posted and owes after a post, by the answer. Where the target had a finding, the pass
+-- posted nothing, and has seen that the target has the mark of the finding that it handed in. No
+-- other mark can stand there: a node has one target, a target one path and one section, and so one
+-- judgement.
 abbrev pub Becomes : CutCase → Post → Posted → View → View → Type 0
-Becomes k x posted.Marked v w = HasPosted x v w × (w.owes ≡ None) × (MarksRootOf k x (mark_in w.seen x.board) → ⊥)
-Becomes k x (posted.RootMarked verdict) v w = HasPosted x v w × (w.owes ≡ Some x.board) × MarksRootOf k x (mark_in w.seen x.board) × IsVerdictOf k x.board verdict
-Becomes k x posted.TopMarked v w = HasPosted x v w × (w.owes ≡ None) × MarksRootOf k x (mark_in w.seen x.board) × (x.board ≡ parts_in k)
-Becomes k x (posted.Already finding) v w = PostsNothing v w × (mark_in w.seen x.board x.row ≡ mark_as x.judged)
+Becomes k x posted.Marked v w =
+    HasPosted x v w × (w.owes ≡ None) × (MarksRootOf k x (mark_in w.seen x.board) → ⊥)
+Becomes k x (posted.RootMarked verdict) v w =
+    HasPosted x v w × (w.owes ≡ Some x.board) × MarksRootOf k x (mark_in w.seen x.board)
+    × IsVerdictOf k x.board verdict
+Becomes k x posted.TopMarked v w =
+    HasPosted x v w × (w.owes ≡ None) × MarksRootOf k x (mark_in w.seen x.board)
+    × (x.board ≡ parts_in k)
+Becomes k x (posted.Already finding) v w =
+    PostsNothing v w × (mark_in w.seen x.board x.row ≡ mark_as x.judged)
 
 -- the finding of a node was posted on the node's board, or came back
 pub record IsPosted (k : CutCase) (node : ℕ) (judged : Judged) (result : Posted) (v w : View) : Type 0 where
@@ -97,8 +109,10 @@ pub record IsPosted (k : CutCase) (node : ℕ) (judged : Judged) (result : Poste
 
 -- the verdict that was owed is posted, and nothing is owed
 abbrev pub PartBecomes : CutCase → Post → PartPosted → View → View → Type 0
-PartBecomes k x part_posted.Marked v w = HasPosted x v w × (w.owes ≡ None) × (MarksRootOf k x (mark_in w.seen x.board) → ⊥)
-PartBecomes k x part_posted.RootMarked v w = HasPosted x v w × (w.owes ≡ None) × MarksRootOf k x (mark_in w.seen x.board)
+PartBecomes k x part_posted.Marked v w =
+    HasPosted x v w × (w.owes ≡ None) × (MarksRootOf k x (mark_in w.seen x.board) → ⊥)
+PartBecomes k x part_posted.RootMarked v w =
+    HasPosted x v w × (w.owes ≡ None) × MarksRootOf k x (mark_in w.seen x.board)
 PartBecomes k x (part_posted.Already verdict) v w = ⊥
 
 pub record IsPartPosted (k : CutCase) (part : ℕ) (result : PartPosted) (v w : View) : Type 0 where
@@ -107,7 +121,8 @@ pub record IsPartPosted (k : CutCase) (part : ℕ) (result : PartPosted) (v w : 
   pub sees : SeesOwn w post.board
   pub becomes : PartBecomes k post result v w
 
--- the mark is that of the target by the posts that the pass has seen, its own on the target's board among them
+-- the mark is that of the target by the posts that the pass has seen, its own on the target's board
+-- among them
 pub record IsMarkSeen (k : CutCase) (target : Target) (mark : Mark) (w : View) : Type 0 where
   pub node : ℕ
   pub board : ℕ
@@ -122,13 +137,15 @@ pub record HoldPosts (k : CutCase) (posts : List Post) (boards : BoardsOf) : Typ
   pub case : boards.case ≡ k.case
   pub cut : boards.cut ≡ k.cut
   pub long : length boards.marks ≡ size k.case.tree
-  pub marks : (node b row : ℕ) → IsHome k node b row → mark_at boards.marks node ≡ mark_in posts b row
+  pub marks : (node b row : ℕ) → IsHome k node b row →
+      mark_at boards.marks node ≡ mark_in posts b row
 
--- The hall came by its own steps to a state in which all that these passes posted and have seen is among the posts, and these are
--- the boards of its posts.
+-- The hall came by its own steps to a state in which all that these passes posted and have seen is
+-- among the posts, and these are the boards of its posts.
 pub record Gathers (hall : HallOf) (passes : List Pass) (boards : BoardsOf) : Type 0 where
   pub state : HallState
   pub reached : Reached hall.of hall.passes state
   pub real : AreReal hall.of (posts_of state.views)
-  pub includes : All (λ p. (x : Post) → Among x (view_of p).posts ⊎ Among x (view_of p).seen → Among x (posts_of state.views)) passes
+  pub includes : All (λ p. (x : Post) → Among x (view_of p).posts ⊎ Among x (view_of p).seen →
+      Among x (posts_of state.views)) passes
   pub hold : HoldPosts hall.of (posts_of state.views) boards

@@ -23,7 +23,12 @@ pub record PassOf : Type 0 where
   pub view : View
 
 abbrev pub shared_of : Core → HallOf
-shared_of core = record { table = core.table.shared.table_id; of = case_of core.table.shared.key; passes = core.passes }
+shared_of core =
+    record {
+      table = core.table.shared.table_id;
+      of = case_of core.table.shared.key;
+      passes = core.passes;
+    }
 
 -- the case and cut of what threads share
 abbrev pub core_of : Core → CutCase
@@ -45,7 +50,9 @@ promised promise = promise.pass.value
 
 -- a pass of the hall, which has seen real posts alone
 abbrev pub IsPassOf : HallOf → Pass → Type 0
-IsPassOf hall pass = ((pass_of pass).table ≡ hall.table) × ((view_of pass).of ≡ hall.of) × AreReal hall.of (view_of pass).seen
+IsPassOf hall pass =
+    ((pass_of pass).table ≡ hall.table) × ((view_of pass).of ≡ hall.of)
+    × AreReal hall.of (view_of pass).seen
 
 -- a pass of the hall that has posted and seen nothing
 abbrev pub IsNewPass : HallOf → Pass → Type 0
@@ -53,4 +60,5 @@ IsNewPass hall pass = ((pass_of pass).table ≡ hall.table) × (view_of pass ≡
 
 -- the passes are all that were opened, and none owes the verdict of a part
 abbrev pub IsComplete : HallOf → List Pass → Type 0
-IsComplete hall passes = (length passes ≡ hall.passes) × All (λ pass. (view_of pass).owes ≡ None) passes
+IsComplete hall passes =
+    (length passes ≡ hall.passes) × All (λ pass. (view_of pass).owes ≡ None) passes

@@ -1,10 +1,7 @@
 pub mod Posts
 pub mod Hall
-pub mod Told
+pub mod Clauses
 pub mod Terms
 pub mod Halls
-pub mod Clauses
-pub mod Held
-pub mod Opened
 pub mod Laws
-pub mod Closed
+pub mod Inner

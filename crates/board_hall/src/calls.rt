@@ -4,13 +4,13 @@ ghost use Rattle.std.specs.Prelude.{◌≡◌, ◌<◌, ◌≤◌, ℕ, None, So
 ghost use Rattle.split_tree.specs.SplitTree.{size};
 ghost use Rattle.split_tree.specs.Leaves.{HasTarget};
 ghost use Rattle.mark_board.specs.Board.{IsPlace};
-ghost use Rattle.mark_board.specs.BoardPosts.{GivesBack};
+ghost use Rattle.mark_board.specs.Posting.{GivesBack};
+ghost use Rattle.mark_board.specs.VerdictOf.{verdict_of};
 ghost use Rattle.mark_board.specs.Boards.{IsPlaceFor};
-ghost use Rattle.mark_board.specs.Shown.{verdict_of};
-ghost use Rattle.case_core.specs.Shown.{finding_of};
+ghost use Rattle.case_core.specs.FindingOf.{finding_of};
 ghost use Rattle.board_hall.specs.Posts.{parts_in, open_by, mark_in};
 ghost use Rattle.board_hall.specs.Halls.{core_of, shared_of, view_of, IsPassOf};
-ghost use Rattle.board_hall.specs.Clauses.{number_of, IsHome, IsVerdictOf, Stays, SeesOwn, PostsNothing, IsPosted, IsPartPosted, IsMarkSeen};
+ghost use Rattle.board_hall.specs.Clauses.{board_number, IsHome, IsVerdictOf, Stays, SeesOwn, PostsNothing, IsPosted, IsPartPosted, IsMarkSeen};
 
 use crate::held::owed_by;
 use crate::pass::Pass;
@@ -38,7 +38,7 @@ impl Core {
 
     /// The number of the board at a place.
     fn number_for(&self, place: Place) -> usize
-        ensures { result ≡ number_of (core_of self.now) place }
+        ensures { result ≡ board_number (core_of self.now) place }
     {
         match place {
             Place::Part(part) => part as usize,
@@ -46,7 +46,8 @@ impl Core {
         }
     }
 
-    /// The place of the board on which findings of a node are posted. It asks for the hall's case, and for a node of its tree.
+    /// The place of the board on which findings of a node are posted. It asks for the hall's case,
+    /// and for a node of its tree.
     pub fn place_of(&self, case: &Case, node: NodeId) -> Place
         requires of { case.now ≡ (core_of self.now).case }
         requires node { node < size case.now.tree }
@@ -59,9 +60,9 @@ impl Core {
         Place::Top
     }
 
-    /// Posts a finding on the board of its target: an inner node above the cut on the top board, and any other target on the board
-    /// of its part. It asks for a finding of the hall's case, and for a pass of the hall that owes nothing. It may wait for the
-    /// board's lock.
+    /// Posts a finding on the board of its target: an inner node above the cut on the top board,
+    /// and any other target on the board of its part. It asks for a finding of the hall's case, and
+    /// for a pass of the hall that owes nothing. It may wait for the board's lock.
     ///
     /// It answers as `Board::post` does. After `RootMarked` the pass owes that part.
     pub fn post<'c, R: Wait>(
@@ -71,13 +72,17 @@ impl Core {
         pass: &mut Pass,
         finding: Finding<'c>,
     ) -> Posted<'c>
+        // A finding of the table's case, by a pass of the table that owes nothing.
         requires of { case.now ≡ (core_of self.now).case }
         requires case { (finding_of finding).case ≡ case.now }
         requires own { IsPassOf (shared_of self.now) pass.old }
         requires free { (view_of pass.old).owes ≡ None }
+        // The pass stays one of the table, and has seen all that it had seen.
         ensures own { IsPassOf (shared_of self.now) pass.new }
         ensures stays { Stays (view_of pass.old) (view_of pass.new) }
-        ensures posted { IsPosted (core_of self.now) (finding_of finding.entry).node (finding_of finding.entry).judged result (view_of pass.old) (view_of pass.new) }
+        // What it posted and owes then, by the answer; a finding that wasn't posted is given back.
+        ensures posted { IsPosted (core_of self.now) (finding_of finding.entry).node
+            (finding_of finding.entry).judged result (view_of pass.old) (view_of pass.new) }
         ensures back { GivesBack result finding.entry }
     {
         let number = self.board_for(case, finding.node());
@@ -89,8 +94,8 @@ impl Core {
         answer
     }
 
-    /// Posts the verdict of the part that the pass owes on the top board. It asks for a pass of the hall that owes this part. It may
-    /// wait for the board's lock.
+    /// Posts the verdict of the part that the pass owes on the top board. It asks for a pass of the
+    /// hall that owes this part. It may wait for the board's lock.
     ///
     /// It answers whether this marked the root of the tree. Afterwards the pass owes nothing.
     pub fn post_part<'c, R: Wait>(
@@ -100,13 +105,17 @@ impl Core {
         pass: &mut Pass,
         verdict: PartVerdict<'c>,
     ) -> PartPosted<'c>
+        // The verdict of a part, by the pass of the table that owes it.
         requires of { case.now ≡ (core_of self.now).case }
         requires verdict { IsVerdictOf (core_of self.now) (verdict_of verdict).part verdict }
         requires own { IsPassOf (shared_of self.now) pass.old }
         requires owed { (view_of pass.old).owes ≡ Some (verdict_of verdict).part }
+        // The pass stays one of the table, and has seen all that it had seen.
         ensures own { IsPassOf (shared_of self.now) pass.new }
         ensures stays { Stays (view_of pass.old) (view_of pass.new) }
-        ensures posted { IsPartPosted (core_of self.now) (verdict_of verdict.entry).part result (view_of pass.old) (view_of pass.new) }
+        // What it posted and owes then, by the answer.
+        ensures posted { IsPartPosted (core_of self.now) (verdict_of verdict.entry).part result
+            (view_of pass.old) (view_of pass.new) }
     {
         let number = self.roots.len();
         let seat = &mut pass.seat;
@@ -117,8 +126,9 @@ impl Core {
         answer
     }
 
-    /// How a target stands, by posts that hold all that the pass posted on the target's board or had seen. It asks for a target of
-    /// the tree, and for a pass of the hall. It may wait for the board's lock.
+    /// How a target stands, by posts that hold all that the pass posted on the target's board or
+    /// had seen. It asks for a target of the tree, and for a pass of the hall. It may wait for the
+    /// board's lock.
     pub fn mark_of<'c, R: Wait>(
         &self,
         rt: &R,
@@ -126,12 +136,15 @@ impl Core {
         pass: &mut Pass,
         target: Target,
     ) -> Mark
+        // A target of the table's case, and a pass of the table.
         requires of { case.now ≡ (core_of self.now).case }
         requires target { HasTarget case.now.tree target }
         requires own { IsPassOf (shared_of self.now) pass.old }
+        // The pass stays one of the table, has seen all that it had seen, and posts nothing.
         ensures own { IsPassOf (shared_of self.now) pass.new }
         ensures stays { Stays (view_of pass.old) (view_of pass.new) }
         ensures nothing { PostsNothing (view_of pass.old) (view_of pass.new) }
+        // The target's mark by what the pass has seen then.
         ensures mark { IsMarkSeen (core_of self.now) target result (view_of pass.new) }
     {
         let asked = target;
@@ -143,16 +156,22 @@ impl Core {
         mark
     }
 
-    /// The open weight of the board at a place, by posts that hold all that the pass posted there or had seen. It asks for the top
-    /// or a part of the cut, and for a pass of the hall. It waits for nobody.
+    /// The open weight of the board at a place, by posts that hold all that the pass posted there
+    /// or had seen. It asks for the top or a part of the cut, and for a pass of the hall. It waits
+    /// for nobody.
     pub fn open_weight(&self, pass: &mut Pass, place: Place) -> u64
+        // A place of the cut, and a pass of the table.
         requires place { IsPlace (core_of self.now).cut (core_of self.now).case.tree place }
         requires own { IsPassOf (shared_of self.now) pass.old }
+        // The pass stays one of the table, has seen all that it had seen, and posts nothing.
         ensures own { IsPassOf (shared_of self.now) pass.new }
         ensures stays { Stays (view_of pass.old) (view_of pass.new) }
         ensures nothing { PostsNothing (view_of pass.old) (view_of pass.new) }
-        ensures seen { SeesOwn (view_of pass.new) (number_of (core_of self.now) place) }
-        ensures weight { result ≡ open_by (core_of self.now) (number_of (core_of self.now) place) (mark_in (view_of pass.new).seen (number_of (core_of self.now) place)) }
+        // The board's open weight by what the pass has seen then, its own posts included.
+        ensures seen { SeesOwn (view_of pass.new) (board_number (core_of self.now) place) }
+        ensures weight { result
+            ≡ open_by (core_of self.now) (board_number (core_of self.now) place)
+            (mark_in (view_of pass.new).seen (board_number (core_of self.now) place)) }
     {
         let number = self.number_for(place);
         self.table

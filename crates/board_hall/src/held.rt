@@ -3,11 +3,11 @@
 ghost use Rattle.std.specs.Prelude.{◌≡◌, ◌<◌, ℕ, Some, None};
 ghost use Rattle.board_hall.specs.Posts.{parts_in, IsPartPost};
 ghost use Rattle.board_hall.specs.Hall.{IsBoardOf};
-ghost use Rattle.board_hall.specs.Told.{OwedIsOpen};
+ghost use Rattle.board_hall.specs.Inner.Plays.{OwedIsOpen};
 ghost use Rattle.board_hall.specs.Halls.{core_of};
 ghost use Rattle.board_hall.specs.Clauses.{IsHome, IsPostOf, IsVerdictOf};
-ghost use Rattle.board_hall.specs.Held.{Recorded, PartRecorded, owed_after};
-ghost use Rattle.mark_board.specs.BoardPosts.{GivesBack};
+ghost use Rattle.board_hall.specs.Inner.Held.{Recorded, PartRecorded, owed_after};
+ghost use Rattle.mark_board.specs.Posting.{GivesBack};
 ghost use Rattle.board_hall.specs.declared.view.Post.{Post};
 
 use crate::rule::Place;
@@ -43,7 +43,9 @@ impl Core {
         requires board { IsBoardOf (core_of self.now) number seat.old.me.0.known board.old }
         ensures own { (seat.new.table_id ≡ seat.old.table_id) × (seat.new.id ≡ seat.old.id) }
         ensures board { IsBoardOf (core_of self.now) number seat.new.me.0.known board.new }
-        ensures recorded { (x : Post) × IsPostOf (core_of self.now) finding.entry.node finding.entry.judged x × (x.board ≡ number) × Recorded (core_of self.now) x result seat.old.me seat.new.me }
+        ensures recorded { (x : Post)
+            × IsPostOf (core_of self.now) finding.entry.node finding.entry.judged x
+            × (x.board ≡ number) × Recorded (core_of self.now) x result seat.old.me seat.new.me }
         ensures back { GivesBack result finding.entry }
     {
         let post = Post {
@@ -70,12 +72,16 @@ impl Core {
     ) -> PartPosted<'c>
         requires own { seat.old.table_id ≡ self.now.table.shared.table_id }
         requires verdict { IsVerdictOf (core_of self.now) verdict.part verdict }
-        requires holds { (seat.old.me.0.held ≡ Some (parts_in (core_of self.now))) × (seat.old.me.0.owes ≡ Some verdict.part) }
+        requires holds { (seat.old.me.0.held ≡ Some (parts_in (core_of self.now)))
+            × (seat.old.me.0.owes ≡ Some verdict.part) }
         requires still { OwedIsOpen (core_of self.now) seat.old.me.0.owes seat.old.me.0.known }
-        requires board { IsBoardOf (core_of self.now) (parts_in (core_of self.now)) seat.old.me.0.known board.old }
+        requires board { IsBoardOf (core_of self.now) (parts_in (core_of self.now))
+            seat.old.me.0.known board.old }
         ensures own { (seat.new.table_id ≡ seat.old.table_id) × (seat.new.id ≡ seat.old.id) }
-        ensures board { IsBoardOf (core_of self.now) (parts_in (core_of self.now)) seat.new.me.0.known board.new }
-        ensures recorded { (x : Post) × IsPartPost (core_of self.now) verdict.entry.part x × PartRecorded (core_of self.now) x result seat.old.me seat.new.me }
+        ensures board { IsBoardOf (core_of self.now) (parts_in (core_of self.now))
+            seat.new.me.0.known board.new }
+        ensures recorded { (x : Post) × IsPartPost (core_of self.now) verdict.entry.part x
+            × PartRecorded (core_of self.now) x result seat.old.me seat.new.me }
     {
         let post = Post {
             board: self.roots.len(),

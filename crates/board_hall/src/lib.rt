@@ -1,4 +1,5 @@
-//! Boards shared by threads: for each a lock word, an open word and a slot of one table, under one rule.
+//! Boards shared by threads: for each a lock word, an open word and a slot of one table, under one
+//! rule.
 #![tactic(auto)]
 
 mod calls;

@@ -2,12 +2,12 @@
 
 ghost use Rattle.std.specs.Prelude.{◌≡◌, ◌+◌, ◌≤◌, ◌<◌, [], IfOk, All, vec_len, length};
 ghost use Rattle.mark_board.specs.Board.{IsPlace};
-ghost use Rattle.mark_board.specs.Places.{part_count};
-ghost use Rattle.board_hall.specs.Posts.{parts_in, boards_of, place_of};
+ghost use Rattle.mark_board.specs.TopPlaces.{part_count};
+ghost use Rattle.board_hall.specs.Posts.{parts_in, board_count, place_of};
 ghost use Rattle.board_hall.specs.Hall.{newcomer};
 ghost use Rattle.board_hall.specs.Terms.{cut_case};
 ghost use Rattle.board_hall.specs.Halls.{core_of, shared_of, hall_of, IsNewPass};
-ghost use Rattle.board_hall.specs.Opened.{IsOpened};
+ghost use Rattle.board_hall.specs.Inner.Opening.{IsOpened};
 
 use crate::hall::Hall;
 use crate::pass::Pass;
@@ -37,10 +37,13 @@ fn with_board(
 ) -> Result<Opened, AllocError>
     requires cut { cut ≤ 6 }
     requires place { IsPlace cut case.now.tree place }
-    requires next { (length opened.slots.items < boards_of (cut_case case.now cut)) × (place_of (cut_case case.now cut) (length opened.slots.items) ≡ place) }
-    requires opened { IsOpened (cut_case case.now cut) (length opened.slots.items) opened.words.items opened.slots.items }
+    requires next { (length opened.slots.items < board_count (cut_case case.now cut))
+        × (place_of (cut_case case.now cut) (length opened.slots.items) ≡ place) }
+    requires opened { IsOpened (cut_case case.now cut) (length opened.slots.items)
+        opened.words.items opened.slots.items }
     ensures count { IfOk result (λ o. length o.slots.items ≡ length opened.slots.items + 1) }
-    ensures opened { IfOk result (λ o. IsOpened (cut_case case.now cut) (length o.slots.items) o.words.items o.slots.items) }
+    ensures opened { IfOk result
+        (λ o. IsOpened (cut_case case.now cut) (length o.slots.items) o.words.items o.slots.items) }
 {
     let board = Board::new(alloc, case, cut, place)?;
     let Opened {
@@ -57,7 +60,9 @@ fn with_board(
 fn all_boards(alloc: Global, case: &Case, cut: u32, parts: u32) -> Result<Opened, AllocError>
     requires cut { cut ≤ 6 }
     requires parts { parts ≡ part_count cut case.now.tree }
-    ensures { IfOk result (λ o. IsOpened (cut_case case.now cut) (boards_of (cut_case case.now cut)) o.words.items o.slots.items) }
+    ensures { IfOk result
+        (λ o. IsOpened (cut_case case.now cut) (board_count (cut_case case.now cut)) o.words.items
+        o.slots.items) }
 {
     let mut opened = Opened {
         words: Vec::new(alloc),
@@ -89,17 +94,20 @@ impl Core {
 }
 
 impl<'c> Hall<'c> {
-    /// Opens a hall with no posts, for so many passes. It asks for a cut from 0 to 6, and for 1 to 64 passes. `AllocError` where a
-    /// growth was refused.
+    /// Opens a hall with no posts, for so many passes. It asks for a cut from 0 to 6, and for 1 to
+    /// 64 passes. `AllocError` where a growth was refused.
     pub fn open(
         alloc: Global,
         case: &'c Case,
         cut: u32,
         passes: usize,
     ) -> Result<(Hall<'c>, Vec<Pass>), AllocError>
+        // A cut, and a number of passes.
         requires cut { cut ≤ 6 }
         requires passes { (0 < passes) × (passes ≤ 64) }
-        ensures hall { IfOk result (λ r. ((hall_of r.0).of ≡ cut_case case.now cut) × ((hall_of r.0).passes ≡ passes)) }
+        // A hall of this case and cut, with as many passes, each of them new.
+        ensures hall { IfOk result
+            (λ r. ((hall_of r.0).of ≡ cut_case case.now cut) × ((hall_of r.0).passes ≡ passes)) }
         ensures count { IfOk result (λ r. vec_len r.1 ≡ passes) }
         ensures passes { IfOk result (λ r. All (IsNewPass (hall_of r.0)) r.1.items) }
     {

@@ -4,8 +4,8 @@ ghost use Rattle.std.specs.Prelude.{◌≡◌, [], None};
 
 use crate::rule::Place;
 
-/// The right to use one hall. It has no lifetime, and is moved to the thread that uses it. Contracts name what it has posted, what it
-/// has seen, and the part whose verdict it owes.
+/// The right to use one hall. It has no lifetime, and is moved to the thread that uses it.
+/// Contracts name what it has posted, what it has seen, and the part whose verdict it owes.
 #[derive(Drop)]
 pub struct Pass {
     pub(crate) seat: Place,
@@ -19,7 +19,8 @@ impl Pass {
 
     /// A pass that has posted nothing.
     pub(crate) fn resting(seat: Place) -> Pass
-        requires { (seat.me.0.held ≡ None) × (seat.me.0.owes ≡ None) × (seat.me.1 ≡ []) × (seat.me.0.parts ≡ 1) }
+        requires { (seat.me.0.held ≡ None) × (seat.me.0.owes ≡ None) × (seat.me.1 ≡ [])
+            × (seat.me.0.parts ≡ 1) }
         ensures { result.seat ≡ seat }
     {
         Pass { seat, owed: None }

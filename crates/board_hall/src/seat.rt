@@ -3,11 +3,11 @@
 ghost use Rattle.std.specs.Prelude.{◌≡◌, ◌+◌, ◌*◌, ◌<◌, [], ◌∷◌, None, Some};
 ghost use Rattle.mark_board.specs.declared.mark.Mark.TheVariants.{Open};
 ghost use Rattle.mark_board.specs.declared.stored.BoardData.{BoardData};
-ghost use Rattle.board_hall.specs.Posts.{parts_in, boards_of, covered, mark_in, AreReal};
+ghost use Rattle.board_hall.specs.Posts.{parts_in, board_count, covered, mark_in, AreReal};
 ghost use Rattle.board_hall.specs.Hall.{IsBoard, taking, posting, MayPost};
-ghost use Rattle.board_hall.specs.Told.{OwedIsOpen};
+ghost use Rattle.board_hall.specs.Inner.Plays.{OwedIsOpen};
 ghost use Rattle.board_hall.specs.Halls.{core_of};
-ghost use Rattle.board_hall.specs.Held.{HasGiven};
+ghost use Rattle.board_hall.specs.Inner.Held.{HasGiven};
 
 use crate::plays::{Give, Naming, Note, Try};
 use crate::rule::Place;
@@ -21,13 +21,16 @@ impl Core {
     /// Takes the lock of a board, and the board out of its slot.
     pub(crate) fn take<R: Wait>(&self, rt: &R, seat: &mut Place, board: usize) -> BoardData
         requires own { seat.old.table_id ≡ self.now.table.shared.table_id }
-        requires inside { board < boards_of (core_of self.now) }
-        requires rests { (seat.old.me.0.held ≡ None) × (seat.old.me.1 ≡ []) × (0 < seat.old.me.0.parts) }
+        requires inside { board < board_count (core_of self.now) }
+        requires rests { (seat.old.me.0.held ≡ None) × (seat.old.me.1 ≡ [])
+            × (0 < seat.old.me.0.parts) }
         ensures own { (seat.new.table_id ≡ seat.old.table_id) × (seat.new.id ≡ seat.old.id) }
-        ensures holds { seat.new.me ≡ (taking board seat.new.me.0.known seat.old.me.0, (board, None) ∷ []) }
+        ensures holds { seat.new.me
+            ≡ (taking board seat.new.me.0.known seat.old.me.0, (board, None) ∷ []) }
         ensures board { IsBoard seat.old.me.0.of board seat.new.me.0.known result }
         ensures real { AreReal seat.old.me.0.of seat.new.me.0.known }
-        ensures owed { board ≡ parts_in seat.old.me.0.of → OwedIsOpen seat.old.me.0.of seat.old.me.0.owes seat.new.me.0.known }
+        ensures owed { board ≡ parts_in seat.old.me.0.of
+            → OwedIsOpen seat.old.me.0.of seat.old.me.0.owes seat.new.me.0.known }
     {
         let backoff = Backoff::new();
         for _ in rt.forever() {
@@ -57,8 +60,8 @@ impl Core {
         value
     }
 
-    /// Subtracts the weight that a new post covers from the open word of its board, which the seat holds. The pass then owes what
-    /// is said.
+    /// Subtracts the weight that a new post covers from the open word of its board, which the seat
+    /// holds. The pass then owes what is said.
     pub(crate) fn note<N: Naming>(
         &self,
         seat: &mut Place,
@@ -69,10 +72,11 @@ impl Core {
         requires own { seat.old.table_id ≡ self.now.table.shared.table_id }
         requires named { (N.post ≡ post) × (N.owes ≡ owes) }
         requires holds { seat.old.me.0.held ≡ Some post.board }
-        requires inside { post.board < boards_of (core_of self.now) }
+        requires inside { post.board < board_count (core_of self.now) }
         requires may { MayPost (core_of self.now) seat.old.me.0.known post seat.old.me.0.owes owes }
         requires new { mark_in seat.old.me.0.known post.board post.row ≡ Open }
-        requires weight { weight ≡ covered (core_of self.now) post.board (mark_in seat.old.me.0.known post.board) post }
+        requires weight { weight
+            ≡ covered (core_of self.now) post.board (mark_in seat.old.me.0.known post.board) post }
         ensures own { (seat.new.table_id ≡ seat.old.table_id) × (seat.new.id ≡ seat.old.id) }
         ensures posts { seat.new.me ≡ (posting post owes seat.old.me.0, seat.old.me.1) }
     {
@@ -84,7 +88,7 @@ impl Core {
     /// Puts a board back into its slot, and gives the lock back.
     pub(crate) fn give(&self, seat: &mut Place, board: usize, value: BoardData)
         requires own { seat.old.table_id ≡ self.now.table.shared.table_id }
-        requires inside { board < boards_of (core_of self.now) }
+        requires inside { board < board_count (core_of self.now) }
         requires holds { (seat.old.me.0.held ≡ Some board) × (seat.old.me.1 ≡ (board, None) ∷ []) }
         requires board { IsBoard (core_of self.now) board seat.old.me.0.known value }
         ensures own { (seat.new.table_id ≡ seat.old.table_id) × (seat.new.id ≡ seat.old.id) }

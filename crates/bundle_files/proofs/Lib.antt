@@ -1,2 +1,2 @@
-pub mod Formula
-pub mod Sections
+pub mod FilesFormula
+pub mod FilesSections

@@ -1,7 +1,6 @@
--- Which bundle is judged, by what is known of the files: the input's or a file's, with the proofs that a folder
--- has for its leaves.
-use Rattle.std.specs.Prelude.{◌≡◌, ℕ, zero, suc, ◌+◌, Bool, List, [], ◌∷◌, ◌++◌, map, length, codes, decimal}
-use Rattle.std.specs.Prelude.{Option, None, Some, IfSome, is_some, unwrap_or, ◌⊎◌}
+-- Which bundle is judged, by what is known of the files: the input's or a file's, with the proofs
+-- that a folder has for its leaves.
+use Rattle.std.specs.Prelude.{◌≡◌, ℕ, zero, suc, ◌+◌, Bool, List, [], ◌∷◌, ◌++◌, map, length, codes, decimal, Option, None, Some, IfSome, is_some, unwrap_or, ◌⊎◌}
 use Rattle.std.specs.List.{All, flat_map}
 use Rattle.split_tree.specs.SplitTree.{SplitTree}
 use Rattle.split_tree.specs.Leaves.{missing_nodes, cube_count}
@@ -29,12 +28,15 @@ abbrev pub names_from : List ℕ → ℕ → ℕ → List (List ℕ)
 names_from kind number zero = []
 names_from kind number (suc count) = (kind ++ decimal number) ∷ names_from kind (suc number) count
 
--- the names of a tree's leaves, in order: 1, 2, .. for the cubes, and m1, m2, .. for the missing leaves
+-- the names of a tree's leaves, in order: 1, 2, .. for the cubes, and m1, m2, .. for the missing
+-- leaves
 abbrev pub leaf_names : SplitTree → List (List ℕ)
 leaf_names tree =
-    names_from (codes "") 1 (cube_count tree) ++ names_from (codes "m") 1 (length (missing_nodes tree))
+    names_from (codes "") 1 (cube_count tree)
+    ++ names_from (codes "m") 1 (length (missing_nodes tree))
 
--- the leaves whose proofs are looked for: those of the bundle's tree, or none where the bundle has a fault
+-- the leaves whose proofs are looked for: those of the bundle's tree, or none where the bundle has
+-- a fault
 abbrev pub AreLeavesOf : List ℕ → List (List ℕ) → Type 0
 AreLeavesOf bundle names =
     ((case : CaseOf) × IsCaseOf bundle case × (names ≡ leaf_names case.tree))
@@ -44,13 +46,14 @@ AreLeavesOf bundle names =
 abbrev pub proof_path : List ℕ → List ℕ → List ℕ
 proof_path folder name = folder ++ codes "/" ++ name ++ codes ".lrat"
 
--- what a leaf with this name adds to a bundle: nothing, or a line end, its label line, and its proof
+-- what a leaf with this name adds to a bundle: nothing, or a line end, its label line, and its
+-- proof
 abbrev pub section_text : List ℕ → Option (List ℕ) → List ℕ
 section_text name None = []
 section_text name (Some proof) = codes "\nl " ++ name ++ codes "\n" ++ proof
 
--- Leaves with these names were added, in this order: each whose file is there, with the file's bytes as its
--- proof.
+-- Leaves with these names were added, in this order: each whose file is there, with the file's
+-- bytes as its proof.
 pub record AreAdded (held : Held) (folder : List ℕ) (names : List (List ℕ)) (bundle whole : List ℕ) : Type 0 where
   pub leaves : List (List ℕ × Option (List ℕ))
   pub named : map (λ leaf. leaf.0) leaves ≡ names
@@ -67,7 +70,8 @@ abbrev pub IsJudgedOf : Held → Option (List ℕ) → List ℕ → List ℕ →
 IsJudgedOf held None bundle whole = whole ≡ bundle
 IsJudgedOf held (Some folder) bundle whole = IsWithProofs held folder bundle whole
 
--- for these words, FILE and DIR, and this input, the bundle that is read, and the one that is judged
+-- for these words, FILE and DIR, and this input, the bundle that is read, and the one that is
+-- judged
 pub record IsBundleOf (held : Held) (file folder input : Option (List ℕ)) (read whole : List ℕ) : Type 0 where
   pub is_read : IsRead held file input read
   pub is_judged : IsJudgedOf held folder read whole
@@ -85,8 +89,8 @@ abbrev pub IsAbsent : Held → Option (List ℕ) → Type 0
 IsAbsent held None = ⊥
 IsAbsent held (Some path) = Gives held path None
 
--- Why a bundle wasn't read, where so many calls had failed and have: want of memory, without a failed call; or
--- a fault of the device, where a call failed or no file is there.
+-- Why a bundle wasn't read, where so many calls had failed and have: want of memory, without a
+-- failed call; or a fault of the device, where a call failed or no file is there.
 abbrev pub IsUnread : Held → Option (List ℕ) → ℕ → ℕ → Fault → Type 0
 IsUnread held file before after fault =
     ((fault ≡ Memory) × (after ≡ before))

@@ -29,10 +29,13 @@ pub fn add_proofs<D: Store>(
     folder: &str,
     bundle: &mut Vec<u8>,
 ) -> Result<(), Fault>
+    // One more failed read can be counted.
     requires { D.failures store.old < 2 ^ 64 - 1 }
+    // The bundle has got the folder's proofs, and the store holds what it held.
     ensures held { D.held store.new ≡ D.held store.old }
     ensures whole { OnOk result
         (IsWithProofs (D.held store.old) folder.now bundle.old.items bundle.new.items) }
+    // A fault is that of a read that failed, or of memory.
     ensures ok { OnOk result (D.failures store.new ≡ D.failures store.old) }
     ensures err { IfErr result
         (λ fault. IsReadFault (D.failures store.old) (D.failures store.new) fault) }
@@ -89,7 +92,9 @@ fn add_sections<D: Store>(
     Ok(())
 }
 
-/// Adds the proof of the leaf of this name, where its file is there.
+/// Adds the proof of the leaf of this name, where its file is there. The label line is written
+/// first, and taken back where there is no file: so a proof's bytes are read in their place, and
+/// not copied.
 fn add_section<D: Store>(
     alloc: Global,
     store: &mut D,

@@ -28,7 +28,8 @@ pub fn read_judged<D: Store, I: Source>(
         (option_map (λ path. path.now) file.entry)
         (option_map (λ path. path.now) folder.entry) (I.remaining input.old) read bundle.items) }
     ensures ok { OnOk result
-        (D.failures store.new + I.failures input.new ≡ D.failures store.old + I.failures input.old) }
+        (D.failures store.new + I.failures input.new
+        ≡ D.failures store.old + I.failures input.old) }
     ensures err { IfErr result
         (IsUnread (D.held store.old) (option_map (λ path. path.now) file.entry)
         (D.failures store.old + I.failures input.old)

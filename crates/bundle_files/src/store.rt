@@ -9,7 +9,8 @@ use std::fs;
 use std::io::ErrorKind;
 use std::rt::Files;
 
-/// What can be read by its path.
+/// What can be read by its path: FILE and a folder's proofs alike. The proofs' paths, the order of
+/// the leaves and the label lines are made above it, and so stand in the contracts there.
 pub trait Store {
     // What lies at each path, where that is known: no file, or a file with these bytes.
     ghost held: { Self → List ℕ → Option (Option (List ℕ)) };

@@ -1,4 +1,5 @@
--- A bundle: an iCNF text, and behind it sections, each below a label line. (iCNF: HVC 2011; the labels are this project's own profile.)
+-- A bundle: an iCNF text, and behind it sections, each below a label line. (iCNF: HVC 2011; the
+-- labels are this project's own profile.)
 use Rattle.std.specs.Prelude.{ℕ, ◌+◌, Bool, false, codes, if◌then◌else◌, List, [], ◌∷◌, ◌++◌}
 use Rattle.std.specs.List.{slice_split}
 use Rattle.std.specs.Str.{bytes_eq}
@@ -25,17 +26,21 @@ abbrev pub text_before : List (List ℕ) → List ℕ
 text_before [] = []
 text_before (line ∷ lines) = if is_label line then [] else line_onto line lines (text_before lines)
 
--- a label line: its number in the bundle, counted from 1, its words, and the section below it, which is the text up to the next label line
+-- a label line: its number in the bundle, counted from 1, its words, and the section below it,
+-- which is the text up to the next label line
 pub record Labelled : Type 0 where
   pub line : ℕ
   pub label : List (List ℕ)
   pub section : List ℕ
 
--- the label lines with their sections, in the order of the text, where the first of these lines has this number
+-- the label lines with their sections, in the order of the text, where the first of these lines has
+-- this number
 abbrev pub labelled : ℕ → List (List ℕ) → List Labelled
 labelled number [] = []
 labelled number (line ∷ lines) =
-    if is_label line then record { line = number; label = words line; section = text_before lines } ∷ labelled (number + 1) lines
+    if is_label line then
+    record { line = number; label = words line; section = text_before lines }
+    ∷ labelled (number + 1) lines
     else labelled (number + 1) lines
 
 -- the iCNF text of a bundle is everything before the first label line

@@ -1,10 +1,8 @@
 -- A case: a formula, the tree of its cubes, and sections for targets of the tree.
-use Rattle.std.specs.Prelude.{◌≡◌, ℕ, ◌<◌, ◌≤◌, ◌+◌, ◌-◌, ◌^◌, ◌==◌, if◌then◌else◌, Bool, false}
-use Rattle.std.specs.Prelude.{List, [], ◌∷◌, Option, None, Some, get_or, slice_index, length, map}
-use Rattle.std.specs.Prelude.{take, drop}
+use Rattle.std.specs.Prelude.{◌≡◌, ℕ, ◌<◌, ◌==◌, if◌then◌else◌, Bool, false, List, [], ◌∷◌, Option, None, Some, get_or, length, map, take, drop}
 use Rattle.cnf_text.specs.Literal.{Literal}
-use Rattle.split_tree.specs.SplitTree.{SplitTree, size, total}
-use Rattle.split_tree.specs.Leaves.{HasTarget, IsTargetAt}
+use Rattle.split_tree.specs.SplitTree.{SplitTree}
+use Rattle.split_tree.specs.Leaves.{HasTarget}
 use Rattle.split_tree.specs.declared.node.Leaf.TheVariants.{Cube, Missing}
 use Rattle.split_tree.specs.declared.node.Target.{Target}
 use Rattle.split_tree.specs.declared.node.Target.TheVariants.{Leaf, Node}
@@ -45,7 +43,8 @@ same_target (Node k) (Leaf leaf) = false
 -- the proof of the section for a target, where there is one
 abbrev pub proof_for : List SectionOf → Target → Option (List ℕ)
 proof_for [] target = None
-proof_for (section ∷ sections) target = if same_target section.target target then Some section.proof else proof_for sections target
+proof_for (section ∷ sections) target =
+    if same_target section.target target then Some section.proof else proof_for sections target
 
 abbrev pub section_at : List SectionOf → ℕ → SectionOf
 section_at sections i = get_or sections i (record { target = Leaf (Cube 0); proof = [] })
@@ -54,20 +53,5 @@ section_at sections i = get_or sections i (record { target = Leaf (Cube 0); proo
 abbrev pub AreSections : SplitTree → List SectionOf → Type 0
 AreSections tree sections =
     (i : ℕ) → i < length sections → HasTarget tree (section_at sections i).target
-    × ((j : ℕ) → j < i → same_target (section_at sections j).target (section_at sections i).target ≡ false)
-
--- what a table of places, counted from 1 and 0 for none, says of a node
-abbrev pub section_by : List SectionOf → ℕ → Option (List ℕ)
-section_by sections place = if place == 0 then None else Some (section_at sections (place - 1)).proof
-
--- for each target the table has the place of its section, at its node
-pub record AreTabled (tree : SplitTree) (sections : List SectionOf) (places : List ℕ) : Type 0 where
-  pub long : length places ≡ size tree
-  pub within : (node : ℕ) → slice_index places node ≤ length sections
-  pub found : (target : Target) (node : ℕ) → IsTargetAt tree node target → proof_for sections target ≡ section_by sections (slice_index places node)
-
--- what a case keeps beside its parts
-pub record IsKept (tree : SplitTree) (sections : List SectionOf) (places : List ℕ) : Type 0 where
-  pub are_sections : AreSections tree sections
-  pub tabled : AreTabled tree sections places
-  pub total : total 0 tree ≤ 2 ^ 60 + 2 ^ 24
+    × ((j : ℕ) → j < i
+    → same_target (section_at sections j).target (section_at sections i).target ≡ false)

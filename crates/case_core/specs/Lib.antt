@@ -1,12 +1,10 @@
 pub mod Bundle
 pub mod Label
 pub mod Case
-pub mod Code
+pub mod CaseCode
 pub mod Finding
+pub mod FindingOf
 pub mod Faults
-pub mod Naming
 pub mod Sections
-pub mod Cut
-pub mod Kept
-pub mod Told
-pub mod Shown
+pub mod Laws
+pub mod Inner

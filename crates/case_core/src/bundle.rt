@@ -1,15 +1,14 @@
 //! The reader of bundles: an iCNF text, and behind it sections, each below a label line.
 
-ghost use Rattle.std.specs.Prelude.{◌≡◌, List, MatchResult, ◌≤◌, ◌+◌, length, take, map, ◌<◌, ◌≢◌};
-ghost use Rattle.std.specs.Prelude.{OnOk, IfOk, IfErr, IfSome, MatchOption, count_by};
+ghost use Rattle.std.specs.Prelude.{◌≡◌, List, MatchResult, ◌≤◌, ◌+◌, length, take, map, ◌<◌, ◌≢◌, OnOk, IfOk, IfErr, IfSome, MatchOption, count_by};
 ghost use Rattle.cnf_text.specs.Tokens.{is_line_end};
-ghost use Rattle.cnf_text.specs.Icnf.{Item, Within};
-ghost use Rattle.cnf_text.specs.Progress.{IsFileOf};
+ghost use Rattle.cnf_text.specs.Icnf.{Item, Within, IsFileOf};
 ghost use Rattle.case_core.specs.Bundle.{lines_of, is_label, text_before, labels_of};
-ghost use Rattle.case_core.specs.Cut.{HasNoLabel, HasNoLetter, AfterPlainLines, FirstLabel, EndsWith, BeginsWithLabel, OneLabel, NextLabel};
-ghost use Rattle.case_core.specs.Case.{section_in, part_in, CaseOf, IsKept};
-ghost use Rattle.case_core.specs.Naming.{IsLimited};
-ghost use Rattle.case_core.specs.Kept.{AreKept, LabelAt, HasTree, HasClash};
+ghost use Rattle.case_core.specs.Inner.Bundle.{HasNoLabel, HasNoLetter, AfterPlainLines, FirstLabel, EndsWith, BeginsWithLabel, OneLabel, NextLabel};
+ghost use Rattle.case_core.specs.Case.{section_in, part_in, CaseOf};
+ghost use Rattle.case_core.specs.Inner.Case.{IsCaseKept};
+ghost use Rattle.case_core.specs.Inner.Label.{IsLimited};
+ghost use Rattle.case_core.specs.Inner.Sections.{AreKept, LabelAt, HasTree, HasClash};
 ghost use Rattle.case_core.specs.Sections.{AreSectionsOf, IsLabelFault, IsCaseOf, IsFaultOf};
 
 use crate::case::Case;
@@ -33,7 +32,8 @@ fn is_label(line: &[u8]) -> bool
     }
 }
 
-/// The text from the line on that holds the first byte `l`, or `None` where no byte is one. Only such a line can be a label line.
+/// The text from the line on that holds the first byte `l`, or `None` where no byte is one. Only
+/// such a line can be a label line.
 fn line_of_letter(text: &[u8]) -> Option<&[u8]>
     ensures found { MatchOption result (HasNoLetter text.now)
         (λ at. AfterPlainLines text.now at.now) }
@@ -121,7 +121,8 @@ fn first_part(text: &[u8]) -> Part<'_>
     }
 }
 
-/// Reads one label line and the section below it, and answers the text from the next label line on, if there is one.
+/// Reads one label line and the section below it, and answers the text from the next label line on,
+/// if there is one.
 fn read_section<'b>(
     alloc: Global,
     tree: &Tree,
@@ -194,12 +195,14 @@ fn tree_of(alloc: Global, file: &IcnfFile) -> Result<Tree, CaseFault>
     Ok(build(alloc, &file.cubes)?)
 }
 
-/// Reads a bundle: an iCNF text (HVC 2011), and behind it sections, each below a label line. A label line has the tokens
-/// `l` and a name: `K` for cube K, `mJ` for missing leaf J, or `n`, literals and an end mark for the inner node with this
-/// path. A section is the text up to the next label line, and is the proof of what its label names.
+/// Reads a bundle: an iCNF text (HVC 2011), and behind it sections, each below a label line. A
+/// label line has the tokens `l` and a name: `K` for cube K, `mJ` for missing leaf J, or `n`,
+/// literals and an end mark for the inner node with this path. A section is the text up to the next
+/// label line, and is the proof of what its label names.
 ///
-/// Answers the case, with the sections in the order of the text, or the first fault: of the iCNF text, then of the cubes,
-/// then of the label lines, from the first on. `Memory` may stand in the place of any other answer.
+/// Answers the case, with the sections in the order of the text, or the first fault: of the iCNF
+/// text, then of the cubes, then of the label lines, from the first on. `Memory` may stand in the
+/// place of any other answer.
 pub fn read_bundle(alloc: Global, bundle: &[u8]) -> Result<Case, CaseFault>
     // The case is the bundle's.
     ensures ok { IfOk result (IsCaseOf bundle.now) }
@@ -212,7 +215,8 @@ pub fn read_bundle(alloc: Global, bundle: &[u8]) -> Result<Case, CaseFault>
     take_bundle(alloc, bundle.to_vec(alloc)?)
 }
 
-/// `read_bundle` for a bundle that is handed over: the case keeps these bytes, and nothing of them is copied.
+/// `read_bundle` for a bundle that is handed over: the case keeps these bytes, and nothing of them
+/// is copied.
 pub fn take_bundle(alloc: Global, bundle: Vec<u8>) -> Result<Case, CaseFault>
     // The case is the bundle's.
     ensures ok { IfOk result (IsCaseOf bundle.items) }
@@ -276,7 +280,7 @@ fn read_parts(alloc: Global, bundle: &[u8]) -> Result<Parts, CaseFault>
       sections = map (section_in bundle.now) parts.sections.sections.items;
     })) }
     ensures kept { IfOk result
-        (λ parts. IsKept parts.tree
+        (λ parts. IsCaseKept parts.tree
         (map (section_in bundle.now) parts.sections.sections.items) parts.sections.places.items) }
     ensures err { IfErr result (λ fault. fault ≢ CaseFault.Memory → IsFaultOf bundle.now fault) }
 {

@@ -19,7 +19,8 @@ pub struct Section {
     pub(crate) length: usize,
 }
 
-/// A formula, the tree of its cubes, and sections in the order of the text, no two of them for one target. It doesn't change.
+/// A formula, the tree of its cubes, and sections in the order of the text, no two of them for one
+/// target. It doesn't change.
 #[derive(Drop)]
 pub struct Case {
     pub(crate) base: Base<'static>,
@@ -33,8 +34,9 @@ pub struct Case {
 
 impl Model for Case {
     ghost use Rattle.std.specs.Prelude.{map};
-    ghost use Rattle.case_core.specs.Case.{CaseOf, section_in, IsKept};
-    ghost use Rattle.case_core.specs.Code.{case_code};
+    ghost use Rattle.case_core.specs.Case.{CaseOf, section_in};
+    ghost use Rattle.case_core.specs.Inner.Case.{IsCaseKept};
+    ghost use Rattle.case_core.specs.CaseCode.{case_code};
 
     ghost Value = { CaseOf };
 
@@ -47,7 +49,7 @@ impl Model for Case {
     } };
 
     ghost invariant = { λ c.
-        IsKept c.tree (map (section_in c.text.items) c.sections.items) c.places.items };
+        IsCaseKept c.tree (map (section_in c.text.items) c.sections.items) c.places.items };
 }
 
 impl Case {
@@ -78,7 +80,8 @@ impl Case {
         &self.base
     }
 
-    /// The proof of the section for a target, or `None` where it has none. It asks for a target of the tree.
+    /// The proof of the section for a target, or `None` where it has none. It asks for a target of
+    /// the tree.
     pub fn proof_for(&self, target: Target) -> Option<&[u8]>
         requires { HasTarget self.now.tree target }
         ensures found { MatchOption result (proof_for self.now.sections target ≡ None)
@@ -105,7 +108,8 @@ impl Case {
 
     /// The sections, in the order of the text.
     pub fn sections(&self) -> &[Section]
-        ensures targets_are { map (λ section. section.target) result.now ≡ targets_of self.now.sections }
+        ensures targets_are { map (λ section. section.target) result.now
+            ≡ targets_of self.now.sections }
         ensures targets { AreSections self.now.tree self.now.sections }
     {
         &self.sections

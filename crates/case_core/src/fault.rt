@@ -5,8 +5,9 @@ use split_tree::TreeFault;
 use std::alloc::{AllocError, AllocFailed};
 use thiserror::Error;
 
-/// Why a bundle is refused: its first fault. Those of the iCNF text come first, then those of the cubes, then those of
-/// the label lines from the first on. Lines are counted from 1 over the whole bundle, and cubes from 1.
+/// Why a bundle is refused: its first fault. Those of the iCNF text come first, then those of the
+/// cubes, then those of the label lines from the first on. Lines are counted from 1 over the whole
+/// bundle, and cubes from 1.
 #[derive(PartialEq, Eq, Debug, Drop, Error)]
 pub enum CaseFault {
     /// The first line with a token does not begin with `p inccnf`.

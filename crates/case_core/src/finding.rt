@@ -4,15 +4,18 @@ ghost use Rattle.std.specs.Prelude.{◌≡◌, ℕ, IfOk, MatchOption, None};
 ghost use Rattle.split_tree.specs.Leaves.{HasTarget, IsTargetAt};
 ghost use Rattle.split_tree.specs.SplitTree.{SplitTree};
 ghost use Rattle.case_core.specs.Case.{proof_for};
-ghost use Rattle.case_core.specs.Finding.{IsFinding, HasSection, IsSound, IsJudged, IsTargetAt-prop, target_of};
+ghost use Rattle.case_core.specs.Finding.{IsFinding, HasSection, IsSound, target_of};
+ghost use Rattle.case_core.specs.Inner.Finding.{IsJudgement, IsTargetAt-prop};
 
 use crate::case::Case;
 use hint_check::{Checker, Judged, Scratch};
 use split_tree::{Leaf, NodeId, Target};
 use std::alloc::{AllocError, Global};
 
-/// The judgement of a target's section in its case. Only `examine` and
-/// `examine_with` make one.
+/// The judgement of a target's section in its case. Only `examine` and `examine_with` make one.
+///
+/// It keeps a leaf or the number of an inner node, and the number of the node at which its target
+/// stands: so it is small, can be moved, and a board finds its row without a search.
 #[derive(Drop)]
 pub struct Finding<'c> {
     case: &'c Case,
@@ -49,7 +52,8 @@ impl<'c> Finding<'c> {
     /// The node at which the target stands.
     pub fn node(&self) -> NodeId
         ensures value { result ≡ self.now.node }
-        ensures here { IsTargetAt self.now.case.now.tree result (target_of self.now.leaf self.now.node) }
+        ensures here { IsTargetAt self.now.case.now.tree result
+            (target_of self.now.leaf self.now.node) }
     {
         NodeId::new(self.node)
     }
@@ -63,8 +67,9 @@ impl<'c> Finding<'c> {
     }
 }
 
-/// Judges the section of a target, from the formula and the target's path; `None` exactly where the target has no section.
-/// It asks for a target of the case's tree. `AllocError` where a growth was refused.
+/// Judges the section of a target, from the formula and the target's path; `None` exactly where the
+/// target has no section. It asks for a target of the case's tree. `AllocError` where a growth was
+/// refused.
 pub fn examine<'c>(
     alloc: Global,
     case: &'c Case,
@@ -72,7 +77,9 @@ pub fn examine<'c>(
 ) -> Result<Option<Finding<'c>>, AllocError>
     requires { HasTarget case.now.tree target }
     ensures { IfOk result (λ found. MatchOption found (proof_for case.now.sections target ≡ None)
-        (λ finding. HasSection case.now target × (finding.case.now ≡ case.now) × (target_of finding.leaf finding.node ≡ target) × IsFinding case.now target finding.judged)) }
+        (λ finding. HasSection case.now target × (finding.case.now ≡ case.now)
+        × (target_of finding.leaf finding.node ≡ target)
+        × IsFinding case.now target finding.judged)) }
 {
     let mut scratch = Scratch::new(alloc);
     examine_with(alloc, &mut scratch, case, target)
@@ -87,7 +94,9 @@ pub fn examine_with<'c>(
 ) -> Result<Option<Finding<'c>>, AllocError>
     requires { HasTarget case.now.tree target }
     ensures { IfOk result (λ found. MatchOption found (proof_for case.now.sections target ≡ None)
-        (λ finding. HasSection case.now target × (finding.case.now ≡ case.now) × (target_of finding.leaf finding.node ≡ target) × IsFinding case.now target finding.judged)) }
+        (λ finding. HasSection case.now target × (finding.case.now ≡ case.now)
+        × (target_of finding.leaf finding.node ≡ target)
+        × IsFinding case.now target finding.judged)) }
 {
     let asked = target;
     let placed = target;
@@ -105,7 +114,8 @@ pub fn examine_with<'c>(
 
 /// The leaf of a target, or `None` where it is an inner node.
 fn leaf_of(target: Target) -> Option<Leaf>
-    ensures { (tree : SplitTree) (node : ℕ) → IsTargetAt tree node target → target_of result node ≡ target }
+    ensures { (tree : SplitTree) (node : ℕ) → IsTargetAt tree node target
+        → target_of result node ≡ target }
 {
     match target {
         Target::Leaf(leaf) => Some(leaf),
@@ -122,7 +132,8 @@ fn judged_in(
 ) -> Result<Option<Judged>, AllocError>
     requires { HasTarget case.now.tree target }
     ensures { IfOk result (λ found. MatchOption found (proof_for case.now.sections target ≡ None)
-        (λ judged. HasSection case.now target × IsFinding case.now target judged × IsSound case.now target judged)) }
+        (λ judged. HasSection case.now target × IsFinding case.now target judged
+        × IsSound case.now target judged)) }
 {
     let Some(proof) = case.proof_for(target) else {
         return Ok(None);
@@ -139,7 +150,7 @@ fn judge(
     proof: &[u8],
 ) -> Result<Judged, AllocError>
     requires { HasTarget case.now.tree target }
-    ensures { IfOk result (λ judged. IsJudged case.now target proof.now judged) }
+    ensures { IfOk result (λ judged. IsJudgement case.now target proof.now judged) }
 {
     let path = case.tree().path_of(alloc, target)?;
     let checker = Checker::over(alloc, case.base(), &path)?;

@@ -6,7 +6,7 @@ ghost use Rattle.cnf_text.specs.Tokens.{words};
 ghost use Rattle.cnf_text.specs.Icnf.{symbol_of};
 ghost use Rattle.cnf_text.specs.Numbers.{decimal};
 ghost use Rattle.case_core.specs.Label.{CubeName, MissingName, PathName, IsTargetOf, leaf_name, label_name, path_of_symbols};
-ghost use Rattle.case_core.specs.Naming.{IsLimited, NamesNone, IsPathRead, NoPathRead};
+ghost use Rattle.case_core.specs.Inner.Label.{IsLimited, NamesNone, IsPathRead, NoPathRead};
 
 use crate::fault::CaseFault;
 use cnf_text::numbers::read_number;
@@ -30,7 +30,7 @@ pub(crate) enum LabelFault {
 
 impl LabelFault {
     ghost use Rattle.std.specs.Prelude.{◌≡◌};
-    ghost use Rattle.case_core.specs.Told.{told};
+    ghost use Rattle.case_core.specs.Inner.Label.{told};
 
     /// The fault of a bundle that has it on this line.
     pub(crate) fn on_line(self, line: u64) -> CaseFault
@@ -128,8 +128,8 @@ fn leaf_named(tree: &Tree, word: &[u8]) -> Result<Target, LabelFault>
     }
 }
 
-/// The literals of a path, up to an end mark, with which the text ends; `None` in their place where a variable is above
-/// the limit.
+/// The literals of a path, up to an end mark, with which the text ends; `None` in their place where
+/// a variable is above the limit.
 fn read_path(alloc: Global, text: &[u8]) -> Result<Option<Vec<Lit>>, LabelFault>
     ensures ok { IfOk result (IsPathRead (path_of_symbols (map symbol_of (words text.now)))) }
     ensures err { IfErr result (NoPathRead (path_of_symbols (map symbol_of (words text.now)))) }
@@ -163,8 +163,10 @@ fn read_path(alloc: Global, text: &[u8]) -> Result<Option<Vec<Lit>>, LabelFault>
 /// The inner node whose path a text spells: literals and an end mark.
 fn node_named(alloc: Global, tree: &Tree, text: &[u8]) -> Result<Target, LabelFault>
     requires { IsLimited tree.now }
-    ensures ok { IfOk result (IsTargetOf tree.now (option_map PathName (path_of_symbols (map symbol_of (words text.now))))) }
-    ensures err { IfErr result (NamesNone tree.now (option_map PathName (path_of_symbols (map symbol_of (words text.now))))) }
+    ensures ok { IfOk result (IsTargetOf tree.now
+        (option_map PathName (path_of_symbols (map symbol_of (words text.now))))) }
+    ensures err { IfErr result (NamesNone tree.now
+        (option_map PathName (path_of_symbols (map symbol_of (words text.now))))) }
 {
     let Some(path) = read_path(alloc, text)? else {
         return Err(LabelFault::NoSuchTarget);

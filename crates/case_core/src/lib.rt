@@ -1,4 +1,5 @@
-//! A case: the formula, the tree of its cubes and the proofs of a bundle, and what is found of each of them.
+//! A case: the formula, the tree of its cubes and the proofs of a bundle, and what is found of each
+//! of them.
 #![tactic(auto)]
 
 mod bundle;
@@ -15,5 +16,5 @@ pub use cnf_text::{Clause, Formula, Lit};
 pub use fault::CaseFault;
 pub use finding::{Finding, examine, examine_with};
 pub use hint_check::{Judged, Reason, Scratch};
-pub use laws::{case_or_a_fault, one_case, one_fault};
+pub use laws::{case_or_a_fault, no_fault_beside_a_case, one_case, one_fault};
 pub use split_tree::{Leaf, NodeId, Target, Tree};

@@ -4,14 +4,15 @@ ghost use Rattle.std.specs.Prelude.{◌≡◌, ◌<◌, ◌≤◌, ◌+◌, leng
 ghost use Rattle.cnf_text.specs.Tokens.{words};
 ghost use Rattle.split_tree.specs.SplitTree.{SplitTree};
 ghost use Rattle.case_core.specs.Label.{label_name};
-ghost use Rattle.case_core.specs.Naming.{IsLimited};
+ghost use Rattle.case_core.specs.Inner.Label.{IsLimited};
 
 use crate::case::Section;
 use crate::label::{LabelFault, target_of};
 use split_tree::{Target, Tree};
 use std::alloc::{AllocError, Global};
 
-/// The sections so far, and for each node of the tree the place of its section, counted from 1, or 0.
+/// The sections so far, and for each node of the tree the place of its section, counted from 1, or
+/// 0.
 #[derive(Drop)]
 pub(crate) struct Sections {
     pub(crate) sections: Vec<Section>,
@@ -22,8 +23,8 @@ impl Sections {
     ghost use Rattle.std.specs.Prelude.{◌≡◌, ◌≤◌, ◌+◌, [], ◌∷◌, ◌++◌, length, OnOk, IfOk, IfErr, map};
     ghost use Rattle.split_tree.specs.Leaves.{HasTarget};
     ghost use Rattle.case_core.specs.Case.{section_in, part_in};
-    ghost use Rattle.case_core.specs.Cut.{EndsWith};
-    ghost use Rattle.case_core.specs.Kept.{AreKept, Refuses, GoesOn};
+    ghost use Rattle.case_core.specs.Inner.Bundle.{EndsWith};
+    ghost use Rattle.case_core.specs.Inner.Sections.{AreKept, StopsAt, GoesOn};
 
     /// No section.
     pub(crate) fn new(alloc: Global, tree: &Tree) -> Result<Self, AllocError>
@@ -37,8 +38,8 @@ impl Sections {
         })
     }
 
-    /// One section more, for the target that a label line names. The text is the bundle from that line on, and the
-    /// proof stands below the line.
+    /// One section more, for the target that a label line names. The text is the bundle from that
+    /// line on, and the proof stands below the line.
     pub(crate) fn add(
         &mut self,
         alloc: Global,
@@ -62,7 +63,7 @@ impl Sections {
             (map (section_in bundle.now) self.new.sections.items)
             (label_name (words line.now)) proof.now) }
         ensures err { IfErr result
-            (Refuses tree.now (map (section_in bundle.now) self.old.sections.items)
+            (StopsAt tree.now (map (section_in bundle.now) self.old.sections.items)
             (label_name (words line.now))) }
     {
         let target = match target_of(alloc, tree, line) {
@@ -79,6 +80,7 @@ impl Sections {
             start: bundle.len() - text.len() + line.len() + 1,
             length: proof.len(),
         })?;
+        // The proof takes from this call that the tree has fewer than 2 to the power 32 nodes.
         let _nodes = tree.size();
         self.places[node] = self.sections.len() as u32;
         Ok(())

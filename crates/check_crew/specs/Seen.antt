@@ -1,5 +1,7 @@
 -- What a worker has seen of the findings of a case.
-use Rattle.std.specs.Prelude.{◌≡◌, ◌≢◌, ℕ, ◌<◌, List, length, slice_index}
+-- It promises what its pass has seen, and not what it posted: by the hall's contract alone a post
+-- may be answered `Already`, and then the pass has seen the mark.
+use Rattle.std.specs.Prelude.{◌≡◌, ◌≢◌, ℕ, ◌<◌, List, length}
 use Rattle.std.specs.List.{Contains}
 use Rattle.split_tree.specs.Leaves.{IsTargetAt}
 use Rattle.split_tree.specs.declared.node.Target.{Target}
@@ -21,18 +23,17 @@ pub record HasSeen (v : View) (node : ℕ) : Type 0 where
 
 -- that of the section at a place
 abbrev pub HasSeenSection : View → ℕ → Type 0
-HasSeenSection v place = (node : ℕ) → IsTargetAt v.of.case.tree node (section_at v.of.case.sections place).target → HasSeen v node
-
--- that of the section whose turn it is in this order
-abbrev pub HasSeenTurn : List ℕ → View → ℕ → Type 0
-HasSeenTurn order v turn = HasSeenSection v (slice_index order turn)
+HasSeenSection v place =
+    (node : ℕ) → IsTargetAt v.of.case.tree node (section_at v.of.case.sections place).target →
+    HasSeen v node
 
 -- the finding of each section of the case is among what one of these passes has seen
 abbrev pub HaveSeenSections : CaseOf → List Pass → Type 0
 HaveSeenSections case passes = (place : ℕ) → place < length case.sections
     → (pass : Pass) × Contains passes pass × HasSeenSection (view_of pass) place
 
--- the posts that were seen hold the target's finding, and by them the board of the target has this open weight
+-- the posts that were seen hold the target's finding, and by them the board of the target has this
+-- open weight
 pub record IsTold (v : View) (target : Target) (weight : ℕ) : Type 0 where
   pub node : ℕ
   pub here : IsTargetAt v.of.case.tree node target

@@ -5,7 +5,7 @@ ghost use Rattle.cube_jobs.specs.Jobs as queue;
 ghost use Rattle.cube_jobs.specs.Jobs.{new_pass};
 ghost use Rattle.board_hall.specs.Halls.{shared_of, view_of, IsPassOf, IsNewPass};
 ghost use Rattle.mark_board.specs.Findings.{AreFindings};
-ghost use Rattle.check_crew.specs.Shifts.{IsShiftOf, AreReady, AreNew, HaveSeenClaims};
+ghost use Rattle.check_crew.specs.Inner.Crew.{IsShiftOf, AreReady, AreNew, HaveSeenClaims};
 
 use crate::fault::CrewFault;
 use crate::gate::Gate;

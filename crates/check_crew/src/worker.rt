@@ -1,12 +1,12 @@
 //! What one worker does.
 
 ghost use Rattle.std.specs.Prelude.{◌≡◌, ◌<◌, None, length, OnOk};
-ghost use Rattle.case_core.specs.Shown.{finding_of};
+ghost use Rattle.case_core.specs.FindingOf.{finding_of};
 ghost use Rattle.cube_jobs.specs.Jobs.{new_pass};
 ghost use Rattle.board_hall.specs.Halls.{core_of, shared_of, view_of, IsPassOf, IsNewPass};
 ghost use Rattle.board_hall.specs.Clauses.{Stays};
 ghost use Rattle.check_crew.specs.Seen.{HasSeen, HasSeenSection};
-ghost use Rattle.check_crew.specs.Shifts.{IsShiftOf, AreReady};
+ghost use Rattle.check_crew.specs.Inner.Crew.{IsShiftOf, AreReady};
 
 use crate::gate::Gate;
 use board_hall::{Core, Pass};
@@ -37,7 +37,7 @@ pub(crate) struct Site<'a> {
 
 impl<'a> Promise<Shift> for Site<'a> {
     ghost use Rattle.board_hall.specs.Halls.{shared_of};
-    ghost use Rattle.check_crew.specs.Shifts.{IsShiftOf};
+    ghost use Rattle.check_crew.specs.Inner.Crew.{IsShiftOf};
 
     ghost kept_by = { λ site shift.
         IsShiftOf (shared_of site.core.now) site.jobs.now site.order.now shift };

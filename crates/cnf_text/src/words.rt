@@ -29,8 +29,8 @@ fn word_of(bytes: &[u8]) -> Word<'_>
     }
 }
 
-/// The words of a text that are left, from a place within a line on: those of that line, and those of
-/// each line below it that is no comment.
+/// The words of a text that are left, from a place within a line on: those of that line, and those
+/// of each line below it that is no comment.
 #[derive(Drop)]
 pub struct Words<'t> {
     text: &'t [u8],
@@ -88,10 +88,10 @@ impl<'t> Words<'t> {
     }
 }
 
-/// The number with which a text begins at once, and the text behind it. It is without a sign and has
-/// at most `FRONT` digits, and a space or a line's end follows them. Where a line begins behind that
-/// end which is surely no comment, the text behind the number begins there. `None` says nothing of
-/// the text.
+/// The number with which a text begins at once, and the text behind it. It is without a sign and
+/// has at most `FRONT` digits, and a space or a line's end follows them. Where a line begins behind
+/// that end which is surely no comment, the text behind the number begins there. `None` says
+/// nothing of the text.
 #[inline(always)]
 fn short_number(text: &[u8]) -> Option<(u64, &[u8])>
     ensures found { IfSome result (λ found. (word : List ℕ)
@@ -203,8 +203,8 @@ fn word_at_once(text: &[u8]) -> (Word<'_>, Words<'_>)
     )
 }
 
-/// The number with which a text begins at once, and the text behind it. It is without a sign, and it
-/// is not too large to be read at once. `None` says nothing of the text.
+/// The number with which a text begins at once, and the text behind it. It is without a sign, and
+/// it is not too large to be read at once. `None` says nothing of the text.
 fn long_number(text: &[u8]) -> Option<(u64, &[u8])>
     ensures { IfSome result (λ found. (word : List ℕ)
         × (words_left text.now ≡ word ∷ words_left found.1.now)

@@ -1,37 +1,20 @@
 -- What the program's status says.
-use Rattle.std.specs.Prelude.{◌≡◌, ◌<◌, ℕ, Bool, List, ◌++◌, true, false, ◌⊎◌, codes, Option}
+use Rattle.std.specs.Prelude.{◌≡◌, ◌<◌, ℕ, Bool, List, ◌++◌, true, ◌⊎◌, codes, Option}
 use Rattle.std.specs.Io.KnownBytes.{Appends}
 use Rattle.bundle_files.specs.Files.{Held, IsBundleOf}
 use Rattle.cube_report.specs.declared.fault.Fault.{Fault}
-use Rattle.cube_report.specs.declared.fault.Fault.TheVariants.{Header, Token, Unfinished, TooLarge, Limit}
-use Rattle.cube_report.specs.declared.fault.Fault.TheVariants.{Memory, Repeats, NotATree, Overlap, BadLabel}
-use Rattle.cube_report.specs.declared.fault.Fault.TheVariants.{NoSuchLeaf, ProofTwice, Device, Thread}
-use Rattle.cube_report.specs.Faults.{IsInputFault, fault_text}
+use Rattle.cube_report.specs.Faults.{fault_text}
 use Rattle.cube_report.specs.Device.{AppendsBeginning}
 use Rattle.cube_report.specs.Correct.{IsCorrect, IsFaultOn, IsReportOn, IsUnsatisfiable}
 
-abbrev pub status_of : Fault → ℕ
-status_of Header = 3
-status_of (Token line) = 3
-status_of Unfinished = 3
-status_of (TooLarge line) = 3
-status_of Limit = 3
-status_of (Repeats cube) = 3
-status_of (NotATree first second) = 3
-status_of (Overlap first second) = 3
-status_of (BadLabel line) = 3
-status_of (NoSuchLeaf line) = 3
-status_of (ProofTwice line) = 3
-status_of Memory = 4
-status_of Device = 5
-status_of Thread = 4
-
 -- one of the program's statuses
 abbrev pub IsStatus : ℕ → Type 0
-IsStatus status = (status ≡ 0) ⊎ (status ≡ 1) ⊎ (status ≡ 2) ⊎ (status ≡ 3) ⊎ (status ≡ 4) ⊎ (status ≡ 5)
+IsStatus status =
+    (status ≡ 0) ⊎ (status ≡ 1) ⊎ (status ≡ 2) ⊎ (status ≡ 3) ⊎ (status ≡ 4) ⊎ (status ≡ 5)
 
--- The report on the bundle that the words ask for was written, and nothing more; its last line gives this
--- answer, and where it says refuted, the formula of the bundle that was read has no model.
+-- The report on the bundle that the words ask for was written, and nothing more; its last line
+-- gives this answer, and where it says refuted, the formula of the bundle that was read has no
+-- model.
 pub record IsReported (held : Held) (file folder input old new : Option (List ℕ)) (answer : Bool) : Type 0 where
   pub read : List ℕ
   pub whole : List ℕ
@@ -61,17 +44,8 @@ pub record IsBegun (held : Held) (file folder input old new : Option (List ℕ))
 abbrev pub fault_line : Fault → List ℕ
 fault_line fault = codes "cubeboard: " ++ fault_text fault ++ codes "\n"
 
--- What a writer holds grew by this line, where no call failed that hadn't, or otherwise by a beginning of it.
-abbrev pub IsTold : Option (List ℕ) → Option (List ℕ) → ℕ → ℕ → List ℕ → Type 0
-IsTold old new before after line =
+-- What a writer holds grew by this line, where no call failed that hadn't, or otherwise by a
+-- beginning of it.
+abbrev pub IsLineWritten : Option (List ℕ) → Option (List ℕ) → ℕ → ℕ → List ℕ → Type 0
+IsLineWritten old new before after line =
     ((after ≡ before) × Appends old new line) ⊎ ((before < after) × AppendsBeginning old new line)
-
--- A fault was told by its line, and this is its status; a fault of the input may be told as want of memory.
-abbrev pub IsToldAs : Fault → ℕ → Option (List ℕ) → Option (List ℕ) → ℕ → ℕ → Type 0
-IsToldAs fault status old new before after =
-    ((status ≡ status_of fault) × IsTold old new before after (fault_line fault))
-    ⊎ (IsInputFault fault × (status ≡ 4) × IsTold old new before after (fault_line Memory))
-
-abbrev pub status_of_answer : Bool → ℕ
-status_of_answer true = 0
-status_of_answer false = 1

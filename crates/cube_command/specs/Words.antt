@@ -1,8 +1,6 @@
 -- Which words the program takes, and what they ask for.
-use Rattle.std.specs.Prelude.{◌≡◌, ℕ, List, [], ◌∷◌, codes, pos, true, Option, Some}
-use Rattle.std.specs.Str.Parse.{IsNumeral, digits_value, without_leading_plus}
-use Rattle.clap.specs.Words.{App, Rule, Text, fault_of, first_of, matches_of, new_app, new_rule, one_of}
-use Rattle.clap.specs.Words.{with_rule}
+use Rattle.std.specs.Prelude.{◌≡◌, List, [], ◌∷◌, codes, pos, true, Option, Some}
+use Rattle.clap.specs.Words.{App, Rule, Text, fault_of, first_of, matches_of, new_app, new_rule, with_rule}
 use Rattle.clap.specs.declared.builder.value_parser.ValueParser.TheVariants.{Signed, NonEmptyString}
 
 -- `--workers` with a number from 1 to 32, and 4 where there is none
@@ -36,13 +34,14 @@ abbrev pub file_word : Rule
 file_word = record (new_rule (codes "file")) { value_names = 1 }
 
 abbrev pub without_program : App → App
-without_program parser = record { top = record parser.top { no_binary_name = true }; subs = parser.subs }
-
-abbrev pub with_numbers : App
-with_numbers = with_rule (with_rule (without_program (new_app (codes "cubeboard"))) workers_word) cut_word
+without_program parser =
+    record { top = record parser.top { no_binary_name = true }; subs = parser.subs }
 
 abbrev pub words_taken : App
-words_taken = with_rule (with_rule with_numbers proofs_word) file_word
+words_taken =
+    with_rule (with_rule
+    (with_rule (with_rule (without_program (new_app (codes "cubeboard"))) workers_word) cut_word)
+    proofs_word) file_word
 
 -- these words fit that: `clap` finds no fault in them, and they don't ask for help
 abbrev pub AreTaken : List Text → Type 0
@@ -54,17 +53,7 @@ asked_for name words = first_of name (matches_of words_taken words)
 
 -- FILE, and DIR
 abbrev pub file_of : List Text → Option Text
-file_of words = asked_for (codes "file") words
+file_of words = first_of (codes "file") (matches_of words_taken words)
 
 abbrev pub folder_of : List Text → Option Text
-folder_of words = asked_for (codes "proofs") words
-
--- the text is there, and its decimal digits say this number
-abbrev pub Reads : Option Text → ℕ → Type 0
-Reads found number =
-    (text : Text) × (found ≡ Some text) × IsNumeral 10 (without_leading_plus text)
-    × (number ≡ digits_value 10 (without_leading_plus text))
-
--- the words say this number under a name, or its default does where they say none
-abbrev pub SaysNumber : Text → List Text → ℕ → Type 0
-SaysNumber name words number = Reads (one_of name (matches_of words_taken words)) number
+folder_of words = first_of (codes "proofs") (matches_of words_taken words)

@@ -1,6 +1,7 @@
 //! The program `cubeboard` as a call: its words, its files, its streams, its texts and its status.
 #![tactic(auto)]
 
+// `command` stands here: a module can't have the name of an item beside it.
 mod program;
 mod telling;
 mod words;

@@ -1,15 +1,13 @@
 //! The program: from its words and its streams to its status.
 
-ghost use Rattle.std.specs.Prelude.{◌≡◌, ◌≢◌, ◌⊎◌, ◌<◌, ◌+◌, ◌^◌, ◌-◌, List, ℕ, length, map};
-ghost use Rattle.std.specs.Prelude.{option_map, true, false, None, IfOk, IfErr, OnErr, IsErrOf};
+ghost use Rattle.std.specs.Prelude.{◌≡◌, ◌≢◌, ◌⊎◌, ◌<◌, ◌+◌, ◌^◌, ◌-◌, List, ℕ, length, map, option_map, true, false, None, IfOk, IfErr, OnErr, IsErrOf};
 ghost use Rattle.std.specs.Io.KnownBytes.{Keeps};
 ghost use Rattle.clap.specs.Words.{kind_of};
 ghost use Rattle.bundle_files.specs.Files.{IsAbsent, IsRead};
 ghost use Rattle.cube_report.specs.Correct.{IsUnsatisfiable};
 ghost use Rattle.cube_report.specs.Faults.{IsInputFault};
 ghost use Rattle.cube_command.specs.Words.{AreTaken, file_of, folder_of};
-ghost use Rattle.cube_command.specs.Program.{IsStatus, IsReported, IsRefused, IsBegun, IsTold};
-ghost use Rattle.cube_command.specs.Program.{fault_line};
+ghost use Rattle.cube_command.specs.Program.{IsStatus, IsReported, IsRefused, IsBegun, IsLineWritten, fault_line};
 
 use crate::telling::{tell_fault, tell_run};
 use crate::words::{Request, request_of};
@@ -97,18 +95,18 @@ where
     ensures fault { result ≡ 3 → (fault : Fault) × IsInputFault fault
         × IsRefused (D.held store.old) (file_of (map S.text words.now))
         (folder_of (map S.text words.now)) (I.remaining input.old) fault
-        × IsTold (E.contents errors.old) (E.contents errors.new) (E.failures errors.old)
+        × IsLineWritten (E.contents errors.old) (E.contents errors.new) (E.failures errors.old)
         (E.failures errors.new) (fault_line fault) }
     // Status 4: want of memory or of a thread is told.
     ensures memory { result ≡ 4 →
-        IsTold (E.contents errors.old) (E.contents errors.new) (E.failures errors.old)
+        IsLineWritten (E.contents errors.old) (E.contents errors.new) (E.failures errors.old)
         (E.failures errors.new) (fault_line Fault.Memory)
-        ⊎ IsTold (E.contents errors.old) (E.contents errors.new) (E.failures errors.old)
+        ⊎ IsLineWritten (E.contents errors.old) (E.contents errors.new) (E.failures errors.old)
         (E.failures errors.new) (fault_line Fault.Thread) }
     // Status 5: a device failed, and this is told. It stands where a call failed that reads or
     // writes the report, and only there or where FILE isn't there.
     ensures device { result ≡ 5 →
-        IsTold (E.contents errors.old) (E.contents errors.new) (E.failures errors.old)
+        IsLineWritten (E.contents errors.old) (E.contents errors.new) (E.failures errors.old)
         (E.failures errors.new) (fault_line Fault.Device) }
     ensures failed { D.failures store.old + I.failures input.old + O.failures output.old
         < D.failures store.new + I.failures input.new + O.failures output.new → result ≡ 5 }
@@ -179,7 +177,7 @@ fn refused<E: Sink>(alloc: Global, errors: &mut E, error: &WordsError) -> u8
     ensures either { (result ≡ 2) ⊎ (result ≡ 4) }
     ensures usage { kind_of error.now ≡ WordsFault.OutOfMemory → result ≡ 4 }
     ensures memory { result ≡ 4 →
-        IsTold (E.contents errors.old) (E.contents errors.new) (E.failures errors.old)
+        IsLineWritten (E.contents errors.old) (E.contents errors.new) (E.failures errors.old)
         (E.failures errors.new) (fault_line Fault.Memory) }
 {
     if error.kind() == WordsFault::OutOfMemory {

@@ -3,8 +3,8 @@
 ghost use Rattle.std.specs.Prelude.{◌≡◌, ◌⊎◌, ◌<◌, ◌^◌, ◌-◌, codes, OnOk, IfOk, IfErr, MatchResult};
 ghost use Rattle.std.specs.String.{string_bytes};
 ghost use Rattle.cube_report.specs.Faults.{IsInputFault};
-ghost use Rattle.cube_command.specs.Program.{IsTold, IsToldAs, fault_line, status_of};
-ghost use Rattle.cube_command.specs.Program.{status_of_answer};
+ghost use Rattle.cube_command.specs.Program.{IsLineWritten, fault_line};
+ghost use Rattle.cube_command.specs.Inner.Telling.{IsFaultWritten, status_of, status_of_answer};
 
 use cube_report::{Fault, Sink, write_all};
 use std::alloc::{AllocError, Global};
@@ -17,7 +17,7 @@ pub fn tell_run<E: Sink>(alloc: Global, errors: &mut E, run: Result<bool, Fault>
     requires { E.failures errors.old < 2 ^ 64 - 1 }
     ensures told { MatchResult run
         (λ answer. (result ≡ status_of_answer answer) × (errors.new ≡ errors.old))
-        (λ fault. IsToldAs fault result (E.contents errors.old) (E.contents errors.new)
+        (λ fault. IsFaultWritten fault result (E.contents errors.old) (E.contents errors.new)
         (E.failures errors.old) (E.failures errors.new)) }
 {
     match run {
@@ -31,7 +31,7 @@ pub fn tell_run<E: Sink>(alloc: Global, errors: &mut E, run: Result<bool, Fault>
 /// memory, it is want of memory that is told.
 pub fn tell_fault<E: Sink>(alloc: Global, errors: &mut E, fault: Fault) -> u8
     requires { E.failures errors.old < 2 ^ 64 - 1 }
-    ensures told { IsToldAs fault result (E.contents errors.old) (E.contents errors.new)
+    ensures told { IsFaultWritten fault result (E.contents errors.old) (E.contents errors.new)
         (E.failures errors.old) (E.failures errors.new) }
 {
     match fault {
@@ -52,7 +52,7 @@ pub fn tell_fault<E: Sink>(alloc: Global, errors: &mut E, fault: Fault) -> u8
 fn tell_input<E: Sink>(alloc: Global, errors: &mut E, fault: Fault) -> u8
     requires errors { E.failures errors.old < 2 ^ 64 - 1 }
     requires input { IsInputFault fault }
-    ensures told { IsToldAs fault result (E.contents errors.old) (E.contents errors.new)
+    ensures told { IsFaultWritten fault result (E.contents errors.old) (E.contents errors.new)
         (E.failures errors.old) (E.failures errors.new) }
 {
     match line_of(alloc, fault) {
@@ -74,7 +74,7 @@ fn line_of(alloc: Global, fault: Fault) -> Result<String, AllocError>
 /// Writes a line, as far as the device takes it.
 fn tell<E: Sink>(errors: &mut E, line: &[u8])
     requires { E.failures errors.old < 2 ^ 64 - 1 }
-    ensures { IsTold (E.contents errors.old) (E.contents errors.new) (E.failures errors.old)
+    ensures { IsLineWritten (E.contents errors.old) (E.contents errors.new) (E.failures errors.old)
         (E.failures errors.new) line.now }
 {
     let _ = write_all(errors, line);
@@ -102,15 +102,15 @@ fn status_of(fault: Fault) -> u8
 }
 
 /// The words after the program's name, or the status where they can't be read, after a line on
-/// `errors`.
+/// `errors`. The kit's reader gives the words once: so `main` calls this first, and hands them on.
 pub fn own_words<R: Env + AllocGlobal, E: Sink>(rt: &R, errors: &mut E) -> Result<Vec<String>, u8>
     requires { E.failures errors.old < 2 ^ 64 - 1 }
     ensures ok { OnOk result (errors.new ≡ errors.old) }
     ensures err { IfErr result (λ status.
-        ((status ≡ 2) × IsTold (E.contents errors.old) (E.contents errors.new)
+        ((status ≡ 2) × IsLineWritten (E.contents errors.old) (E.contents errors.new)
         (E.failures errors.old) (E.failures errors.new)
         (codes "cubeboard: a word is no text\n"))
-        ⊎ ((status ≡ 4) × IsTold (E.contents errors.old) (E.contents errors.new)
+        ⊎ ((status ≡ 4) × IsLineWritten (E.contents errors.old) (E.contents errors.new)
         (E.failures errors.old) (E.failures errors.new)
         (fault_line Fault.Memory))) }
 {
@@ -133,7 +133,8 @@ pub fn own_words<R: Env + AllocGlobal, E: Sink>(rt: &R, errors: &mut E) -> Resul
 fn tell_memory<E: Sink>(errors: &mut E) -> u8
     requires { E.failures errors.old < 2 ^ 64 - 1 }
     ensures status { result ≡ 4 }
-    ensures told { IsTold (E.contents errors.old) (E.contents errors.new) (E.failures errors.old)
+    ensures told { IsLineWritten (E.contents errors.old) (E.contents errors.new)
+        (E.failures errors.old)
         (E.failures errors.new) (fault_line Fault.Memory) }
 {
     tell(errors, b"cubeboard: F6 memory\n");

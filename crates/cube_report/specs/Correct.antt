@@ -2,26 +2,27 @@
 use Rattle.std.specs.Prelude.{◌≡◌, ℕ, Bool, List, ◌++◌, true, codes}
 use Rattle.cnf_text.specs.Literal.{Literal}
 use Rattle.cnf_text.specs.Formula.{HasNoModel}
-use Rattle.cnf_text.specs.Icnf.{Item, StandsFor, clauses_of}
+use Rattle.cnf_text.specs.Icnf.{Item, IsTextOf, clauses_of}
 use Rattle.case_core.specs.Bundle.{icnf_text}
 use Rattle.case_core.specs.Case.{CaseOf}
 use Rattle.case_core.specs.Sections as case_core
 use Rattle.case_core.specs.declared.fault.CaseFault.{CaseFault}
 use Rattle.mark_board.specs.declared.mark.Mark.{Mark}
-use Rattle.mark_board.specs.Marking.{marked}
-use Rattle.mark_board.specs.Rows.{refuted_by}
+use Rattle.mark_board.specs.Marking.{marked, refuted_by}
 use Rattle.mark_board.specs.Findings.{AreFindings}
 use Rattle.cube_report.specs.declared.fault.Fault.{Fault}
 use Rattle.cube_report.specs.Faults.{fault_of_case}
 use Rattle.cube_report.specs.Report.{report_text}
 
--- the formula of a bundle: all clauses of its iCNF text
+-- the formula of a bundle: all clauses of its iCNF text, however many and long
 abbrev pub IsFormulaOf : List ℕ → List (List Literal) → Type 0
-IsFormulaOf bundle formula = (items : List Item) × StandsFor (icnf_text bundle) items × (formula ≡ clauses_of items)
+IsFormulaOf bundle formula =
+    (items : List Item) × IsTextOf (icnf_text bundle) items × (formula ≡ clauses_of items)
 
--- the formula of the bundle has no model
+-- the clauses of the bundle's iCNF text have no model together
 abbrev pub IsUnsatisfiable : List ℕ → Type 0
-IsUnsatisfiable bundle = (formula : List (List Literal)) → IsFormulaOf bundle formula → HasNoModel formula
+IsUnsatisfiable bundle =
+    (items : List Item) → IsTextOf (icnf_text bundle) items → HasNoModel (clauses_of items)
 
 -- the bundle stands for this case, whose nodes' findings have these marks
 pub record IsJudged (bundle : List ℕ) (case : CaseOf) (marks : List Mark) : Type 0 where
@@ -30,19 +31,24 @@ pub record IsJudged (bundle : List ℕ) (case : CaseOf) (marks : List Mark) : Ty
 
 -- the text is the report on the case that the bundle stands for
 abbrev pub IsReportOn : List ℕ → List ℕ → Type 0
-IsReportOn bundle report = (case : CaseOf) × (marks : List Mark) × IsJudged bundle case marks × (report ≡ report_text case marks)
+IsReportOn bundle report =
+    (case : CaseOf) × (marks : List Mark) × IsJudged bundle case marks
+    × (report ≡ report_text case marks)
 
 -- the root of the case that the bundle stands for is marked exactly where the answer is true
 abbrev pub IsAnswerOn : List ℕ → Bool → Type 0
-IsAnswerOn bundle answer = (case : CaseOf) × (marks : List Mark) × IsJudged bundle case marks × (answer ≡ marked (refuted_by marks) 0 case.tree)
+IsAnswerOn bundle answer =
+    (case : CaseOf) × (marks : List Mark) × IsJudged bundle case marks
+    × (answer ≡ marked (refuted_by marks) 0 case.tree)
 
 -- the report says in its last line that the formula is refuted
 abbrev pub SaysRefuted : List ℕ → Type 0
 SaysRefuted report = (before : List ℕ) × (report ≡ before ++ codes "s REFUTED\n")
 
--- What a run on a bundle promises of its report and of the answer that goes with it: there is one case, which the bundle stands
--- for, and each of whose nodes has the mark of its finding; the report is the text by these marks; the answer is true exactly
--- where they mark the root; and then the formula of the bundle has no model.
+-- What a run on a bundle promises of its report and of the answer that goes with it: there is one
+-- case, which the bundle stands for, and each of whose nodes has the mark of its finding; the
+-- report is the text by these marks; the answer is true exactly where they mark the root; and then
+-- the formula of the bundle has no model.
 pub record IsCorrect (bundle report : List ℕ) (answer : Bool) : Type 0 where
   pub case : CaseOf
   pub marks : List Mark
@@ -53,4 +59,5 @@ pub record IsCorrect (bundle report : List ℕ) (answer : Bool) : Type 0 where
 
 -- the first fault of the bundle
 abbrev pub IsFaultOn : List ℕ → Fault → Type 0
-IsFaultOn bundle fault = (kind : CaseFault) × (fault ≡ fault_of_case kind) × case_core.IsFaultOf bundle kind
+IsFaultOn bundle fault =
+    (kind : CaseFault) × (fault ≡ fault_of_case kind) × case_core.IsFaultOf bundle kind

@@ -6,7 +6,8 @@ use Rattle.cube_report.specs.declared.fault.Fault.TheVariants.{Memory, Device as
 
 -- the number of failed calls rises by one exactly where this call failed
 abbrev pub CountsFailures : {T E : Type 0} → ℕ → ℕ → Result T E → Type 0
-CountsFailures before after result = MatchResult result (λ _. after ≡ before) (λ _. after ≡ before + 1)
+CountsFailures before after result =
+    MatchResult result (λ _. after ≡ before) (λ _. after ≡ before + 1)
 
 -- known bytes grew by a beginning of the text
 abbrev pub AppendsBeginning : Option (List ℕ) → Option (List ℕ) → List ℕ → Type 0
@@ -18,4 +19,5 @@ IsReadOf left old new = (read : List ℕ) × (new ≡ old ++ read) × IfSome lef
 
 -- want of memory without a failed call, or a fault of the device with one
 abbrev pub IsReadFault : ℕ → ℕ → Fault → Type 0
-IsReadFault before after fault = ((fault ≡ Memory) × (after ≡ before)) ⊎ ((fault ≡ FaultDevice) × (after ≡ before + 1))
+IsReadFault before after fault =
+    ((fault ≡ Memory) × (after ≡ before)) ⊎ ((fault ≡ FaultDevice) × (after ≡ before + 1))

@@ -44,7 +44,8 @@ fault_text (TooLarge line) = codes "F4 too large, line " ++ decimal line
 fault_text Limit = codes "F5 limit"
 fault_text Memory = codes "F6 memory"
 fault_text (Repeats cube) = codes "F7 cube " ++ decimal cube ++ codes " repeats"
-fault_text (NotATree first second) = codes "F8 cubes " ++ pair_text first second ++ codes " are not of one tree"
+fault_text (NotATree first second) =
+    codes "F8 cubes " ++ pair_text first second ++ codes " are not of one tree"
 fault_text (Overlap first second) = codes "F9 cubes " ++ pair_text first second ++ codes " overlap"
 fault_text (BadLabel line) = codes "F10 bad label, line " ++ decimal line
 fault_text (NoSuchLeaf line) = codes "F11 no such leaf, line " ++ decimal line

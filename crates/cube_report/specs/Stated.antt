@@ -3,8 +3,7 @@ use Rattle.std.specs.Prelude.{◌≡◌, ℕ, Bool, List, [], true}
 use Rattle.cnf_text.specs.Formula.{IsRefuted}
 use Rattle.case_core.specs.Case.{CaseOf}
 use Rattle.mark_board.specs.declared.mark.Mark.{Mark}
-use Rattle.mark_board.specs.Marking.{marked}
-use Rattle.mark_board.specs.Rows.{refuted_by}
+use Rattle.mark_board.specs.Marking.{marked, refuted_by}
 use Rattle.cube_report.specs.Report.{report_text}
 use Rattle.mark_board.specs.Findings.{AreFindings}
 

@@ -15,8 +15,9 @@ pub trait Source {
     // How many calls have failed so far.
     ghost failures: { Self → ℕ };
 
-    /// Reads some bytes into the front of `buffer`, and answers how many; 0 where none are left, or the buffer is empty.
-    /// The count of failed calls, which has to be below its greatest value, rises by one exactly where the call fails.
+    /// Reads some bytes into the front of `buffer`, and answers how many; 0 where none are left, or
+    /// the buffer is empty. The count of failed calls, which has to be below its greatest value,
+    /// rises by one exactly where the call fails.
     fn read(&mut self, buffer: &mut [u8]) -> io::Result<usize>
         requires { failures self.old < 2 ^ 64 - 1 }
         ensures bound { ReadsAtMost result buffer.new }
@@ -32,8 +33,9 @@ pub trait Sink {
     // How many calls have failed so far.
     ghost failures: { Self → ℕ };
 
-    /// Writes a beginning of `bytes`, and answers how many it took. A write that takes none of some bytes fails. The
-    /// count of failed calls, which has to be below its greatest value, rises by one exactly where the call fails.
+    /// Writes a beginning of `bytes`, and answers how many it took. A write that takes none of some
+    /// bytes fails. The count of failed calls, which has to be below its greatest value, rises by
+    /// one exactly where the call fails.
     fn write(&mut self, bytes: &[u8]) -> io::Result<usize>
         requires { failures self.old < 2 ^ 64 - 1 }
         ensures bound { WritesAtMost result bytes.now }

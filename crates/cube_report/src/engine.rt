@@ -52,7 +52,8 @@ fn post_findings<'c>(
     Ok(())
 }
 
-/// The boards of a case with the findings of all its sections, at cut 0, by this thread.
+/// The boards of a case with the findings of all its sections, at cut 0, by this thread: one board
+/// for the whole tree, since on one thread a cut changes nothing that a caller sees.
 fn conquer_alone(alloc: Global, case: &Case) -> Result<Boards<'_>, AllocError>
     ensures case { IfOk result (λ boards. boards.case ≡ case.now) }
     ensures findings { IfOk result (λ boards. AreFindings case.now boards.marks) }
@@ -62,7 +63,8 @@ fn conquer_alone(alloc: Global, case: &Case) -> Result<Boards<'_>, AllocError>
     Ok(boards)
 }
 
-/// The report by the boards' own marks, which are those of the findings, and whether it says refuted.
+/// The report by the boards' own marks, which are those of the findings, and whether it says
+/// refuted.
 fn outcome_by(alloc: Global, boards: &Boards<'_>) -> Result<Outcome, AllocError>
     requires { AreFindings boards.now.case boards.now.marks }
     ensures { IfOk result (λ outcome. IsStated boards.now.case outcome.text.items outcome.refuted) }
@@ -124,8 +126,8 @@ fn outcome_of(alloc: Global, bundle: &[u8]) -> Result<Outcome, Fault>
     Ok(outcome_on(alloc, &case)?)
 }
 
-/// The report on a bundle, by one thread, or the bundle's first fault; `Memory` may stand in the place of any other
-/// answer where a growth is refused.
+/// The report on a bundle, by one thread, or the bundle's first fault; `Memory` may stand in the
+/// place of any other answer where a growth is refused.
 pub fn run_one(alloc: Global, bundle: &[u8]) -> Result<Vec<u8>, Fault>
     // The text is the report on the case that the bundle stands for.
     ensures text { IfOk result (λ text. IsReportOn bundle.now text.items) }
@@ -141,9 +143,10 @@ pub fn run_one(alloc: Global, bundle: &[u8]) -> Result<Vec<u8>, Fault>
     Ok(outcome.text)
 }
 
-/// The report on a bundle, by as many workers and at the cut that the settings say, or the bundle's first fault; `Memory` or
-/// `Thread` may stand in the place of any other answer where a growth or the start of a worker is refused. All workers that were
-/// started are joined before it answers. The gate is called beside each section.
+/// The report on a bundle, by as many workers and at the cut that the settings say, or the bundle's
+/// first fault; `Memory` or `Thread` may stand in the place of any other answer where a growth or
+/// the start of a worker is refused. All workers that were started are joined before it answers.
+/// The gate is called beside each section.
 ///
 /// It answers as `run_one` does, whatever the settings and the gate.
 pub fn run<T: Threads + Wait + Sync, G: Gate + Sync>(
@@ -168,11 +171,12 @@ pub fn run<T: Threads + Wait + Sync, G: Gate + Sync>(
     Ok(outcome.text)
 }
 
-/// Reads a bundle to the reader's end, and writes the report on it, which workers find as `run` says; answers whether the formula is
-/// refuted.
+/// Reads a bundle to the reader's end, and writes the report on it, which workers find as `run`
+/// says; answers whether the formula is refuted.
 ///
-/// Nothing is written before all is read and judged. A read of 0 bytes is the reader's end. `Device` where a read or a
-/// write failed in this call, and where a write failed, a beginning of the report was written.
+/// Nothing is written before all is read and judged. A read of 0 bytes is the reader's end.
+/// `Device` where a read or a write failed in this call, and where a write failed, a beginning of
+/// the report was written.
 pub fn run_io<T: Threads + Wait + Sync, R: Source, W: Sink, G: Gate + Sync>(
     rt: &T,
     alloc: Global,
@@ -184,11 +188,15 @@ pub fn run_io<T: Threads + Wait + Sync, R: Source, W: Sink, G: Gate + Sync>(
     requires reader { R.failures reader.old < 2 ^ 64 - 1 }
     requires writer { W.failures writer.old < 2 ^ 64 - 1 }
 
-    // What is written is the report on what was read, and the answer tells whether it says refuted: both of one case.
-    ensures correct { IfOk result (λ answer. IfSome (R.remaining reader.old) (λ input. (text : List ℕ)
-        × IsCorrect input text answer × Appends (W.contents writer.old) (W.contents writer.new) text)) }
+    // What is written is the report on what was read, and the answer tells whether it says refuted:
+    // both of one case.
+    ensures correct { IfOk result
+        (λ answer. IfSome (R.remaining reader.old) (λ input. (text : List ℕ)
+        × IsCorrect input text answer
+        × Appends (W.contents writer.old) (W.contents writer.new) text)) }
     ensures written { OnOk result (IfSome (R.remaining reader.old) (λ input.
-        (text : List ℕ) × IsReportOn input text × Appends (W.contents writer.old) (W.contents writer.new) text)) }
+        (text : List ℕ) × IsReportOn input text
+        × Appends (W.contents writer.old) (W.contents writer.new) text)) }
     ensures answer { IfOk result
         (λ answer. IfSome (R.remaining reader.old) (λ input. IsAnswerOn input answer)) }
 
@@ -200,23 +208,28 @@ pub fn run_io<T: Threads + Wait + Sync, R: Source, W: Sink, G: Gate + Sync>(
     ensures fault { IfErr result (λ fault. IsInputFault fault →
         IfSome (R.remaining reader.old) (λ input. IsFaultOn input fault)) }
 
-    // Where no write failed, a fault has written nothing, and otherwise a beginning of the report was written.
+    // Where no write failed, a fault has written nothing, and otherwise a beginning of the report
+    // was written.
     ensures nothing { OnErr result (W.failures writer.new ≡ W.failures writer.old →
         Keeps (W.contents writer.old) (W.contents writer.new)) }
-    ensures beginning { OnErr result (IfSome (R.remaining reader.old) (λ input. W.failures writer.new ≢ W.failures writer.old →
-        (text : List ℕ) × IsReportOn input text × AppendsBeginning (W.contents writer.old) (W.contents writer.new) text)) }
+    ensures beginning { OnErr result
+        (IfSome (R.remaining reader.old) (λ input. W.failures writer.new ≢ W.failures writer.old →
+        (text : List ℕ) × IsReportOn input text
+        × AppendsBeginning (W.contents writer.old) (W.contents writer.new) text)) }
 
     // The device is at fault exactly where a call failed.
     ensures device { IsErrOf result Fault.Device ↔
-        (R.failures reader.old < R.failures reader.new ⊎ W.failures writer.old < W.failures writer.new) }
+        (R.failures reader.old < R.failures reader.new
+        ⊎ W.failures writer.old < W.failures writer.new) }
 {
     let input = read_all(alloc, reader)?;
     write_report(rt, alloc, input, writer, settings, gate)
 }
 
-/// Writes the report on a bundle that is handed over, which workers find as `run` says; answers whether
-/// the formula is refuted. The bundle's bytes are kept where they are while it is judged. Nothing is written before
-/// all is judged. `Device` where a write failed in this call, and then a beginning of the report was written.
+/// Writes the report on a bundle that is handed over, which workers find as `run` says; answers
+/// whether the formula is refuted. The bundle's bytes are kept where they are while it is judged.
+/// Nothing is written before all is judged. `Device` where a write failed in this call, and then a
+/// beginning of the report was written.
 pub fn write_report<T: Threads + Wait + Sync, W: Sink, G: Gate + Sync>(
     rt: &T,
     alloc: Global,
@@ -225,20 +238,27 @@ pub fn write_report<T: Threads + Wait + Sync, W: Sink, G: Gate + Sync>(
     settings: Settings,
     gate: &G,
 ) -> Result<bool, Fault>
+    // One more failed write can be counted.
     requires { W.failures writer.old < 2 ^ 64 - 1 }
+    // What is written is the report on the bundle, and the answer tells whether it says refuted.
     ensures correct { IfOk result (λ answer. (text : List ℕ)
-        × IsCorrect bundle.items text answer × Appends (W.contents writer.old) (W.contents writer.new) text) }
+        × IsCorrect bundle.items text answer
+        × Appends (W.contents writer.old) (W.contents writer.new) text) }
     ensures written { OnOk result
         ((text : List ℕ) × IsReportOn bundle.items text
         × Appends (W.contents writer.old) (W.contents writer.new) text) }
     ensures answer { IfOk result (λ answer. IsAnswerOn bundle.items answer) }
+    // An answer that says refuted is right: no model of the formula exists.
     ensures sound { IfOk result (λ answer. answer ≡ true → IsUnsatisfiable bundle.items) }
+    // A fault of the input is one that the bundle has.
     ensures fault { IfErr result (λ fault. IsInputFault fault → IsFaultOn bundle.items fault) }
+    // A fault has written nothing, or where a write failed a beginning of the report.
     ensures nothing { OnErr result (W.failures writer.new ≡ W.failures writer.old →
         Keeps (W.contents writer.old) (W.contents writer.new)) }
     ensures beginning { OnErr result (W.failures writer.new ≢ W.failures writer.old →
         (text : List ℕ) × IsReportOn bundle.items text
         × AppendsBeginning (W.contents writer.old) (W.contents writer.new) text) }
+    // The device is at fault exactly where a write failed.
     ensures device { IsErrOf result Fault.Device ↔ (W.failures writer.old < W.failures writer.new) }
     ensures same { IfErr result
         (λ fault. fault ≢ Fault.Device → W.failures writer.new ≡ W.failures writer.old) }
@@ -265,11 +285,15 @@ fn read_all<R: Source>(alloc: Global, reader: &mut R) -> Result<Vec<u8>, Fault>
 
 /// Appends all bytes up to the reader's end. A read of 0 bytes is the reader's end.
 ///
-/// `Device` where a read failed in this call, and `Memory` where a growth was refused: what was there before stays.
+/// `Device` where a read failed in this call, and `Memory` where a growth was refused: what was
+/// there before stays.
 pub fn read_to_end<R: Source>(reader: &mut R, bytes: &mut Vec<u8>) -> Result<(), Fault>
+    // One more failed read can be counted.
     requires { R.failures reader.old < 2 ^ 64 - 1 }
+    // What was left to read stands behind what was there.
     ensures read { OnOk result (IsReadOf (R.remaining reader.old) bytes.old.items bytes.new.items) }
     ensures stays { StartsWith bytes.new.items bytes.old.items }
+    // A fault is that of a read that failed, or of memory.
     ensures ok { OnOk result (R.failures reader.new ≡ R.failures reader.old) }
     ensures err { IfErr result
         (λ fault. IsReadFault (R.failures reader.old) (R.failures reader.new) fault) }
@@ -286,11 +310,15 @@ pub fn read_to_end<R: Source>(reader: &mut R, bytes: &mut Vec<u8>) -> Result<(),
     }
 }
 
-/// Writes all of the text. `Device` where a write failed in this call, and then a beginning of it was written.
+/// Writes all of the text. `Device` where a write failed in this call, and then a beginning of it
+/// was written.
 pub fn write_all<W: Sink>(writer: &mut W, text: &[u8]) -> Result<(), Fault>
+    // One more failed write can be counted.
     requires { W.failures writer.old < 2 ^ 64 - 1 }
+    // The text was written, and nothing failed.
     ensures ok { OnOk result (Appends (W.contents writer.old) (W.contents writer.new) text.now) }
     ensures same { OnOk result (W.failures writer.new ≡ W.failures writer.old) }
+    // Where a write failed, a beginning of the text was written.
     ensures beginning { OnErr result
         (AppendsBeginning (W.contents writer.old) (W.contents writer.new) text.now) }
     ensures err { IfErr result

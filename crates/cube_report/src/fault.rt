@@ -6,11 +6,13 @@ use std::alloc::{AllocError, AllocFailed};
 use std::error::Error;
 use std::fmt;
 
-/// Why a run gives no report: the first fault of its input, or what the run itself met. Lines are counted from 1 over
-/// the whole bundle, and cubes from 1. The names `F1` to `F14` are those that the program prints.
+/// Why a run gives no report: the first fault of its input, or what the run itself met. Lines are
+/// counted from 1 over the whole bundle, and cubes from 1. The names `F1` to `F14` are those that
+/// the program prints.
 #[derive(Clone, Copy, Debug, PartialEq, Eq)]
 pub enum Fault {
-    /// The first line that is neither blank nor a comment doesn't begin with `p inccnf`, or there is none.
+    /// The first line that is neither blank nor a comment doesn't begin with `p inccnf`, or there
+    /// is none.
     Header,
     /// A token that can't stand there.
     Token { line: u64 },

@@ -10,5 +10,5 @@ mod report;
 pub use device::{Counted, Sink, Source};
 pub use engine::{read_to_end, run, run_io, run_one, write_all, write_report};
 pub use fault::Fault;
-pub use laws::{one_answer, one_report};
+pub use laws::{a_short_report, one_answer, one_report};
 pub use report::report_of;

@@ -5,8 +5,7 @@ ghost use Rattle.std.specs.List.{flat_map};
 ghost use Rattle.split_tree.specs.SplitTree.{subtrees, total};
 ghost use Rattle.split_tree.specs.Leaves.{cube_count, missing_nodes, IsTargetAt};
 ghost use Rattle.split_tree.specs.declared.node.Target.TheVariants.{Node};
-ghost use Rattle.mark_board.specs.Marking.{open_branches};
-ghost use Rattle.mark_board.specs.Rows.{refuted_by};
+ghost use Rattle.mark_board.specs.Marking.{open_branches, refuted_by};
 ghost use Rattle.cube_report.specs.Report.{number_field, literal_field, reason_field, status_fields, total_line, cube_line, missing_line, node_line, open_line, weight_line, answer_line, cube_lines, missing_lines, node_lines, open_lines, section_line, report_text};
 
 use case_core::{Leaf, Lit, NodeId, Reason, Target};
@@ -14,8 +13,9 @@ use itoa::Buffer;
 use mark_board::{Boards, Mark};
 use std::alloc::{AllocError, Global};
 
-/// The report by the boards' own marks: the totals, each cube, each missing leaf, each inner node with a section, each open
-/// branch, the open weight, and the answer. `AllocError` where a growth was refused.
+/// The report by the boards' own marks: the totals, each cube, each missing leaf, each inner node
+/// with a section, each open branch, the open weight, and the answer. `AllocError` where a growth
+/// was refused.
 pub fn report_of(alloc: Global, boards: &Boards<'_>) -> Result<Vec<u8>, AllocError>
     ensures { IfOk result (λ text. text.items ≡ report_text boards.now.case boards.now.marks) }
 {
@@ -32,7 +32,8 @@ pub fn report_of(alloc: Global, boards: &Boards<'_>) -> Result<Vec<u8>, AllocErr
 #[tactic(auto, unfolding(crate::specs::Report::total_line))]
 fn write_totals(text: &mut Vec<u8>, boards: &Boards<'_>) -> Result<(), AllocError>
     ensures { OnOk result (text.new.items ≡ text.old.items
-        ++ total_line (cube_count boards.now.case.tree) (length (missing_nodes boards.now.case.tree)) (total 0 boards.now.case.tree)) }
+        ++ total_line (cube_count boards.now.case.tree)
+        (length (missing_nodes boards.now.case.tree)) (total 0 boards.now.case.tree)) }
 {
     let tree = boards.case().tree();
     text.extend_from_slice(b"t")?;
@@ -45,7 +46,10 @@ fn write_totals(text: &mut Vec<u8>, boards: &Boards<'_>) -> Result<(), AllocErro
 
 /// The line of each cube, in order.
 fn write_cubes(text: &mut Vec<u8>, boards: &Boards<'_>) -> Result<(), AllocError>
-    ensures { OnOk result (text.new.items ≡ text.old.items ++ cube_lines boards.now.case.tree boards.now.marks 1 (cube_count boards.now.case.tree)) }
+    ensures { OnOk result
+        (text.new.items
+        ≡ text.old.items
+        ++ cube_lines boards.now.case.tree boards.now.marks 1 (cube_count boards.now.case.tree)) }
 {
     for before in 0..boards.case().tree().cube_count() {
         let number = before + 1;
@@ -61,7 +65,11 @@ fn write_missing_leaves(
     text: &mut Vec<u8>,
     boards: &Boards<'_>,
 ) -> Result<(), AllocError>
-    ensures { OnOk result (text.new.items ≡ text.old.items ++ missing_lines boards.now.case.tree boards.now.marks 1 (missing_nodes boards.now.case.tree)) }
+    ensures { OnOk result
+        (text.new.items
+        ≡ text.old.items
+        ++ missing_lines boards.now.case.tree boards.now.marks 1
+        (missing_nodes boards.now.case.tree)) }
 {
     let tree = boards.case().tree();
     for before in 0..tree.missing_count() {
@@ -76,7 +84,10 @@ fn write_missing_leaves(
 
 /// The line of each inner node that has a section, in tree order.
 fn write_nodes(alloc: Global, text: &mut Vec<u8>, boards: &Boards<'_>) -> Result<(), AllocError>
-    ensures { OnOk result (text.new.items ≡ text.old.items ++ node_lines boards.now.case boards.now.marks 0 (subtrees boards.now.case.tree)) }
+    ensures { OnOk result
+        (text.new.items
+        ≡ text.old.items
+        ++ node_lines boards.now.case boards.now.marks 0 (subtrees boards.now.case.tree)) }
 {
     let tree = boards.case().tree();
     for number in 0..tree.size() {
@@ -96,7 +107,8 @@ fn write_section(
     node: NodeId,
 ) -> Result<(), AllocError>
     requires { IsTargetAt boards.now.case.tree node (Node node) }
-    ensures { OnOk result (text.new.items ≡ text.old.items ++ section_line boards.now.case boards.now.marks node) }
+    ensures { OnOk result
+        (text.new.items ≡ text.old.items ++ section_line boards.now.case boards.now.marks node) }
 {
     let case = boards.case();
     if case.proof_for(Target::Node(node)).is_some() {
@@ -114,11 +126,13 @@ fn write_open_branches(
     boards: &Boards<'_>,
 ) -> Result<(), AllocError>
     ensures { OnOk result (text.new.items ≡ text.old.items
-        ++ open_lines boards.now.case.tree (open_branches (refuted_by boards.now.marks) 0 boards.now.case.tree)) }
+        ++ open_lines boards.now.case.tree
+        (open_branches (refuted_by boards.now.marks) 0 boards.now.case.tree)) }
 {
     let tree = boards.case().tree();
     let targets = boards.open_branches(alloc)?;
     for target in &targets {
+        // The proof takes from this call that a target stands at one node alone.
         let _only = tree.node_of_target(*target);
         let path = tree.path_of(alloc, *target)?;
         write_open(text, &path)?;
@@ -228,7 +242,8 @@ fn reason_name(reason: Reason) -> &'static [u8]
 /// The lines of the open weight and of the answer.
 #[tactic(auto, unfolding(crate::specs::Report::weight_line))]
 fn write_closing(text: &mut Vec<u8>, open_weight: u64, refuted: bool) -> Result<(), AllocError>
-    ensures { OnOk result (text.new.items ≡ text.old.items ++ (weight_line open_weight ++ answer_line refuted)) }
+    ensures { OnOk result
+        (text.new.items ≡ text.old.items ++ (weight_line open_weight ++ answer_line refuted)) }
 {
     text.extend_from_slice(b"w")?;
     write_number(text, open_weight)?;

@@ -3,20 +3,23 @@ ghost use Rattle.std.specs.Prelude.{◌≡◌, ◌==◌, nat_eq, IfOk};
 ghost use Rattle.std.specs.BTreeSet.{contains};
 ghost use Rattle.std.specs.List.{list_any};
 ghost use Rattle.std.specs.Option.{IfSome};
-ghost use Rattle.hint_check.specs.Grouped.{Names, has_group};
+ghost use Rattle.hint_check.specs.Inner.Grouped.{Names, has_group};
 
+use crate::needed::FEW;
 use lrat_text::StepBuffer;
 use std::alloc::{AllocError, Global};
 use std::collections::BTreeSet;
 
-/// Up to this many groups are looked at one by one, with no set.
-const FEW: usize = 8;
-
-/// The candidates of a step's groups, to be looked up in one step each, and no set where the groups are few.
-pub fn candidates(alloc: Global, step: &StepBuffer) -> Result<Option<BTreeSet<u64>>, AllocError>
+/// The candidates of a step's groups, to be looked up in one step each, and no set where the groups
+/// or the look-ups are few.
+pub fn candidates(
+    alloc: Global,
+    step: &StepBuffer,
+    look_ups: usize,
+) -> Result<Option<BTreeSet<u64>>, AllocError>
     ensures { IfOk result (λ ids. IfSome ids (λ set. Names set step.now.groups)) }
 {
-    if step.group_count() <= FEW {
+    if step.group_count() <= FEW || look_ups <= FEW {
         return Ok(None);
     }
     Ok(Some(candidate_set(alloc, step)?))

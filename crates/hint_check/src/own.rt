@@ -1,19 +1,17 @@
 //! A proof's own clauses by their ids. All their literals stand in one list, each clause's behind
 //! those put in before it.
-ghost use Rattle.std.specs.Prelude.{◌≡◌, ℕ, ◌+◌, ◌-◌, ◌<◌, ◌≤◌, ◌^◌, nat_eq, cond, length, max};
-ghost use Rattle.std.specs.Prelude.{List, None, Some, IfSome, IfOk, OnOk, OnErr};
+ghost use Rattle.std.specs.Prelude.{◌≡◌, ℕ, ◌+◌, ◌-◌, ◌<◌, ◌≤◌, ◌^◌, nat_eq, cond, length, max, List, None, Some, IfSome, IfOk, OnOk, OnErr};
 ghost use Rattle.std.specs.Map.{lookup};
 ghost use Rattle.std.specs.Option.{option_copied};
 ghost use Rattle.cnf_text.specs.Literal.{Literal};
-ghost use Rattle.hint_check.specs.Own.{no_slot, slot_at, near_at, far_at, SlotsEndBy, SpansEndBy};
-ghost use Rattle.hint_check.specs.Own.{slot_clause, span_clause, near_entries, far_entries};
-ghost use Rattle.hint_check.specs.Own.{slot_length, SetsSlot, ListsAll};
+ghost use Rattle.hint_check.specs.Inner.Own.{no_slot, slot_at, near_at, far_at, SlotsEndBy, SpansEndBy, slot_clause, span_clause, near_entries, far_entries, slot_length, SetsSlot, ListsAll};
 
 use crate::index::Index;
 use cnf_text::literal::Lit;
 use std::alloc::{AllocError, Global};
 use std::collections::BTreeMap;
 use std::marker::Model;
+use std::mem::swap;
 
 /// Where the literals of a near id's clause stand: from the start up to the end. There is no clause
 /// where the start is behind the end.
@@ -56,13 +54,30 @@ pub struct OwnClauses {
     held: usize,
 }
 
+/// Lists with room for the literals and the slots of own clauses.
+#[derive(Drop)]
+pub struct OwnRoom {
+    lits: Vec<Lit>,
+    slots: Vec<Slot>,
+}
+
+impl OwnRoom {
+    /// It takes no memory yet.
+    pub fn new(alloc: Global) -> OwnRoom {
+        OwnRoom {
+            lits: Vec::new(alloc),
+            slots: Vec::new(alloc),
+        }
+    }
+}
+
 impl Model for OwnClauses {
     ghost use Rattle.std.specs.Prelude.{List, ◌+◌, ◌≤◌, ◌^◌, length};
     ghost use Rattle.std.specs.Ordering.{nat_cmp};
     ghost use Rattle.std.specs.FinMap as map;
     ghost use Rattle.cnf_text.specs.Literal.{Literal, literal_code};
     ghost use Rattle.std.specs.Coded.{coded_ℕ, coded_list};
-    ghost use Rattle.hint_check.specs.Own.{own_clauses, SlotsEndBy, SpansEndBy};
+    ghost use Rattle.hint_check.specs.Inner.Own.{own_clauses, SlotsEndBy, SpansEndBy};
 
     ghost Value = { map.FinMap nat_cmp (List Literal) };
 
@@ -79,8 +94,8 @@ impl OwnClauses {
     ghost use Rattle.std.specs.Prelude.{◌≡◌, IfOk, OnOk, OnErr};
     ghost use Rattle.std.specs.Option.{option_copied};
     ghost use Rattle.std.specs.FinMap as map;
-    ghost use Rattle.hint_check.specs.Index.{Indexes};
-    ghost use Rattle.hint_check.specs.View.{own_seen, EndsWithin};
+    ghost use Rattle.hint_check.specs.Inner.Index.{Indexes};
+    ghost use Rattle.hint_check.specs.Inner.Own.{own_seen, EndsWithin};
 
     /// No clause is there. The ids above the count may have slots.
     pub fn new(alloc: Global, count: usize) -> OwnClauses
@@ -94,6 +109,26 @@ impl OwnClauses {
             inserted: 0,
             held: 0,
         }
+    }
+
+    /// Moves its clauses into the lists of a room, of which no clause is left, and leaves its own
+    /// lists there.
+    pub fn move_in(&mut self, room: &mut OwnRoom) -> Result<(), AllocError>
+        ensures { self.new ≡ self.old }
+    {
+        room.lits.clear();
+        room.lits.extend_from_slice(&self.lits)?;
+        room.slots.clear();
+        room.slots.extend_from_slice(&self.slots)?;
+        swap(&mut self.lits, &mut room.lits);
+        swap(&mut self.slots, &mut room.slots);
+        Ok(())
+    }
+
+    /// Leaves its lists in a room, for the clauses of others.
+    pub fn move_out(self, room: &mut OwnRoom) {
+        room.lits = self.lits;
+        room.slots = self.slots;
     }
 
     /// The literals of the clause of an id.
@@ -161,14 +196,13 @@ impl OwnClauses {
         self.held.saturating_add(self.slots.len())
     }
 
-    /// The index of the clauses by their literals.
-    pub fn index(&self, alloc: Global) -> Result<Index, AllocError>
-        ensures { IfOk result (λ rows. Indexes rows (map.entries self.now)) }
+    /// Lists each clause's id for its literals, beside what the index lists already.
+    pub fn list_in(&self, index: &mut Index) -> Result<(), AllocError>
+        ensures { OnOk result (Indexes index.new (map.entries self.now)) }
     {
-        let mut index = Index::new(alloc);
-        list_near(&mut index, &self.lits, &self.slots, self.first)?;
-        list_far(&mut index, &self.lits, &self.far)?;
-        Ok(index)
+        list_near(index, &self.lits, &self.slots, self.first)?;
+        list_far(index, &self.lits, &self.far)?;
+        Ok(())
     }
 }
 
@@ -185,7 +219,7 @@ impl<'o> OwnView<'o> {
     ghost use Rattle.std.specs.Prelude.{◌≡◌};
     ghost use Rattle.std.specs.Option.{option_copied};
     ghost use Rattle.std.specs.FinMap as map;
-    ghost use Rattle.hint_check.specs.View.{own_seen, EndsWithin};
+    ghost use Rattle.hint_check.specs.Inner.Own.{own_seen, EndsWithin};
 
     /// The literals of the clause of an id.
     #[inline(always)]

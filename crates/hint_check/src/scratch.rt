@@ -1,22 +1,24 @@
 //! What judgements write on.
 
 use crate::assignment::Assignment;
+use crate::live::Room;
 use lrat_text::StepBuffer;
 use std::alloc::Global;
 use std::marker::Model;
 
-/// What judgements write on: the step that is read, two sets of literals and a list of ids. No judgement sees what an
-/// earlier one left there. What it has room for it keeps, so that judging many proofs with one of them takes memory only
-/// where a proof needs more than all before it.
+/// What judgements write on: the step that is read, a set of literals, a list of ids and the
+/// lists of the live clauses. No judgement sees what an earlier one left there. What it has room
+/// for it keeps, so that judging many proofs with one of them takes memory only where a proof needs
+/// more than all before it.
 #[derive(Drop)]
 pub struct Scratch {
     pub(crate) step: StepBuffer,
     /// The literals that the hints of a step have made true.
     pub(crate) reached: Assignment,
-    /// The literals of one clause.
-    pub(crate) clause: Assignment,
     /// The ids of the clauses that may be a step's candidates.
     pub(crate) holders: Vec<u64>,
+    /// Where the lists of the live clauses are kept between two judgements.
+    pub(crate) room: Room,
 }
 
 // Clauses see nothing of it, so no contract of a judgement can depend on what is there.
@@ -34,8 +36,8 @@ impl Scratch {
         Scratch {
             step: StepBuffer::new(alloc),
             reached: Assignment::new(alloc),
-            clause: Assignment::new(alloc),
             holders: Vec::new(alloc),
+            room: Room::new(alloc),
         }
     }
 }

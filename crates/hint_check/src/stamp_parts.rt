@@ -1,7 +1,7 @@
 //! Stamps by number: in one list of numbers from 0 on, and in a sorted map.
 ghost use Rattle.std.specs.Prelude.{◌≡◌, ℕ, ◌<◌, ◌≤◌, ◌==◌, if◌then◌else◌, [], nat_eq, length, slice_index, slice_set, OnOk};
 ghost use Rattle.std.specs.Map.{lookup};
-ghost use Rattle.hint_check.specs.Stamps.{mapped_at, HasEntry};
+ghost use Rattle.hint_check.specs.Inner.Stamps.{mapped_at, HasEntry};
 
 use std::alloc::{AllocError, Global};
 use std::collections::BTreeMap;
@@ -140,7 +140,8 @@ impl StampMap {
     /// Sets the stamp of a number that has an entry.
     pub fn set(&mut self, number: u32, stamp: u32)
         requires { HasEntry self.old number }
-        ensures { (n : ℕ) → mapped_at self.new n ≡ (if number == n then stamp else mapped_at self.old n) }
+        ensures { (n : ℕ)
+            → mapped_at self.new n ≡ (if number == n then stamp else mapped_at self.old n) }
     {
         set_entry(&mut self.stamps, number, stamp);
     }

@@ -1,6 +1,7 @@
-//! A stamp for each number: in one list for the near numbers, which are most, and in a map for the others.
+//! A stamp for each number: in one list for the near numbers, which are most, and in a map for the
+//! others.
 ghost use Rattle.std.specs.Prelude.{◌≡◌, ℕ, ◌<◌, ◌≤◌, ◌==◌, if◌then◌else◌, ◌↔◌, IsTrue, [], length, OnOk};
-ghost use Rattle.hint_check.specs.Stamps.{stamp_at, HasRoom};
+ghost use Rattle.hint_check.specs.Inner.Stamps.{stamp_at, HasRoom};
 
 use crate::stamp_parts::{StampList, StampMap};
 use std::alloc::{AllocError, Global};
@@ -21,7 +22,7 @@ pub struct Stamps {
 
 impl Model for Stamps {
     ghost use Rattle.std.specs.Prelude.{◌≤◌, length};
-    ghost use Rattle.hint_check.specs.Stamps.{Marks};
+    ghost use Rattle.hint_check.specs.Inner.Stamps.{Marks};
 
     ghost Value = { Marks };
 
@@ -93,7 +94,8 @@ impl Stamps {
         self.grow(number)
     }
 
-    /// Makes room for a number. The list of the near ones at least doubles, so that few growths make all of it.
+    /// Makes room for a number. The list of the near ones at least doubles, so that few growths
+    /// make all of it.
     #[inline(never)]
     fn grow(&mut self, number: u32) -> Result<(), AllocError>
         ensures made { OnOk result (HasRoom self.new number) }

@@ -1,10 +1,11 @@
 -- The parts of one step in room that is used again.
 use Rattle.std.specs.Prelude.{ℕ, ◌-◌, List, [], map, take, drop}
 use Rattle.cnf_text.specs.Literal.{Literal}
-use Rattle.lrat_text.specs.Lrat.{HintGroup}
+use Rattle.lrat_text.specs.Grammar.{HintGroup}
 use Rattle.lrat_text.specs.declared.buffer.GroupRun.{GroupRun}
 
--- the literals and the leading hints of an addition, or the ids of a deletion in the place of the hints, and the groups
+-- the literals and the leading hints of an addition, or the ids of a deletion in the place of the
+-- hints, and the groups
 pub record StepParts : Type 0 where
   pub literals : List Literal
   pub hints : List ℕ

@@ -1,9 +1,9 @@
 //! Room for the parts of one step, which its owner uses again for the next.
 
 ghost use Rattle.std.specs.Prelude.{◌≡◌, ◌<◌, length, slice_index_or, IfOk};
-ghost use Rattle.lrat_text.specs.Lrat.{no_group};
+ghost use Rattle.lrat_text.specs.Grammar.{no_group};
 ghost use Rattle.lrat_text.specs.Buffer.{no_parts, ids_between};
-ghost use Rattle.lrat_text.specs.Seen.{step_of, told_step};
+ghost use Rattle.lrat_text.specs.Step.{step_of, told_step};
 
 use crate::step::{Group, Step, StepKind};
 use cnf_text::literal::Lit;
@@ -20,9 +20,9 @@ pub(crate) struct GroupRun {
     pub(crate) end: usize,
 }
 
-/// The parts of one step: of an addition the literals, the leading hints and the groups; of a deletion its ids, in the
-/// place of the hints. What it has room for it keeps, so that reading many steps into one buffer takes memory only
-/// where a step is larger than all before it.
+/// The parts of one step: of an addition the literals, the leading hints and the groups; of a
+/// deletion its ids, in the place of the hints. What it has room for it keeps, so that reading many
+/// steps into one buffer takes memory only where a step is larger than all before it.
 #[derive(Drop)]
 pub struct StepBuffer {
     pub(crate) lits: Vec<Lit>,
@@ -37,7 +37,11 @@ impl Model for StepBuffer {
 
     ghost Value = { StepParts };
 
-    ghost view = { λ b. record { literals = b.lits.items; hints = ids_between 0 b.leading b.ids.items; groups = groups_in b.ids.items b.runs.items } };
+    ghost view = { λ b. record {
+      literals = b.lits.items;
+      hints = ids_between 0 b.leading b.ids.items;
+      groups = groups_in b.ids.items b.runs.items;
+    } };
 }
 
 /// The ids from place `start` up to place `end`, as far as there are any.
@@ -83,11 +87,12 @@ impl StepBuffer {
         self.runs.len()
     }
 
-    /// The candidate and the hints of the group in this place, counted from 0 in the order as written. There has to be
-    /// such a group.
+    /// The candidate and the hints of the group in this place, counted from 0 in the order as
+    /// written. There has to be such a group.
     pub fn group(&self, place: usize) -> (u64, &[u64])
         requires { place < length self.now.groups }
-        ensures { record { candidate = result.0; hints = result.1.now } ≡ slice_index_or self.now.groups place no_group }
+        ensures { record { candidate = result.0; hints = result.1.now }
+            ≡ slice_index_or self.now.groups place no_group }
     {
         let run = self.runs[place];
         (run.candidate, ids_between(&self.ids, run.start, run.end))

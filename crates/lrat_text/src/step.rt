@@ -48,7 +48,7 @@ pub struct Group {
 }
 
 impl Model for Group {
-    ghost use Rattle.lrat_text.specs.Lrat.{HintGroup};
+    ghost use Rattle.lrat_text.specs.Grammar.{HintGroup};
 
     ghost Value = { HintGroup };
 

@@ -3,30 +3,30 @@ use Rattle.std.proofs.Common.{◌≡◌, ℕ, ◌+◌, ◌-◌, ◌<◌, ◌≤�
 use Rattle.cnf_text.specs.Literal.{Literal}
 use Rattle.cnf_text.specs.Formula.{IsRefuted}
 use Rattle.split_tree.specs.SplitTree.{SplitTree, size, subtrees, subtree_at, labels, branch, path_at, IsSplit}
-use Rattle.split_tree.specs.Rows.{HasBelow}
+use Rattle.split_tree.specs.Navigation.{HasBelow}
 use Rattle.split_tree.specs.Leaves.{IsTargetAt}
 use Rattle.split_tree.specs.declared.node.Target.{Target}
-use Rattle.split_tree.specs.Top.{top}
-use Rattle.split_tree.proofs.Coding.{some_node}
-use Rattle.split_tree.proofs.Leaves.{missing_is}
-use Rattle.split_tree.proofs.Labels.{inside, below, label_below}
+use Rattle.split_tree.specs.Parts.{top}
+use Rattle.split_tree.proofs.NodesCoding.{some_node}
+use Rattle.split_tree.proofs.LeavesNodes.{missing_is}
+use Rattle.split_tree.proofs.SplitTreeLabels.{inside, below, label_below}
 use Rattle.mark_board.specs.declared.part.PartBoard.{PartBoard}
 use Rattle.mark_board.specs.declared.top.TopBoard.{TopBoard}
 use Rattle.mark_board.specs.declared.mark.Mark.{Mark}
 use Rattle.mark_board.specs.declared.mark.Mark.TheVariants.{Refuted}
 use Rattle.mark_board.specs.declared.kind.Kind.TheVariants.{Part as part_kind, Top as top_kind}
-use Rattle.mark_board.specs.Marking.{marked, open_weight, AreRefuted}
-use Rattle.mark_board.specs.Rows.{is_refuted, refuted_by, mark_at}
-use Rattle.mark_board.specs.Places.{part_root, part_count, part_place, top_node, worth_of, IsOwnPlace, HasOwnPlace, IsPlaceOf}
+use Rattle.mark_board.specs.Marking.{marked, open_weight, AreRefuted, is_refuted, refuted_by, mark_at}
+use Rattle.mark_board.specs.TopPlaces.{part_root, part_count, part_place, top_node, worth_of, IsPlaceOf}
+use Rattle.mark_board.specs.Inner.Top.{IsOwnPlace, HasOwnPlace}
 use Rattle.mark_board.specs.Board.{BoardOf, IsRowOn, IsTargetRow, TakesNode, tree_on, node_on, worth_on}
 use Rattle.case_core.specs.Case.{CaseOf}
 use Rattle.mark_board.specs.declared.stored.Stored.{Stored}
 use Rattle.mark_board.specs.declared.stored.Stored.TheVariants.{Part as part_stored, Top as top_stored}
 use Rattle.mark_board.specs.declared.stored.BoardData.{BoardData}
-use Rattle.mark_board.specs.Kinds.{board_of, kind_board, stored_board, IsKindOf, IsDataOf}
-use Rattle.mark_board.proofs.Marks.{marked_refuted}
-use Rattle.mark_board.proofs.TopPlaces.{path_of_top, node_within}
-use Rattle.mark_board.proofs.Apart.{place_once}
+use Rattle.mark_board.specs.BoardData.{board_of, kind_board, stored_board, IsKindOf, IsDataOf}
+use Rattle.mark_board.proofs.MarkingLaws.{marked_refuted}
+use Rattle.mark_board.proofs.TopPlacesNodes.{path_of_top, node_within}
+use Rattle.mark_board.proofs.TopPlacesApart.{place_once}
 
 -- the row of a target's node is that of the node that is found for it
 pub target_row : (board : BoardOf) (tree : SplitTree) (target : Target) (found : ℕ) → tree ≡ board.case.tree →

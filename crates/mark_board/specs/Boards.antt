@@ -1,20 +1,17 @@
 -- The top board and all parts' boards of one case and one cut, together.
-use Rattle.std.specs.Prelude.{ℕ, zero, suc, ◌+◌, ◌<◌, ◌≤◌, ◌≡◌, Bool, true, false, if◌then◌else◌, List, [], ◌∷◌, ◌++◌, drop, length, get_or, map, replicate, slice_set}
-use Rattle.split_tree.specs.SplitTree.{SplitTree, missing, cube, split, size, subtree_at, IsSplit}
+use Rattle.std.specs.Prelude.{ℕ, zero, suc, ◌<◌, ◌≤◌, ◌≡◌, Bool, if◌then◌else◌, List, [], ◌∷◌, ◌++◌, drop, length, get_or, map, slice_set}
+use Rattle.split_tree.specs.SplitTree.{SplitTree, missing, cube, split, size, subtree_at}
 use Rattle.split_tree.specs.Leaves.{IsTargetAt}
 use Rattle.split_tree.specs.declared.node.Target.{Target}
-use Rattle.split_tree.specs.Top.{top}
+use Rattle.split_tree.specs.Parts.{top}
 use Rattle.case_core.specs.Case.{CaseOf}
 use Rattle.mark_board.specs.declared.mark.Mark.{Mark}
 use Rattle.mark_board.specs.declared.mark.Mark.TheVariants.{Open, Refuted}
-use Rattle.mark_board.specs.declared.rows.Answer.{Answer}
-use Rattle.mark_board.specs.declared.rows.Answer.TheVariants.{Marked, RootMarked, Already}
 use Rattle.mark_board.specs.declared.place.Place.{Place}
 use Rattle.mark_board.specs.declared.place.Place.TheVariants.{Part, Top}
 use Rattle.mark_board.specs.Board.{BoardOf, IsPlace, IsRow, HasTargets, board_tree}
-use Rattle.mark_board.specs.Marking.{marked, Place as NodeWithTree}
-use Rattle.mark_board.specs.Rows.{mark_at, refuted_by}
-use Rattle.mark_board.specs.Places.{top_node, part_count, part_place, part_root}
+use Rattle.mark_board.specs.Marking.{marked, NodeWithTree, mark_at, refuted_by}
+use Rattle.mark_board.specs.TopPlaces.{part_count, part_place, part_root}
 
 -- the tree of a part
 abbrev pub part_tree : ℕ → SplitTree → ℕ → SplitTree
@@ -24,24 +21,16 @@ part_tree cut tree part = subtree_at tree (part_root cut tree part)
 abbrev pub part_marks : List (List Mark) → ℕ → List Mark
 part_marks parts part = get_or parts part []
 
--- These are the marks of the tree's nodes, in tree order: an inner node above the cut has its mark on the top board,
--- and any other node on the board of its part.
-pub record AreMarks (cut : ℕ) (tree : SplitTree) (above : List Mark) (parts : List (List Mark)) (marks : List Mark) : Type 0 where
-  pub long : length marks ≡ size tree
-  pub own : (row : ℕ) → row < size (top cut tree) → IsSplit (subtree_at (top cut tree) row) →
-      mark_at above row ≡ mark_at marks (top_node cut tree row)
-  pub in_part : (part row : ℕ) → part < part_count cut tree → row < size (part_tree cut tree part) →
-      mark_at (part_marks parts part) row ≡ mark_at marks (part_root cut tree part + row)
-
--- The marks of the tree's nodes in tree order: an inner node's above the cut is the next of the top board's, before those of
--- its branches, and the marks of a part are the next of the parts'.
+-- The marks of the tree's nodes in tree order: an inner node's above the cut is the next of the top
+-- board's, before those of its branches, and the marks of a part are the next of the parts'.
 abbrev pub joined_marks : ℕ → SplitTree → List Mark → List (List Mark) → List Mark
 joined_marks zero tree above parts = part_marks parts 0
 joined_marks (suc cut) missing above parts = part_marks parts 0
 joined_marks (suc cut) (cube k) above parts = part_marks parts 0
 joined_marks (suc cut) (split v positive negative) above parts =
     mark_at above 0 ∷ (joined_marks cut positive (drop 1 above) parts
-    ++ joined_marks cut negative (drop (suc (size (top cut positive))) above) (drop (part_count cut positive) parts))
+    ++ joined_marks cut negative (drop (suc (size (top cut positive))) above)
+    (drop (part_count cut positive) parts))
 
 -- the mark of a part on the top board, by whether its root is marked
 abbrev pub part_mark : Bool → Mark
@@ -50,7 +39,8 @@ part_mark is_marked = if is_marked then Refuted else Open
 -- the top board marks a part exactly where the part's own root is marked
 abbrev pub ArePosted : ℕ → SplitTree → List Mark → List (List Mark) → Type 0
 ArePosted cut tree above parts = (part : ℕ) → part < part_count cut tree →
-    mark_at above (part_place cut tree part) ≡ part_mark (marked (refuted_by (part_marks parts part)) 0 (part_tree cut tree part))
+    mark_at above (part_place cut tree part)
+    ≡ part_mark (marked (refuted_by (part_marks parts part)) 0 (part_tree cut tree part))
 
 -- all boards of a cut of a case together: the marks of the tree's nodes, in tree order
 pub record BoardsOf : Type 0 where
@@ -76,36 +66,19 @@ pub record IsBoardAt (case : CaseOf) (cut : ℕ) (place : Place) (board : BoardO
   pub place_is : board.place ≡ place
   pub long : length board.marks ≡ size (board_tree cut case.tree place)
 
--- the top board and all parts' boards of one case and one cut, the parts in their order, where the top board marks a
--- part exactly where the part's own root is marked
+-- the top board and all parts' boards of one case and one cut, the parts in their order, where the
+-- top board marks a part exactly where the part's own root is marked
 pub record AreBoards (above : BoardOf) (parts : List BoardOf) : Type 0 where
   pub low : above.cut ≤ 6
   pub at_top : IsBoardAt above.case above.cut Top above
   pub count : length parts ≡ part_count above.cut above.case.tree
-  pub at_part : (part : ℕ) → part < part_count above.cut above.case.tree → IsBoardAt above.case above.cut (Part part) (get_or parts part above)
+  pub at_part : (part : ℕ) → part < part_count above.cut above.case.tree →
+      IsBoardAt above.case above.cut (Part part) (get_or parts part above)
   pub posted : ArePosted above.cut above.case.tree above.marks (map marks_of parts)
-
--- a board of a part with nothing marked
-pub record IsNewPart (case : CaseOf) (cut part : ℕ) (board : BoardOf) : Type 0 where
-  pub case_is : board.case ≡ case
-  pub cut_is : board.cut ≡ cut
-  pub place_is : board.place ≡ Part part
-  pub none : board.marks ≡ replicate (size (part_tree cut case.tree part)) Open
-
--- these are the boards of the first parts, with nothing marked
-pub record AreNewParts (case : CaseOf) (cut : ℕ) (boards : List BoardOf) (count : ℕ) : Type 0 where
-  pub long : length boards ≡ count
-  pub each : (other : BoardOf) (part : ℕ) → part < count → IsNewPart case cut part (get_or boards part other)
 
 -- the marks after a finding was posted, or wasn't since its target had a mark
 abbrev pub marks_with : Bool → List Mark → ℕ → Mark → List Mark
 marks_with posted marks node mark = if posted then slice_set marks node mark else marks
-
--- whether a post is new: its target had no mark
-abbrev pub is_new : Answer → Bool
-is_new Marked = true
-is_new RootMarked = true
-is_new Already = false
 
 -- the board on which a node's finding is posted
 pub record IsPlaceFor (cut : ℕ) (tree : SplitTree) (node : ℕ) (place : Place) : Type 0 where
@@ -119,4 +92,5 @@ abbrev pub AreTargetsAt : SplitTree → List Target → List NodeWithTree → Ty
 AreTargetsAt tree [] [] = Unit {0}
 AreTargetsAt tree [] (node ∷ nodes) = ⊥
 AreTargetsAt tree (target ∷ targets) [] = ⊥
-AreTargetsAt tree (target ∷ targets) (node ∷ nodes) = IsTargetAt tree node.node target × AreTargetsAt tree targets nodes
+AreTargetsAt tree (target ∷ targets) (node ∷ nodes) =
+    IsTargetAt tree node.node target × AreTargetsAt tree targets nodes

@@ -4,15 +4,14 @@ ghost use Rattle.std.specs.Prelude.{◌≡◌, ◌≢◌, ◌≤◌, ◌<◌, �
 ghost use Rattle.cnf_text.specs.Formula.{IsRefuted};
 ghost use Rattle.split_tree.specs.SplitTree.{size, subtree_at, path_at};
 ghost use Rattle.split_tree.specs.Leaves.{IsTargetAt};
-ghost use Rattle.split_tree.specs.Rows.{HasBelow};
-ghost use Rattle.split_tree.specs.Top.{top};
+ghost use Rattle.split_tree.specs.Navigation.{HasBelow};
+ghost use Rattle.split_tree.specs.Parts.{top};
 ghost use Rattle.mark_board.specs.Board.{IsPlace, board_tree, tree_on, worth_on, IsRowOn, IsTargetRow, HasNode, TakesNode, TakesTarget};
-ghost use Rattle.mark_board.specs.Marking.{marked, open_weight};
-ghost use Rattle.mark_board.specs.Places.{part_count, part_place, part_root, mark_as};
-ghost use Rattle.mark_board.specs.Rows.{refuted_by, mark_at};
-ghost use Rattle.mark_board.specs.Answers.{marks_after, MarksRoot};
-ghost use Rattle.mark_board.specs.BoardPosts.{posted_answer, part_posted_answer, IsPostedOn, GivesBack, GivesPartBack};
-ghost use Rattle.mark_board.specs.Kinds.{board_of, stored_board, IsDataOf};
+ghost use Rattle.mark_board.specs.Marking.{marked, open_weight, refuted_by, mark_at};
+ghost use Rattle.mark_board.specs.TopPlaces.{part_count, part_place, part_root};
+ghost use Rattle.mark_board.specs.Findings.{mark_as};
+ghost use Rattle.mark_board.specs.Posting.{marks_after, MarksRoot, posted_answer, part_posted_answer, IsPostedOn, GivesBack, GivesPartBack};
+ghost use Rattle.mark_board.specs.BoardData.{board_of, stored_board, IsDataOf};
 ghost use Rattle.mark_board.specs.declared.mark.Mark.TheVariants.{Open, Refuted};
 ghost use Rattle.mark_board.specs.declared.place.Place.TheVariants.{Top};
 ghost use Rattle.mark_board.specs.declared.rows.Answer.TheVariants.{RootMarked, Already};
@@ -29,9 +28,10 @@ use case_core::{Case, Finding, NodeId, Target};
 use std::alloc::{AllocError, Global};
 use std::marker::Model;
 
-/// The board of a part of a cut of a case, or the one above the parts. Of each of its nodes it has what is posted of it, and the
-/// weight of the leaves under it that are open. A node is marked where its proof refutes it or its part has a verdict, and an
-/// inner node also where both its branches are marked; a leaf is open while no node above it is marked, nor itself. So what is
+/// The board of a part of a cut of a case, or the one above the parts. Of each of its nodes it has
+/// what is posted of it, and the weight of the leaves under it that are open. A node is marked
+/// where its proof refutes it or its part has a verdict, and an inner node also where both its
+/// branches are marked; a leaf is open while no node above it is marked, nor itself. So what is
 /// marked has no model together with the formula.
 ///
 /// A post goes down one path of the tree. Only `new` takes memory.
@@ -46,16 +46,17 @@ impl<'c> Model for Board<'c> {
     ghost Value = { BoardOf };
 
     ghost use Rattle.std.specs.Coded.{codes};
-    ghost use Rattle.case_core.specs.Code.{case_code};
+    ghost use Rattle.case_core.specs.CaseCode.{case_code};
 
     ghost coded = { Prim.hlevel (codes, case_code) };
 
-    ghost use Rattle.mark_board.specs.Kinds.{board_of};
+    ghost use Rattle.mark_board.specs.BoardData.{board_of};
 
     ghost view = { λ b. board_of b.kind };
 }
 
-/// The node at the root of a part, by the part's number from 0 in tree order. `AllocError` where a growth was refused.
+/// The node at the root of a part, by the part's number from 0 in tree order. `AllocError` where a
+/// growth was refused.
 fn root_of_part(alloc: Global, case: &Case, cut: u32, part: u32) -> Result<NodeId, AllocError>
     requires cut { cut ≤ 6 }
     requires part { part < part_count cut case.now.tree }
@@ -70,10 +71,16 @@ fn root_of_part(alloc: Global, case: &Case, cut: u32, part: u32) -> Result<NodeI
 fn post_in_part<'c>(board: &mut PartBoard<'c>, finding: Finding<'c>) -> Posted<'c>
     requires case { finding.case.now ≡ board.old.case.now }
     requires within { HasBelow board.old.case.now.tree board.old.root finding.node }
-    ensures same { (board.new.case.now ≡ board.old.case.now) × (board.new.cut ≡ board.old.cut) × (board.new.part ≡ board.old.part) }
-    ensures marks { board.new.rows.marks.items ≡ marks_after (posted_answer result) board.old.rows.marks.items (finding.entry.node - board.old.root) (mark_as finding.entry.judged) }
-    ensures already { (posted_answer result ≡ Already) ↔ (mark_at board.old.rows.marks.items (finding.entry.node - board.old.root) ≢ Open) }
-    ensures root { (posted_answer result ≡ RootMarked) ↔ MarksRoot (subtree_at board.old.case.now.tree board.old.root) board.old.rows.marks.items board.new.rows.marks.items }
+    ensures same { (board.new.case.now ≡ board.old.case.now) × (board.new.cut ≡ board.old.cut)
+        × (board.new.part ≡ board.old.part) }
+    ensures marks { board.new.rows.marks.items
+        ≡ marks_after (posted_answer result) board.old.rows.marks.items
+        (finding.entry.node - board.old.root) (mark_as finding.entry.judged) }
+    ensures already { (posted_answer result ≡ Already)
+        ↔ (mark_at board.old.rows.marks.items (finding.entry.node - board.old.root) ≢ Open) }
+    ensures root { (posted_answer result ≡ RootMarked)
+        ↔ MarksRoot (subtree_at board.old.case.now.tree board.old.root) board.old.rows.marks.items
+        board.new.rows.marks.items }
     ensures verdict { IsPostedOn (board_of (Kind.Part board.old)) result }
     ensures back { GivesBack result finding.entry }
 {
@@ -89,9 +96,15 @@ fn post_on_top<'c>(board: &mut TopBoard<'c>, finding: Finding<'c>) -> Posted<'c>
     requires case { finding.case.now ≡ board.old.case.now }
     requires within { TakesNode (board_of (Kind.Top board.old)) finding.node }
     ensures same { (board.new.case.now ≡ board.old.case.now) × (board.new.cut ≡ board.old.cut) }
-    ensures marks { (row : ℕ) → IsRowOn (board_of (Kind.Top board.old)) finding.entry.node row → board.new.rows.marks.items ≡ marks_after (posted_answer result) board.old.rows.marks.items row (mark_as finding.entry.judged) }
-    ensures already { (row : ℕ) → IsRowOn (board_of (Kind.Top board.old)) finding.entry.node row → (posted_answer result ≡ Already) ↔ (mark_at board.old.rows.marks.items row ≢ Open) }
-    ensures root { (posted_answer result ≡ RootMarked) ↔ MarksRoot (top board.old.cut board.old.case.now.tree) board.old.rows.marks.items board.new.rows.marks.items }
+    ensures marks { (row : ℕ) → IsRowOn (board_of (Kind.Top board.old)) finding.entry.node row
+        → board.new.rows.marks.items
+        ≡ marks_after (posted_answer result) board.old.rows.marks.items row
+        (mark_as finding.entry.judged) }
+    ensures already { (row : ℕ) → IsRowOn (board_of (Kind.Top board.old)) finding.entry.node row
+        → (posted_answer result ≡ Already) ↔ (mark_at board.old.rows.marks.items row ≢ Open) }
+    ensures root { (posted_answer result ≡ RootMarked)
+        ↔ MarksRoot (top board.old.cut board.old.case.now.tree) board.old.rows.marks.items
+        board.new.rows.marks.items }
     ensures verdict { IsPostedOn (board_of (Kind.Top board.old)) result }
     ensures back { GivesBack result finding.entry }
 {
@@ -104,18 +117,22 @@ fn post_on_top<'c>(board: &mut TopBoard<'c>, finding: Finding<'c>) -> Posted<'c>
 }
 
 impl<'c> Board<'c> {
-    /// The board at a place of a cut of a case, with nothing posted. It asks for a cut from 0 to 6, and for the top or a part
-    /// that the cut makes. `AllocError` where a growth was refused.
+    /// The board at a place of a cut of a case, with nothing posted. It asks for a cut from 0 to 6,
+    /// and for the top or a part that the cut makes. `AllocError` where a growth was refused.
     pub fn new(
         alloc: Global,
         case: &'c Case,
         cut: u32,
         place: Place,
     ) -> Result<Board<'c>, AllocError>
+        // A cut, and one of its places.
         requires cut { cut ≤ 6 }
         requires place { IsPlace cut case.now.tree place }
-        ensures place { IfOk result (λ board. (board.case ≡ case.now) × (board.cut ≡ cut) × (board.place ≡ place)) }
-        ensures marks { IfOk result (λ board. board.marks ≡ replicate (size (board_tree cut case.now.tree place)) Open) }
+        // The board of this place, with nothing posted.
+        ensures place { IfOk result
+            (λ board. (board.case ≡ case.now) × (board.cut ≡ cut) × (board.place ≡ place)) }
+        ensures marks { IfOk result
+            (λ board. board.marks ≡ replicate (size (board_tree cut case.now.tree place)) Open) }
     {
         let kind = match place {
             Place::Part(part) => {
@@ -127,8 +144,8 @@ impl<'c> Board<'c> {
         Ok(Board { kind })
     }
 
-    /// What to keep of the board while its case is lent to others: its cut, place, marks and open weights. `bind` makes the board
-    /// of it again.
+    /// What to keep of the board while its case is lent to others: its cut, place, marks and open
+    /// weights. `bind` makes the board of it again.
     pub fn unbind(self) -> BoardData
         ensures case { IsDataOf self.entry.case result }
         ensures board { stored_board self.entry.case result ≡ self.entry }
@@ -152,18 +169,29 @@ impl<'c> Board<'c> {
         Board { kind }
     }
 
-    /// Marks a finding's target as the finding says, if nothing was posted of that target itself: a target that merely lies under
-    /// a marked node is marked too. It asks for a finding of the board's case, of a node that the board takes.
+    /// Marks a finding's target as the finding says, if nothing was posted of that target itself: a
+    /// target that merely lies under a marked node is marked too. It asks for a finding of the
+    /// board's case, of a node that the board takes.
     ///
-    /// Answers whether this marked the root of the board, on a part's board with the part's verdict, and on the top board by
-    /// `TopMarked`; or `Already` with the finding, and then nothing changed.
+    /// Answers whether this marked the root of the board, on a part's board with the part's
+    /// verdict, and on the top board by `TopMarked`; or `Already` with the finding, and then
+    /// nothing changed.
     pub fn post(&mut self, finding: Finding<'c>) -> Posted<'c>
+        // A finding of the board's case, of a node that the board takes.
         requires case { finding.case.now ≡ self.old.case }
         requires within { TakesNode self.old finding.node }
-        ensures same { (self.new.case ≡ self.old.case) × (self.new.cut ≡ self.old.cut) × (self.new.place ≡ self.old.place) }
-        ensures marks { (row : ℕ) → IsRowOn self.old finding.entry.node row → self.new.marks ≡ marks_after (posted_answer result) self.old.marks row (mark_as finding.entry.judged) }
-        ensures already { (row : ℕ) → IsRowOn self.old finding.entry.node row → (posted_answer result ≡ Already) ↔ (mark_at self.old.marks row ≢ Open) }
-        ensures root { (posted_answer result ≡ RootMarked) ↔ MarksRoot (tree_on self.old) self.old.marks self.new.marks }
+        // The board stays that of its place, with the mark where none was.
+        ensures same { (self.new.case ≡ self.old.case) × (self.new.cut ≡ self.old.cut)
+            × (self.new.place ≡ self.old.place) }
+        ensures marks { (row : ℕ) → IsRowOn self.old finding.entry.node row
+            → self.new.marks
+            ≡ marks_after (posted_answer result) self.old.marks row (mark_as finding.entry.judged) }
+        // When it answers that the target had a mark, and when that the root became marked.
+        ensures already { (row : ℕ) → IsRowOn self.old finding.entry.node row
+            → (posted_answer result ≡ Already) ↔ (mark_at self.old.marks row ≢ Open) }
+        ensures root { (posted_answer result ≡ RootMarked)
+            ↔ MarksRoot (tree_on self.old) self.old.marks self.new.marks }
+        // A verdict comes from a part's board alone; a finding that wasn't posted is given back.
         ensures verdict { IsPostedOn self.old result }
         ensures back { GivesBack result finding.entry }
     {
@@ -173,18 +201,29 @@ impl<'c> Board<'c> {
         }
     }
 
-    /// Marks a part as refuted on the top board, if it has no verdict yet. It asks for the top board, and for a verdict of its case
-    /// and cut.
+    /// Marks a part as refuted on the top board, if it has no verdict yet. It asks for the top
+    /// board, and for a verdict of its case and cut.
     ///
-    /// Answers whether this marked the root of the tree; or `Already` with the verdict, and then nothing changed.
+    /// Answers whether this marked the root of the tree; or `Already` with the verdict, and then
+    /// nothing changed.
     pub fn post_part(&mut self, verdict: PartVerdict<'c>) -> PartPosted<'c>
+        // The top board, and a verdict of its case and cut.
         requires top { self.old.place ≡ Top }
         requires case { verdict.case.now ≡ self.old.case }
         requires cut { verdict.cut ≡ self.old.cut }
-        ensures same { (self.new.case ≡ self.old.case) × (self.new.cut ≡ self.old.cut) × (self.new.place ≡ self.old.place) }
-        ensures marks { self.new.marks ≡ marks_after (part_posted_answer result) self.old.marks (part_place self.old.cut self.old.case.tree verdict.entry.part) Refuted }
-        ensures already { (part_posted_answer result ≡ Already) ↔ (mark_at self.old.marks (part_place self.old.cut self.old.case.tree verdict.entry.part) ≢ Open) }
-        ensures root { (part_posted_answer result ≡ RootMarked) ↔ MarksRoot (tree_on self.old) self.old.marks self.new.marks }
+        // The board stays that of its place, with the part's mark where none was.
+        ensures same { (self.new.case ≡ self.old.case) × (self.new.cut ≡ self.old.cut)
+            × (self.new.place ≡ self.old.place) }
+        ensures marks { self.new.marks
+            ≡ marks_after (part_posted_answer result) self.old.marks
+            (part_place self.old.cut self.old.case.tree verdict.entry.part) Refuted }
+        // When it answers that the part had a mark, and when that the root became marked.
+        ensures already { (part_posted_answer result ≡ Already)
+            ↔ (mark_at self.old.marks
+            (part_place self.old.cut self.old.case.tree verdict.entry.part) ≢ Open) }
+        ensures root { (part_posted_answer result ≡ RootMarked)
+            ↔ MarksRoot (tree_on self.old) self.old.marks self.new.marks }
+        // A verdict that wasn't posted is given back.
         ensures back { GivesPartBack result verdict.entry }
     {
         match &mut self.kind {
@@ -217,8 +256,8 @@ impl<'c> Board<'c> {
         }
     }
 
-    /// Whether findings of a node are posted on this board: on a part's those of the nodes from the part's root on, and on the top
-    /// board those of the inner nodes above the cut.
+    /// Whether findings of a node are posted on this board: on a part's those of the nodes from the
+    /// part's root on, and on the top board those of the inner nodes above the cut.
     pub fn takes(&self, node: NodeId) -> bool
         ensures { IsTrue result ↔ TakesNode self.now node }
     {
@@ -228,7 +267,8 @@ impl<'c> Board<'c> {
         }
     }
 
-    /// The row of a node whose findings are posted on this board: its number in tree order among the board's nodes.
+    /// The row of a node whose findings are posted on this board: its number in tree order among
+    /// the board's nodes.
     pub fn row_of(&self, node: NodeId) -> usize
         requires { TakesNode self.now node }
         ensures { IsTargetRow self.now node result }
@@ -239,7 +279,8 @@ impl<'c> Board<'c> {
         }
     }
 
-    /// The row at which a part's verdict stands. It asks for the top board, and for a part of its cut.
+    /// The row at which a part's verdict stands. It asks for the top board, and for a part of its
+    /// cut.
     pub fn row_of_part(&self, part: u32) -> usize
         requires top { self.now.place ≡ Top }
         requires part { part < part_count self.now.cut self.now.case.tree }
@@ -251,10 +292,12 @@ impl<'c> Board<'c> {
         }
     }
 
-    /// The weight of the open leaves: of those under no marked node. A leaf at depth d weighs 2 to the power 60 - d up to depth 60,
-    /// and 1 below. On the top board a part weighs what its leaves do, as long as neither it nor a node above it is marked.
+    /// The weight of the open leaves: of those under no marked node. A leaf at depth d weighs 2 to
+    /// the power 60 - d up to depth 60, and 1 below. On the top board a part weighs what its leaves
+    /// do, as long as neither it nor a node above it is marked.
     pub fn open_weight(&self) -> u64
-        ensures { result ≡ open_weight (worth_on self.now) (refuted_by self.now.marks) 0 (tree_on self.now) }
+        ensures { result
+            ≡ open_weight (worth_on self.now) (refuted_by self.now.marks) 0 (tree_on self.now) }
     {
         match &self.kind {
             Kind::Part(board) => board.open_weight(),
@@ -262,11 +305,14 @@ impl<'c> Board<'c> {
         }
     }
 
-    /// The weight of the open leaves under a node, whatever is marked above it. It asks for a node that stands on the board: on the
-    /// top board an inner node above the cut, or the root of a part.
+    /// The weight of the open leaves under a node, whatever is marked above it. It asks for a node
+    /// that stands on the board: on the top board an inner node above the cut, or the root of a
+    /// part.
     pub(crate) fn open_under(&self, node: NodeId) -> u64
         requires { HasNode self.now node }
-        ensures { (row : ℕ) → IsRowOn self.now node row → result ≡ open_weight (worth_on self.now) (refuted_by self.now.marks) row (subtree_at (tree_on self.now) row) }
+        ensures { (row : ℕ) → IsRowOn self.now node row
+            → result ≡ open_weight (worth_on self.now) (refuted_by self.now.marks) row
+            (subtree_at (tree_on self.now) row) }
     {
         match &self.kind {
             Kind::Part(board) => board.open_under(node),
@@ -274,12 +320,15 @@ impl<'c> Board<'c> {
         }
     }
 
-    /// What is posted of a target itself: `Open` where it merely lies under a marked node. It asks for a target whose findings are
-    /// posted on this board. A target that is refuted has no model together with the formula and its path.
+    /// What is posted of a target itself: `Open` where it merely lies under a marked node. It asks
+    /// for a target whose findings are posted on this board. A target that is refuted has no model
+    /// together with the formula and its path.
     pub fn mark_of(&self, target: Target) -> Mark
         requires { TakesTarget self.now target }
-        ensures mark { (node row : ℕ) → IsTargetAt self.now.case.tree node target → IsRowOn self.now node row → result ≡ mark_at self.now.marks row }
-        ensures sound { (node : ℕ) → IsTargetAt self.now.case.tree node target → result ≡ Refuted → IsRefuted self.now.case.formula (path_at self.now.case.tree node) }
+        ensures mark { (node row : ℕ) → IsTargetAt self.now.case.tree node target
+            → IsRowOn self.now node row → result ≡ mark_at self.now.marks row }
+        ensures sound { (node : ℕ) → IsTargetAt self.now.case.tree node target → result ≡ Refuted
+            → IsRefuted self.now.case.formula (path_at self.now.case.tree node) }
     {
         let node = self.case().tree().node_of_target(target);
         match &self.kind {
@@ -288,13 +337,15 @@ impl<'c> Board<'c> {
         }
     }
 
-    /// Whether a node is marked: refuted, or an inner node with both branches marked. It asks for a node that stands on the board:
-    /// on the top board an inner node above the cut, or the root of a part. A marked node has no model together with the formula
-    /// and its path.
+    /// Whether a node is marked: refuted, or an inner node with both branches marked. It asks for a
+    /// node that stands on the board: on the top board an inner node above the cut, or the root of
+    /// a part. A marked node has no model together with the formula and its path.
     pub fn node_marked(&self, node: NodeId) -> bool
         requires { HasNode self.now node }
-        ensures marked { (row : ℕ) → IsRowOn self.now node row → result ≡ marked (refuted_by self.now.marks) row (subtree_at (tree_on self.now) row) }
-        ensures sound { IsTrue result → IsRefuted self.now.case.formula (path_at self.now.case.tree node) }
+        ensures marked { (row : ℕ) → IsRowOn self.now node row
+            → result ≡ marked (refuted_by self.now.marks) row (subtree_at (tree_on self.now) row) }
+        ensures sound { IsTrue result
+            → IsRefuted self.now.case.formula (path_at self.now.case.tree node) }
     {
         match &self.kind {
             Kind::Part(board) => board.node_marked(node),

@@ -4,11 +4,12 @@ ghost use Rattle.std.specs.Prelude.{◌≡◌, ◌≤◌, ◌<◌, ◌↔◌, �
 ghost use Rattle.cnf_text.specs.Formula.{IsRefuted};
 ghost use Rattle.split_tree.specs.SplitTree.{size, subtree_at, path_at};
 ghost use Rattle.split_tree.specs.Leaves.{HasTarget, IsTargetAt};
-ghost use Rattle.mark_board.specs.Marking.{marked, open_weight, open_branches};
-ghost use Rattle.mark_board.specs.Places.{worth_of, mark_as, part_count};
-ghost use Rattle.mark_board.specs.Rows.{refuted_by, mark_at};
-ghost use Rattle.mark_board.specs.BoardPosts.{posted_answer};
-ghost use Rattle.mark_board.specs.Boards.{AreTargetsAt, AreNewParts, IsPlaceFor, is_new};
+ghost use Rattle.mark_board.specs.Marking.{marked, open_weight, open_branches, refuted_by, mark_at};
+ghost use Rattle.mark_board.specs.TopPlaces.{worth_of, part_count};
+ghost use Rattle.mark_board.specs.Findings.{mark_as};
+ghost use Rattle.mark_board.specs.Posting.{posted_answer};
+ghost use Rattle.mark_board.specs.Boards.{AreTargetsAt, IsPlaceFor};
+ghost use Rattle.mark_board.specs.Inner.Boards.{AreNewParts, is_new};
 
 use crate::board::Board;
 use crate::mark::Mark;
@@ -32,7 +33,8 @@ fn target_at(tree: &Tree, node: NodeId) -> Target
 /// The boards of all parts of a cut of a case, with nothing marked.
 fn new_parts(alloc: Global, case: &Case, cut: u32) -> Result<Vec<Board<'_>>, AllocError>
     requires { cut ≤ 6 }
-    ensures { IfOk result (λ parts. AreNewParts case.now cut parts.items (part_count cut case.now.tree)) }
+    ensures { IfOk result
+        (λ parts. AreNewParts case.now cut parts.items (part_count cut case.now.tree)) }
 {
     let count = case.tree().parts(alloc, cut)?.len() as u32;
     let mut parts = Vec::new(alloc);
@@ -59,7 +61,7 @@ pub struct Boards<'c> {
 impl<'c> Model for Boards<'c> {
     ghost use Rattle.mark_board.specs.Boards.{BoardsOf, boards_of, AreBoards};
     ghost use Rattle.std.specs.Coded.{codes};
-    ghost use Rattle.case_core.specs.Code.{case_code};
+    ghost use Rattle.case_core.specs.CaseCode.{case_code};
 
     ghost Value = { BoardsOf };
 
@@ -75,7 +77,8 @@ impl<'c> Boards<'c> {
     ghost use Rattle.mark_board.specs.declared.mark.Mark.TheVariants.{Open, Refuted};
     ghost use Rattle.mark_board.specs.Boards.{AreBoards, boards_of, marks_with};
 
-    /// The boards of a cut of a case, with nothing marked. It asks for a cut from 0 to 6. `AllocError` where a growth was refused.
+    /// The boards of a cut of a case, with nothing marked. It asks for a cut from 0 to 6.
+    /// `AllocError` where a growth was refused.
     pub fn new(alloc: Global, case: &'c Case, cut: u32) -> Result<Boards<'c>, AllocError>
         requires { cut ≤ 6 }
         ensures case { IfOk result (λ boards. (boards.case ≡ case.now) × (boards.cut ≡ cut)) }
@@ -86,8 +89,9 @@ impl<'c> Boards<'c> {
         Ok(Boards { above, parts })
     }
 
-    /// These boards as they are: the top board, and all parts' boards in the order of the parts. It asks that they are those of one
-    /// cut of one case, and that the top board marks a part exactly where the part's own root is marked.
+    /// These boards as they are: the top board, and all parts' boards in the order of the parts. It
+    /// asks that they are those of one cut of one case, and that the top board marks a part exactly
+    /// where the part's own root is marked.
     pub fn gather(above: Board<'c>, parts: Vec<Board<'c>>) -> Boards<'c>
         requires { AreBoards above parts.items }
         ensures { result ≡ boards_of above.entry parts.entry.items }
@@ -102,13 +106,16 @@ impl<'c> Boards<'c> {
         self.above.case()
     }
 
-    /// Marks a finding's target as it says, if that has no finding yet: false exactly where it has one, and then nothing changes.
-    /// It asks for a finding of the same case.
+    /// Marks a finding's target as it says, if that has no finding yet: false exactly where it has
+    /// one, and then nothing changes. It asks for a finding of the same case.
     pub fn post(&mut self, finding: Finding<'c>) -> bool
+        // A finding of the boards' case.
         requires { finding.case.now ≡ self.old.case }
+        // They stay those of their case and cut, and the target's mark is new where it had none.
         ensures same { (self.new.case ≡ self.old.case) × (self.new.cut ≡ self.old.cut) }
         ensures new { IsTrue result ↔ (mark_at self.old.marks finding.entry.node ≡ Open) }
-        ensures marks { self.new.marks ≡ marks_with result self.old.marks finding.entry.node (mark_as finding.entry.judged) }
+        ensures marks { self.new.marks
+            ≡ marks_with result self.old.marks finding.entry.node (mark_as finding.entry.judged) }
     {
         match self.above.place_for(finding.node()) {
             Place::Top => is_new(&self.above.post(finding)),
@@ -116,13 +123,15 @@ impl<'c> Boards<'c> {
         }
     }
 
-    /// The post on the board of a part, and then of the part on the top board where it marked the part's root.
+    /// The post on the board of a part, and then of the part on the top board where it marked the
+    /// part's root.
     fn post_in(&mut self, part: u32, finding: Finding<'c>) -> bool
         requires case { finding.case.now ≡ self.old.case }
         requires place { IsPlaceFor self.old.cut self.old.case.tree finding.node (Place.Part part) }
         ensures same { (self.new.case ≡ self.old.case) × (self.new.cut ≡ self.old.cut) }
         ensures new { IsTrue result ↔ (mark_at self.old.marks finding.entry.node ≡ Open) }
-        ensures marks { self.new.marks ≡ marks_with result self.old.marks finding.entry.node (mark_as finding.entry.judged) }
+        ensures marks { self.new.marks
+            ≡ marks_with result self.old.marks finding.entry.node (mark_as finding.entry.judged) }
     {
         match self.parts[part as usize].post(finding) {
             Posted::Already(_) => false,
@@ -138,8 +147,10 @@ impl<'c> Boards<'c> {
     /// What is posted of a target. It asks for a target of the case's tree.
     pub fn mark_of(&self, target: Target) -> Mark
         requires { HasTarget self.now.case.tree target }
-        ensures mark { (node : ℕ) → IsTargetAt self.now.case.tree node target → result ≡ mark_at self.now.marks node }
-        ensures sound { (node : ℕ) → IsTargetAt self.now.case.tree node target → result ≡ Refuted → IsRefuted self.now.case.formula (path_at self.now.case.tree node) }
+        ensures mark { (node : ℕ) → IsTargetAt self.now.case.tree node target
+            → result ≡ mark_at self.now.marks node }
+        ensures sound { (node : ℕ) → IsTargetAt self.now.case.tree node target → result ≡ Refuted
+            → IsRefuted self.now.case.formula (path_at self.now.case.tree node) }
     {
         let asked = target;
         let node = self.case().tree().node_of_target(asked);
@@ -159,15 +170,20 @@ impl<'c> Boards<'c> {
 
     /// The weight of the leaves under no marked node.
     pub fn open_weight(&self) -> u64
-        ensures { result ≡ open_weight (worth_of self.now.case.tree) (refuted_by self.now.marks) 0 self.now.case.tree }
+        ensures { result
+            ≡ open_weight (worth_of self.now.case.tree) (refuted_by self.now.marks) 0
+            self.now.case.tree }
     {
         self.open_under(self.case().tree().root())
     }
 
-    /// The weight of the leaves under a node that lie under no marked node from there on. It calls itself no deeper than the cut.
+    /// The weight of the leaves under a node that lie under no marked node from there on. It calls
+    /// itself no deeper than the cut.
     fn open_under(&self, node: NodeId) -> u64
         requires { node < size self.now.case.tree }
-        ensures { result ≡ open_weight (worth_of self.now.case.tree) (refuted_by self.now.marks) node (subtree_at self.now.case.tree node) }
+        ensures { result
+            ≡ open_weight (worth_of self.now.case.tree) (refuted_by self.now.marks) node
+            (subtree_at self.now.case.tree node) }
     {
         if let Place::Part(part) = self.above.place_for(node) {
             return self.parts[part as usize].open_under(node);
@@ -181,10 +197,13 @@ impl<'c> Boards<'c> {
         }
     }
 
-    /// The open branches, in tree order: each wholly open node that is the root or whose parent isn't wholly open, where a node is
-    /// wholly open if neither it nor a node above or under it is marked. `AllocError` where a growth was refused.
+    /// The open branches, in tree order: each wholly open node that is the root or whose parent
+    /// isn't wholly open, where a node is wholly open if neither it nor a node above or under it is
+    /// marked. `AllocError` where a growth was refused.
     pub fn open_branches(&self, alloc: Global) -> Result<Vec<Target>, AllocError>
-        ensures { IfOk result (λ targets. AreTargetsAt self.now.case.tree targets.items (open_branches (refuted_by self.now.marks) 0 self.now.case.tree)) }
+        ensures { IfOk result
+            (λ targets. AreTargetsAt self.now.case.tree targets.items
+            (open_branches (refuted_by self.now.marks) 0 self.now.case.tree)) }
     {
         let tree = self.case().tree();
         let mut targets = Vec::new(alloc);

@@ -18,12 +18,14 @@ pub fn open_after_post()
     ensures { OpenAfterPost }
 {}
 
-/// Where the top board's posts agree with a set of refuted nodes, they mark the root exactly where the set does.
+/// Where the top board's posts agree with a set of refuted nodes, they mark the root exactly where
+/// the set does.
 pub fn top_marks_the_root()
     ensures { TopMarksTheRoot }
 {}
 
-/// The open weights of the parts under no marked node of the top board add up to the open weight of the tree.
+/// The open weights of the parts under no marked node of the top board add up to the open weight of
+/// the tree.
 pub fn open_parts_add_up()
     ensures { OpenPartsAddUp }
 {}

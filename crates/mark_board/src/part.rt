@@ -3,10 +3,11 @@
 ghost use Rattle.std.specs.Prelude.{◌≡◌, ◌≢◌, ◌≤◌, ◌-◌, ◌<◌, ◌↔◌, ◌+◌, ℕ, IfOk, IsTrue};
 ghost use Rattle.cnf_text.specs.Formula.{IsRefuted};
 ghost use Rattle.split_tree.specs.SplitTree.{size, subtree_at, path_at};
-ghost use Rattle.split_tree.specs.Rows.{HasBelow};
-ghost use Rattle.mark_board.specs.Marking.{AreRefuted, marked, open_weight};
-ghost use Rattle.mark_board.specs.Rows.{IsKept, refuted_by, mark_at};
-ghost use Rattle.mark_board.specs.Places.{part_count, part_root, worth_of, mark_as};
+ghost use Rattle.split_tree.specs.Navigation.{HasBelow};
+ghost use Rattle.mark_board.specs.Marking.{AreRefuted, marked, open_weight, refuted_by, mark_at};
+ghost use Rattle.mark_board.specs.Rows.{AreRowsKept};
+ghost use Rattle.mark_board.specs.TopPlaces.{part_count, part_root, worth_of};
+ghost use Rattle.mark_board.specs.Findings.{mark_as};
 
 use crate::mark::Mark;
 use crate::place::Place;
@@ -15,14 +16,16 @@ use crate::stored::PartData;
 use case_core::{Case, Finding, Judged, NodeId};
 use std::alloc::{AllocError, Global};
 
-/// That a formula has no model together with the path of a part's root. Only a board whose root became marked makes one.
+/// That a formula has no model together with the path of a part's root. Only a board whose root
+/// became marked makes one.
 #[derive(Drop)]
 pub struct PartVerdict<'c> {
     case: &'c Case,
     cut: u32,
     part: u32,
     pub ghost within: { part < part_count cut case.now.tree },
-    pub ghost refuted: { IsRefuted case.now.formula (path_at case.now.tree (part_root cut case.now.tree part)) },
+    pub ghost refuted: { IsRefuted case.now.formula
+        (path_at case.now.tree (part_root cut case.now.tree part)) },
 }
 
 impl<'c> PartVerdict<'c> {
@@ -66,8 +69,10 @@ pub(crate) struct PartBoard<'c> {
     ghost within: { part < part_count cut case.now.tree },
     ghost placed: { root ≡ part_root cut case.now.tree part },
     ghost inside: { root < size case.now.tree },
-    ghost kept: { IsKept (subtree_at case.now.tree root) (λ place. worth_of case.now.tree (root + place)) rows.marks.items rows.weights.items },
-    ghost sound: { AreRefuted case.now.formula (refuted_by rows.marks.items) (path_at case.now.tree root) 0 (subtree_at case.now.tree root) },
+    ghost kept: { AreRowsKept (subtree_at case.now.tree root)
+        (λ place. worth_of case.now.tree (root + place)) rows.marks.items rows.weights.items },
+    ghost sound: { AreRefuted case.now.formula (refuted_by rows.marks.items)
+        (path_at case.now.tree root) 0 (subtree_at case.now.tree root) },
 }
 
 impl<'c> PartBoard<'c> {
@@ -75,9 +80,9 @@ impl<'c> PartBoard<'c> {
     ghost use Rattle.mark_board.specs.declared.rows.Answer.TheVariants.{RootMarked, Already};
     ghost use Rattle.mark_board.specs.declared.mark.Mark.TheVariants.{Open};
     ghost use Rattle.mark_board.specs.declared.place.Place.TheVariants.{Part};
-    ghost use Rattle.mark_board.specs.Answers.{marks_after, MarksRoot};
-    ghost use Rattle.mark_board.specs.Posted.{answer_of, IsVerdictOf};
-    ghost use Rattle.mark_board.specs.Stored.{IsPartData};
+    ghost use Rattle.mark_board.specs.Posting.{marks_after, MarksRoot};
+    ghost use Rattle.mark_board.specs.Inner.Part.{answer_of, HasVerdictOf};
+    ghost use Rattle.mark_board.specs.BoardData.{IsPartData};
 
     /// The board of a part of a case, with nothing marked.
     pub fn new(
@@ -87,11 +92,17 @@ impl<'c> PartBoard<'c> {
         part: u32,
         root: NodeId,
     ) -> Result<PartBoard<'c>, AllocError>
+        // A part of the cut, and the node at its root.
         requires part { part < part_count cut case.now.tree }
         requires placed { root ≡ part_root cut case.now.tree part }
         requires root { root < size case.now.tree }
-        ensures place { IfOk result (λ board. (board.case.now ≡ case.now) × (board.cut ≡ cut) × (board.part ≡ part) × (board.root ≡ root)) }
-        ensures marks { IfOk result (λ board. board.rows.marks.items ≡ replicate (size (subtree_at case.now.tree root)) Open) }
+        // The board of this part, with nothing posted.
+        ensures place { IfOk result
+            (λ board. (board.case.now ≡ case.now) × (board.cut ≡ cut) × (board.part ≡ part)
+            × (board.root ≡ root)) }
+        ensures marks { IfOk result
+            (λ board. board.rows.marks.items
+            ≡ replicate (size (subtree_at case.now.tree root)) Open) }
     {
         let tree = case.tree();
         let end = tree.end_of(root) as usize;
@@ -107,7 +118,8 @@ impl<'c> PartBoard<'c> {
 
     /// The board without its case.
     pub fn unbind(self) -> PartData
-        ensures place { (result.cut ≡ self.entry.cut) × (result.part ≡ self.entry.part) × (result.root ≡ self.entry.root) }
+        ensures place { (result.cut ≡ self.entry.cut) × (result.part ≡ self.entry.part)
+            × (result.root ≡ self.entry.root) }
         ensures marks { result.rows.marks.items ≡ self.entry.rows.marks.items }
         ensures stored { IsPartData self.entry.case.now result }
     {
@@ -121,9 +133,12 @@ impl<'c> PartBoard<'c> {
 
     /// The board of a case of which this is stored.
     pub fn bind(case: &'c Case, stored: PartData) -> PartBoard<'c>
+        // What was stored of a part's board of this case.
         requires { IsPartData case.now stored }
+        // The board of which it was stored.
         ensures case { result.case.now ≡ case.now }
-        ensures place { (result.cut ≡ stored.cut) × (result.part ≡ stored.part) × (result.root ≡ stored.root) }
+        ensures place { (result.cut ≡ stored.cut) × (result.part ≡ stored.part)
+            × (result.root ≡ stored.root) }
         ensures marks { result.rows.marks.items ≡ stored.rows.marks.items }
     {
         PartBoard {
@@ -176,7 +191,9 @@ impl<'c> PartBoard<'c> {
     /// Whether a node is marked.
     pub fn node_marked(&self, node: NodeId) -> bool
         requires { HasBelow self.now.case.now.tree self.now.root node }
-        ensures { result ≡ marked (refuted_by self.now.rows.marks.items) (node - self.now.root) (subtree_at self.now.case.now.tree node) }
+        ensures { result
+            ≡ marked (refuted_by self.now.rows.marks.items) (node - self.now.root)
+            (subtree_at self.now.case.now.tree node) }
     {
         self.rows.weight_of(node.index() - self.root as usize) == 0
     }
@@ -184,27 +201,43 @@ impl<'c> PartBoard<'c> {
     /// The weight of the leaves under a node that lie under no marked node from there on.
     pub fn open_under(&self, node: NodeId) -> u64
         requires { HasBelow self.now.case.now.tree self.now.root node }
-        ensures { result ≡ open_weight (λ place. worth_of self.now.case.now.tree (self.now.root + place)) (refuted_by self.now.rows.marks.items) (node - self.now.root) (subtree_at self.now.case.now.tree node) }
+        ensures { result
+            ≡ open_weight (λ place. worth_of self.now.case.now.tree (self.now.root + place))
+            (refuted_by self.now.rows.marks.items) (node - self.now.root)
+            (subtree_at self.now.case.now.tree node) }
     {
         self.rows.weight_of(node.index() - self.root as usize)
     }
 
     /// The weight of the leaves under no marked node.
     pub fn open_weight(&self) -> u64
-        ensures { result ≡ open_weight (λ place. worth_of self.now.case.now.tree (self.now.root + place)) (refuted_by self.now.rows.marks.items) 0 (subtree_at self.now.case.now.tree self.now.root) }
+        ensures { result
+            ≡ open_weight (λ place. worth_of self.now.case.now.tree (self.now.root + place))
+            (refuted_by self.now.rows.marks.items) 0
+            (subtree_at self.now.case.now.tree self.now.root) }
     {
         self.rows.weight_of(0)
     }
 
     /// Marks a finding's target as it says, if that has no finding yet.
     pub fn post(&mut self, finding: &Finding<'c>) -> PartAnswer<'c>
+        // A finding of the board's case, of a node of the part.
         requires case { finding.now.case.now ≡ self.old.case.now }
         requires within { HasBelow self.old.case.now.tree self.old.root finding.now.node }
-        ensures same { (self.new.case.now ≡ self.old.case.now) × (self.new.cut ≡ self.old.cut) × (self.new.part ≡ self.old.part) × (self.new.root ≡ self.old.root) }
-        ensures marks { self.new.rows.marks.items ≡ marks_after (answer_of result) self.old.rows.marks.items (finding.now.node - self.old.root) (mark_as finding.now.judged) }
-        ensures verdict { IsVerdictOf result self.old.case.now self.old.cut self.old.part }
-        ensures already { (answer_of result ≡ Already) ↔ (mark_at self.old.rows.marks.items (finding.now.node - self.old.root) ≢ Open) }
-        ensures root { (answer_of result ≡ RootMarked) ↔ MarksRoot (subtree_at self.old.case.now.tree self.old.root) self.old.rows.marks.items self.new.rows.marks.items }
+        // The board stays that of its part, with the mark where none was.
+        ensures same { (self.new.case.now ≡ self.old.case.now) × (self.new.cut ≡ self.old.cut)
+            × (self.new.part ≡ self.old.part) × (self.new.root ≡ self.old.root) }
+        ensures marks { self.new.rows.marks.items
+            ≡ marks_after (answer_of result) self.old.rows.marks.items
+            (finding.now.node - self.old.root) (mark_as finding.now.judged) }
+        // A verdict is that of the board's part.
+        ensures verdict { HasVerdictOf result self.old.case.now self.old.cut self.old.part }
+        // When it answers that the target had a mark, and when that the root became marked.
+        ensures already { (answer_of result ≡ Already)
+            ↔ (mark_at self.old.rows.marks.items (finding.now.node - self.old.root) ≢ Open) }
+        ensures root { (answer_of result ≡ RootMarked)
+            ↔ MarksRoot (subtree_at self.old.case.now.tree self.old.root) self.old.rows.marks.items
+            self.new.rows.marks.items }
     {
         let case = self.case;
         let root = self.root as usize;

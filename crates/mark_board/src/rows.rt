@@ -3,9 +3,10 @@
 ghost use Rattle.std.specs.Prelude.{◌≡◌, ◌≢◌, ◌<◌, ◌↔◌, ◌^◌, ℕ, List, length, IfOk, IsTrue, slice_index, slice_set, replicate};
 ghost use Rattle.split_tree.specs.SplitTree.{size, subtree_at};
 ghost use Rattle.mark_board.specs.declared.mark.Mark.TheVariants.{Open, Refuted};
-ghost use Rattle.mark_board.specs.Marking.{marked, open_weight};
-ghost use Rattle.mark_board.specs.Rows.{IsWeighed, IsStart, IsKept, HasKept, refuted_by, mark_at};
-ghost use Rattle.mark_board.specs.Answers.{marks_after, MarksRoot};
+ghost use Rattle.mark_board.specs.Marking.{marked, open_weight, refuted_by, mark_at};
+ghost use Rattle.mark_board.specs.Rows.{IsWeighed, AreRowsKept};
+ghost use Rattle.mark_board.specs.Inner.Rows.{CoversFrom, HasKept};
+ghost use Rattle.mark_board.specs.Posting.{marks_after, MarksRoot};
 
 use crate::mark::Mark;
 use crate::walk::{cover, toward};
@@ -33,7 +34,8 @@ pub(crate) struct Rows {
 impl Rows {
     /// The rows of nodes under which the leaves weigh so much together, with nothing marked.
     pub fn new(alloc: Global, worths: &[u64]) -> Result<Rows, AllocError>
-        ensures marks { IfOk result (λ rows. rows.marks.items ≡ replicate (length worths.now) Open) }
+        ensures marks { IfOk result
+            (λ rows. rows.marks.items ≡ replicate (length worths.now) Open) }
         ensures weights { IfOk result (λ rows. rows.weights.items ≡ worths.now) }
     {
         let marks = Vec::from_elem(alloc, Mark::Open, worths.len())?;
@@ -63,8 +65,11 @@ impl Rows {
         requires root { root < size tree.now }
         requires node { node < size (subtree_at tree.now root) }
         requires long { length self.now.marks.items ≡ size (subtree_at tree.now root) }
-        ensures { (worth : ℕ → ℕ) → IsStart (subtree_at tree.now root) worth (refuted_by self.now.marks.items) node result }
+        ensures { (worth : ℕ → ℕ)
+            → CoversFrom (subtree_at tree.now root) worth
+            (refuted_by self.now.marks.items) node result }
     {
+        // The proof takes from this call that the tree has fewer than 2 to the power 32 nodes.
         let _few = tree.size();
         let mut here = 0;
         let mut first = 0;
@@ -82,10 +87,16 @@ impl Rows {
     fn refute(&mut self, tree: &Tree, root: usize, node: usize) -> bool
         requires root { root < size tree.now }
         requires node { node < size (subtree_at tree.now root) }
-        requires kept { HasKept (subtree_at tree.now root) self.old.marks.items self.old.weights.items }
+        requires kept { HasKept (subtree_at tree.now root) self.old.marks.items
+            self.old.weights.items }
         ensures marks { self.new.marks.items ≡ slice_set self.old.marks.items node Refuted }
-        ensures kept { (worth : ℕ → ℕ) → IsKept (subtree_at tree.now root) worth self.old.marks.items self.old.weights.items → IsKept (subtree_at tree.now root) worth self.new.marks.items self.new.weights.items }
-        ensures root { IsTrue result ↔ MarksRoot (subtree_at tree.now root) self.old.marks.items self.new.marks.items }
+        ensures kept { (worth : ℕ → ℕ)
+            → AreRowsKept (subtree_at tree.now root) worth self.old.marks.items
+            self.old.weights.items
+            → AreRowsKept (subtree_at tree.now root) worth self.new.marks.items
+            self.new.weights.items }
+        ensures root { IsTrue result
+            ↔ MarksRoot (subtree_at tree.now root) self.old.marks.items self.new.marks.items }
     {
         let first = self.first_open(tree, root, node);
         let was_open = self.weights[0] > 0;
@@ -96,14 +107,23 @@ impl Rows {
 
     /// Marks a node as its finding says, if it has no mark yet.
     pub fn post(&mut self, tree: &Tree, root: usize, node: usize, mark: Mark) -> Answer
+        // A node of the tree below the root, a mark, and open weights that are those of the marks.
         requires root { root < size tree.now }
         requires node { node < size (subtree_at tree.now root) }
         requires judged { mark ≢ Open }
-        requires kept { HasKept (subtree_at tree.now root) self.old.marks.items self.old.weights.items }
+        requires kept { HasKept (subtree_at tree.now root) self.old.marks.items
+            self.old.weights.items }
+        // The mark stands where none was, and the open weights are those of the new marks.
         ensures marks { self.new.marks.items ≡ marks_after result self.old.marks.items node mark }
-        ensures kept { (worth : ℕ → ℕ) → IsKept (subtree_at tree.now root) worth self.old.marks.items self.old.weights.items → IsKept (subtree_at tree.now root) worth self.new.marks.items self.new.weights.items }
+        ensures kept { (worth : ℕ → ℕ)
+            → AreRowsKept (subtree_at tree.now root) worth self.old.marks.items
+            self.old.weights.items
+            → AreRowsKept (subtree_at tree.now root) worth self.new.marks.items
+            self.new.weights.items }
+        // When it answers that the node had a mark, and when that the root became marked.
         ensures already { (result ≡ Answer.Already) ↔ (mark_at self.old.marks.items node ≢ Open) }
-        ensures root { (result ≡ Answer.RootMarked) ↔ MarksRoot (subtree_at tree.now root) self.old.marks.items self.new.marks.items }
+        ensures root { (result ≡ Answer.RootMarked)
+            ↔ MarksRoot (subtree_at tree.now root) self.old.marks.items self.new.marks.items }
     {
         let Mark::Open = self.marks[node] else {
             return Answer::Already;

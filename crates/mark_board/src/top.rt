@@ -2,13 +2,15 @@
 
 ghost use Rattle.std.specs.Prelude.{◌≡◌, ◌≢◌, ◌≤◌, ◌<◌, ◌↔◌, ◌+◌, ℕ, IfOk, IsTrue, [], map, length, slice_index};
 ghost use Rattle.std.specs.Coded.{Coded-set};
-ghost use Rattle.split_tree.specs.Code.{tree_code};
+ghost use Rattle.split_tree.specs.TreeCode.{tree_code};
 ghost use Rattle.split_tree.specs.SplitTree.{size, subtree_at, path_at, IsSplit};
-ghost use Rattle.split_tree.specs.Rows.{HasBelow};
-ghost use Rattle.split_tree.specs.Top.{top, top_nodes};
-ghost use Rattle.mark_board.specs.Marking.{AreRefuted, marked, open_weight};
-ghost use Rattle.mark_board.specs.Rows.{IsKept, refuted_by, mark_at};
-ghost use Rattle.mark_board.specs.Places.{part_count, part_place, top_node, worth_of, mark_as, IsOwnPlace, HasOwnPlace, IsPlaceOf, IsPartAt};
+ghost use Rattle.split_tree.specs.Navigation.{HasBelow};
+ghost use Rattle.split_tree.specs.Parts.{top, top_nodes};
+ghost use Rattle.mark_board.specs.Marking.{AreRefuted, marked, open_weight, refuted_by, mark_at};
+ghost use Rattle.mark_board.specs.Rows.{AreRowsKept};
+ghost use Rattle.mark_board.specs.TopPlaces.{part_count, part_place, top_node, worth_of, IsPlaceOf};
+ghost use Rattle.mark_board.specs.Findings.{mark_as};
+ghost use Rattle.mark_board.specs.Inner.Top.{IsOwnPlace, HasOwnPlace, IsPartAt};
 
 use crate::mark::Mark;
 use crate::part::{PartVerdict, mark_for};
@@ -40,22 +42,26 @@ pub(crate) struct TopBoard<'c> {
     ghost low: { cut ≤ 6 },
     ghost nodes: { above.nodes.items ≡ top_nodes cut 0 case.now.tree },
     ghost tree: { above.tree ≡ top cut case.now.tree } by { Coded-set tree_code above.tree (top cut case.now.tree) },
-    ghost kept: { IsKept (top cut case.now.tree) (λ place. worth_of case.now.tree (top_node cut case.now.tree place)) rows.marks.items rows.weights.items },
-    ghost sound: { AreRefuted case.now.formula (refuted_by rows.marks.items) [] 0 (top cut case.now.tree) },
+    ghost kept: { AreRowsKept (top cut case.now.tree)
+        (λ place. worth_of case.now.tree (top_node cut case.now.tree place)) rows.marks.items
+        rows.weights.items },
+    ghost sound: { AreRefuted case.now.formula (refuted_by rows.marks.items) [] 0
+        (top cut case.now.tree) },
 }
 
 impl<'c> TopBoard<'c> {
     ghost use Rattle.std.specs.Prelude.{replicate};
     ghost use Rattle.mark_board.specs.declared.rows.Answer.TheVariants.{RootMarked, Already};
     ghost use Rattle.mark_board.specs.declared.mark.Mark.TheVariants.{Open, Refuted as refuted_mark};
-    ghost use Rattle.mark_board.specs.Answers.{marks_after, MarksRoot};
-    ghost use Rattle.mark_board.specs.Stored.{IsTopData};
+    ghost use Rattle.mark_board.specs.Posting.{marks_after, MarksRoot};
+    ghost use Rattle.mark_board.specs.BoardData.{IsTopData};
 
     /// The top board of a cut of a case, with nothing marked.
     pub fn new(alloc: Global, case: &'c Case, cut: u32) -> Result<TopBoard<'c>, AllocError>
         requires { cut ≤ 6 }
         ensures place { IfOk result (λ board. (board.case.now ≡ case.now) × (board.cut ≡ cut)) }
-        ensures marks { IfOk result (λ board. board.rows.marks.items ≡ replicate (size (top cut case.now.tree)) Open) }
+        ensures marks { IfOk result
+            (λ board. board.rows.marks.items ≡ replicate (size (top cut case.now.tree)) Open) }
     {
         let above = case.tree().top(alloc, cut)?;
         let worths = worths_of(alloc, case.tree(), &above.nodes)?;
@@ -83,7 +89,9 @@ impl<'c> TopBoard<'c> {
 
     /// The board of a case of which this is stored.
     pub fn bind(case: &'c Case, stored: TopData) -> TopBoard<'c>
+        // What was stored of a top board of this case.
         requires { IsTopData case.now stored }
+        // The board of which it was stored.
         ensures case { result.case.now ≡ case.now }
         ensures place { result.cut ≡ stored.cut }
         ensures marks { result.rows.marks.items ≡ stored.rows.marks.items }
@@ -102,6 +110,7 @@ impl<'c> TopBoard<'c> {
         ensures place { result ≡ part_place self.now.cut self.now.case.now.tree part }
         ensures within { result < size (top self.now.cut self.now.case.now.tree) }
     {
+        // The proof takes from this call that the parts are fewer than 2 to the power 32.
         let _count = self.above.tree.missing_count();
         self.above
             .tree
@@ -116,11 +125,13 @@ impl<'c> TopBoard<'c> {
         self.case
     }
 
-    /// The place of a node of the tree: its own, where it is an inner node above the cut, and otherwise that of its part.
+    /// The place of a node of the tree: its own, where it is an inner node above the cut, and
+    /// otherwise that of its part.
     pub fn place_of(&self, node: NodeId) -> usize
         requires { node < size self.now.case.now.tree }
         ensures { IsPlaceOf self.now.cut self.now.case.now.tree node result }
     {
+        // The proof takes from this call that the tree has fewer than 2 to the power 32 nodes.
         let _few = self.above.tree.size();
         let mut place = 0;
         while self.above.nodes[place].number() != node.number() {
@@ -142,6 +153,7 @@ impl<'c> TopBoard<'c> {
         requires { place < size (top self.now.cut self.now.case.now.tree) }
         ensures { IsPartAt self.now.cut self.now.case.now.tree place result }
     {
+        // The proof takes from this call that the tree has fewer than 2 to the power 32 nodes.
         let _few = self.above.tree.size();
         match self.above.tree.leaf_at(NodeId::new(place as u32)) {
             None => None,
@@ -165,12 +177,21 @@ impl<'c> TopBoard<'c> {
 
     /// Marks a part as refuted, if it has no mark yet.
     pub fn post_part(&mut self, verdict: &PartVerdict<'c>) -> Answer
+        // A verdict of the board's case and cut.
         requires case { verdict.now.case.now ≡ self.old.case.now }
         requires cut { verdict.now.cut ≡ self.old.cut }
+        // The board stays that of its case and cut, with the part's mark where none was.
         ensures same { (self.new.case.now ≡ self.old.case.now) × (self.new.cut ≡ self.old.cut) }
-        ensures marks { self.new.rows.marks.items ≡ marks_after result self.old.rows.marks.items (part_place self.old.cut self.old.case.now.tree verdict.now.part) refuted_mark }
-        ensures already { (result ≡ Already) ↔ (mark_at self.old.rows.marks.items (part_place self.old.cut self.old.case.now.tree verdict.now.part) ≢ Open) }
-        ensures root { (result ≡ RootMarked) ↔ MarksRoot (top self.old.cut self.old.case.now.tree) self.old.rows.marks.items self.new.rows.marks.items }
+        ensures marks { self.new.rows.marks.items
+            ≡ marks_after result self.old.rows.marks.items
+            (part_place self.old.cut self.old.case.now.tree verdict.now.part) refuted_mark }
+        // When it answers that the part had a mark, and when that the root became marked.
+        ensures already { (result ≡ Already)
+            ↔ (mark_at self.old.rows.marks.items
+            (part_place self.old.cut self.old.case.now.tree verdict.now.part) ≢ Open) }
+        ensures root { (result ≡ RootMarked)
+            ↔ MarksRoot (top self.old.cut self.old.case.now.tree) self.old.rows.marks.items
+            self.new.rows.marks.items }
     {
         let place = self.place_of_part(verdict.part());
         self.rows.post(&self.above.tree, 0, place, Mark::Refuted)
@@ -178,12 +199,18 @@ impl<'c> TopBoard<'c> {
 
     /// Marks the own node at a place as its finding says, if it has no mark yet.
     pub fn post(&mut self, place: usize, finding: &Finding<'c>) -> Answer
+        // A finding of the board's case, and the place of its node.
         requires case { finding.now.case.now ≡ self.old.case.now }
         requires place { IsOwnPlace self.old.cut self.old.case.now.tree finding.now.node place }
+        // The board stays that of its case and cut, with the mark where none was.
         ensures same { (self.new.case.now ≡ self.old.case.now) × (self.new.cut ≡ self.old.cut) }
-        ensures marks { self.new.rows.marks.items ≡ marks_after result self.old.rows.marks.items place (mark_as finding.now.judged) }
+        ensures marks { self.new.rows.marks.items
+            ≡ marks_after result self.old.rows.marks.items place (mark_as finding.now.judged) }
+        // When it answers that the place had a mark, and when that the root became marked.
         ensures already { (result ≡ Already) ↔ (mark_at self.old.rows.marks.items place ≢ Open) }
-        ensures root { (result ≡ RootMarked) ↔ MarksRoot (top self.old.cut self.old.case.now.tree) self.old.rows.marks.items self.new.rows.marks.items }
+        ensures root { (result ≡ RootMarked)
+            ↔ MarksRoot (top self.old.cut self.old.case.now.tree) self.old.rows.marks.items
+            self.new.rows.marks.items }
     {
         self.rows
             .post(&self.above.tree, 0, place, mark_for(finding.judged()))
@@ -200,22 +227,34 @@ impl<'c> TopBoard<'c> {
     /// Whether the node or part at a place is marked.
     pub fn place_marked(&self, place: usize) -> bool
         requires { place < size (top self.now.cut self.now.case.now.tree) }
-        ensures { result ≡ marked (refuted_by self.now.rows.marks.items) place (subtree_at (top self.now.cut self.now.case.now.tree) place) }
+        ensures { result
+            ≡ marked (refuted_by self.now.rows.marks.items) place
+            (subtree_at (top self.now.cut self.now.case.now.tree) place) }
     {
         self.rows.weight_of(place) == 0
     }
 
-    /// The weights of the parts under the node at a place that lie under no marked node from there on.
+    /// The weights of the parts under the node at a place that lie under no marked node from there
+    /// on.
     pub fn open_under(&self, place: usize) -> u64
         requires { place < size (top self.now.cut self.now.case.now.tree) }
-        ensures { result ≡ open_weight (λ place. worth_of self.now.case.now.tree (top_node self.now.cut self.now.case.now.tree place)) (refuted_by self.now.rows.marks.items) place (subtree_at (top self.now.cut self.now.case.now.tree) place) }
+        ensures { result
+            ≡ open_weight
+            (λ place. worth_of self.now.case.now.tree
+            (top_node self.now.cut self.now.case.now.tree place))
+            (refuted_by self.now.rows.marks.items) place
+            (subtree_at (top self.now.cut self.now.case.now.tree) place) }
     {
         self.rows.weight_of(place)
     }
 
     /// The weights of the parts under no marked node.
     pub fn open_weight(&self) -> u64
-        ensures { result ≡ open_weight (λ place. worth_of self.now.case.now.tree (top_node self.now.cut self.now.case.now.tree place)) (refuted_by self.now.rows.marks.items) 0 (top self.now.cut self.now.case.now.tree) }
+        ensures { result
+            ≡ open_weight
+            (λ place. worth_of self.now.case.now.tree
+            (top_node self.now.cut self.now.case.now.tree place))
+            (refuted_by self.now.rows.marks.items) 0 (top self.now.cut self.now.case.now.tree) }
     {
         self.rows.weight_of(0)
     }

@@ -9,8 +9,8 @@ use Rattle.board_hall.specs.declared.view.View.{View}
 use Rattle.board_hall.specs.Halls.{HallOf}
 use Rattle.board_hall.specs.Clauses.{Stays}
 use Rattle.check_crew.specs.Seen.{HasSeenSection, HaveSeenSections}
-use Rattle.check_crew.proofs.Turns.{section_stays}
-use Rattle.own_threads.specs.Halves.{HasSeenFrom, HavePosted}
+use Rattle.check_crew.proofs.SeenTurns.{section_stays}
+use Rattle.own_threads.specs.Inner.Sections.{HasSeenFrom, HavePosted}
 
 -- the section behind those that were seen
 pub forwards : (v w : View) (first at : ℕ) → Stays v w → HasSeenFrom v first at → HasSeenSection w at

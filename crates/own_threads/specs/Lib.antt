@@ -1,1 +1,1 @@
-pub mod Halves
+pub mod Inner

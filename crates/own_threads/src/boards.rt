@@ -4,7 +4,7 @@ ghost use Rattle.std.specs.Prelude.{◌≡◌, ◌≤◌, None, length, All, IfO
 ghost use Rattle.board_hall.specs.Halls.{shared_of, view_of, IsPassOf, IsNewPass};
 ghost use Rattle.mark_board.specs.Findings.{AreFindings};
 ghost use Rattle.check_crew.specs.Seen.{HaveSeenSections};
-ghost use Rattle.own_threads.specs.Halves.{IsReady, HasPosted, HavePosted};
+ghost use Rattle.own_threads.specs.Inner.Sections.{IsReady, HasPostedFrom, HavePosted};
 
 use crate::sections::{Desk, post_first_half, post_second_half};
 use board_hall::{Hall, Pass};
@@ -112,7 +112,8 @@ fn post_halves<R: Threads + Wait + Sync>(
                 move || -> Result<Pass, AllocError>
                     requires ready { IsReady desk.case.now (shared_of desk.core.now) desk.half }
                     requires pass { IsNewPass (shared_of desk.core.now) theirs }
-                    ensures { IfOk result (HasPosted (shared_of desk.entry.core.now) desk.entry.half
+                    ensures { IfOk result
+                        (HasPostedFrom (shared_of desk.entry.core.now) desk.entry.half
                         (length desk.entry.case.now.sections)) }
                 { post_second_half(rt, alloc, desk, theirs) },
             );

@@ -63,7 +63,9 @@ fn bytes_of<I: Source>(alloc: Global, input: &mut I) -> Result<Vec<u8>, Fault>
 /// The status of a run: 0 or 1 for a report that says refuted or open, 3 where the bundle is
 /// refused, 4 where memory or the start of the thread was, and 5 where a device failed.
 pub fn status_of(run: Result<bool, Fault>) -> u8
+    // 0 or 1 where there is a report, by whether it says refuted.
     ensures report { IfOk run (λ refuted. result ≡ (if refuted then 0 else 1)) }
+    // Otherwise by the fault: 3 for the input, 4 for memory or a thread, 5 for a device.
     ensures input { IfErr run (λ fault. IsInputFault fault → result ≡ 3) }
     ensures memory { IfErr run (λ fault.
         (fault ≡ Fault.Memory) ⊎ (fault ≡ Fault.Thread) → result ≡ 4) }

@@ -1,11 +1,11 @@
 //! What one thread does: it examines sections in its own order, and posts what it finds.
 
 ghost use Rattle.std.specs.Prelude.{◌≡◌, ◌<◌, None, length, IfOk, OnOk};
-ghost use Rattle.case_core.specs.Shown.{finding_of};
+ghost use Rattle.case_core.specs.FindingOf.{finding_of};
 ghost use Rattle.board_hall.specs.Halls.{core_of, shared_of, view_of, IsPassOf, IsNewPass};
 ghost use Rattle.board_hall.specs.Clauses.{Stays};
 ghost use Rattle.check_crew.specs.Seen.{HasSeen, HasSeenSection};
-ghost use Rattle.own_threads.specs.Halves.{IsReady, HasPosted};
+ghost use Rattle.own_threads.specs.Inner.Sections.{IsReady, HasPostedFrom};
 
 use board_hall::{Core, Pass};
 use case_core::{Case, Finding, examine};
@@ -26,12 +26,13 @@ pub(crate) struct Desk<'a> {
 impl<'a> Promise<Result<Pass, AllocError>> for Desk<'a> {
     ghost use Rattle.std.specs.Prelude.{IfOk, length};
     ghost use Rattle.board_hall.specs.Halls.{shared_of};
-    ghost use Rattle.own_threads.specs.Halves.{HasPosted};
+    ghost use Rattle.own_threads.specs.Inner.Sections.{HasPostedFrom};
 
     // Who joins the thread knows this of its pass, and nothing else: that it is the hall's and owes
-    // no verdict, which closing the hall asks for, and what it has seen, which the boards then hold.
+    // no verdict, which closing the hall asks for, and what it has seen, which the boards then
+    // hold.
     ghost kept_by = { λ desk result. IfOk result
-        (HasPosted (shared_of desk.core.now) desk.half (length desk.case.now.sections)) };
+        (HasPostedFrom (shared_of desk.core.now) desk.half (length desk.case.now.sections)) };
 }
 
 /// Posts what is found of the first half of the sections, from the first one on. `AllocError` where
@@ -44,7 +45,7 @@ pub(crate) fn post_first_half<R: Wait>(
 ) -> Result<Pass, AllocError>
     requires ready { IsReady desk.case.now (shared_of desk.core.now) desk.half }
     requires pass { IsNewPass (shared_of desk.core.now) pass }
-    ensures { IfOk result (HasPosted (shared_of desk.entry.core.now) 0 desk.entry.half) }
+    ensures { IfOk result (HasPostedFrom (shared_of desk.entry.core.now) 0 desk.entry.half) }
 {
     for place in 0..desk.half {
         post_section(rt, alloc, desk.case, desk.core, &mut pass, place)?;
@@ -62,7 +63,7 @@ pub(crate) fn post_second_half<R: Wait>(
 ) -> Result<Pass, AllocError>
     requires ready { IsReady desk.case.now (shared_of desk.core.now) desk.half }
     requires pass { IsNewPass (shared_of desk.core.now) pass }
-    ensures { IfOk result (HasPosted (shared_of desk.entry.core.now) desk.entry.half
+    ensures { IfOk result (HasPostedFrom (shared_of desk.entry.core.now) desk.entry.half
         (length desk.entry.case.now.sections)) }
 {
     for place in (desk.half..desk.case.sections().len()).rev() {

@@ -35,7 +35,8 @@ leaf_count (split v positive negative) = leaf_count positive + leaf_count negati
 -- the leaf stands at this node; missing leaves are numbered from 1 in tree order
 abbrev pub IsLeafAt : SplitTree → ℕ → Leaf → Type 0
 IsLeafAt tree node (Cube k) = (node < size tree) × (subtree_at tree node ≡ cube k)
-IsLeafAt tree node (Missing j) = (1 ≤ j) × (j ≤ length (missing_nodes tree)) × (node ≡ slice_index (missing_nodes tree) (j - 1))
+IsLeafAt tree node (Missing j) =
+    (1 ≤ j) × (j ≤ length (missing_nodes tree)) × (node ≡ slice_index (missing_nodes tree) (j - 1))
 
 -- the tree has the leaf
 abbrev pub HasLeaf : SplitTree → Leaf → Type 0
@@ -49,7 +50,8 @@ IsLeafOf tree node (Some leaf) = IsLeafAt tree node leaf
 -- the target stands at this node: a leaf, or an inner node by its number
 abbrev pub IsTargetAt : SplitTree → ℕ → Target → Type 0
 IsTargetAt tree node (Named leaf) = IsLeafAt tree node leaf
-IsTargetAt tree node (Node inner) = (node ≡ inner) × (node < size tree) × IsSplit (subtree_at tree node)
+IsTargetAt tree node (Node inner) =
+    (node ≡ inner) × (node < size tree) × IsSplit (subtree_at tree node)
 
 -- the tree has the target
 abbrev pub HasTarget : SplitTree → Target → Type 0
@@ -65,5 +67,7 @@ IsWeightOf tree leaf w = (node : ℕ) × IsLeafAt tree node leaf × (w ≡ weigh
 
 -- the inner node with this path, or that no inner node has it
 abbrev pub IsNodeOf : SplitTree → List Literal → Option ℕ → Type 0
-IsNodeOf tree path None = (i : ℕ) → i < size tree → IsSplit (subtree_at tree i) → path_at tree i ≡ path → ⊥
-IsNodeOf tree path (Some node) = (node < size tree) × IsSplit (subtree_at tree node) × (path_at tree node ≡ path)
+IsNodeOf tree path None =
+    (i : ℕ) → i < size tree → IsSplit (subtree_at tree i) → path_at tree i ≡ path → ⊥
+IsNodeOf tree path (Some node) =
+    (node < size tree) × IsSplit (subtree_at tree node) × (path_at tree node ≡ path)

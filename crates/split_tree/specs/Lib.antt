@@ -1,10 +1,8 @@
 pub mod Clash
 pub mod SplitTree
-pub mod Ahead
-pub mod Rows
-pub mod Code
+pub mod TreeCode
+pub mod Navigation
 pub mod Leaves
-pub mod Tables
 pub mod Parts
 pub mod Laws
-pub mod Top
+pub mod Inner

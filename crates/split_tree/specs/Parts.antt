@@ -26,7 +26,8 @@ lies_in node part = nat_le part.node node && nat_lt node (part.node + size part.
 
 -- each leaf lies in exactly one part
 abbrev pub EachLeafInOnePart : Type 0
-EachLeafInOnePart = (cut : ℕ) (tree : SplitTree) (leaf : ℕ) → leaf < size tree → IsLeaf (subtree_at tree leaf) →
+EachLeafInOnePart =
+    (cut : ℕ) (tree : SplitTree) (leaf : ℕ) → leaf < size tree → IsLeaf (subtree_at tree leaf) →
     count_by (lies_in leaf) (parts cut 0 tree) ≡ 1
 
 -- the totals of the parts add up to the total of the tree
@@ -37,8 +38,24 @@ PartTotalsAddUp = (cut : ℕ) (tree : SplitTree) →
 -- a part's tree is the one below the node of its number
 abbrev pub PartsAreSubtrees : Type 0
 PartsAreSubtrees = (cut : ℕ) (tree : SplitTree) →
-    All (λ part. (part.node < size tree) × (part.tree ≡ subtree_at tree part.node)) (parts cut 0 tree)
+    All (λ part. (part.node < size tree) × (part.tree ≡ subtree_at tree part.node))
+    (parts cut 0 tree)
 
 -- there are at most 2 to the power of the cut
 abbrev pub PartsAreFew : Type 0
 PartsAreFew = (cut : ℕ) (tree : SplitTree) → length (parts cut 0 tree) ≤ 2 ^ cut
+
+abbrev pub top : ℕ → SplitTree → SplitTree
+top zero tree = missing
+top (suc cut) missing = missing
+top (suc cut) (cube k) = missing
+top (suc cut) (split v positive negative) = split v (top cut positive) (top cut negative)
+
+-- the numbers that its nodes have in the whole tree, in tree order
+abbrev pub top_nodes : ℕ → ℕ → SplitTree → List ℕ
+top_nodes zero node tree = node ∷ []
+top_nodes (suc cut) node missing = node ∷ []
+top_nodes (suc cut) node (cube k) = node ∷ []
+top_nodes (suc cut) node (split v positive negative) =
+    node ∷ (top_nodes cut (suc node) positive
+    ++ top_nodes cut (suc (node + size positive)) negative)

@@ -1,8 +1,6 @@
 use Rattle.std.specs.Prelude.{ℕ, suc, get_or, ◌+◌, ◌-◌, ◌^◌, ◌≡◌, ◌≢◌, nat_le, if◌then◌else◌, Bool, true, false, List, [], ◌∷◌, ◌++◌}
 use Rattle.std.specs.Bool.{beq}
 use Rattle.std.specs.List.{AllByRecursion}
-use Rattle.split_tree.specs.declared.shape.Shape.{Shape}
-use Rattle.split_tree.specs.declared.shape.Shape.TheVariants.{Missing, Cube, Split}
 use Rattle.cnf_text.specs.Literal.{Literal}
 
 -- a splitting tree: a leaf is missing or a numbered cube's, an inner node splits on a variable
@@ -37,20 +35,16 @@ abbrev pub going : Bool → List Numbered → List Numbered
 going sign [] = []
 going sign (c ∷ cubes) = going_with sign c.number c.literals (going sign cubes)
 
--- The tree of a set of cubes. No cube gives a missing leaf, and one cube that has ended gives its leaf.
--- Otherwise it splits on the common next variable, into the trees of the cubes that go each way
+-- The tree of a set of cubes. No cube gives a missing leaf, and one cube that has ended gives its
+-- leaf. Otherwise it splits on the common next variable, into the trees of the cubes that go each
+-- way
 abbrev pub IsTreeOf : SplitTree → List Numbered → Type 0
 IsTreeOf missing cubes = cubes ≡ []
 IsTreeOf (cube k) cubes = cubes ≡ record { number = k; literals = [] } ∷ []
 IsTreeOf (split v positive negative) cubes =
-    (cubes ≢ []) × AllByRecursion (λ c. SplitsOn v c.literals) cubes × IsTreeOf positive (going true cubes)
+    (cubes ≢ []) × AllByRecursion (λ c. SplitsOn v c.literals) cubes
+    × IsTreeOf positive (going true cubes)
     × IsTreeOf negative (going false cubes)
-
--- what stands at the nodes, a node before its branches and the positive branch first
-abbrev pub preorder : SplitTree → List Shape
-preorder missing = Missing ∷ []
-preorder (cube k) = Cube k ∷ []
-preorder (split v positive negative) = Split v ∷ (preorder positive ++ preorder negative)
 
 -- the path behind `path` to a branch on `v`
 abbrev pub branch : List Literal → ℕ → Bool → List Literal
@@ -66,32 +60,12 @@ total depth missing = weight depth
 total depth (cube k) = weight depth
 total depth (split v positive negative) = total (suc depth) positive + total (suc depth) negative
 
--- a split of the first two trees
-abbrev pub join : ℕ → List SplitTree → List SplitTree
-join v [] = []
-join v (t ∷ []) = []
-join v (positive ∷ negative ∷ trees) = split v positive negative ∷ trees
-
-abbrev pub first_tree : List SplitTree → SplitTree
-first_tree [] = missing
-first_tree (t ∷ trees) = t
-
--- the trees whose nodes these are, one after the other
-abbrev pub decode : List Shape → List SplitTree
-decode [] = []
-decode (Missing ∷ shapes) = missing ∷ decode shapes
-decode (Cube k ∷ shapes) = cube k ∷ decode shapes
-decode (Split v ∷ shapes) = join v (decode shapes)
-
--- the tree whose nodes these are
-abbrev pub tree_of : List Shape → SplitTree
-tree_of shapes = first_tree (decode shapes)
-
 -- the trees below the nodes, in tree order
 abbrev pub subtrees : SplitTree → List SplitTree
 subtrees missing = missing ∷ []
 subtrees (cube k) = cube k ∷ []
-subtrees (split v positive negative) = split v positive negative ∷ (subtrees positive ++ subtrees negative)
+subtrees (split v positive negative) =
+    split v positive negative ∷ (subtrees positive ++ subtrees negative)
 
 -- how many nodes it has
 abbrev pub size : SplitTree → ℕ
@@ -134,9 +108,3 @@ abbrev pub split_variable : SplitTree → ℕ
 split_variable missing = 0
 split_variable (cube k) = 0
 split_variable (split v positive negative) = v
-
--- what stands at a node is what stands at the root of the tree below it
-abbrev pub root_shape : SplitTree → Shape
-root_shape missing = Missing
-root_shape (cube k) = Cube k
-root_shape (split v p n) = Split v

@@ -1,5 +1,6 @@
 ghost use Rattle.std.specs.Prelude.{◌≡◌, ◌<◌, ◌^◌, ◌-◌, length, IfOk, MatchBool};
-ghost use Rattle.split_tree.specs.Clash.{relation_of, AllFit, IsFaultOf, IsFitting, FaultAfter, cubes_of};
+ghost use Rattle.split_tree.specs.Clash.{relation_of, AllFit, IsClashFault, cube_lists};
+ghost use Rattle.split_tree.specs.Inner.Clash.{IsFitting, FaultAfter};
 
 use crate::grow::{at_root, grow};
 use cnf_text::literal::Lit;
@@ -71,7 +72,8 @@ pub fn compare(left: &[Lit], right: &[Lit]) -> Relation
 /// Whether no two of these cubes clash.
 fn all_fit(alloc: Global, cubes: &[Vec<Lit>]) -> Result<bool, AllocError>
     requires { length cubes.now < 2 ^ 32 }
-    ensures { IfOk result (λ fit. MatchBool fit (AllFit (cubes_of cubes.now)) (AllFit (cubes_of cubes.now) → ⊥)) }
+    ensures { IfOk result
+        (λ fit. MatchBool fit (AllFit (cube_lists cubes.now)) (AllFit (cube_lists cubes.now) → ⊥)) }
 {
     let start = at_root(alloc, cubes)?;
     Ok(grow(alloc, start)?.is_some())
@@ -80,8 +82,8 @@ fn all_fit(alloc: Global, cubes: &[Vec<Lit>]) -> Result<bool, AllocError>
 /// How many cubes fit before the first that clashes with one before it, where some two clash.
 fn fitting(alloc: Global, cubes: &[Vec<Lit>]) -> Result<usize, AllocError>
     requires few { length cubes.now < 2 ^ 32 }
-    requires clash { AllFit (cubes_of cubes.now) → ⊥ }
-    ensures { IfOk result (IsFitting (cubes_of cubes.now)) }
+    requires clash { AllFit (cube_lists cubes.now) → ⊥ }
+    ensures { IfOk result (IsFitting (cube_lists cubes.now)) }
 {
     let mut fit = 0;
     let mut clash = cubes.len();
@@ -99,8 +101,8 @@ fn fitting(alloc: Global, cubes: &[Vec<Lit>]) -> Result<usize, AllocError>
 /// The fault of these cubes, of which some two clash.
 pub fn fault_of(alloc: Global, cubes: &[Vec<Lit>]) -> Result<TreeFault, AllocError>
     requires few { length cubes.now < 2 ^ 32 }
-    requires clash { AllFit (cubes_of cubes.now) → ⊥ }
-    ensures { IfOk result (IsFaultOf (cubes_of cubes.now)) }
+    requires clash { AllFit (cube_lists cubes.now) → ⊥ }
+    ensures { IfOk result (IsClashFault (cube_lists cubes.now)) }
 {
     let second = fitting(alloc, cubes)?;
     match fault_with(&cubes[..second], &cubes[second]) {
@@ -112,7 +114,7 @@ pub fn fault_of(alloc: Global, cubes: &[Vec<Lit>]) -> Result<TreeFault, AllocErr
 /// The fault that this cube makes after those before it, which fit each other.
 fn fault_with(before: &[Vec<Lit>], right: &[Lit]) -> Option<TreeFault>
     requires { length before.now < 2 ^ 32 - 1 }
-    ensures { FaultAfter result (cubes_of before.now) right.now }
+    ensures { FaultAfter result (cube_lists before.now) right.now }
 {
     let second = before.len() as u32 + 1;
     for (i, left) in before.iter().enumerate() {

@@ -2,7 +2,7 @@
 
 ghost use Rattle.std.specs.Prelude.{length, ◌<◌, ◌^◌, true, false, OnOk, ◌∷◌, ◌++◌, ◌≡◌, IfOk, IfSome, IsTrue, ◌↔◌, []};
 ghost use Rattle.std.specs.List.{All, AllByRecursion};
-ghost use Rattle.split_tree.specs.Rows.{HasVariable};
+ghost use Rattle.split_tree.specs.Inner.Nodes.{HasVariable};
 ghost use Rattle.std.specs.Option.{option_to_list};
 ghost use Rattle.split_tree.specs.SplitTree.{numbered, going, going_with, SplitsOn};
 
@@ -19,13 +19,14 @@ pub struct Ahead<'a> {
     pub literals: &'a [Lit],
 }
 
-ghost use Rattle.split_tree.specs.Clash.{cubes_of};
-ghost use Rattle.split_tree.specs.Ahead.{cubes_ahead, IsShapeAt, AreShapesOf, waiting};
+ghost use Rattle.split_tree.specs.Clash.{cube_lists};
+ghost use Rattle.split_tree.specs.Inner.Grow.{cubes_ahead, IsShapeAt, AreShapesOf, waiting};
 
 impl<'a> Ahead<'a> {
     /// The cube behind its next literal, where that has this sign.
     fn going(&self, sign: bool) -> Option<Ahead<'a>>
-        ensures { cubes_ahead (option_to_list result) ≡ going_with sign self.now.number self.now.literals.now [] }
+        ensures { cubes_ahead (option_to_list result)
+            ≡ going_with sign self.now.number self.now.literals.now [] }
     {
         match self.literals {
             [literal, rest @ ..] if literal.positive() == sign => Some(Ahead {
@@ -39,7 +40,8 @@ impl<'a> Ahead<'a> {
 
 /// Whether each of these cubes goes on with a literal of this variable.
 fn all_split_on(variable: u32, cubes: &[Ahead]) -> bool
-    ensures { IsTrue result ↔ AllByRecursion (λ c. SplitsOn variable c.literals) (cubes_ahead cubes.now) }
+    ensures { IsTrue result ↔ AllByRecursion (λ c. SplitsOn variable c.literals)
+        (cubes_ahead cubes.now) }
 {
     for cube in cubes {
         match cube.literals.first() {
@@ -96,7 +98,9 @@ fn push_branches<'a>(
     cubes: &[Ahead<'a>],
     pending: &mut Vec<Vec<Ahead<'a>>>,
 ) -> Result<(), AllocError>
-    ensures { OnOk result (waiting pending.new.items ≡ (waiting pending.old.items ++ going false (cubes_ahead cubes.now) ∷ []) ++ going true (cubes_ahead cubes.now) ∷ []) }
+    ensures { OnOk result (waiting pending.new.items
+        ≡ (waiting pending.old.items ++ going false (cubes_ahead cubes.now) ∷ [])
+        ++ going true (cubes_ahead cubes.now) ∷ []) }
 {
     pending.push(cubes_going(alloc, false, cubes)?)?;
     pending.push(cubes_going(alloc, true, cubes)?)?;
@@ -126,7 +130,7 @@ pub fn grow(alloc: Global, start: Vec<Ahead>) -> Result<Option<Vec<Shape>>, Allo
 /// The cubes of a list at the root, numbered from 1.
 pub fn at_root<'a>(alloc: Global, cubes: &'a [Vec<Lit>]) -> Result<Vec<Ahead<'a>>, AllocError>
     requires { length cubes.now < 2 ^ 32 }
-    ensures { IfOk result (λ start. cubes_ahead start.items ≡ numbered 1 (cubes_of cubes.now)) }
+    ensures { IfOk result (λ start. cubes_ahead start.items ≡ numbered 1 (cube_lists cubes.now)) }
 {
     let mut start = Vec::new(alloc);
     for (i, cube) in cubes.iter().enumerate() {

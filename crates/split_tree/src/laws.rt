@@ -1,6 +1,11 @@
 //! Laws of splitting trees. Each function does nothing: its contract is the law.
 
-ghost use Rattle.split_tree.specs.Laws.{TreeWhereAllFit, TreeIsOnlyOne, CubePathIsCube, PathsAreApart, TotalIsBounded, BranchesRefuteTheirNode};
+ghost use Rattle.split_tree.specs.Laws.{AllFitOrAClash, TreeWhereAllFit, TreeIsOnlyOne, CubePathIsCube, PathsAreApart, TotalIsBounded, BranchesRefuteTheirNode};
+
+/// All cubes of a list fit, or the list has a clash.
+pub fn all_fit_or_a_clash()
+    ensures { AllFitOrAClash }
+{}
 
 /// Some cubes have a tree exactly where all of them fit.
 pub fn tree_where_all_fit()

@@ -4,8 +4,9 @@ ghost use Rattle.std.specs.Prelude.{◌≡◌, ◌<◌, ◌^◌};
 
 use std::marker::Model;
 
-/// A node of a tree, by its place in tree order, from 0: a node stands before its branches, and the positive branch before the
-/// negative one. So the nodes under a node are a run of numbers that begins with its own, and `<` is tree order.
+/// A node of a tree, by its place in tree order, from 0: a node stands before its branches, and the
+/// positive branch before the negative one. So the nodes under a node are a run of numbers that
+/// begins with its own, and `<` is tree order.
 #[derive(Clone, Copy, PartialEq, Eq, PartialOrd, Ord, Debug)]
 pub struct NodeId {
     number: u32,

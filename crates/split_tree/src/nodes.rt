@@ -3,8 +3,9 @@
 ghost use Rattle.cnf_text.specs.Literal.{IsVariable};
 ghost use Rattle.std.specs.List.{All};
 ghost use Rattle.std.specs.Prelude.{◌≡◌, ◌+◌, ◌^◌, ◌<◌, length, IfOk};
-ghost use Rattle.split_tree.specs.SplitTree.{IsSplit, size, path_at, subtree_at, split_variable, preorder, tree_of, root_shape};
-ghost use Rattle.split_tree.specs.Rows.{HasVariable, IsBelow, StepsToward, HasBranches};
+ghost use Rattle.split_tree.specs.SplitTree.{IsSplit, size, path_at, subtree_at, split_variable};
+ghost use Rattle.split_tree.specs.Inner.Nodes.{preorder, tree_of, root_shape, HasVariable};
+ghost use Rattle.split_tree.specs.Navigation.{IsBelow, StepsToward, HasBranches};
 
 use crate::rows::ends_of;
 use crate::shape::Shape;
@@ -20,9 +21,9 @@ pub struct Nodes {
 }
 
 impl Model for Nodes {
-    ghost use Rattle.split_tree.specs.SplitTree.{SplitTree, tree_of};
-    ghost use Rattle.split_tree.specs.Rows.{IsStored};
-    ghost use Rattle.split_tree.specs.Code.{tree_code};
+    ghost use Rattle.split_tree.specs.SplitTree.{SplitTree};
+    ghost use Rattle.split_tree.specs.Inner.Nodes.{tree_of, IsStored};
+    ghost use Rattle.split_tree.specs.TreeCode.{tree_code};
 
     ghost Value = { SplitTree };
 
@@ -36,9 +37,12 @@ impl Model for Nodes {
 impl Nodes {
     /// The tree of these nodes in tree order.
     pub fn of_shapes(alloc: Global, shapes: Vec<Shape>) -> Result<Nodes, AllocError>
+        // They are the nodes of one tree, a node before its branches, and fewer than 2 ^ 32.
         requires nodes { shapes.items ≡ preorder (tree_of shapes.items) }
         requires few { length shapes.items < 2 ^ 32 }
+        // Each split is on a variable that the formats allow.
         requires variables { All HasVariable shapes.items }
+        // The value is the tree whose nodes these are.
         ensures { IfOk result (λ nodes. nodes ≡ tree_of shapes.items) }
     {
         let ends = ends_of(alloc, &shapes)?;
@@ -60,8 +64,10 @@ impl Nodes {
 
     /// The variable on which an inner node splits.
     pub fn variable_of(&self, node: usize) -> u32
+        // It is an inner node of the tree.
         requires within { node < size self.now }
         requires inner { IsSplit (subtree_at self.now node) }
+        // The answer is the variable on which it splits, which the formats allow.
         ensures value { result ≡ split_variable (subtree_at self.now node) }
         ensures range { IsVariable result }
     {

@@ -2,8 +2,7 @@
 
 ghost use Rattle.std.specs.Prelude.{ℕ, ◌≡◌, ◌≤◌, ◌+◌, ◌<◌, ◌↔◌, length, IfOk, IsTrue};
 ghost use Rattle.split_tree.specs.SplitTree.{size, total, subtree_at, depth_at};
-ghost use Rattle.split_tree.specs.Rows.{IsBelow, StepsToward, HasBranches};
-ghost use Rattle.split_tree.specs.Tables.{IsParentOf, AreTotals};
+ghost use Rattle.split_tree.specs.Navigation.{IsBelow, StepsToward, HasBranches, IsParentOf, AreTotals};
 ghost use Rattle.split_tree.specs.Leaves.{missing_nodes, cube_count, leaf_count, IsLeafAt, IsLeafOf, HasLeaf, IsTargetAt, HasTarget, IsPathOf, IsWeightOf, IsNodeOf};
 
 use crate::node::{Leaf, NodeId, Target};
@@ -60,7 +59,8 @@ impl Tree {
         }
     }
 
-    /// The branches of a node, the positive one first, or `None` for a leaf. It asks for a node of the tree.
+    /// The branches of a node, the positive one first, or `None` for a leaf. It asks for a node of
+    /// the tree.
     pub fn branches(&self, node: NodeId) -> Option<(NodeId, NodeId)>
         requires { node < size self.now }
         ensures { HasBranches self.now node result }
@@ -86,9 +86,12 @@ impl Tree {
 
     /// The node at which a leaf stands. It asks for a leaf of the tree.
     pub fn node_of_leaf(&self, leaf: Leaf) -> NodeId
+        // The tree has the leaf.
         requires { HasLeaf self.now leaf }
+        // The leaf stands at this node, and at no other.
         ensures here { IsLeafAt self.now result leaf }
         ensures only { (node : ℕ) → IsLeafAt self.now node leaf → node ≡ result }
+        // The answer is a node of the tree.
         ensures within { result < size self.now }
     {
         NodeId::new(match leaf {
@@ -97,11 +100,15 @@ impl Tree {
         })
     }
 
-    /// The node at which a target stands. It asks for a target of the tree: a leaf, or an inner node.
+    /// The node at which a target stands. It asks for a target of the tree: a leaf, or an inner
+    /// node.
     pub fn node_of_target(&self, target: Target) -> NodeId
+        // The tree has the target.
         requires { HasTarget self.now target }
+        // The target stands at this node, and at no other.
         ensures here { IsTargetAt self.now result target }
         ensures only { (node : ℕ) → IsTargetAt self.now node target → node ≡ result }
+        // The answer is a node of the tree.
         ensures within { result < size self.now }
     {
         match target {
@@ -110,7 +117,8 @@ impl Tree {
         }
     }
 
-    /// The node of which this one is a branch, or `None` for the root. It asks for a node of the tree.
+    /// The node of which this one is a branch, or `None` for the root. It asks for a node of the
+    /// tree.
     pub fn parent(&self, node: NodeId) -> Option<NodeId>
         requires { node < size self.now }
         ensures { IsParentOf self.now node result }
@@ -122,8 +130,8 @@ impl Tree {
         }
     }
 
-    /// The number behind the last node under a node: the nodes under it, itself among them, are those from its own number
-    /// up to this one. It asks for a node of the tree.
+    /// The number behind the last node under a node: the nodes under it, itself among them, are
+    /// those from its own number up to this one. It asks for a node of the tree.
     pub fn end_of(&self, node: NodeId) -> u32
         requires { node < size self.now }
         ensures { result ≡ node + size (subtree_at self.now node) }
@@ -131,7 +139,8 @@ impl Tree {
         self.nodes.end(node.index())
     }
 
-    /// The branch of a node that is, or leads to, a target below it. It asks for a target that lies below the node.
+    /// The branch of a node that is, or leads to, a target below it. It asks for a target that lies
+    /// below the node.
     pub fn toward(&self, node: NodeId, target: NodeId) -> NodeId
         requires { IsBelow self.now node target }
         ensures { StepsToward self.now node target result }
@@ -139,8 +148,8 @@ impl Tree {
         NodeId::new(self.nodes.toward(node.index(), target.index()) as u32)
     }
 
-    /// The path of a target: the literals on the way down to it from the root. It asks for a target of the tree: a leaf, or an
-    /// inner node. `AllocError` where a growth was refused.
+    /// The path of a target: the literals on the way down to it from the root. It asks for a target
+    /// of the tree: a leaf, or an inner node. `AllocError` where a growth was refused.
     pub fn path_of(&self, alloc: Global, target: Target) -> Result<Vec<Lit>, AllocError>
         requires { HasTarget self.now target }
         ensures { IfOk result (λ path. IsPathOf self.now target path.items) }
@@ -149,7 +158,8 @@ impl Tree {
         self.nodes.path_to(alloc, node.index())
     }
 
-    /// The weight of a leaf: 2 to the power 60 - d at depth d up to 60, and 1 below. It asks for a leaf of the tree.
+    /// The weight of a leaf: 2 to the power 60 - d at depth d up to 60, and 1 below. It asks for a
+    /// leaf of the tree.
     pub fn weight_of(&self, leaf: Leaf) -> u64
         requires { HasLeaf self.now leaf }
         ensures weight { IsWeightOf self.now leaf result }

@@ -1,10 +1,10 @@
 //! The tree above a cut.
 
 ghost use Rattle.std.specs.List.{All};
-ghost use Rattle.split_tree.specs.Rows.{HasVariable};
+ghost use Rattle.split_tree.specs.Inner.Nodes.{HasVariable, preorder};
 ghost use Rattle.std.specs.Prelude.{◌≡◌, ◌≤◌, ◌<◌, ◌++◌, IfOk, OnOk};
-ghost use Rattle.split_tree.specs.SplitTree.{size, subtree_at, preorder};
-ghost use Rattle.split_tree.specs.Top.{top, top_nodes};
+ghost use Rattle.split_tree.specs.SplitTree.{size, subtree_at};
+ghost use Rattle.split_tree.specs.Parts.{top, top_nodes};
 
 use crate::node::NodeId;
 use crate::nodes::Nodes;
@@ -32,10 +32,14 @@ impl Nodes {
         nodes: &mut Vec<NodeId>,
     ) -> Result<(), AllocError>
         requires { node < size self.now }
-        ensures shapes { OnOk result (shapes.new.items ≡ shapes.old.items ++ preorder (top cut (subtree_at self.now node))) }
-        ensures variables { All HasVariable shapes.old.items → OnOk result (All HasVariable shapes.new.items) }
-        ensures nodes { OnOk result (nodes.new.items ≡ nodes.old.items ++ top_nodes cut node (subtree_at self.now node)) }
+        ensures shapes { OnOk result
+            (shapes.new.items ≡ shapes.old.items ++ preorder (top cut (subtree_at self.now node))) }
+        ensures variables { All HasVariable shapes.old.items
+            → OnOk result (All HasVariable shapes.new.items) }
+        ensures nodes { OnOk result
+            (nodes.new.items ≡ nodes.old.items ++ top_nodes cut node (subtree_at self.now node)) }
     {
+        // The proof takes from this call that the tree has fewer than 2 to the power 32 nodes.
         let _few = self.size();
         nodes.push(NodeId::new(node as u32))?;
         if cut > 0 {
@@ -51,13 +55,14 @@ impl Nodes {
 }
 
 impl Tree {
-    /// The tree above a cut: the nodes at its depth and the leaves above it become missing leaves, the parts. It asks for a cut
-    /// from 0 to 6. `AllocError` where a growth was refused.
+    /// The tree above a cut: the nodes at its depth and the leaves above it become missing leaves,
+    /// the parts. It asks for a cut from 0 to 6. `AllocError` where a growth was refused.
     pub fn top(&self, alloc: Global, cut: u32) -> Result<Top, AllocError>
         requires { cut ≤ 6 }
         ensures tree { IfOk result (λ above. above.tree ≡ top cut self.now) }
         ensures nodes { IfOk result (λ above. above.nodes.items ≡ top_nodes cut 0 self.now) }
     {
+        // The proof takes from this call that the tree has fewer than 2 to the power 32 nodes.
         let _few = self.nodes.size();
         let mut shapes = Vec::new(alloc);
         let mut nodes = Vec::new(alloc);

@@ -1,6 +1,6 @@
 //! One board: a part's or the top one, before and after findings and verdicts are posted on it.
 ghost use Rattle.std.specs.Prelude.{◌≡◌, ◌≤◌, IfSome};
-ghost use Rattle.mark_board.specs.BoardPosts.{IsPostedOn};
+ghost use Rattle.mark_board.specs.Posting.{IsPostedOn};
 ghost use Rattle.mark_board.specs.declared.place.Place.TheVariants.{Top};
 
 use crate::cases::{case, finding_of};

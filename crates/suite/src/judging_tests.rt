@@ -16,6 +16,18 @@ type Proof = (&'static [i32], &'static str, Option<(u64, Reason)>);
 /// A tautology, and clauses that repeat literals and have no model together.
 pub const REPEATED: &[&[i32]] = &[&[1, -1], &[1, 2, 2], &[-1, 3], &[-2, 3, 3], &[-3]];
 
+/// The four clauses over two variables, and again over two others.
+const EIGHT: &[&[i32]] = &[
+    &[1, 2],
+    &[1, -2],
+    &[-1, 2],
+    &[-1, -2],
+    &[11, 12],
+    &[11, -12],
+    &[-11, 12],
+    &[-11, -12],
+];
+
 /// A formula with an empty clause.
 const WITH_EMPTY: &[&[i32]] = &[&[1], &[]];
 
@@ -122,6 +134,50 @@ const MANY_GROUPS: &[Proof] = &[
     (&[], nine!("-14 1 2 0"), Some((11, Reason::End))),
     (&[], nine!("-99 1 2 0"), Some((10, Reason::Candidate))),
     (&[], nine!("0"), Some((10, Reason::Candidate))),
+    (&[], nine!("-6 1 2 0"), Some((10, Reason::Candidate))),
+    (&[], nine!("-14 1 2 -6 1 0"), Some((10, Reason::Group))),
+    (&[], nine!("-14 1 2 -6 99 0"), Some((10, Reason::Hint))),
+    (&[], nine!("-14 1 2 -1 99 -1 99 0"), Some((11, Reason::End))),
+];
+
+/// Lemmas that are put in anew, with other literals, under ids for which a group is or isn't
+/// needed, over the four clauses.
+const PUT_IN_ANEW: &[Proof] = &[
+    (
+        &[],
+        "5 3 1 0 0\n6 3 1 4 0 0\n0 d 5 0\n5 3 1 5 0 0\n7 -3 0 -5 1 2 -6 1 2 0\n",
+        Some((6, Reason::End)),
+    ),
+    (
+        &[],
+        "5 3 1 0 0\n6 3 1 4 0 0\n0 d 5 0\n5 3 1 5 0 0\n7 -3 0 -5 1 2 0\n",
+        Some((5, Reason::Candidate)),
+    ),
+    (
+        &[],
+        "5 3 1 0 0\n6 3 1 4 0 0\n0 d 5 0\n5 3 1 5 0 0\n7 -3 0 -6 1 2 0\n",
+        Some((5, Reason::Candidate)),
+    ),
+    (
+        &[],
+        "5 3 -3 0 0\n0 d 5 0\n5 3 1 0 0\n6 -3 0 0\n",
+        Some((4, Reason::Candidate)),
+    ),
+    (
+        &[],
+        "5 3 -3 0 0\n0 d 5 0\n5 3 1 0 0\n6 -3 0 -5 1 2 0\n",
+        Some((5, Reason::End)),
+    ),
+    (
+        &[],
+        "5 3 1 0 0\n0 d 5 0\n5 3 -3 0 0\n6 -3 0 0\n",
+        Some((5, Reason::End)),
+    ),
+    (
+        &[],
+        "0 d 3 0\n3 5 -5 0 0\n6 5 0 -3 99 0\n",
+        Some((4, Reason::End)),
+    ),
 ];
 
 /// Clauses of the formula, of the path and of the proof deleted, and their ids used again, over the
@@ -258,6 +314,44 @@ const REPEATING: &[Proof] = &[
     (&[3], "7 3 2 0 0\n", Some((1, Reason::Candidate))),
     (&[3], "0 d 5 0\n7 3 0 0\n", Some((3, Reason::End))),
     (&[3], "0 d 5 0\n5 -3 0 0\n", Some((2, Reason::Candidate))),
+    (
+        &[],
+        "0 d 1 0\n1 4 -1 0 0\n6 1 0 -3 2 4 0\n",
+        Some((3, Reason::Candidate)),
+    ),
+    (
+        &[],
+        "0 d 1 0\n1 4 -1 0 0\n6 1 0 -3 2 4 -1 2 4 5 0\n",
+        Some((4, Reason::End)),
+    ),
+    (
+        &[],
+        "0 d 3 0\n3 -1 1 0 0\n6 1 0 0\n",
+        Some((4, Reason::End)),
+    ),
+];
+
+/// A tautology and another clause, each of more than eight literals.
+const LONG: &[&[i32]] = &[
+    &[1, 2, 3, 4, 5, 6, 7, 8, 9, -1],
+    &[1, 2, 3, 4, 5, 6, 7, 8, 10],
+];
+
+/// Long candidates, some of them tautologies.
+const LONG_CANDIDATES: &[Proof] = &[
+    (&[], "3 -9 0 0\n", Some((2, Reason::End))),
+    (&[], "3 -9 0 -1 99 0\n", Some((2, Reason::End))),
+    (&[], "3 -10 0 0\n", Some((1, Reason::Candidate))),
+    (
+        &[],
+        "0 d 1 0\n1 9 2 0 0\n3 -9 0 0\n",
+        Some((3, Reason::Candidate)),
+    ),
+    (
+        &[],
+        "0 d 2 0\n2 10 1 2 3 4 5 6 7 8 -2 0 0\n3 -10 0 0\n",
+        Some((4, Reason::End)),
+    ),
 ];
 
 /// A formula with an empty clause is refuted before the first step.
@@ -290,6 +384,42 @@ const NO_CLAUSE: &[Proof] = &[
         &[],
         "1 268435456 0 0\n2 -268435455 0 -1 1 0\n",
         Some((1, Reason::Unreadable)),
+    ),
+];
+
+/// Over the eight clauses: proofs that delete some of them, others of them, and need those; and candidates among a
+/// proof's own clauses, over one variable and then over another.
+const TWICE_FOUR: &[Proof] = &[
+    (&[], "9 11 0 5 6 0\n10 0 9 7 8 0\n", None),
+    (&[], "0 d 5 6 7 8 0\n9 1 0 1 2 0\n10 0 9 3 4 0\n", None),
+    (&[], "0 d 1 2 0\n9 11 0 5 6 0\n10 0 9 7 8 0\n", None),
+    (
+        &[],
+        "0 d 8 0\n9 11 0 5 6 0\n10 0 9 7 8 0\n",
+        Some((3, Reason::Hint)),
+    ),
+    (&[1], "0 d 1 9 0\n10 0 3 4 0\n", Some((2, Reason::Unit))),
+    (
+        &[],
+        "9 -13 11 0 0\n10 13 0 -9 5 6 0\n",
+        Some((3, Reason::End)),
+    ),
+    (&[], "9 -3 1 0 0\n10 3 0 -9 1 2 0\n", Some((3, Reason::End))),
+    (
+        &[],
+        "9 -13 11 0 0\n10 13 0 0\n",
+        Some((2, Reason::Candidate)),
+    ),
+    (&[], "9 -3 11 0 0\n10 13 0 0\n", Some((3, Reason::End))),
+    (
+        &[],
+        "9 -268435455 11 0 0\n10 268435455 0 -9 5 6 0\n",
+        Some((3, Reason::End)),
+    ),
+    (
+        &[],
+        "9 -268435455 11 0 0\n10 268435455 0 0\n",
+        Some((2, Reason::Candidate)),
     ),
 ];
 
@@ -413,30 +543,85 @@ fn first_wrong_owned(
 /// Clauses, and proofs over them.
 type Table = (&'static [&'static [i32]], &'static [Proof]);
 
-const TABLES: &[Table] = &[
+/// The tables over the four clauses.
+const TABLES_OF_FOUR: &[Table] = &[
     (FOUR, ADDITIONS),
     (FOUR, GROUPS),
     (FOUR, MANY_GROUPS),
+    (FOUR, PUT_IN_ANEW),
     (FOUR, DELETIONS),
     (FOUR, READING),
+];
+
+/// The tables over other formulas.
+const OTHER_TABLES: &[Table] = &[
+    (EIGHT, TWICE_FOUR),
     (REPEATED, REPEATING),
+    (LONG, LONG_CANDIDATES),
     (WITH_EMPTY, REFUTED_AT_ONCE),
     (EMPTY_ALONE, REFUTED_ALONE),
     (&[], NO_CLAUSE),
 ];
 
-#[test]
-fn expected_of_every_judge(rt: HostRuntime) {
-    for (clauses, proofs) in TABLES {
-        assert_eq!(rt; first_wrong_lent(&rt, rt.alloc(), clauses, proofs), None);
+/// The first proof of some tables that a judge doesn't judge as expected.
+fn first_wrong_of(rt: &impl Abort, alloc: Global, tables: &[Table]) -> Option<&'static str> {
+    for (clauses, proofs) in tables {
+        let wrong = first_wrong_lent(rt, alloc, clauses, proofs);
+        if wrong.is_some() {
+            return wrong;
+        }
     }
+    None
+}
+
+/// The same of the judge alone, on a scratch.
+fn first_wrong_of_on(
+    rt: &impl Abort,
+    alloc: Global,
+    scratch: &mut Scratch,
+    tables: &[Table],
+) -> Option<&'static str> {
+    for (clauses, proofs) in tables {
+        let wrong = first_wrong_on(rt, alloc, scratch, clauses, proofs);
+        if wrong.is_some() {
+            return wrong;
+        }
+    }
+    None
 }
 
 #[test]
+fn expected_of_every_judge(rt: HostRuntime) {
+    let wrong = first_wrong_of(&rt, rt.alloc(), TABLES_OF_FOUR);
+    assert_eq!(rt; wrong, None);
+}
+
+#[test]
+fn expected_of_every_judge_elsewhere(rt: HostRuntime) {
+    let wrong = first_wrong_of(&rt, rt.alloc(), OTHER_TABLES);
+    assert_eq!(rt; wrong, None);
+}
+
+/// The first proof of all tables, one after another, that isn't judged as expected.
+fn judged_in_turn(rt: &impl Abort, alloc: Global, scratch: &mut Scratch) -> Option<&'static str> {
+    let wrong = first_wrong_of_on(rt, alloc, scratch, TABLES_OF_FOUR);
+    if wrong.is_some() {
+        return wrong;
+    }
+    others_in_turn(rt, alloc, scratch)
+}
+
+/// The same of the tables over other formulas.
+fn others_in_turn(rt: &impl Abort, alloc: Global, scratch: &mut Scratch) -> Option<&'static str> {
+    first_wrong_of_on(rt, alloc, scratch, OTHER_TABLES)
+}
+
+/// In two rounds, so that each formula follows a longer one or a shorter one.
+#[test]
 fn expected_on_one_scratch(rt: HostRuntime) {
     let mut scratch = Scratch::new(rt.alloc());
-    for (clauses, proofs) in TABLES {
-        let wrong = first_wrong_on(&rt, rt.alloc(), &mut scratch, clauses, proofs);
+    for _ in 0..2 {
+        let wrong = judged_in_turn(&rt, rt.alloc(), &mut scratch);
         assert_eq!(rt; wrong, None);
     }
 }

@@ -1,7 +1,7 @@
 //! Literals, cubes and formulas from numbers. Where one of them can't be made, the test ends.
 ghost use Rattle.std.specs.Prelude.{◌≡◌, IsTrue, map};
 ghost use Rattle.cnf_text.specs.Literal.{literal_of};
-ghost use Rattle.split_tree.specs.Clash.{cubes_of};
+ghost use Rattle.split_tree.specs.Clash.{cube_lists};
 
 use cnf_text::formula::{Clause, Formula};
 use cnf_text::literal::Lit;
@@ -22,7 +22,7 @@ pub fn lits(rt: &impl Abort, alloc: Global, numbers: &[i32]) -> Vec<Lit>
 
 /// The cubes of these lists of numbers.
 pub fn cubes(rt: &impl Abort, alloc: Global, lists: &[&[i32]]) -> Vec<Vec<Lit>>
-    ensures { cubes_of result.items ≡ map (λ numbers. map literal_of numbers.now) lists.now }
+    ensures { cube_lists result.items ≡ map (λ numbers. map literal_of numbers.now) lists.now }
 {
     let mut cubes = Vec::new(alloc);
     for numbers in lists {

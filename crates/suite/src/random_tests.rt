@@ -252,6 +252,14 @@ fn count(tally: &mut Tally, judged: Judged) {
     *counter = counter.saturating_add(1);
 }
 
+/// What the trials draw from, judge on and are counted in.
+#[derive(Drop)]
+struct Trials {
+    random: Generator,
+    scratch: Scratch,
+    tally: Tally,
+}
+
 /// A text, how long it was before its last step, and the length after which a proof is begun anew.
 type Growing<'t> = (&'t mut Vec<u8>, usize, usize);
 
@@ -291,17 +299,16 @@ fn differences(
     base: &Base,
     path: &[Lit],
     given: &[&'static [u8]; 16],
-    random: &mut Generator,
-    tally: &mut Tally,
+    trials: &mut Trials,
 ) -> u32 {
     let mut text = Vec::new(alloc);
-    let mut scratch = Scratch::new(alloc);
     let mut differ = 0u32;
     for _ in 0..TRIES {
         let before = text.len();
-        push_step(random, &mut text, given).expect(rt, "memory");
+        push_step(&mut trials.random, &mut text, given).expect(rt, "memory");
         let growing = (&mut text, before, LONGEST);
-        if !agree(rt, alloc, &mut scratch, base, path, growing, tally) {
+        let (scratch, tally) = (&mut trials.scratch, &mut trials.tally);
+        if !agree(rt, alloc, scratch, base, path, growing, tally) {
             differ = differ.saturating_add(1);
         }
     }
@@ -316,13 +323,12 @@ fn differences_over(
     alloc: Global,
     base: &Base,
     given: &[&'static [u8]; 16],
-    random: &mut Generator,
-    tally: &mut Tally,
+    trials: &mut Trials,
 ) -> u32 {
     let mut differ = 0u32;
     for numbers in PATHS {
         let path = lits(rt, alloc, numbers);
-        let more = differences(rt, alloc, base, &path, given, random, tally);
+        let more = differences(rt, alloc, base, &path, given, trials);
         differ = differ.saturating_add(more);
     }
     differ
@@ -334,12 +340,11 @@ fn differences_of(
     alloc: Global,
     clauses: &[&[i32]],
     given: &[&'static [u8]; 16],
-    random: &mut Generator,
-    tally: &mut Tally,
+    trials: &mut Trials,
 ) -> u32 {
     let formula = formula(rt, alloc, clauses);
     let base = Base::new(alloc, &formula).expect(rt, "memory");
-    differences_over(rt, alloc, &base, given, random, tally)
+    differences_over(rt, alloc, &base, given, trials)
 }
 
 const NOTHING_YET: Tally = Tally {
@@ -369,14 +374,21 @@ const FORMULAS: &[Given] = &[
     (PAIRS, &PAIRS_STEPS),
 ];
 
+/// On one scratch for all formulas, in two rounds, so that each follows a longer one or a shorter one.
 #[test]
 fn both_judges_agree(rt: HostRuntime) {
-    let mut random = Generator { state: 22 };
-    let mut tally = NOTHING_YET;
-    for (clauses, given) in FORMULAS {
-        let differ = differences_of(&rt, rt.alloc(), clauses, given, &mut random, &mut tally);
-        assert_eq!(rt; differ, 0);
+    let mut trials = Trials {
+        random: Generator { state: 22 },
+        scratch: Scratch::new(rt.alloc()),
+        tally: NOTHING_YET,
+    };
+    for _ in 0..2 {
+        for (clauses, given) in FORMULAS {
+            let differ = differences_of(&rt, rt.alloc(), clauses, given, &mut trials);
+            assert_eq!(rt; differ, 0);
+        }
     }
+    let tally = trials.tally;
     assert!(rt; least(tally) > 0, "{tally:?}");
 }
 

@@ -1,9 +1,9 @@
 //! Lists of cubes: their clashes, and what is asked of their trees.
 ghost use Rattle.std.specs.Prelude.{◌≡◌, ◌≤◌, true, length, map, IfOk};
 ghost use Rattle.std.specs.List.{AllByRecursion};
-ghost use Rattle.cnf_text.specs.Icnf.{total as literal_count};
+ghost use Rattle.cnf_text.specs.Icnf.{literal_count};
 ghost use Rattle.cnf_text.specs.Literal.{literal_of};
-ghost use Rattle.split_tree.specs.Clash.{cubes_of as all_of};
+ghost use Rattle.split_tree.specs.Clash.{cube_lists as all_of};
 ghost use Rattle.split_tree.specs.SplitTree.{IsTreeOf, numbered};
 
 use crate::literals::{are_lits, cubes, lits};

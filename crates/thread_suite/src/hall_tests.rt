@@ -2,8 +2,8 @@
 ghost use Rattle.std.specs.Prelude.{◌≡◌, ◌≤◌, [], ◌∷◌, None, Some, All};
 ghost use Rattle.split_tree.specs.Leaves.{HasTarget};
 ghost use Rattle.mark_board.specs.Board.{IsPlace};
-ghost use Rattle.mark_board.specs.Places.{part_count};
-ghost use Rattle.mark_board.specs.Shown.{verdict_of};
+ghost use Rattle.mark_board.specs.TopPlaces.{part_count};
+ghost use Rattle.mark_board.specs.VerdictOf.{verdict_of};
 ghost use Rattle.board_hall.specs.Clauses.{IsVerdictOf};
 ghost use Rattle.board_hall.specs.Halls.{hall_of, core_of, view_of, IsPassOf, IsNewPass};
 ghost use Rattle.board_hall.specs.Terms.{cut_case};

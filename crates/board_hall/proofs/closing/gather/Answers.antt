@@ -1,7 +1,7 @@
 use Rattle.std.proofs.Common.{rules, ◌≡◌, All, None, List, [], ◌∷◌, ◌++◌, ◌∙◌, subst}
 use Rattle.board_hall.specs.declared.pass.Pass.{Pass}
 use Rattle.board_hall.specs.Halls.{view_of}
-use Rattle.board_hall.proofs.Closings.{gathered_more, moved_over, all_front}
+use Rattle.board_hall.proofs.ClosingBoards.{gathered_more, moved_over, all_front}
 use Rattle.board_hall.proofs.closing.gather.Goals as goal
 
 pub loop-pass-preserved : goal.loop-pass-preserved

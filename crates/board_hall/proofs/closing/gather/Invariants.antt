@@ -1,7 +1,7 @@
 use Rattle.std.proofs.Common.{◌≡◌, ◌++◌, List, All, None, length, vec_len}
 use Rattle.board_hall.specs.declared.pass.Pass.{Pass}
 use Rattle.board_hall.specs.Halls.{view_of}
-use Rattle.board_hall.specs.Held.{Gathered}
+use Rattle.board_hall.specs.Inner.Held.{Gathered}
 use Rattle.board_hall.proofs.closing.gather.Given as goal
 
 abbrev pub ghosts-meet : goal.ghosts-meet

@@ -1,4 +1,4 @@
-use Rattle.bundle_files.proofs.Sections.{both_kinds}
+use Rattle.bundle_files.proofs.FilesSections.{both_kinds}
 use Rattle.bundle_files.proofs.folder.add_proofs.Goals as goal
 
 pub returns-clause-whole : goal.returns-clause-whole

@@ -1,5 +1,5 @@
 use Rattle.std.proofs.Common.{rules, ◌∙◌}
-use Rattle.bundle_files.proofs.Sections.{one_added, one_missing}
+use Rattle.bundle_files.proofs.FilesSections.{one_added, one_missing}
 use Rattle.bundle_files.proofs.folder.add_section.Goals as goal
 
 pub returns-then-branch-clause-added : goal.returns-then-branch-clause-added

@@ -1,5 +1,5 @@
 use Rattle.std.proofs.Common.{rules, ◌≡◌, ◌+◌, ◌++◌, decimal}
-use Rattle.bundle_files.proofs.Sections.{one_further}
+use Rattle.bundle_files.proofs.FilesSections.{one_further}
 use Rattle.bundle_files.proofs.folder.add_sections.Goals as goal
 
 pub loop-done-preserved : goal.loop-done-preserved

@@ -1,6 +1,6 @@
 use Rattle.std.proofs.Common.{refl}
-use Rattle.case_core.proofs.Cuts.{nothing_cut, one_line_more, last_line_front, last_line_labels, front_found, label_found}
-use Rattle.case_core.proofs.Letters.{plain_cut, plain_rest}
+use Rattle.case_core.proofs.BundleCuts.{nothing_cut, one_line_more, last_line_front, last_line_labels, front_found, label_found}
+use Rattle.case_core.proofs.BundleLetters.{plain_cut, plain_rest}
 use Rattle.case_core.proofs.bundle.cut.Goals as goal
 
 pub lines-init : goal.lines-init

@@ -1,5 +1,5 @@
 use Rattle.std.proofs.Common.{length}
-use Rattle.case_core.proofs.Cuts.{CutOff}
+use Rattle.case_core.proofs.BundleCuts.{CutOff}
 use Rattle.case_core.proofs.bundle.cut.Given as goal
 
 abbrev pub invariant-lines : goal.invariant-lines

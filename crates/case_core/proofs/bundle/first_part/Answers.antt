@@ -1,4 +1,4 @@
-use Rattle.case_core.proofs.Reading.{last_part, next_part, next_shorter}
+use Rattle.case_core.proofs.SectionsReading.{last_part, next_part, next_shorter}
 use Rattle.case_core.proofs.bundle.first_part.Goals as goal
 
 pub returns-in_default-clause-labels : goal.returns-in_default-clause-labels

@@ -1,5 +1,5 @@
 use Rattle.std.proofs.Common.{refl}
-use Rattle.case_core.proofs.Cuts.{line_number}
+use Rattle.case_core.proofs.BundleCuts.{line_number}
 use Rattle.case_core.proofs.bundle.line_at.Goals as goal
 
 pub returns : goal.returns

@@ -1,4 +1,4 @@
-use Rattle.case_core.proofs.Letters.{letter_found}
+use Rattle.case_core.proofs.BundleLetters.{letter_found}
 use Rattle.case_core.proofs.bundle.line_of_letter.Goals.{in-Some, in-None}
 use Rattle.case_core.proofs.bundle.line_of_letter.Goals as goal
 

@@ -1,7 +1,7 @@
 use Rattle.std.proofs.Common.{◌≢◌, List, ℕ, subst}
 use Rattle.case_core.specs.declared.fault.CaseFault.TheVariants.{Memory}
 use Rattle.case_core.specs.Sections.{IsFaultOf}
-use Rattle.case_core.proofs.Unique.{handed_on}
+use Rattle.case_core.proofs.SectionsUniqueCase.{handed_on}
 use Rattle.case_core.proofs.bundle.read_case.Goals as goal
 
 pub returns-in_err-formula-clause-err : goal.returns-in_err-formula-clause-err

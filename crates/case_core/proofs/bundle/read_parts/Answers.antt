@@ -3,7 +3,7 @@ use Rattle.cnf_text.specs.Icnf.{IsTextFault, StandsFor}
 use Rattle.case_core.specs.declared.fault.CaseFault.TheVariants.{Memory}
 use Rattle.case_core.specs.Faults.{of_text}
 use Rattle.case_core.specs.Sections.{IsFaultOf, InText, InCubes, InLabels}
-use Rattle.case_core.proofs.Unique.{handed_on}
+use Rattle.case_core.proofs.SectionsUniqueCase.{handed_on}
 use Rattle.case_core.proofs.bundle.read_parts.Goals as goal
 
 pub returns-in_err-file-clause-err : goal.returns-in_err-file-clause-err

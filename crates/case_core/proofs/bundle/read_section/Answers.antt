@@ -1,4 +1,4 @@
-use Rattle.case_core.proofs.Reading.{read_on}
+use Rattle.case_core.proofs.SectionsReading.{read_on}
 use Rattle.case_core.proofs.bundle.read_section.Goals as goal
 
 pub returns-in-Ok-clause-ok : goal.returns-in-Ok-clause-ok

@@ -1,7 +1,7 @@
 use Rattle.std.proofs.Common.{List, map, sym, ap, subst}
 use Rattle.case_core.specs.Case.{SectionOf, section_in}
-use Rattle.case_core.specs.Kept.{AreKept}
-use Rattle.case_core.proofs.Reading.{nothing_read}
+use Rattle.case_core.specs.Inner.Sections.{AreKept}
+use Rattle.case_core.proofs.SectionsReading.{nothing_read}
 use Rattle.case_core.proofs.bundle.read_sections.Goals as goal
 
 pub loop-next-init : goal.loop-next-init

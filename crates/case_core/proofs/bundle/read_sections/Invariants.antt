@@ -1,7 +1,7 @@
 use Rattle.std.proofs.Common.{ℕ, ◌+◌, List, map, length, MatchOption, Option, Bor, None, Some}
 use Rattle.case_core.specs.Case.{section_in}
 use Rattle.case_core.specs.Bundle.{labels_of}
-use Rattle.case_core.specs.Kept.{AreKept, LabelAt}
+use Rattle.case_core.specs.Inner.Sections.{AreKept, LabelAt}
 use Rattle.case_core.specs.Sections.{AreSectionsOf}
 use Rattle.case_core.proofs.bundle.read_sections.Given as goal
 

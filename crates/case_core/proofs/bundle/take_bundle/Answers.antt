@@ -1,4 +1,4 @@
-use Rattle.case_core.proofs.Unique.{read_only}
+use Rattle.case_core.proofs.SectionsUniqueCase.{read_only}
 use Rattle.case_core.proofs.bundle.take_bundle.Goals as goal
 
 pub returns-clause-only : goal.returns-clause-only

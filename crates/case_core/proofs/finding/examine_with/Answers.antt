@@ -1,5 +1,5 @@
 use Rattle.std.proofs.Common.{refl}
-use Rattle.case_core.proofs.Findings.{stands_there, found_of, only_there}
+use Rattle.case_core.proofs.FindingUnique.{stands_there, found_of, only_there}
 use Rattle.case_core.proofs.finding.examine_with.Goals as goal
 
 pub invariant_of-result : goal.invariant_of-result

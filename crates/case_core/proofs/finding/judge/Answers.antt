@@ -2,7 +2,7 @@ use Rattle.std.proofs.Common.{ap, ◌∙◌, subst}
 use Rattle.hint_check.specs.Live.{start}
 use Rattle.split_tree.specs.SplitTree.{SplitTree}
 use Rattle.split_tree.specs.Leaves.{IsPathOf}
-use Rattle.case_core.proofs.Findings.{is_judged}
+use Rattle.case_core.proofs.FindingUnique.{is_judged}
 use Rattle.case_core.proofs.finding.judge.Goals as goal
 
 pub returns : goal.returns

@@ -1,4 +1,4 @@
-use Rattle.case_core.proofs.Findings.{is_found}
+use Rattle.case_core.proofs.FindingUnique.{is_found}
 use Rattle.case_core.proofs.finding.judged_in.Goals as goal
 
 pub returns : goal.returns

@@ -1,6 +1,6 @@
 use Rattle.std.proofs.Common.{Some, sym, ◌∙◌, ap, arith}
 use Rattle.std.proofs.lemmas.Bool.{iff_false}
-use Rattle.case_core.proofs.Labels.{no_great_cube, no_cube, at_least}
+use Rattle.case_core.proofs.LabelNames.{no_great_cube, no_cube, at_least}
 use Rattle.case_core.proofs.label.cube_named.Goals as goal
 
 pub returns-in_default-try_from-clause-err : goal.returns-in_default-try_from-clause-err

@@ -1,6 +1,6 @@
 use Rattle.std.proofs.Common.{sym, ◌∙◌, arith}
 use Rattle.std.proofs.lemmas.Bool.{eqb-true, eqb-false}
-use Rattle.case_core.proofs.Labels.{minus_first, digits_read, no_digits, nothing_first, some_bytes}
+use Rattle.case_core.proofs.LabelNames.{minus_first, digits_read, no_digits, nothing_first, some_bytes}
 use Rattle.case_core.proofs.label.digits_value.Goals as goal
 use Rattle.case_core.proofs.label.digits_value.Goals.{else-not-is_empty-via-then-not-is_empty+else-word-eq45, else-not-is_empty-via-else-not-is_empty}
 

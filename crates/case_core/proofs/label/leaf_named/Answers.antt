@@ -1,7 +1,7 @@
 use Rattle.std.proofs.Common.{sym, ◌∙◌, arith}
 use Rattle.std.proofs.lemmas.Bool.{eqb-true}
 use Rattle.std.proofs.lemmas.List.{take_rest}
-use Rattle.case_core.proofs.Labels.{leaf_missing, leaf_cube, nothing_first}
+use Rattle.case_core.proofs.LabelNames.{leaf_missing, leaf_cube, nothing_first}
 use Rattle.case_core.proofs.label.leaf_named.Goals as goal
 use Rattle.case_core.proofs.label.leaf_named.Goals.{else-not-is_empty-via-then-not-is_empty+else-word-eq109, else-not-is_empty-via-else-not-is_empty}
 

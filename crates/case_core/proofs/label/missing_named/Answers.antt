@@ -1,6 +1,6 @@
 use Rattle.std.proofs.Common.{sym, ◌∙◌, arith}
 use Rattle.std.proofs.lemmas.Bool.{iff_false}
-use Rattle.case_core.proofs.Labels.{no_great_missing, no_missing}
+use Rattle.case_core.proofs.LabelNames.{no_great_missing, no_missing}
 use Rattle.case_core.proofs.label.missing_named.Goals as goal
 
 pub returns-then-value-from-clause-err : goal.returns-then-value-from-clause-err

@@ -1,7 +1,7 @@
 use Rattle.std.proofs.Common.{List, None, subst}
 use Rattle.cnf_text.specs.Literal.{Literal}
 use Rattle.split_tree.specs.Leaves.{IsNodeOf}
-use Rattle.case_core.proofs.Labels.{no_node_in_range, no_node}
+use Rattle.case_core.proofs.LabelNames.{no_node_in_range, no_node}
 use Rattle.case_core.proofs.label.node_named.Goals as goal
 
 pub returns-in_default-clause-err : goal.returns-in_default-clause-err

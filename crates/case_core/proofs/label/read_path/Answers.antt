@@ -1,6 +1,6 @@
 use Rattle.std.proofs.Common.{[], ◌∷◌, ◌++◌, sym, ◌∙◌, ap, arith}
-use Rattle.cnf_text.proofs.Digits.{large_number, other_symbol}
-use Rattle.case_core.proofs.Labels.{literal_read, large_read, first_symbol, small_number}
+use Rattle.cnf_text.proofs.NumbersDigits.{large_number, other_symbol}
+use Rattle.case_core.proofs.LabelNames.{literal_read, large_read, first_symbol, small_number}
 use Rattle.case_core.proofs.label.read_path.Goals as goal
 
 pub loop-word-preserved-then-number-from : goal.loop-word-preserved-then-number-from

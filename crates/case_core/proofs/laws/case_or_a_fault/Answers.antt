@@ -1,4 +1,4 @@
-use Rattle.case_core.proofs.Unique.{case_or_fault as law}
+use Rattle.case_core.proofs.SectionsTotal.{case_or_a_fault as law}
 use Rattle.case_core.proofs.laws.case_or_a_fault.Goals as goal
 
 pub returns : goal.returns

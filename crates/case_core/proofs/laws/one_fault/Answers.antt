@@ -1,4 +1,4 @@
-use Rattle.case_core.proofs.Faults.{one_fault as law}
+use Rattle.case_core.proofs.SectionsUniqueFault.{one_fault as law}
 use Rattle.case_core.proofs.laws.one_fault.Goals as goal
 
 pub returns : goal.returns

@@ -6,8 +6,8 @@ use Rattle.cube_jobs.specs.Jobs.{claims_of}
 use Rattle.mark_board.specs.Findings.{AreFindings}
 use Rattle.board_hall.specs.declared.view.CutCase.{CutCase}
 use Rattle.board_hall.specs.Halls.{HallOf, IsPassOf, hall_of}
-use Rattle.check_crew.specs.Order.{IsOrder}
-use Rattle.check_crew.proofs.Found.{are_findings, sections_seen, some_found_empty, both_true}
+use Rattle.check_crew.specs.Inner.Order.{IsOrder}
+use Rattle.check_crew.proofs.SeenFindings.{are_findings, sections_seen, some_found_empty, both_true}
 use Rattle.check_crew.proofs.crew.conquer.Goals as goal
 
 pub unreachable-requires : goal.unreachable-requires

@@ -4,8 +4,8 @@ use Rattle.cube_jobs.specs.Jobs as queue
 use Rattle.cube_jobs.specs.Jobs.{JobPassOf}
 use Rattle.board_hall.specs.declared.pass.Pass.{Pass}
 use Rattle.board_hall.specs.Halls.{shared_of, view_of, IsPassOf}
-use Rattle.check_crew.specs.Shifts.{IsShiftOf}
-use Rattle.check_crew.proofs.Found.{claims_more}
+use Rattle.check_crew.specs.Inner.Crew.{IsShiftOf}
+use Rattle.check_crew.proofs.SeenFindings.{claims_more}
 use Rattle.check_crew.proofs.crew.hand_in.Goals as goal
 
 pub loop-shift-preserved : goal.loop-shift-preserved

@@ -4,7 +4,7 @@ use Rattle.cube_jobs.specs.Jobs as queue
 use Rattle.cube_jobs.specs.Jobs.{JobPassOf}
 use Rattle.board_hall.specs.declared.pass.Pass.{Pass}
 use Rattle.board_hall.specs.Halls.{shared_of, view_of, IsPassOf}
-use Rattle.check_crew.specs.Shifts.{IsShiftOf, HaveSeenClaims}
+use Rattle.check_crew.specs.Inner.Crew.{IsShiftOf, HaveSeenClaims}
 use Rattle.check_crew.proofs.crew.hand_in.Given as goal
 
 abbrev pub invariant-loop-shift : goal.invariant-loop-shift

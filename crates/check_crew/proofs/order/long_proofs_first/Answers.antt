@@ -1,7 +1,7 @@
 use Rattle.std.proofs.Common.{length, refl, arith}
 use Rattle.std.proofs.lemmas.Iterator.{items_from_collect, YieldsList-from_range}
-use Rattle.check_crew.proofs.Orders.{sorted_order}
-use Rattle.check_crew.proofs.Places.{as_many}
+use Rattle.check_crew.proofs.OrderPlaces.{sorted_order}
+use Rattle.check_crew.proofs.SeenSections.{as_many}
 use Rattle.check_crew.proofs.order.long_proofs_first.Goals as goal
 
 pub returns : goal.returns

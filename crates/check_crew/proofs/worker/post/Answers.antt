@@ -1,5 +1,5 @@
 use Rattle.board_hall.specs.Halls.{core_of, view_of}
-use Rattle.check_crew.proofs.Turns.{seen_stays, posted_seen}
+use Rattle.check_crew.proofs.SeenTurns.{seen_stays, posted_seen}
 use Rattle.check_crew.proofs.worker.post.Goals as goal
 
 pub returns-in-RootMarked-clause-seen : goal.returns-in-RootMarked-clause-seen

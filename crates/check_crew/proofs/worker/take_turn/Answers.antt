@@ -1,9 +1,9 @@
 use Rattle.std.proofs.Common.{◌≡◌, sym, ◌∙◌, ap}
-use Rattle.mark_board.proofs.Gathered.{target_inside}
+use Rattle.mark_board.proofs.BoardsGathered.{target_inside}
 use Rattle.board_hall.specs.declared.view.CutCase.{CutCase}
 use Rattle.board_hall.specs.Halls.{core_of, view_of}
-use Rattle.check_crew.proofs.Places.{section_here}
-use Rattle.check_crew.proofs.Turns.{seen_stays, section_seen, told}
+use Rattle.check_crew.proofs.SeenSections.{section_here}
+use Rattle.check_crew.proofs.SeenTurns.{seen_stays, section_seen, told}
 use Rattle.check_crew.proofs.worker.take_turn.Goals as goal
 
 pub examine_with-requires : goal.examine_with-requires

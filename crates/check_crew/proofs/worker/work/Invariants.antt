@@ -1,7 +1,7 @@
 use Rattle.std.proofs.Common.{◌≡◌, None, All}
 use Rattle.cube_jobs.specs.Jobs as queue
 use Rattle.board_hall.specs.Halls.{shared_of, view_of, IsPassOf}
-use Rattle.check_crew.specs.Seen.{HasSeenTurn}
+use Rattle.check_crew.specs.Inner.Crew.{HasSeenTurn}
 use Rattle.check_crew.proofs.worker.work.Given as goal
 
 abbrev pub invariant-loop : goal.invariant-loop

@@ -1,5 +1,5 @@
 use Rattle.std.proofs.Common.{refl, sym, ◌∙◌}
-use Rattle.cnf_text.proofs.Digits.{no_digits, digits_more, digits_step}
+use Rattle.cnf_text.proofs.NumbersDigits.{no_digits, digits_more, digits_step}
 use Rattle.cnf_text.proofs.numbers.digits_at_front.Goals as goal
 
 pub loop-index-init : goal.loop-index-init

@@ -1,6 +1,6 @@
 use Rattle.std.proofs.Common.{refl, arith}
 use Rattle.cnf_text.specs.Tokens.{is_blank}
-use Rattle.cnf_text.proofs.Left.{behind_blank}
+use Rattle.cnf_text.proofs.WordsLeft.{behind_blank}
 use Rattle.cnf_text.proofs.words.behind_space.Goals as goal
 
 pub returns-in-len1-up : goal.returns-in-len1-up

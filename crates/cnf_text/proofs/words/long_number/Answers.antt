@@ -3,8 +3,8 @@ use Rattle.std.proofs.lemmas.List.{length-drop}
 use Rattle.std.proofs.lemmas.Bool.{eqb-true}
 use Rattle.cnf_text.specs.Tokens.{is_blank}
 use Rattle.cnf_text.specs.Words.{words_left}
-use Rattle.cnf_text.proofs.Left.{digits_left, first_behind}
-use Rattle.cnf_text.proofs.Digits.{decimal_of_digits}
+use Rattle.cnf_text.proofs.WordsLeft.{digits_left, first_behind}
+use Rattle.cnf_text.proofs.NumbersDigits.{decimal_of_digits}
 use Rattle.cnf_text.proofs.words.long_number.Goals as goal
 use Rattle.cnf_text.proofs.words.long_number.Goals.{else-not-is_empty-via-then-not-is_empty+else-not-is_blank, else-not-is_empty-via-else-not-is_empty}
 

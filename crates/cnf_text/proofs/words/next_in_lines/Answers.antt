@@ -1,6 +1,6 @@
 use Rattle.std.proofs.Common.{sym, ◌∙◌, arith}
 use Rattle.std.proofs.lemmas.Bool.{ne_eqb}
-use Rattle.cnf_text.proofs.Left.{none_left, behind_end, behind_blank}
+use Rattle.cnf_text.proofs.WordsLeft.{none_left, behind_end, behind_blank}
 use Rattle.cnf_text.proofs.words.next_in_lines.Goals as goal
 
 pub returns-in_default : goal.returns-in_default

@@ -1,5 +1,5 @@
 use Rattle.std.proofs.Common.{◌∷◌, arith, refl}
-use Rattle.cnf_text.proofs.Left.{minus_first, told_below}
+use Rattle.cnf_text.proofs.WordsLeft.{minus_first, told_below}
 use Rattle.cnf_text.proofs.words.short_negative.Goals as goal
 
 pub returns-else-magnitude-eq0 : goal.returns-else-magnitude-eq0

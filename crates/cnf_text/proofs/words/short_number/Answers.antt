@@ -3,8 +3,8 @@ use Rattle.std.specs.List.{list_all}
 use Rattle.std.specs.Char.{is_ascii_digit}
 use Rattle.std.proofs.lemmas.List.{take_rest}
 use Rattle.cnf_text.specs.Numbers.{digits_value}
-use Rattle.cnf_text.proofs.Left.{number_and_space, number_and_line, number_and_end, visible_at}
-use Rattle.cnf_text.proofs.Digits.{decimal_of_digits, front_of_front, within_front}
+use Rattle.cnf_text.proofs.WordsLeft.{number_and_space, number_and_line, number_and_end, visible_at}
+use Rattle.cnf_text.proofs.NumbersDigits.{decimal_of_digits, front_of_front, within_front}
 use Rattle.cnf_text.proofs.words.short_number.Goals as goal
 
 pub returns-then-behind-eq32-clause-found : goal.returns-then-behind-eq32-clause-found

@@ -1,5 +1,5 @@
 use Rattle.std.proofs.Common.{[], sym, ◌∙◌, arith}
-use Rattle.cnf_text.proofs.Left.{nothing_left, left_line, comment_left}
+use Rattle.cnf_text.proofs.WordsLeft.{nothing_left, left_line, comment_left}
 use Rattle.cnf_text.proofs.words.uncommented.Goals as goal
 
 pub returns-then-not-is_comment-clause-words : goal.returns-then-not-is_comment-clause-words

@@ -1,6 +1,6 @@
 use Rattle.std.proofs.Common.{◌∙◌, refl}
-use Rattle.cnf_text.proofs.Left.{left_word}
-use Rattle.cnf_text.proofs.Digits.{told_plain}
+use Rattle.cnf_text.proofs.WordsLeft.{left_word}
+use Rattle.cnf_text.proofs.NumbersDigits.{told_plain}
 use Rattle.cnf_text.proofs.words.word_at_once.Goals as goal
 
 pub returns-in-Some : goal.returns-in-Some

@@ -1,5 +1,5 @@
-use Rattle.cube_command.proofs.Requests.{nothing_asked, nothing_taken}
-use Rattle.cube_command.proofs.Runs.{device_run, fault_run, memory_run, sound_run}
+use Rattle.cube_command.proofs.WordsRequests.{nothing_asked, nothing_taken}
+use Rattle.cube_command.proofs.ProgramRuns.{device_run, fault_run, memory_run, sound_run}
 use Rattle.std.proofs.Common.{◌≡◌, arith}
 use Rattle.cube_command.proofs.program.command.Goals as goal
 

@@ -1,4 +1,4 @@
-use Rattle.cube_command.proofs.Runs.{faulty, reported}
+use Rattle.cube_command.proofs.ProgramRuns.{faulty, reported}
 use Rattle.cube_command.proofs.program.run_request.Goals as goal
 
 pub returns-clause-report : goal.returns-clause-report

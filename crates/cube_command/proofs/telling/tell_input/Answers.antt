@@ -1,5 +1,5 @@
 use Rattle.std.proofs.Common.{◌∙◌, List, ℕ, inl, subst}
-use Rattle.cube_command.specs.Program.{IsTold}
+use Rattle.cube_command.specs.Program.{IsLineWritten}
 use Rattle.cube_command.proofs.telling.tell_input.Goals as goal
 
 pub returns-in-Ok : goal.returns-in-Ok
@@ -8,7 +8,7 @@ returns-in-Ok g c = record {
     c.status_of.ensures,
     subst
         (λ (line : List ℕ).
-        IsTold (g.E.Sink.contents c.args.errors.now) (g.E.Sink.contents c.tell.new.errors) (g.E.Sink.failures c.args.errors.now) (g.E.Sink.failures c.tell.new.errors) line)
+        IsLineWritten (g.E.Sink.contents c.args.errors.now) (g.E.Sink.contents c.tell.new.errors) (g.E.Sink.failures c.args.errors.now) (g.E.Sink.failures c.tell.new.errors) line)
         (c.as_bytes.ensures.value ∙ c.in-Ok.ensures) c.tell.ensures,
   );
 }

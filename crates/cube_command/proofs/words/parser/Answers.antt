@@ -1,7 +1,8 @@
 use Rattle.std.proofs.Common.{◌≡◌, ◌∙◌, ap₂}
 use Rattle.std.proofs.lemmas.Result.{IfOk-weaker}
 use Rattle.clap.specs.Words.{app_of, with_rule}
-use Rattle.cube_command.specs.Words.{proofs_word, with_numbers}
+use Rattle.cube_command.specs.Words.{proofs_word}
+use Rattle.cube_command.specs.Inner.Words.{with_numbers}
 use Rattle.cube_command.proofs.words.parser.Goals as goal
 
 pub returns : goal.returns

@@ -2,7 +2,7 @@ use Rattle.std.proofs.Common.{◌≡◌, ◌∙◌, map}
 use Rattle.clap.specs.Words.{kind_of}
 use Rattle.clap.specs.declared.error.kind.ErrorKind.TheVariants.{OutOfMemory}
 use Rattle.cube_command.specs.Words.{AreTaken}
-use Rattle.cube_command.proofs.Requests.{found_asked, handed_on, number_asked, parsed_taken, taken_fails}
+use Rattle.cube_command.proofs.WordsRequests.{found_asked, handed_on, number_asked, parsed_taken, taken_fails}
 use Rattle.cube_command.proofs.words.request_of.Goals as goal
 
 pub returns-in_err-matches-clause-refused : goal.returns-in_err-matches-clause-refused

@@ -2,8 +2,8 @@ use Rattle.std.proofs.Common.{◌≡◌, ap, arith, rules, ◌∙◌}
 use Rattle.std.proofs.lemmas.List.Elements.{All-push}
 use Rattle.crossbeam_deque.specs.Injected.{injector_view}
 use Rattle.cube_jobs.specs.Jobs.{JobPassOf, new_pass}
-use Rattle.cube_jobs.proofs.Steps.{shares}
-use Rattle.cube_jobs.proofs.Passes.{new_is}
+use Rattle.cube_jobs.proofs.RuleSteps.{shares}
+use Rattle.cube_jobs.proofs.RulePasses.{new_is}
 use Rattle.cube_jobs.proofs.jobs.share_out.Goals as goal
 
 pub another-other-requires-clause-rule : goal.another-other-requires-clause-rule

@@ -1,5 +1,5 @@
 use Rattle.std.proofs.Common.{◌≢◌, refl, ap}
-use Rattle.cube_report.proofs.Reports.{correct, told}
+use Rattle.cube_report.proofs.CorrectReports.{correct, told}
 use Rattle.cube_report.specs.declared.fault.Fault.TheVariants.{Memory}
 use Rattle.cube_report.specs.Faults.{fault_of_case}
 use Rattle.cube_report.specs.Correct.{IsFaultOn}

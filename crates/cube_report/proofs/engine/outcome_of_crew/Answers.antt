@@ -1,6 +1,6 @@
 use Rattle.std.proofs.Common.{◌≢◌, refl, ap}
-use Rattle.cube_report.proofs.Crew.{crew_fault, crew_no_device}
-use Rattle.cube_report.proofs.Reports.{correct, told}
+use Rattle.cube_report.proofs.FaultsOfCrew.{crew_fault, crew_no_device}
+use Rattle.cube_report.proofs.CorrectReports.{correct, told}
 use Rattle.cube_report.specs.declared.fault.Fault.TheVariants.{Device}
 use Rattle.cube_report.specs.Faults.{IsInputFault, fault_of_case, fault_of_crew}
 use Rattle.cube_report.specs.Correct.{IsFaultOn}

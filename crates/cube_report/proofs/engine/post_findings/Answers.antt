@@ -1,5 +1,5 @@
 use Rattle.std.proofs.Common.{◌≡◌, ◌∙◌}
-use Rattle.cube_report.proofs.Posting.{section_target, section_none, one_turn}
+use Rattle.cube_report.proofs.StatedPosting.{section_target, section_none, one_turn}
 use Rattle.cube_report.proofs.engine.post_findings.Goals as goal
 
 pub examine_with-requires : goal.examine_with-requires

@@ -1,5 +1,5 @@
 use Rattle.std.proofs.Common.{◌≡◌, take}
-use Rattle.cube_report.proofs.Posting.{ArePostedOf}
+use Rattle.cube_report.proofs.StatedPosting.{ArePostedOf}
 use Rattle.cube_report.proofs.engine.post_findings.Given as goal
 
 abbrev pub invariant-loop-section : goal.invariant-loop-section

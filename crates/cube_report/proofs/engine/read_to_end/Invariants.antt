@@ -1,5 +1,5 @@
 use Rattle.std.proofs.Common.{◌≡◌, ◌-◌, ◌^◌, vec_len, length}
-use Rattle.cube_report.proofs.Written.{ReadSoFar}
+use Rattle.cube_report.proofs.ReportPieces.{ReadSoFar}
 use Rattle.cube_report.proofs.engine.read_to_end.Given as goal
 
 abbrev pub invariant-loop-count : goal.invariant-loop-count

@@ -1,4 +1,4 @@
-use Rattle.cube_report.proofs.Reports.{outcome_says}
+use Rattle.cube_report.proofs.CorrectReports.{outcome_says}
 use Rattle.cube_report.proofs.engine.run_one.Goals as goal
 
 pub returns-clause-sound : goal.returns-clause-sound

@@ -1,5 +1,5 @@
 use Rattle.std.proofs.Common.{rules}
-use Rattle.cube_report.proofs.Written.{appends_more}
+use Rattle.cube_report.proofs.ReportPieces.{appends_more}
 use Rattle.cube_report.proofs.engine.write_all.Goals as goal
 
 pub loop-done-preserved : goal.loop-done-preserved

@@ -1,4 +1,4 @@
-use Rattle.cube_report.proofs.Unique.{one_answer as law}
+use Rattle.cube_report.proofs.CorrectUnique.{one_answer as law}
 use Rattle.cube_report.proofs.laws.one_answer.Goals as goal
 
 pub returns : goal.returns

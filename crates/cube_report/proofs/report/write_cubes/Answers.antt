@@ -1,5 +1,5 @@
 use Rattle.std.proofs.Common.{◌≡◌, ◌+◌, ◌∙◌, ap, arith}
-use Rattle.cube_report.proofs.Lines.{cube_turn}
+use Rattle.cube_report.proofs.ReportLines.{cube_turn}
 use Rattle.cube_report.proofs.report.write_cubes.Goals as goal
 
 pub mark_of-mark-requires : goal.mark_of-mark-requires

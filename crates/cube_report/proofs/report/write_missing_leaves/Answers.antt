@@ -1,5 +1,5 @@
 use Rattle.std.proofs.Common.{◌≡◌, ◌∙◌, ap}
-use Rattle.cube_report.proofs.Lines.{missing_turn}
+use Rattle.cube_report.proofs.ReportLines.{missing_turn}
 use Rattle.cube_report.proofs.report.write_missing_leaves.Goals as goal
 
 pub loop-before-preserved : goal.loop-before-preserved

@@ -1,9 +1,9 @@
 use Rattle.std.proofs.Common.{◌≡◌, ◌<◌, ◌≤◌, ◌++◌, ◌∙◌, sym, ap, append-nil}
 use Rattle.std.proofs.lemmas.List.{take_all}
 use Rattle.split_tree.specs.SplitTree.{subtrees, size}
-use Rattle.split_tree.proofs.Coding.{length-subtrees}
+use Rattle.split_tree.proofs.NodesCoding.{length-subtrees}
 use Rattle.cube_report.specs.Report.{node_lines}
-use Rattle.cube_report.proofs.Lines.{node_turn, is_split, split_part, leaf_part}
+use Rattle.cube_report.proofs.ReportLines.{node_turn, is_split, split_part, leaf_part}
 use Rattle.cube_report.proofs.report.write_nodes.Goals.{in-Some+in_ok-write_section, in_default}
 use Rattle.cube_report.proofs.report.write_nodes.Goals as goal
 

@@ -1,8 +1,7 @@
 use Rattle.std.proofs.Common.{◌≡◌, ℕ, ◌∙◌, sym, ap}
 use Rattle.split_tree.specs.Leaves.{IsTargetAt}
-use Rattle.mark_board.specs.Marking.{open_branches}
-use Rattle.mark_board.specs.Rows.{refuted_by}
-use Rattle.cube_report.proofs.Lines.{branch_stands, open_turn, all_open}
+use Rattle.mark_board.specs.Marking.{open_branches, refuted_by}
+use Rattle.cube_report.proofs.ReportLines.{branch_stands, open_turn, all_open}
 use Rattle.cube_report.proofs.report.write_open_branches.Goals as goal
 
 pub node_of_target-only-requires : goal.node_of_target-only-requires

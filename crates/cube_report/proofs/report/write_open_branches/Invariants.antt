@@ -1,6 +1,5 @@
 use Rattle.std.proofs.Common.{◌≡◌, ◌++◌, take}
-use Rattle.mark_board.specs.Marking.{open_branches}
-use Rattle.mark_board.specs.Rows.{refuted_by}
+use Rattle.mark_board.specs.Marking.{open_branches, refuted_by}
 use Rattle.cube_report.specs.Report.{open_lines}
 use Rattle.cube_report.proofs.report.write_open_branches.Given as goal
 

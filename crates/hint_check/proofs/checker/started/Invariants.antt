@@ -1,7 +1,7 @@
 use Rattle.std.proofs.Common.{◌≡◌, ◌+◌, ◌++◌, take, length}
 use Rattle.cnf_text.specs.Formula.{units}
-use Rattle.hint_check.specs.BaseSource.{base_of}
-use Rattle.hint_check.proofs.Start.{numbered}
+use Rattle.hint_check.specs.Inner.Live.{base_of}
+use Rattle.hint_check.proofs.LiveStart.{numbered}
 use Rattle.hint_check.proofs.checker.started.Given as goal
 
 abbrev pub invariant-loop-lit : goal.invariant-loop-lit

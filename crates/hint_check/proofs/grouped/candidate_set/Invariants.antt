@@ -1,5 +1,5 @@
 use Rattle.std.proofs.Common.{take}
-use Rattle.hint_check.specs.Grouped.{Names}
+use Rattle.hint_check.specs.Inner.Grouped.{Names}
 use Rattle.hint_check.proofs.grouped.candidate_set.Given as goal
 
 abbrev pub invariant-loop-place : goal.invariant-loop-place

@@ -1,6 +1,6 @@
 use Rattle.std.proofs.Common.{Some}
-use Rattle.hint_check.proofs.OwnMaps.{updated}
-use Rattle.hint_check.proofs.Chains.{SetsPlace-near, SetsPlace-far}
+use Rattle.hint_check.proofs.OwnEntries.{updated}
+use Rattle.hint_check.proofs.IndexChains.{SetsPlace-near, SetsPlace-far}
 use Rattle.hint_check.proofs.index.set_place.Goals as goal
 
 pub returns-in_ok-make_near-clause-set : goal.returns-in_ok-make_near-clause-set

@@ -1,6 +1,6 @@
 use Rattle.std.proofs.Common.{◌-◌, refl, arith}
-use Rattle.hint_check.specs.Own.{no_slot}
-use Rattle.hint_check.proofs.OwnMaps.{SetsSlot-low, SetsSlot-past, SetsSlot-write}
+use Rattle.hint_check.specs.Inner.Own.{no_slot}
+use Rattle.hint_check.proofs.OwnEntries.{SetsSlot-low, SetsSlot-past, SetsSlot-write}
 use Rattle.hint_check.proofs.own.clear_slot.Goals as goal
 
 pub returns-then-id-first-clause-cleared : goal.returns-then-id-first-clause-cleared

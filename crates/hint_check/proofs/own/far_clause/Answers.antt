@@ -1,5 +1,5 @@
 use Rattle.std.proofs.Common.{length}
-use Rattle.hint_check.proofs.OwnMaps.{span-within}
+use Rattle.hint_check.proofs.OwnEntries.{span-within}
 use Rattle.hint_check.proofs.own.far_clause.Goals as goal
 
 pub span_clause-requires : goal.span_clause-requires

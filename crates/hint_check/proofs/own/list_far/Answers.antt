@@ -1,9 +1,9 @@
 use Rattle.std.proofs.Common.{◌≡◌, ℕ, ◌++◌, length, sym, subst}
-use Rattle.hint_check.specs.Index.{Lists, Awaits}
+use Rattle.hint_check.specs.Inner.Index.{Lists, Awaits}
 use Rattle.hint_check.specs.declared.own.Span.{Span}
-use Rattle.hint_check.specs.Own.{far_entries, span_clause, SpansEndBy}
-use Rattle.hint_check.proofs.Indexing.{Awaits-next}
-use Rattle.hint_check.proofs.OwnMaps.{ListsAll-end, SpansEndBy-head, SpansEndBy-tail}
+use Rattle.hint_check.specs.Inner.Own.{far_entries, span_clause, SpansEndBy}
+use Rattle.hint_check.proofs.IndexIds.{Awaits-next}
+use Rattle.hint_check.proofs.OwnEntries.{ListsAll-end, SpansEndBy-head, SpansEndBy-tail}
 use Rattle.hint_check.proofs.own.list_far.Goals as goal
 
 pub loop-id-init : goal.loop-id-init

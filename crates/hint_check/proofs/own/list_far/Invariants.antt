@@ -1,7 +1,7 @@
 use Rattle.std.proofs.Common.{ℕ, ◌++◌, List, length}
 use Rattle.cnf_text.specs.Literal.{Literal}
-use Rattle.hint_check.specs.Index.{Awaits}
-use Rattle.hint_check.specs.Own.{far_entries, SpansEndBy}
+use Rattle.hint_check.specs.Inner.Index.{Awaits}
+use Rattle.hint_check.specs.Inner.Own.{far_entries, SpansEndBy}
 use Rattle.hint_check.proofs.own.list_far.Given as goal
 
 abbrev pub invariant-loop-id : goal.invariant-loop-id

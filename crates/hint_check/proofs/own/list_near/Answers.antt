@@ -1,8 +1,8 @@
 use Rattle.std.proofs.Common.{◌≡◌, ◌+◌, ◌++◌, drop, sym, ap, ◌∙◌, subst, arith}
-use Rattle.hint_check.specs.Index.{Awaits}
-use Rattle.hint_check.specs.Own.{no_slot, slot_at, slot_clause, near_entries}
-use Rattle.hint_check.proofs.OwnMaps.{ListsAll-end, near-next, all-slots, any_default, slot-within}
-use Rattle.hint_check.proofs.OwnMaps.{listed-one, listed-none}
+use Rattle.hint_check.specs.Inner.Index.{Awaits}
+use Rattle.hint_check.specs.Inner.Own.{no_slot, slot_at, slot_clause, near_entries}
+use Rattle.hint_check.proofs.OwnEntries.{ListsAll-end, near-next, all-slots, any_default, slot-within}
+use Rattle.hint_check.proofs.OwnEntries.{listed-one, listed-none}
 use Rattle.hint_check.proofs.own.list_near.Goals as goal
 use Rattle.hint_check.proofs.own.list_near.Goals.{in-Some+in_ok-push_all, in_default}
 

@@ -1,7 +1,7 @@
 use Rattle.std.proofs.Common.{ℕ, ◌+◌, ◌++◌, List, drop}
 use Rattle.cnf_text.specs.Literal.{Literal}
-use Rattle.hint_check.specs.Index.{Awaits}
-use Rattle.hint_check.specs.Own.{near_entries}
+use Rattle.hint_check.specs.Inner.Index.{Awaits}
+use Rattle.hint_check.specs.Inner.Own.{near_entries}
 use Rattle.hint_check.proofs.own.list_near.Given as goal
 
 abbrev pub invariant-loop-place : goal.invariant-loop-place

@@ -1,5 +1,5 @@
 use Rattle.std.proofs.Common.{◌-◌, length}
-use Rattle.hint_check.proofs.OwnMaps.{slot-within}
+use Rattle.hint_check.proofs.OwnEntries.{slot-within}
 use Rattle.hint_check.proofs.own.near_clause.Goals as goal
 
 pub slot_clause-requires : goal.slot_clause-requires

@@ -1,6 +1,6 @@
 use Rattle.std.proofs.Common.{Some, sym, subst}
-use Rattle.hint_check.specs.Own.{SpansEndBy}
-use Rattle.hint_check.proofs.OwnMaps.{updated, SpansEndBy-put}
+use Rattle.hint_check.specs.Inner.Own.{SpansEndBy}
+use Rattle.hint_check.proofs.OwnEntries.{updated, SpansEndBy-put}
 use Rattle.hint_check.proofs.own.put_far.Goals as goal
 
 pub returns-clause-put : goal.returns-clause-put

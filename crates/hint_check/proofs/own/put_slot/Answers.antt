@@ -1,6 +1,6 @@
 use Rattle.std.proofs.Common.{◌≡◌, length, nat_eq, cond, ap, ◌∙◌, arith}
-use Rattle.hint_check.specs.Own.{slot_at}
-use Rattle.hint_check.proofs.OwnMaps.{slot-written, slot-pushed}
+use Rattle.hint_check.specs.Inner.Own.{slot_at}
+use Rattle.hint_check.proofs.OwnEntries.{slot-written, slot-pushed}
 use Rattle.hint_check.proofs.own.put_slot.Goals as goal
 
 pub returns-then-place-len-clause-put : goal.returns-then-place-len-clause-put

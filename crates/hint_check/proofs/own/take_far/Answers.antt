@@ -1,7 +1,7 @@
 use Rattle.std.proofs.Common.{None, sym, subst}
 use Rattle.std.specs.Ordering.{nat_cmp, eq_by_cmp}
-use Rattle.hint_check.specs.Own.{SpansEndBy}
-use Rattle.hint_check.proofs.OwnMaps.{updated, SpansEndBy-take}
+use Rattle.hint_check.specs.Inner.Own.{SpansEndBy}
+use Rattle.hint_check.proofs.OwnEntries.{updated, SpansEndBy-take}
 use Rattle.hint_check.proofs.own.take_far.Goals as goal
 
 pub returns-clause-taken : goal.returns-clause-taken

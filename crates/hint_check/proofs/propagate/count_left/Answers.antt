@@ -2,9 +2,9 @@ use Rattle.std.proofs.Common.{◌≡◌, ◌+◌, true, false, ◌∷◌, List, 
 use Rattle.std.proofs.lemmas.List.{at_drop_all}
 use Rattle.cnf_text.specs.Literal.{Literal, negation}
 use Rattle.hint_check.specs.Propagation.{unfalsified}
-use Rattle.hint_check.specs.Stamps.{is_shown}
-use Rattle.hint_check.proofs.Candidates.{at_literal}
-use Rattle.hint_check.proofs.Propagation.{Counts, counts-falsified, counts-left, unfalsified-none}
+use Rattle.hint_check.specs.Inner.Stamps.{is_shown}
+use Rattle.hint_check.proofs.AdditionCandidates.{at_literal}
+use Rattle.hint_check.proofs.PropagationSteps.{Counts, counts-falsified, counts-left, unfalsified-none}
 use Rattle.hint_check.proofs.propagate.count_left.Goals as goal
 use Rattle.hint_check.proofs.propagate.count_left.Goals.{then-is_left, else-is_left}
 

@@ -1,6 +1,6 @@
 use Rattle.std.proofs.Common.{◌≤◌, drop}
-use Rattle.hint_check.specs.Stamps.{is_shown}
-use Rattle.hint_check.proofs.Propagation.{Counts}
+use Rattle.hint_check.specs.Inner.Stamps.{is_shown}
+use Rattle.hint_check.proofs.PropagationSteps.{Counts}
 use Rattle.hint_check.proofs.propagate.count_left.Given as goal
 
 abbrev pub invariant-loop-lit : goal.invariant-loop-lit

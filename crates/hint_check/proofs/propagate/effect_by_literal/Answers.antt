@@ -2,10 +2,10 @@ use Rattle.std.proofs.Common.{◌≡◌, ◌+◌, false, ◌∷◌, drop, sym, a
 use Rattle.std.proofs.lemmas.Bool.{not-true, not-false}
 use Rattle.cnf_text.specs.Literal.{negation, same}
 use Rattle.hint_check.specs.Literals.{has}
-use Rattle.hint_check.proofs.Propagation.{effect_after, effect_after-start, effect_after-first}
-use Rattle.hint_check.proofs.Propagation.{effect_after-same, effect_after-other}
-use Rattle.hint_check.proofs.Propagation.{effect_after-falsified, effect_after-none}
-use Rattle.hint_check.proofs.Propagation.{effect_after-one, effect_after-turn, effect_after-end}
+use Rattle.hint_check.proofs.PropagationSteps.{effect_after, effect_after-start, effect_after-first}
+use Rattle.hint_check.proofs.PropagationSteps.{effect_after-same, effect_after-other}
+use Rattle.hint_check.proofs.PropagationSteps.{effect_after-falsified, effect_after-none}
+use Rattle.hint_check.proofs.PropagationSteps.{effect_after-one, effect_after-turn, effect_after-end}
 use Rattle.hint_check.proofs.propagate.effect_by_literal.Goals as goal
 use Rattle.hint_check.proofs.propagate.effect_by_literal.Goals.{then-not-contains+in-None}
 use Rattle.hint_check.proofs.propagate.effect_by_literal.Goals.{then-not-contains+in-Some+else-ne}

@@ -1,6 +1,6 @@
 use Rattle.std.proofs.Common.{Some, rules}
-use Rattle.hint_check.proofs.OwnMaps.{updated}
-use Rattle.hint_check.proofs.Stamping.{mapped-put}
+use Rattle.hint_check.proofs.OwnEntries.{updated}
+use Rattle.hint_check.proofs.StampsSets.{mapped-put}
 use Rattle.hint_check.proofs.stamp_parts.set_entry.Goals as goal
 
 pub returns-in-Some : goal.returns-in-Some

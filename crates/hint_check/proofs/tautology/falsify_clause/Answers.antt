@@ -3,8 +3,8 @@ use Rattle.std.proofs.lemmas.List.{at_drop_all}
 use Rattle.cnf_text.specs.Literal.{negation}
 use Rattle.hint_check.specs.Literals.{has, meets, negations, with_literal, with_literals}
 use Rattle.hint_check.specs.Addition.{no_literals}
-use Rattle.hint_check.proofs.Candidates.{at_literal, with_literals-none, with_literals-more}
-use Rattle.hint_check.proofs.Candidates.{meets-negations, found-turn, found-end}
+use Rattle.hint_check.proofs.AdditionCandidates.{at_literal, with_literals-none, with_literals-more}
+use Rattle.hint_check.proofs.AdditionCandidates.{meets-negations, found-turn, found-end}
 use Rattle.hint_check.proofs.tautology.falsify_clause.Goals as goal
 
 pub loop-lit-init : goal.loop-lit-init

@@ -1,8 +1,8 @@
 use Rattle.std.proofs.Common.{◌+◌, drop, sym, ap, ◌∙◌, arith}
 use Rattle.std.proofs.lemmas.List.{at_drop_all}
 use Rattle.hint_check.specs.Literals.{has}
-use Rattle.hint_check.proofs.Candidates.{at_literal, held_after, held_after-start, held_after-here}
-use Rattle.hint_check.proofs.Candidates.{held_after-true, held_after-other, held_after-end}
+use Rattle.hint_check.proofs.AdditionCandidates.{at_literal, held_after, held_after-start, held_after-here}
+use Rattle.hint_check.proofs.AdditionCandidates.{held_after-true, held_after-other, held_after-end}
 use Rattle.hint_check.proofs.tautology.holds_with_none_true.Goals as goal
 use Rattle.hint_check.proofs.tautology.holds_with_none_true.Goals.{then-eq, else-eq+else-contains}
 

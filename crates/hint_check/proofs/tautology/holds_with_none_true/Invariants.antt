@@ -1,7 +1,7 @@
 use Rattle.std.proofs.Common.{◌≡◌, ◌&&◌, not, drop}
 use Rattle.hint_check.specs.Literals.{has, meets}
 use Rattle.hint_check.specs.Addition.{others}
-use Rattle.hint_check.proofs.Candidates.{held_after}
+use Rattle.hint_check.proofs.AdditionCandidates.{held_after}
 use Rattle.hint_check.proofs.tautology.holds_with_none_true.Given as goal
 
 abbrev pub invariant-loop-other : goal.invariant-loop-other

@@ -1,5 +1,5 @@
 use Rattle.std.proofs.Common.{◌∙◌, arith, refl}
-use Rattle.lrat_text.proofs.Numerals.{too_large, within, some_below_zero}
+use Rattle.lrat_text.proofs.GrammarNumerals.{too_large, within, some_below_zero}
 use Rattle.lrat_text.proofs.steps.numeral.Goals as goal
 
 pub returns-then-number-gt-MAX_ID : goal.returns-then-number-gt-MAX_ID

@@ -1,7 +1,7 @@
 use Rattle.std.proofs.Common.{◌∙◌}
 use Rattle.std.proofs.lemmas.Result.{err_from_is_err_and}
-use Rattle.lrat_text.proofs.Buffers.{deletion_read}
-use Rattle.lrat_text.proofs.Decoding.{no_step_deletion}
+use Rattle.lrat_text.proofs.BufferGroups.{deletion_read}
+use Rattle.lrat_text.proofs.GrammarDecoding.{no_step_deletion}
 use Rattle.lrat_text.proofs.steps.read_deletion.Goals as goal
 
 pub returns-in_err-rest-clause-err : goal.returns-in_err-rest-clause-err

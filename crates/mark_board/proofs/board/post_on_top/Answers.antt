@@ -1,4 +1,4 @@
-use Rattle.mark_board.specs.Places.{IsPlaceOf}
+use Rattle.mark_board.specs.TopPlaces.{IsPlaceOf}
 use Rattle.mark_board.proofs.BoardRows.{top_inside, top_row, top_own}
 use Rattle.mark_board.proofs.board.post_on_top.Goals as goal
 

@@ -1,6 +1,6 @@
 use Rattle.std.proofs.Common.{◌≡◌, arith}
 use Rattle.split_tree.specs.Parts.{part_nodes}
-use Rattle.mark_board.proofs.PartPlaces.{part_known, part_read, part_within}
+use Rattle.mark_board.proofs.TopPlacesParts.{part_known, part_read, part_within}
 use Rattle.mark_board.proofs.board.root_of_part.Goals as goal
 
 pub index-requires : goal.index-requires

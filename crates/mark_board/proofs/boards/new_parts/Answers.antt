@@ -1,7 +1,7 @@
 use Rattle.std.proofs.Common.{◌≡◌, ◌∙◌, ap, arith}
 use Rattle.split_tree.specs.Parts.{part_nodes}
-use Rattle.mark_board.specs.Places.{part_count}
-use Rattle.mark_board.proofs.Gathered.{part_listed, parts_listed}
+use Rattle.mark_board.specs.TopPlaces.{part_count}
+use Rattle.mark_board.proofs.BoardsGathered.{part_listed, parts_listed}
 use Rattle.mark_board.proofs.boards.new_parts.Goals as goal
 
 pub new-requires-clause-place : goal.new-requires-clause-place

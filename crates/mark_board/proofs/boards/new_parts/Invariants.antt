@@ -1,4 +1,4 @@
-use Rattle.mark_board.specs.Boards.{AreNewParts}
+use Rattle.mark_board.specs.Inner.Boards.{AreNewParts}
 use Rattle.mark_board.proofs.boards.new_parts.Given as goal
 
 abbrev pub invariant-loop-part : goal.invariant-loop-part

@@ -1,4 +1,4 @@
-use Rattle.mark_board.proofs.Marks.{marked_refuted}
+use Rattle.mark_board.proofs.MarkingLaws.{marked_refuted}
 use Rattle.mark_board.proofs.laws.marked_has_no_model.Goals as goal
 
 pub returns : goal.returns

@@ -1,4 +1,4 @@
-use Rattle.mark_board.proofs.Marks.{marked_more}
+use Rattle.mark_board.proofs.MarkingLaws.{marked_more}
 use Rattle.mark_board.proofs.laws.marked_stays_marked.Goals as goal
 
 pub returns : goal.returns

@@ -1,4 +1,4 @@
-use Rattle.mark_board.proofs.Marks.{branches_open}
+use Rattle.mark_board.proofs.MarkingLaws.{branches_open}
 use Rattle.mark_board.proofs.laws.open_branches_add_up.Goals as goal
 
 pub returns : goal.returns

@@ -1,6 +1,6 @@
 use Rattle.std.proofs.Common.{zero-add}
 use Rattle.split_tree.specs.SplitTree.{size}
-use Rattle.mark_board.proofs.Marks.{branches_apart}
+use Rattle.mark_board.proofs.MarkingLaws.{branches_apart}
 use Rattle.mark_board.proofs.laws.open_branches_are_apart.Goals as goal
 
 pub returns : goal.returns

@@ -1,4 +1,4 @@
-use Rattle.mark_board.proofs.Tops.{agreed_open}
+use Rattle.mark_board.proofs.BoardNumbers.{agreed_open}
 use Rattle.mark_board.proofs.laws.open_parts_add_up.Goals as goal
 
 pub returns : goal.returns

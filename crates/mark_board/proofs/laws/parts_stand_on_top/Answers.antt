@@ -1,4 +1,4 @@
-use Rattle.mark_board.proofs.PartPlaces.{parts_on_top}
+use Rattle.mark_board.proofs.TopPlacesParts.{parts_on_top}
 use Rattle.mark_board.proofs.laws.parts_stand_on_top.Goals as goal
 
 pub returns : goal.returns

@@ -1,4 +1,4 @@
-use Rattle.mark_board.proofs.Depths.{own_above, above_own}
+use Rattle.mark_board.proofs.TopPlacesDepths.{own_above, above_own}
 use Rattle.mark_board.proofs.laws.top_has_the_nodes_above_the_cut.Goals as goal
 
 pub returns : goal.returns

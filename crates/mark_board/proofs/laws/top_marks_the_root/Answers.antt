@@ -1,4 +1,4 @@
-use Rattle.mark_board.proofs.Tops.{agreed_marks}
+use Rattle.mark_board.proofs.BoardNumbers.{agreed_marks}
 use Rattle.mark_board.proofs.laws.top_marks_the_root.Goals as goal
 
 pub returns : goal.returns

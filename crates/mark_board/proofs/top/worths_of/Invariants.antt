@@ -1,5 +1,5 @@
 use Rattle.std.proofs.Common.{◌≡◌, ◌++◌, map, drop}
-use Rattle.mark_board.specs.Places.{worth_of}
+use Rattle.mark_board.specs.TopPlaces.{worth_of}
 use Rattle.mark_board.proofs.top.worths_of.Given as goal
 
 abbrev pub invariant-loop-node : goal.invariant-loop-node

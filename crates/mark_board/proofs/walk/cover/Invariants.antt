@@ -1,7 +1,7 @@
 use Rattle.std.proofs.Common.{◌-◌, ◌≤◌}
 use Rattle.split_tree.specs.SplitTree.{subtree_at}
-use Rattle.split_tree.specs.Rows.{HasBelow}
-use Rattle.mark_board.proofs.Ways.{Taking}
+use Rattle.split_tree.specs.Navigation.{HasBelow}
+use Rattle.mark_board.proofs.RowsWays.{Taking}
 use Rattle.mark_board.proofs.walk.cover.Given as goal
 
 abbrev pub invariant-loop-node : goal.invariant-loop-node

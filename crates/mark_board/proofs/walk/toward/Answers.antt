@@ -1,7 +1,7 @@
 use Rattle.std.proofs.Common.{◌+◌, ◌<◌, ◌^◌, arith}
 use Rattle.split_tree.specs.SplitTree.{size, subtree_at}
-use Rattle.split_tree.specs.Rows.{StepsToward}
-use Rattle.mark_board.proofs.Ways.{target_within, place_fits, whole_below, steps_down}
+use Rattle.split_tree.specs.Navigation.{StepsToward}
+use Rattle.mark_board.proofs.RowsWays.{target_within, place_fits, whole_below, steps_down}
 use Rattle.mark_board.proofs.walk.toward.Goals as goal
 
 pub overflow_add-root : goal.overflow_add-root

@@ -4,7 +4,7 @@ use Rattle.mark_board.specs.Findings.{AreFindings}
 use Rattle.board_hall.specs.declared.view.CutCase.{CutCase}
 use Rattle.board_hall.specs.Halls.{HallOf, IsPassOf, hall_of}
 use Rattle.check_crew.specs.Seen.{HaveSeenSections}
-use Rattle.check_crew.proofs.Found.{are_findings}
+use Rattle.check_crew.proofs.SeenFindings.{are_findings}
 use Rattle.own_threads.proofs.boards.boards_of.Goals as goal
 
 -- the hall's case is the one that was handed in, and its passes have seen what is found of each section

@@ -1,7 +1,7 @@
 use Rattle.std.proofs.Common.{IfSome}
 use Rattle.cube_report.specs.Faults.{IsInputFault}
 use Rattle.cube_report.specs.Correct.{IsFaultOn, IsUnsatisfiable}
-use Rattle.cube_report.proofs.Reports.{of_known, told}
+use Rattle.cube_report.proofs.CorrectReports.{of_known, told}
 use Rattle.own_threads.proofs.program.check.Goals as goal
 
 -- what is said of the bytes that were read is so of those that there were, where they are known

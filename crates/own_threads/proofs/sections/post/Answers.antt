@@ -1,5 +1,5 @@
 use Rattle.board_hall.specs.Halls.{core_of, view_of}
-use Rattle.check_crew.proofs.Turns.{seen_stays, posted_seen}
+use Rattle.check_crew.proofs.SeenTurns.{seen_stays, posted_seen}
 use Rattle.own_threads.proofs.sections.post.Goals as goal
 
 -- what was seen by the first post is still seen after the second

@@ -1,6 +1,6 @@
 use Rattle.std.proofs.Common.{◌≡◌, None, length}
 use Rattle.board_hall.specs.Halls.{shared_of, view_of, IsPassOf}
-use Rattle.own_threads.specs.Halves.{HasSeenFrom}
+use Rattle.own_threads.specs.Inner.Sections.{HasSeenFrom}
 use Rattle.own_threads.proofs.sections.post_second_half.Given as goal
 
 abbrev pub invariant-loop-place : goal.invariant-loop-place

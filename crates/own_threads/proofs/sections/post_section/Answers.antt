@@ -1,8 +1,8 @@
 use Rattle.std.proofs.Common.{◌≡◌, sym, ◌∙◌, ap}
 use Rattle.board_hall.specs.declared.view.CutCase.{CutCase}
 use Rattle.board_hall.specs.Halls.{view_of}
-use Rattle.check_crew.proofs.Places.{section_here}
-use Rattle.check_crew.proofs.Turns.{section_seen}
+use Rattle.check_crew.proofs.SeenSections.{section_here}
+use Rattle.check_crew.proofs.SeenTurns.{section_seen}
 use Rattle.own_threads.proofs.sections.post_section.Goals as goal
 
 -- the target is that of a section, so it has a proof

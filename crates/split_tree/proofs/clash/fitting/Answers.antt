@@ -1,5 +1,5 @@
 use Rattle.std.proofs.Common.{◌+◌, ◌-◌, ◌/◌, arith}
-use Rattle.split_tree.proofs.Clashes.{cubes_of-take}
+use Rattle.split_tree.proofs.ClashRelations.{cubes_of-take}
 use Rattle.split_tree.proofs.clash.fitting.Goals as goal
 
 pub loop-fit-preserved-then-branch : goal.loop-fit-preserved-then-branch

@@ -1,7 +1,7 @@
 use Rattle.std.proofs.Common.{◌∷◌, []}
-use Rattle.split_tree.specs.Ahead.{cubes_ahead}
+use Rattle.split_tree.specs.Inner.Grow.{cubes_ahead}
 use Rattle.split_tree.specs.SplitTree.{going}
-use Rattle.split_tree.proofs.Growth.{going_more, going_past}
+use Rattle.split_tree.proofs.GrowWays.{going_more, going_past}
 use Rattle.split_tree.proofs.grow.cubes_going.Goals as goal
 use Rattle.split_tree.proofs.grow.cubes_going.Goals.{in-Some+in_ok-push, in_default}
 

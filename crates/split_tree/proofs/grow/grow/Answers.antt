@@ -1,8 +1,8 @@
 use Rattle.std.proofs.Common.{◌≡◌, [], arith}
 use Rattle.std.proofs.lemmas.List.Elements.{All-push}
-use Rattle.split_tree.specs.Rows.{HasVariable}
-use Rattle.split_tree.specs.Ahead.{cubes_ahead, waiting}
-use Rattle.split_tree.proofs.Pending.{waiting_push, grows_start, grows_leaf, grows_split, grows_clash, grows_all, lighter_leaf, lighter_split}
+use Rattle.split_tree.specs.Inner.Nodes.{HasVariable}
+use Rattle.split_tree.specs.Inner.Grow.{cubes_ahead, waiting}
+use Rattle.split_tree.proofs.GrowLoop.{waiting_push, grows_start, grows_leaf, grows_split, grows_clash, grows_all, lighter_leaf, lighter_split}
 use Rattle.split_tree.proofs.grow.grow.Goals as goal
 use Rattle.split_tree.proofs.grow.grow.Goals.{in-Split+in_ok-push_branches, in_default-shape}
 use Rattle.std.proofs.lemmas.List.{nil_from_length}

@@ -1,7 +1,7 @@
 use Rattle.std.specs.List.{All}
-use Rattle.split_tree.specs.Rows.{HasVariable}
-use Rattle.split_tree.specs.Ahead.{cubes_ahead, waiting}
-use Rattle.split_tree.proofs.Pending.{Grows, weigh}
+use Rattle.split_tree.specs.Inner.Nodes.{HasVariable}
+use Rattle.split_tree.specs.Inner.Grow.{cubes_ahead, waiting}
+use Rattle.split_tree.proofs.GrowLoop.{Grows, weigh}
 use Rattle.split_tree.proofs.grow.grow.Given as goal
 
 abbrev pub invariant-loop-cubes : goal.invariant-loop-cubes

@@ -1,5 +1,5 @@
 use Rattle.std.proofs.Common.{◌≡◌, true, false, refl}
-use Rattle.split_tree.proofs.Growth.{some_ahead, alone, ended_clash, all_split}
+use Rattle.split_tree.proofs.GrowWays.{some_ahead, alone, ended_clash, all_split}
 use Rattle.split_tree.proofs.grow.shape_at.Goals as goal
 
 pub returns-then-cubes-eq1-clause-shape : goal.returns-then-cubes-eq1-clause-shape

@@ -1,4 +1,4 @@
-use Rattle.split_tree.proofs.Refuting.{both_refuted}
+use Rattle.split_tree.proofs.LawsRefuting.{both_refuted}
 use Rattle.split_tree.proofs.laws.branches_refute_their_node.Goals as goal
 
 pub returns : goal.returns

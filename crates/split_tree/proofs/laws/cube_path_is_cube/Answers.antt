@@ -1,6 +1,6 @@
 use Rattle.std.proofs.Common.{◌≡◌, ◌+◌, ℕ, ap, ◌∙◌, arith}
 use Rattle.split_tree.specs.Clash.{cube_at}
-use Rattle.split_tree.proofs.Paths.{cube_path}
+use Rattle.split_tree.proofs.LeavesPaths.{cube_path}
 use Rattle.split_tree.proofs.laws.cube_path_is_cube.Goals as goal
 
 pub returns : goal.returns

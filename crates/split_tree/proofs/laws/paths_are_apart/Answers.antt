@@ -1,4 +1,4 @@
-use Rattle.split_tree.proofs.Descents.{one_node}
+use Rattle.split_tree.proofs.NavigationPaths.{one_node}
 use Rattle.split_tree.proofs.laws.paths_are_apart.Goals as goal
 
 pub returns : goal.returns

@@ -1,6 +1,6 @@
 use Rattle.split_tree.specs.SplitTree.{numbered}
-use Rattle.split_tree.proofs.Coding.{literals_of-numbered}
-use Rattle.split_tree.proofs.Trees.{total_most}
+use Rattle.split_tree.proofs.NodesCoding.{literals_of-numbered}
+use Rattle.split_tree.proofs.SplitTreeUnique.{total_most}
 use Rattle.split_tree.proofs.laws.total_is_bounded.Goals as goal
 
 pub returns : goal.returns

@@ -1,5 +1,5 @@
 use Rattle.split_tree.specs.SplitTree.{numbered}
-use Rattle.split_tree.proofs.Trees.{tree_unique}
+use Rattle.split_tree.proofs.SplitTreeUnique.{tree_unique}
 use Rattle.split_tree.proofs.laws.tree_is_only_one.Goals as goal
 
 pub returns : goal.returns

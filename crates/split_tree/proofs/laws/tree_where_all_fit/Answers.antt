@@ -1,8 +1,8 @@
 use Rattle.std.proofs.Common.{◌+◌, arith}
 use Rattle.split_tree.specs.SplitTree.{numbered}
-use Rattle.split_tree.proofs.Fits.{are_fit, all_fit, tree_fits}
-use Rattle.split_tree.proofs.Trees.{literals_of}
-use Rattle.split_tree.proofs.Existence.{fit_tree}
+use Rattle.split_tree.proofs.ClashFits.{are_fit, all_fit, tree_fits}
+use Rattle.split_tree.proofs.SplitTreeUnique.{literals_of}
+use Rattle.split_tree.proofs.SplitTreeExists.{fit_tree}
 use Rattle.split_tree.proofs.laws.tree_where_all_fit.Goals as goal
 
 pub returns : goal.returns

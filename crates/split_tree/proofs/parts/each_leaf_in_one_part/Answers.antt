@@ -1,4 +1,4 @@
-use Rattle.split_tree.proofs.Cuts.{leaf_in_one}
+use Rattle.split_tree.proofs.PartsLaws.{leaf_in_one}
 use Rattle.split_tree.proofs.parts.each_leaf_in_one_part.Goals as goal
 
 pub returns : goal.returns

@@ -1,4 +1,4 @@
-use Rattle.split_tree.proofs.Cuts.{totals_add_up}
+use Rattle.split_tree.proofs.PartsLaws.{totals_add_up}
 use Rattle.split_tree.proofs.parts.part_totals_add_up.Goals as goal
 
 pub returns : goal.returns

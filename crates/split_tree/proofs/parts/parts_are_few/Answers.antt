@@ -1,4 +1,4 @@
-use Rattle.split_tree.proofs.Cuts.{parts_bound}
+use Rattle.split_tree.proofs.PartsLaws.{parts_bound}
 use Rattle.split_tree.proofs.parts.parts_are_few.Goals as goal
 
 pub returns : goal.returns

@@ -1,5 +1,5 @@
-use Rattle.split_tree.proofs.Coding.{some_node, subtree-root}
-use Rattle.split_tree.proofs.Cuts.{parts_below}
+use Rattle.split_tree.proofs.NodesCoding.{some_node, subtree-root}
+use Rattle.split_tree.proofs.PartsLaws.{parts_below}
 use Rattle.split_tree.proofs.parts.parts_are_subtrees.Goals as goal
 
 pub returns : goal.returns

@@ -1,4 +1,4 @@
-use Rattle.split_tree.proofs.Totals.{weight_next}
+use Rattle.split_tree.proofs.TablesTotals.{weight_next}
 use Rattle.split_tree.proofs.tables.branch_weight.Goals as goal
 
 pub returns-then-above-gt1 : goal.returns-then-above-gt1

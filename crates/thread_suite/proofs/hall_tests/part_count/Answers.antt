@@ -1,5 +1,5 @@
 use Rattle.std.proofs.Common.{arith, rules}
-use Rattle.mark_board.proofs.Gathered.{parts_listed}
+use Rattle.mark_board.proofs.BoardsGathered.{parts_listed}
 use Rattle.thread_suite.proofs.hall_tests.part_count.Goals as goal
 
 pub returns : goal.returns

@@ -5,7 +5,7 @@ use Rattle.board_hall.specs.declared.view.Post.{Post}
 use Rattle.board_hall.specs.Hall.{Reached}
 use Rattle.board_hall.specs.Posts.{posts_of, Among}
 use Rattle.board_hall.specs.Halls.{core_of, view_of}
-use Rattle.board_hall.proofs.Closings.{all_both, homes}
+use Rattle.board_hall.proofs.ClosingBoards.{all_both, homes}
 use Rattle.board_hall.proofs.hall.Hall.close.Goals as goal
 
 pub unpack-requires-clause-home : goal.unpack-requires-clause-home

@@ -1,11 +1,11 @@
 use Rattle.std.proofs.Common.{◌≡◌, ◌+◌, ◌<◌, ◌≤◌, ℕ, refl, ap, ◌∙◌, arith}
 use Rattle.split_tree.specs.SplitTree.{SplitTree, size, subtree_at}
-use Rattle.mark_board.specs.Places.{part_root}
-use Rattle.mark_board.proofs.PartPlaces.{part_read}
+use Rattle.mark_board.specs.TopPlaces.{part_root}
+use Rattle.mark_board.proofs.TopPlacesParts.{part_read}
 use Rattle.board_hall.specs.declared.view.CutCase.{CutCase}
 use Rattle.board_hall.specs.Posts.{parts_in}
 use Rattle.board_hall.specs.Halls.{core_of}
-use Rattle.board_hall.proofs.Homes.{home_in_part, home_on_top, not_in_more}
+use Rattle.board_hall.proofs.PostsHomes.{home_in_part, home_on_top, not_in_more}
 use Rattle.board_hall.proofs.table.Core.board_for.Goals as goal
 use Rattle.board_hall.proofs.table.Core.board_for.Goals.{else-number-via-then-number+else-number-end_of, else-number-via-else-number}
 

@@ -1,5 +1,5 @@
 use Rattle.std.proofs.Common.{◌<◌, ◌∙◌, arith}
-use Rattle.board_hall.proofs.Moves.{splits}
+use Rattle.board_hall.proofs.HallMoves.{splits}
 use Rattle.board_hall.specs.Halls.{core_of}
 use Rattle.board_hall.proofs.table.Core.deal.Goals as goal
 

@@ -1,15 +1,15 @@
 use Rattle.std.proofs.Common.{◌≡◌, ℕ, List, sym, ap, ◌∙◌, subst}
 use Rattle.split_tree.specs.SplitTree.{SplitTree}
 use Rattle.split_tree.specs.Leaves.{IsTargetAt}
-use Rattle.mark_board.specs.Kinds.{stored_board}
+use Rattle.mark_board.specs.BoardData.{stored_board}
 use Rattle.board_hall.specs.declared.view.CutCase.{CutCase}
 use Rattle.board_hall.specs.declared.view.Post.{Post}
 use Rattle.board_hall.specs.Posts.{mark_in}
 use Rattle.board_hall.specs.Hall.{IsBoardOf, IsBoard}
-use Rattle.board_hall.specs.Told.{Hand}
+use Rattle.board_hall.specs.Inner.Plays.{Hand}
 use Rattle.board_hall.specs.Halls.{core_of}
-use Rattle.board_hall.proofs.AfterCalls.{keeps_all, saw}
-use Rattle.board_hall.proofs.HeldBoards.{row_on}
+use Rattle.board_hall.proofs.ClausesCalls.{keeps_all, saw}
+use Rattle.board_hall.proofs.HeldPosts.{row_on}
 use Rattle.board_hall.proofs.table.Core.mark_of.Goals as goal
 
 pub returns-clause-own : goal.returns-clause-own

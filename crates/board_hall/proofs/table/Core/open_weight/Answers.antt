@@ -1,17 +1,18 @@
 use Rattle.std.proofs.Common.{◌≡◌, ◌+◌, ◌<◌, ◌*◌, ℕ, ap, ◌∙◌, subst, arith, refl}
-use Rattle.board_hall.proofs.Moves.{looks}
-use Rattle.board_hall.proofs.Hands.{seen_more}
-use Rattle.board_hall.proofs.Homes.{number_inside}
+use Rattle.board_hall.proofs.HallMoves.{looks}
+use Rattle.board_hall.proofs.PlaysHands.{seen_more}
+use Rattle.board_hall.proofs.PostsHomes.{number_inside}
 use Rattle.board_hall.specs.declared.view.CutCase.{CutCase}
-use Rattle.board_hall.specs.Posts.{boards_of}
+use Rattle.board_hall.specs.Posts.{board_count}
 use Rattle.board_hall.specs.Halls.{core_of}
-use Rattle.board_hall.specs.Told.{Hand, Own}
+use Rattle.board_hall.specs.Inner.Plays.{Hand}
+use Rattle.board_hall.specs.Clauses.{Own}
 use Rattle.board_hall.proofs.table.Core.open_weight.Goals as goal
 
 pub load-requires : goal.load-requires
 load-requires c =
     let h = c.args.self.now in let k : CutCase = core_of h in let r = c.requires in let wide = h.words in
-    let inside : c.number_for-number.result < boards_of k = number_inside k c.args.place c.number_for-number.result c.number_for-number.ensures r.place in (
+    let inside : c.number_for-number.result < board_count k = number_inside k c.args.place c.number_for-number.result c.number_for-number.ensures r.place in (
       r.own.0,
       omega (arith, wide, inside),
       looks k h.table.shared.key.passes _ _ c.number_for-number.result c.args.pass.now.seat.me inside,

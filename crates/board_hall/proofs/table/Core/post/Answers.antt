@@ -5,16 +5,16 @@ use Rattle.case_core.specs.Finding.{target_of, HasSection, IsFinding}
 use Rattle.split_tree.specs.Leaves.{IsTargetAt}
 use Rattle.split_tree.specs.declared.node.Target.{Target}
 use Rattle.mark_board.specs.declared.mark.Mark.TheVariants.{Open}
-use Rattle.mark_board.specs.Places.{mark_as}
-use Rattle.mark_board.proofs.Gathered.{target_inside}
+use Rattle.mark_board.specs.Findings.{mark_as}
+use Rattle.mark_board.proofs.BoardsGathered.{target_inside}
 use Rattle.board_hall.specs.declared.view.CutCase.{CutCase}
 use Rattle.board_hall.specs.declared.view.Post.{Post}
 use Rattle.board_hall.specs.Posts.{mark_in}
-use Rattle.board_hall.specs.Told.{Hand}
+use Rattle.board_hall.specs.Inner.Plays.{Hand}
 use Rattle.board_hall.specs.Halls.{core_of}
 use Rattle.board_hall.specs.Clauses.{SeesOwn}
-use Rattle.board_hall.proofs.AfterCalls.{keeps, saw, becomes}
-use Rattle.board_hall.proofs.OneFinding.{one_mark}
+use Rattle.board_hall.proofs.ClausesCalls.{keeps, saw, becomes}
+use Rattle.board_hall.proofs.PostsOneFinding.{one_mark}
 use Rattle.board_hall.proofs.table.Core.post.Goals as goal
 
 pub board_for-number-requires-clause-node : goal.board_for-number-requires-clause-node

@@ -1,12 +1,12 @@
 use Rattle.std.proofs.Common.{◌≡◌, List, refl, sym, ap, ◌∙◌, subst}
 use Rattle.case_core.specs.Finding.{IsSound, target_of}
-use Rattle.mark_board.specs.BoardPosts.{posted_answer}
+use Rattle.mark_board.specs.Posting.{posted_answer}
 use Rattle.board_hall.specs.declared.view.CutCase.{CutCase}
 use Rattle.board_hall.specs.declared.view.Post.{Post}
 use Rattle.board_hall.specs.Hall.{IsBoardOf, MayPost, posting}
-use Rattle.board_hall.specs.Told.{Hand}
+use Rattle.board_hall.specs.Inner.Plays.{Hand}
 use Rattle.board_hall.specs.Halls.{core_of}
-use Rattle.board_hall.proofs.HeldBoards.{posted_of, home_of, finding_post, new_of, not_already, fresh, lost, board_new, may, recorded, came_back}
+use Rattle.board_hall.proofs.HeldPosts.{posted_of, home_of, finding_post, new_of, not_already, fresh, lost, board_new, may, recorded, came_back}
 use Rattle.board_hall.proofs.table.Core.post_held.Goals as goal
 
 pub returns-in-Already-clause-recorded : goal.returns-in-Already-clause-recorded

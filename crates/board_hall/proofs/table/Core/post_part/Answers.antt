@@ -1,10 +1,10 @@
 use Rattle.std.proofs.Common.{rules, ◌≡◌, sym, ap, ◌∙◌, subst}
 use Rattle.board_hall.specs.declared.view.CutCase.{CutCase}
 use Rattle.board_hall.specs.Posts.{parts_in}
-use Rattle.board_hall.specs.Told.{Hand}
+use Rattle.board_hall.specs.Inner.Plays.{Hand}
 use Rattle.board_hall.specs.Halls.{core_of}
 use Rattle.board_hall.specs.Clauses.{SeesOwn}
-use Rattle.board_hall.proofs.AfterCalls.{part_keeps, saw, part_becomes}
+use Rattle.board_hall.proofs.ClausesCalls.{part_keeps, saw, part_becomes}
 use Rattle.board_hall.proofs.table.Core.post_part.Goals as goal
 
 pub returns-clause-own : goal.returns-clause-own

@@ -1,15 +1,15 @@
 use Rattle.std.proofs.Common.{rules, ◌≡◌, ℕ, List, Some, None, refl, sym, ap, ◌∙◌, subst, arith}
 use Rattle.hint_check.specs.declared.Judged.TheVariants.{Refuted}
 use Rattle.mark_board.specs.declared.mark.Mark.TheVariants.{Open}
-use Rattle.mark_board.specs.BoardPosts.{part_posted_answer}
-use Rattle.mark_board.specs.Places.{part_place}
+use Rattle.mark_board.specs.Posting.{part_posted_answer}
+use Rattle.mark_board.specs.TopPlaces.{part_place}
 use Rattle.board_hall.specs.declared.view.CutCase.{CutCase}
 use Rattle.board_hall.specs.declared.view.Post.{Post}
 use Rattle.board_hall.specs.Posts.{parts_in, mark_in}
 use Rattle.board_hall.specs.Hall.{IsBoardOf, posting, of_part}
-use Rattle.board_hall.specs.Told.{Hand}
+use Rattle.board_hall.specs.Inner.Plays.{Hand}
 use Rattle.board_hall.specs.Halls.{core_of}
-use Rattle.board_hall.proofs.HeldBoards.{lost, board_new, part_within, part_post, part_posted_of, part_new, part_not_already, part_recorded}
+use Rattle.board_hall.proofs.HeldPosts.{lost, board_new, part_within, part_post, part_posted_of, part_new, part_not_already, part_recorded}
 use Rattle.board_hall.proofs.table.Core.post_part_held.Goals as goal
 
 pub overflow_sub-covered : goal.overflow_sub-covered

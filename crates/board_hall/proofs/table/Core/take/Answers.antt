@@ -1,14 +1,14 @@
 use Rattle.std.proofs.Common.{◌≡◌, ◌<◌, ◌*◌, sym, ap, ◌∙◌, subst, arith, refl}
-use Rattle.board_hall.proofs.Moves.{tries}
-use Rattle.board_hall.proofs.Hands.{taken, out_of, lifted}
-use Rattle.board_hall.specs.Posts.{boards_of}
+use Rattle.board_hall.proofs.HallMoves.{tries}
+use Rattle.board_hall.proofs.PlaysHands.{taken, out_of, lifted}
+use Rattle.board_hall.specs.Posts.{board_count}
 use Rattle.board_hall.specs.Halls.{core_of}
-use Rattle.board_hall.specs.Told.{Hand}
+use Rattle.board_hall.specs.Inner.Plays.{Hand}
 use Rattle.board_hall.proofs.table.Core.take.Goals as goal
 
 pub compare_exchange-requires : goal.compare_exchange-requires
 compare_exchange-requires g c =
-    let h = c.args.self.now in let r = c.requires in let i = c.loop.invariant in let wide = h.words in let inside : c.args.board < boards_of (core_of h) = r.inside in
+    let h = c.args.self.now in let r = c.requires in let i = c.loop.invariant in let wide = h.words in let inside : c.args.board < board_count (core_of h) = r.inside in
     let stands : 0 < c.args.seat.now.me.0.parts = r.rests.2 in (
       i.0 ∙ r.own,
       omega (arith, wide, inside),

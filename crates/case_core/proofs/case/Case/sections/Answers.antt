@@ -1,6 +1,6 @@
 use Rattle.std.proofs.Common.{◌∙◌, ap, map, subst}
 use Rattle.case_core.specs.Case.{CaseOf, AreSections, targets_of}
-use Rattle.case_core.proofs.Tables.{targets_in}
+use Rattle.case_core.proofs.CaseTables.{targets_in}
 use Rattle.case_core.proofs.case.Case.sections.Goals as goal
 
 pub returns-clause-targets : goal.returns-clause-targets

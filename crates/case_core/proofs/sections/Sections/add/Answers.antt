@@ -2,8 +2,8 @@ use Rattle.std.proofs.Common.{◌≤◌, map, arith, refl, sym, ap, ◌∙◌}
 use Rattle.std.proofs.lemmas.List.{get_or_read, map-append}
 use Rattle.split_tree.specs.SplitTree.{size}
 use Rattle.case_core.specs.Case.{section_in}
-use Rattle.case_core.proofs.Cuts.{part_below}
-use Rattle.case_core.proofs.Tables.{kept_pushed, few_pushed}
+use Rattle.case_core.proofs.BundleCuts.{part_below}
+use Rattle.case_core.proofs.CaseTables.{kept_pushed, few_pushed}
 use Rattle.case_core.proofs.sections.Sections.add.Goals as goal
 
 pub overflow_cast-len : goal.overflow_cast-len

@@ -1,6 +1,6 @@
 use Rattle.std.proofs.Common.{ℕ, List, [], sym, subst}
-use Rattle.case_core.specs.Kept.{AreKept}
-use Rattle.case_core.proofs.Tables.{nothing_kept}
+use Rattle.case_core.specs.Inner.Sections.{AreKept}
+use Rattle.case_core.proofs.CaseTables.{nothing_kept}
 use Rattle.case_core.proofs.sections.Sections.new.Goals as goal
 
 pub returns : goal.returns

@@ -1,5 +1,5 @@
 use Rattle.std.proofs.Common.{◌∙◌}
-use Rattle.cnf_text.proofs.Left.{words_of_tokens, no_more_words}
+use Rattle.cnf_text.proofs.WordsLeft.{words_of_tokens, no_more_words}
 use Rattle.cnf_text.proofs.words.Words.new.Goals as goal
 
 pub returns-clause-value : goal.returns-clause-value

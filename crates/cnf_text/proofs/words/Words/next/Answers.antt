@@ -1,5 +1,5 @@
 use Rattle.std.proofs.Common.{sym, ◌∙◌}
-use Rattle.cnf_text.proofs.Digits.{told_plain}
+use Rattle.cnf_text.proofs.NumbersDigits.{told_plain}
 use Rattle.cnf_text.proofs.words.Words.next.Goals as goal
 
 pub returns-in-Some : goal.returns-in-Some

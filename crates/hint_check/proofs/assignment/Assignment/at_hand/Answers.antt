@@ -1,8 +1,8 @@
 use Rattle.std.proofs.Common.{ℕ, List, ◌≤◌, length, sym, subst}
 use Rattle.cnf_text.specs.Literal.{Literal}
 use Rattle.hint_check.specs.Literals.{has}
-use Rattle.hint_check.specs.Stamps.{Shows}
-use Rattle.hint_check.proofs.Stamping.{shows-trail}
+use Rattle.hint_check.specs.Inner.Stamps.{Shows}
+use Rattle.hint_check.proofs.StampsSets.{shows-trail}
 use Rattle.hint_check.proofs.assignment.Assignment.at_hand.Goals as goal
 
 pub returns : goal.returns

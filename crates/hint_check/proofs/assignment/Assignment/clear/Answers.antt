@@ -1,4 +1,4 @@
-use Rattle.hint_check.proofs.Stamping.{Sound-start, Sound-next}
+use Rattle.hint_check.proofs.StampsSets.{Sound-start, Sound-next}
 use Rattle.hint_check.proofs.assignment.Assignment.clear.Goals as goal
 
 pub invariant_of-self : goal.invariant_of-self

@@ -1,7 +1,7 @@
 use Rattle.std.proofs.Common.{nat_eq, ap, ◌∙◌}
 use Rattle.hint_check.specs.Literals.{has}
-use Rattle.hint_check.specs.Stamps.{stamp_at}
-use Rattle.hint_check.proofs.Stamping.{Sound-parts}
+use Rattle.hint_check.specs.Inner.Stamps.{stamp_at}
+use Rattle.hint_check.proofs.StampsSets.{Sound-parts}
 use Rattle.hint_check.proofs.assignment.Assignment.contains.Goals as goal
 
 pub returns : goal.returns

@@ -1,9 +1,9 @@
 use Rattle.std.proofs.Common.{◌≡◌, false, ◌==◌, sym, ap, ◌∙◌, subst}
 use Rattle.std.specs.Prelude.{if◌then◌else◌}
 use Rattle.hint_check.specs.Literals.{has, with_literal}
-use Rattle.hint_check.specs.Stamps.{stamp_at, Extends}
-use Rattle.hint_check.proofs.Literals.{has-push}
-use Rattle.hint_check.proofs.Stamping.{Sound, Sound-same, Sound-push, with_literal-there, Extends-push}
+use Rattle.hint_check.specs.Inner.Stamps.{stamp_at, Extends}
+use Rattle.hint_check.proofs.LiteralsSets.{has-push}
+use Rattle.hint_check.proofs.StampsSets.{Sound, Sound-same, Sound-push, with_literal-there, Extends-push}
 use Rattle.hint_check.proofs.assignment.Assignment.insert_elsewhere.Goals as goal
 
 pub returns-then-contains-clause-set : goal.returns-then-contains-clause-set

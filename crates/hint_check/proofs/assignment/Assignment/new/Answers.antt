@@ -1,4 +1,4 @@
-use Rattle.hint_check.proofs.Stamping.{Sound-start}
+use Rattle.hint_check.proofs.StampsSets.{Sound-start}
 use Rattle.hint_check.proofs.assignment.Assignment.new.Goals as goal
 
 pub invariant_of-result : goal.invariant_of-result

@@ -1,7 +1,7 @@
 use Rattle.std.proofs.Common.{◌==◌, sym, ap, ◌∙◌, subst}
 use Rattle.std.specs.Prelude.{if◌then◌else◌}
-use Rattle.hint_check.specs.Stamps.{stamp_at, HasRoom}
-use Rattle.hint_check.proofs.Stamping.{Sound, Sound-room, Sound-pop}
+use Rattle.hint_check.specs.Inner.Stamps.{stamp_at, HasRoom}
+use Rattle.hint_check.proofs.StampsSets.{Sound, Sound-room, Sound-pop}
 use Rattle.hint_check.proofs.assignment.Assignment.pop.Goals as goal
 
 pub set-requires : goal.set-requires

@@ -1,7 +1,7 @@
 use Rattle.std.proofs.Common.{◌≡◌, ◌-◌, ◌+◌, length, take, sym, ap, ◌∙◌, arith, inl, inr}
 use Rattle.std.proofs.lemmas.Bool.{cases_lt}
 use Rattle.std.proofs.lemmas.List.{take_all}
-use Rattle.hint_check.proofs.Stamping.{take_one_less}
+use Rattle.hint_check.proofs.StampsSets.{take_one_less}
 use Rattle.hint_check.proofs.assignment.Assignment.undo.Goals as goal
 
 pub loop-init : goal.loop-init

@@ -1,10 +1,10 @@
 use Rattle.std.proofs.Common.{◌≡◌, ◌++◌, refl, subst}
 use Rattle.std.specs.List.{enumerate_from}
-use Rattle.cnf_text.specs.Literal.{number_of}
-use Rattle.hint_check.specs.FormulaSource.{formula_of}
-use Rattle.hint_check.specs.Index.{ids_at, NamesEntries, AddsHolders}
-use Rattle.hint_check.proofs.Indexing.{Indexes-names}
-use Rattle.hint_check.proofs.OverlayMaps.{OnOk-weaker}
+use Rattle.cnf_text.specs.Literal.{literal_number}
+use Rattle.hint_check.specs.Base.{formula_of}
+use Rattle.hint_check.specs.Inner.Index.{ids_at, NamesEntries, AddsHolders}
+use Rattle.hint_check.proofs.IndexIds.{Indexes-names}
+use Rattle.hint_check.proofs.LiveOverlay.{OnOk-weaker}
 use Rattle.hint_check.proofs.base.Base.list_holders.Goals as goal
 
 pub returns : goal.returns
@@ -13,7 +13,7 @@ returns c =
     let inside = c.self.inside in
     let lit = c.args.lit in
     let ids = c.args.ids.now.items in
-    let more = ids_at inside.index (number_of lit) in
+    let more = ids_at inside.index (literal_number lit) in
     OnOk-weaker c.list.result (c.list.new.ids.items ≡ ids ++ more)
     (AddsHolders (enumerate_from 1 c.args.self.now) lit ids c.list.new.ids.items)
     (λ is. (

@@ -1,14 +1,14 @@
 use Rattle.std.proofs.Common.{◌-◌, ◌++◌, ap, ◌∙◌, arith, subst, sym}
 use Rattle.std.proofs.lemmas.List.{get_or_default}
-use Rattle.cnf_text.specs.Literal.{number_of}
-use Rattle.hint_check.specs.Index.{last_place, ids_at, no_link}
-use Rattle.hint_check.proofs.Chains.{Walks, Walks-start, Walks-end, Walks-smaller, Walks-step}
+use Rattle.cnf_text.specs.Literal.{literal_number}
+use Rattle.hint_check.specs.Inner.Index.{last_place, ids_at, no_link}
+use Rattle.hint_check.proofs.IndexChains.{Walks, Walks-start, Walks-end, Walks-smaller, Walks-step}
 use Rattle.hint_check.proofs.index.Index.list.Goals as goal
 
 pub loop-place-init : goal.loop-place-init
 loop-place-init c =
     let inside = c.self.inside in
-    Walks-start inside.links.items inside.reach inside.near.items inside.far.entries (number_of c.args.lit) c.last_place-place.result c.args.ids.now.items
+    Walks-start inside.links.items inside.reach inside.near.items inside.far.entries (literal_number c.args.lit) c.last_place-place.result c.args.ids.now.items
     c.self.invariant.1 (c.last_place-place.ensures ∙ ap (λ near. last_place inside.reach near inside.far.entries c.number.result) c.deref.ensures.value
     ∙ ap (last_place inside.reach inside.near.items inside.far.entries) c.number.ensures.value)
 
@@ -20,14 +20,14 @@ index-link-requires c =
 
 pub loop-place-smaller : goal.loop-place-smaller
 loop-place-smaller c =
-    Walks-smaller c.self.inside.links.items (number_of c.args.lit) c.args.ids.now.items c.loop-place.ids.items c.loop-place.place
+    Walks-smaller c.self.inside.links.items (literal_number c.args.lit) c.args.ids.now.items c.loop-place.ids.items c.loop-place.place
     c.index-link.result.now c.self.invariant.0 c.loop-place-test.true c.loop-place.invariant
     (c.index-link.ensures ∙ get_or_default c.self.inside.links.items (c.loop-place.place - 1) c.index-link.result.now no_link (omega (arith, c.loop-place.invariant.0, c.loop-place-test.true)))
 
 pub loop-place-preserved : goal.loop-place-preserved
 loop-place-preserved c =
     let links = c.self.inside.links.items in
-    let n = number_of c.args.lit in
+    let n = literal_number c.args.lit in
     subst (λ ids. Walks links n c.args.ids.now.items ids c.index-link.result.now.before) (sym c.in_ok-push.ensures.items)
     (Walks-step links n c.args.ids.now.items c.loop-place.ids.items c.loop-place.place
     c.index-link.result.now c.self.invariant.0 c.loop-place-test.true c.loop-place.invariant
@@ -35,6 +35,6 @@ loop-place-preserved c =
 
 pub returns : goal.returns
 returns c =
-    Walks-end c.self.inside.links.items (number_of c.args.lit) c.args.ids.now.items c.loop-place.ids.items c.loop-place.place
+    Walks-end c.self.inside.links.items (literal_number c.args.lit) c.args.ids.now.items c.loop-place.ids.items c.loop-place.place
     (omega (arith, c.loop-place-test.false)) c.loop-place.invariant
-    ∙ ap (λ links. c.args.ids.now.items ++ ids_at links (number_of c.args.lit)) c.self.view_is
+    ∙ ap (λ links. c.args.ids.now.items ++ ids_at links (literal_number c.args.lit)) c.self.view_is

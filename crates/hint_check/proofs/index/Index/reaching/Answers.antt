@@ -1,6 +1,6 @@
 use Rattle.std.proofs.Common.{[], sym, subst}
-use Rattle.hint_check.specs.Index.{LeadBack, NotesLast}
-use Rattle.hint_check.proofs.Chains.{LeadBack-none, NotesLast-none}
+use Rattle.hint_check.specs.Inner.Index.{LeadBack, NotesLast}
+use Rattle.hint_check.proofs.IndexChains.{LeadBack-none, NotesLast-none}
 use Rattle.hint_check.proofs.index.Index.reaching.Goals as goal
 
 pub invariant_of-result : goal.invariant_of-result

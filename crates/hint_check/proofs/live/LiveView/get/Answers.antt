@@ -1,7 +1,7 @@
 use Rattle.std.proofs.Common.{◌≡◌, None, ◌∙◌, arith}
-use Rattle.hint_check.specs.Overlay.{base_clause}
-use Rattle.hint_check.specs.View.{own_seen}
-use Rattle.hint_check.proofs.OverlayMaps.{base_clause-past, overlay-base, overlay-own}
+use Rattle.hint_check.specs.Inner.Live.{base_clause}
+use Rattle.hint_check.specs.Inner.Own.{own_seen}
+use Rattle.hint_check.proofs.LiveOverlay.{base_clause-past, overlay-base, overlay-own}
 use Rattle.hint_check.proofs.live.LiveView.get.Goals as goal
 use Rattle.hint_check.proofs.live.LiveView.get.Goals.{then-id-self+in_default, else-id-self}
 

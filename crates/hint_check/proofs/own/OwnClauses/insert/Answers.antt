@@ -2,11 +2,11 @@ use Rattle.std.proofs.Common.{◌≡◌, ◌+◌, ◌≤◌, length, refl, sym, 
 use Rattle.std.specs.FinMap as fin
 use Rattle.std.proofs.lemmas.List.{length-append}
 use Rattle.hint_check.specs.declared.own.Slot.{Slot}
-use Rattle.hint_check.specs.Own.{no_slot, own_clauses, SlotsEndBy, SpansEndBy}
-use Rattle.hint_check.proofs.OverlayMaps.{OnErr-always}
-use Rattle.hint_check.proofs.OwnMaps.{own-same, own-insert-near, own-insert-far, SetsSlot-put}
-use Rattle.hint_check.proofs.OwnMaps.{SlotsEndBy-same, SlotsEndBy-set}
-use Rattle.hint_check.proofs.OwnMaps.{SpansEndBy-more}
+use Rattle.hint_check.specs.Inner.Own.{no_slot, own_clauses, SlotsEndBy, SpansEndBy}
+use Rattle.hint_check.proofs.LiveOverlay.{OnErr-always}
+use Rattle.hint_check.proofs.OwnEntries.{own-same, own-insert-near, own-insert-far, SetsSlot-put}
+use Rattle.hint_check.proofs.OwnEntries.{SlotsEndBy-same, SlotsEndBy-set}
+use Rattle.hint_check.proofs.OwnEntries.{SpansEndBy-more}
 use Rattle.hint_check.proofs.own.OwnClauses.insert.Goals as goal
 
 pub invariant_of-self-in_err-replaced-in-Some : goal.invariant_of-self-in_err-replaced-in-Some

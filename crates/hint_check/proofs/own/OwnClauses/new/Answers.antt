@@ -1,5 +1,5 @@
 use Rattle.std.proofs.Common.{length, ap, arith}
-use Rattle.hint_check.proofs.OwnMaps.{own-none, SlotsEndBy-none, SpansEndBy-none}
+use Rattle.hint_check.proofs.OwnEntries.{own-none, SlotsEndBy-none, SpansEndBy-none}
 use Rattle.hint_check.proofs.own.OwnClauses.new.Goals as goal
 
 pub invariant_of-result : goal.invariant_of-result

@@ -1,6 +1,6 @@
 use Rattle.std.proofs.Common.{length, ap, ◌∙◌, arith}
 use Rattle.std.specs.FinMap as fin
-use Rattle.hint_check.proofs.OwnMaps.{own-remove, SlotsEndBy-cleared}
+use Rattle.hint_check.proofs.OwnEntries.{own-remove, SlotsEndBy-cleared}
 use Rattle.hint_check.proofs.own.OwnClauses.remove.Goals as goal
 
 pub invariant_of-self : goal.invariant_of-self

@@ -1,7 +1,7 @@
 use Rattle.std.proofs.Common.{sym, ap, ◌∙◌}
 use Rattle.std.specs.Option.{option_or}
-use Rattle.hint_check.specs.Own.{far_at}
-use Rattle.hint_check.proofs.OwnMaps.{own-get}
+use Rattle.hint_check.specs.Inner.Own.{far_at}
+use Rattle.hint_check.proofs.OwnEntries.{own-get}
 use Rattle.hint_check.proofs.own.OwnView.get.Goals as goal
 
 pub returns-in-Some : goal.returns-in-Some

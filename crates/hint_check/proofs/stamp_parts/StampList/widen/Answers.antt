@@ -1,6 +1,6 @@
 use Rattle.std.proofs.Common.{◌-◌, ◌++◌, get_or, replicate, ap, ◌∙◌, arith}
 use Rattle.std.proofs.lemmas.List.{take_all}
-use Rattle.hint_check.proofs.Zeros.{zeros-behind}
+use Rattle.hint_check.proofs.StampsZeros.{zeros-behind}
 use Rattle.hint_check.proofs.stamp_parts.StampList.widen.Goals as goal
 
 pub returns-in_ok-resize-clause-same : goal.returns-in_ok-resize-clause-same

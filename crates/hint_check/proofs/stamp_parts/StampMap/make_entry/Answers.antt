@@ -1,7 +1,7 @@
 use Rattle.std.proofs.Common.{Some, ◌∙◌, ap, sym}
-use Rattle.hint_check.specs.Stamps.{mapped_at}
-use Rattle.hint_check.proofs.OwnMaps.{updated}
-use Rattle.hint_check.proofs.Stamping.{mapped-zero}
+use Rattle.hint_check.specs.Inner.Stamps.{mapped_at}
+use Rattle.hint_check.proofs.OwnEntries.{updated}
+use Rattle.hint_check.proofs.StampsSets.{mapped-zero}
 use Rattle.hint_check.proofs.stamp_parts.StampMap.make_entry.Goals as goal
 
 pub returns-in_ok-insert-in-None-clause-same : goal.returns-in_ok-insert-in-None-clause-same

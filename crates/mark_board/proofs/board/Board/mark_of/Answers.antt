@@ -1,6 +1,6 @@
 use Rattle.std.proofs.Common.{◌≡◌, sym, ap, ◌∙◌}
 use Rattle.mark_board.specs.declared.kind.Kind.TheVariants.{Part as part_kind, Top as top_kind}
-use Rattle.mark_board.specs.Kinds.{board_of}
+use Rattle.mark_board.specs.BoardData.{board_of}
 use Rattle.mark_board.proofs.BoardRows.{target_row, part_row, part_sound_mark, top_inside, top_row, top_sound_mark}
 use Rattle.mark_board.proofs.board.Board.mark_of.Goals as goal
 

@@ -1,6 +1,6 @@
 use Rattle.std.proofs.Common.{◌≡◌, sym, ap, ◌∙◌}
 use Rattle.mark_board.specs.declared.kind.Kind.TheVariants.{Part as part_kind, Top as top_kind}
-use Rattle.mark_board.specs.Kinds.{board_of}
+use Rattle.mark_board.specs.BoardData.{board_of}
 use Rattle.mark_board.proofs.BoardRows.{part_row, part_marked, part_sound_marked, top_inside, top_row, top_sound_marked}
 use Rattle.mark_board.proofs.board.Board.node_marked.Goals as goal
 

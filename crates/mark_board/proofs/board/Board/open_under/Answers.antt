@@ -1,6 +1,6 @@
 use Rattle.std.proofs.Common.{◌≡◌, sym, ap, ◌∙◌}
 use Rattle.mark_board.specs.declared.kind.Kind.TheVariants.{Part as part_kind, Top as top_kind}
-use Rattle.mark_board.specs.Kinds.{board_of}
+use Rattle.mark_board.specs.BoardData.{board_of}
 use Rattle.mark_board.proofs.BoardRows.{part_open, top_inside, top_row}
 use Rattle.mark_board.proofs.board.Board.open_under.Goals as goal
 

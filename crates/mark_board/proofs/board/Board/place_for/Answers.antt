@@ -1,7 +1,7 @@
 use Rattle.std.proofs.Common.{◌≡◌, sym, ap, ◌∙◌}
 use Rattle.mark_board.specs.declared.kind.Kind.TheVariants.{Top as top_kind}
-use Rattle.mark_board.specs.Kinds.{board_of}
-use Rattle.mark_board.proofs.Gathered.{place_in_part}
+use Rattle.mark_board.specs.BoardData.{board_of}
+use Rattle.mark_board.proofs.BoardsGathered.{place_in_part}
 use Rattle.mark_board.proofs.board.Board.place_for.Goals as goal
 
 pub returns-in-Some : goal.returns-in-Some

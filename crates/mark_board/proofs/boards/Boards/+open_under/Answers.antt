@@ -1,9 +1,9 @@
 use Rattle.std.proofs.Common.{◌≡◌, ◌∙◌, ap, arith, refl}
 use Rattle.split_tree.specs.declared.node.Target.TheVariants.{Node}
-use Rattle.mark_board.specs.Rows.{refuted_by}
+use Rattle.mark_board.specs.Marking.{refuted_by}
 use Rattle.mark_board.specs.Boards.{boards_of}
-use Rattle.mark_board.proofs.Gathered.{mark_on_top}
-use Rattle.mark_board.proofs.GatheredWeights.{own_is_inner, own_row, not_both, open_there, none_below, both_open, open_fits}
+use Rattle.mark_board.proofs.BoardsGathered.{mark_on_top}
+use Rattle.mark_board.proofs.BoardsWeights.{own_is_inner, own_row, not_both, open_there, none_below, both_open, open_fits}
 use Rattle.mark_board.proofs.boards.Boards.+open_under.Goals as goal
 
 pub returns-in-Part : goal.returns-in-Part

@@ -1,6 +1,6 @@
 use Rattle.std.proofs.Common.{◌≡◌, ap, ◌∙◌}
 use Rattle.mark_board.specs.Boards.{boards_of}
-use Rattle.mark_board.proofs.Gathered.{mark_on_top, mark_in_part}
+use Rattle.mark_board.proofs.BoardsGathered.{mark_on_top, mark_in_part}
 use Rattle.mark_board.proofs.boards.Boards.mark_of.Goals as goal
 
 pub returns-in-Top-clause-mark : goal.returns-in-Top-clause-mark

@@ -1,4 +1,4 @@
-use Rattle.mark_board.proofs.Gathered.{boards_new}
+use Rattle.mark_board.proofs.BoardsGathered.{boards_new}
 use Rattle.mark_board.proofs.boards.Boards.new.Goals as goal
 
 pub invariant_of-result : goal.invariant_of-result

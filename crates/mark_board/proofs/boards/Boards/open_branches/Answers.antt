@@ -1,7 +1,7 @@
 use Rattle.std.proofs.Common.{◌≡◌, ◌<◌, ◌∙◌, refl, sym, ap}
 use Rattle.split_tree.specs.SplitTree.{size}
-use Rattle.mark_board.specs.Rows.{refuted_by}
-use Rattle.mark_board.proofs.Walks.{walk_start, walk_past, walk_list, walk_into, walk_end, further}
+use Rattle.mark_board.specs.Marking.{refuted_by}
+use Rattle.mark_board.proofs.MarkingWalkKept.{walk_start, walk_past, walk_list, walk_into, walk_end, further}
 use Rattle.mark_board.proofs.boards.Boards.open_branches.Goals as goal
 
 pub loop-number-init : goal.loop-number-init

@@ -1,7 +1,7 @@
 use Rattle.std.proofs.Common.{◌-◌}
 use Rattle.split_tree.specs.SplitTree.{size}
-use Rattle.mark_board.specs.Rows.{refuted_by}
-use Rattle.mark_board.proofs.Walks.{Walked}
+use Rattle.mark_board.specs.Marking.{refuted_by}
+use Rattle.mark_board.proofs.MarkingWalkKept.{Walked}
 use Rattle.mark_board.proofs.boards.Boards.open_branches.Given as goal
 
 abbrev pub invariant-loop-number : goal.invariant-loop-number

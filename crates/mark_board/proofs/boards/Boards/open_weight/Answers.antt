@@ -1,4 +1,4 @@
-use Rattle.split_tree.proofs.Coding.{subtree-root}
+use Rattle.split_tree.proofs.NodesCoding.{subtree-root}
 use Rattle.mark_board.proofs.boards.Boards.open_weight.Goals as goal
 
 pub returns : goal.returns

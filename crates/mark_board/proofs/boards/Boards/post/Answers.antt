@@ -1,9 +1,9 @@
 use Rattle.std.proofs.Common.{◌≡◌, ap}
-use Rattle.mark_board.specs.Places.{mark_as}
-use Rattle.mark_board.specs.BoardPosts.{posted_answer}
+use Rattle.mark_board.specs.Findings.{mark_as}
+use Rattle.mark_board.specs.Posting.{posted_answer}
 use Rattle.mark_board.specs.Boards.{boards_of}
-use Rattle.mark_board.proofs.Gathered.{target_inside}
-use Rattle.mark_board.proofs.GatheredPosts.{after_top}
+use Rattle.mark_board.proofs.BoardsGathered.{target_inside}
+use Rattle.mark_board.proofs.BoardsPosts.{after_top}
 use Rattle.mark_board.proofs.boards.Boards.post.Goals as goal
 
 pub place_for-requires-clause-node : goal.place_for-requires-clause-node

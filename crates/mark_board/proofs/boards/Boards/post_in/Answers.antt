@@ -1,7 +1,7 @@
 use Rattle.mark_board.specs.declared.rows.Answer.TheVariants.{Marked, RootMarked, Already}
-use Rattle.mark_board.specs.Places.{mark_as}
-use Rattle.mark_board.specs.BoardPosts.{part_posted_answer}
-use Rattle.mark_board.proofs.GatheredPosts.{post_in, in_already, in_marked, in_root_marked}
+use Rattle.mark_board.specs.Findings.{mark_as}
+use Rattle.mark_board.specs.Posting.{part_posted_answer}
+use Rattle.mark_board.proofs.BoardsPosts.{post_in, in_already, in_marked, in_root_marked}
 use Rattle.mark_board.proofs.boards.Boards.post_in.Goals as goal
 
 pub invariant_of-self : goal.invariant_of-self

@@ -1,6 +1,6 @@
 use Rattle.std.proofs.Common.{◌≡◌}
 use Rattle.mark_board.specs.Boards.{boards_of}
-use Rattle.mark_board.proofs.Gathered.{root_on_top, root_path}
+use Rattle.mark_board.proofs.BoardsGathered.{root_on_top, root_path}
 use Rattle.mark_board.proofs.boards.Boards.root_marked.Goals as goal
 
 pub returns-clause-marked : goal.returns-clause-marked

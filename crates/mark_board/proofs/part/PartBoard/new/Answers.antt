@@ -1,9 +1,9 @@
 use Rattle.std.proofs.Common.{◌≡◌, ◌+◌, ◌-◌, ◌≤◌, arith, length, replicate, take, drop}
 use Rattle.split_tree.specs.SplitTree.{size, subtree_at, path_at}
-use Rattle.split_tree.specs.Tables.{AreTotals}
-use Rattle.split_tree.proofs.Labels.{inside}
+use Rattle.split_tree.specs.Navigation.{AreTotals}
+use Rattle.split_tree.proofs.SplitTreeLabels.{inside}
 use Rattle.mark_board.specs.declared.mark.Mark.TheVariants.{Open}
-use Rattle.mark_board.proofs.Worths.{part_kept, part_sound}
+use Rattle.mark_board.proofs.RowsWorths.{part_kept, part_sound}
 use Rattle.mark_board.proofs.part.PartBoard.new.Goals as goal
 
 pub slice_bounds-new-end : goal.slice_bounds-new-end

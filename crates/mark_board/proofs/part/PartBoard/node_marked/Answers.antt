@@ -1,8 +1,8 @@
 use Rattle.std.proofs.Common.{◌≡◌, ◌+◌, ◌-◌, ap, sym, ◌∙◌, arith, slice_index}
 use Rattle.split_tree.specs.SplitTree.{subtree_at}
-use Rattle.split_tree.proofs.Labels.{below}
-use Rattle.mark_board.proofs.Posts.{kept_marked}
-use Rattle.mark_board.proofs.Sounds.{place_within}
+use Rattle.split_tree.proofs.SplitTreeLabels.{below}
+use Rattle.mark_board.proofs.RowsPosts.{kept_marked}
+use Rattle.mark_board.proofs.MarkingSound.{place_within}
 use Rattle.mark_board.proofs.part.PartBoard.node_marked.Goals as goal
 
 pub returns : goal.returns

@@ -1,7 +1,7 @@
 use Rattle.std.proofs.Common.{◌≡◌, ◌-◌, ◌+◌, ap, sym, ◌∙◌, arith, slice_index}
 use Rattle.split_tree.specs.SplitTree.{subtree_at}
-use Rattle.split_tree.proofs.Labels.{below}
-use Rattle.mark_board.proofs.Sounds.{place_within}
+use Rattle.split_tree.proofs.SplitTreeLabels.{below}
+use Rattle.mark_board.proofs.MarkingSound.{place_within}
 use Rattle.mark_board.proofs.part.PartBoard.open_under.Goals as goal
 
 pub returns : goal.returns

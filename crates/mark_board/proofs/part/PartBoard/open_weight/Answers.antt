@@ -1,5 +1,5 @@
 use Rattle.split_tree.specs.SplitTree.{subtree_at}
-use Rattle.mark_board.proofs.Posts.{kept_open, kept_some}
+use Rattle.mark_board.proofs.RowsPosts.{kept_open, kept_some}
 use Rattle.mark_board.proofs.part.PartBoard.open_weight.Goals as goal
 
 pub weight_of-requires : goal.weight_of-requires

@@ -3,11 +3,11 @@ use Rattle.split_tree.specs.SplitTree.{subtree_at, path_at}
 use Rattle.split_tree.specs.Leaves.{IsTargetAt}
 use Rattle.case_core.specs.Finding.{IsSound, target_of}
 use Rattle.cnf_text.specs.Formula.{IsRefuted}
-use Rattle.mark_board.specs.Marking.{AreRefuted}
-use Rattle.mark_board.specs.Rows.{refuted_by, IsKept}
-use Rattle.mark_board.specs.Answers.{marks_after}
-use Rattle.mark_board.specs.Places.{mark_as}
-use Rattle.mark_board.proofs.Sounds.{sound_posted, root_refuted}
+use Rattle.mark_board.specs.Marking.{AreRefuted, refuted_by}
+use Rattle.mark_board.specs.Rows.{AreRowsKept}
+use Rattle.mark_board.specs.Posting.{marks_after}
+use Rattle.mark_board.specs.Findings.{mark_as}
+use Rattle.mark_board.proofs.MarkingSound.{sound_posted, root_refuted}
 use Rattle.mark_board.proofs.part.PartBoard.post.Goals as goal
 
 pub invariant_of-self : goal.invariant_of-self
@@ -18,8 +18,8 @@ invariant_of-self c =
     let here : IsTargetAt board.case.now.tree finding.node (target_of finding.leaf finding.node) = rw c.requires.case at finding.here in
     let marks : c.post-answer.new.self.marks.items ≡ marks_after c.post-answer.result board.rows.marks.items (finding.node - board.root) (mark_as finding.judged) =
     rw (c.index.ensures.value, c.node.ensures.value, c.mark_for-mark.ensures, c.judged.ensures.value) at c.post-answer.ensures.marks in
-    let kept : (worth : ℕ → ℕ) → IsKept (subtree_at board.case.now.tree board.root) worth board.rows.marks.items board.rows.weights.items →
-    IsKept (subtree_at board.case.now.tree board.root) worth c.post-answer.new.self.marks.items c.post-answer.new.self.weights.items =
+    let kept : (worth : ℕ → ℕ) → AreRowsKept (subtree_at board.case.now.tree board.root) worth board.rows.marks.items board.rows.weights.items →
+    AreRowsKept (subtree_at board.case.now.tree board.root) worth c.post-answer.new.self.marks.items c.post-answer.new.self.weights.items =
     rw c.tree.ensures.tree at c.post-answer.ensures.kept in
     record {
       within = board.within;

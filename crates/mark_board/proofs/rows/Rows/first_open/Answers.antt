@@ -1,9 +1,9 @@
 use Rattle.std.proofs.Common.{◌<◌, ◌≤◌, arith}
 use Rattle.split_tree.specs.SplitTree.{size, subtree_at}
-use Rattle.mark_board.specs.Rows.{refuted_by}
-use Rattle.mark_board.proofs.Seeking.{seek_start, seek_clear, seek_past, seek_end}
-use Rattle.mark_board.proofs.Posts.{refuted_read, clear_read}
-use Rattle.mark_board.proofs.Ways.{is_below}
+use Rattle.mark_board.specs.Marking.{refuted_by}
+use Rattle.mark_board.proofs.RowsSeeking.{seek_start, seek_clear, seek_past, seek_end}
+use Rattle.mark_board.proofs.RowsPosts.{refuted_read, clear_read}
+use Rattle.mark_board.proofs.RowsWays.{is_below}
 use Rattle.mark_board.proofs.rows.Rows.first_open.Goals as goal
 
 pub loop-here-init : goal.loop-here-init

@@ -1,7 +1,7 @@
 use Rattle.std.proofs.Common.{ℕ, ◌-◌}
 use Rattle.split_tree.specs.SplitTree.{subtree_at}
-use Rattle.mark_board.specs.Rows.{refuted_by}
-use Rattle.mark_board.proofs.Seeking.{IsSought}
+use Rattle.mark_board.specs.Marking.{refuted_by}
+use Rattle.mark_board.proofs.RowsSeeking.{IsSought}
 use Rattle.mark_board.proofs.rows.Rows.first_open.Given as goal
 
 abbrev pub invariant-loop-here : goal.invariant-loop-here

@@ -1,8 +1,8 @@
 use Rattle.std.proofs.Common.{◌≡◌, refl, sym, ◌∙◌}
 use Rattle.split_tree.specs.SplitTree.{subtree_at}
 use Rattle.mark_board.specs.declared.mark.Mark.TheVariants.{Open}
-use Rattle.mark_board.specs.Rows.{mark_at}
-use Rattle.mark_board.proofs.Posts.{mark_read, kept_rejected, rejected_root}
+use Rattle.mark_board.specs.Marking.{mark_at}
+use Rattle.mark_board.proofs.RowsPosts.{mark_read, kept_rejected, rejected_root}
 use Rattle.mark_board.proofs.rows.Rows.post.Goals as goal
 
 pub returns-in_default-mark : goal.returns-in_default-mark

@@ -1,6 +1,6 @@
 use Rattle.std.proofs.Common.{refl}
 use Rattle.split_tree.specs.SplitTree.{subtree_at}
-use Rattle.mark_board.proofs.Posts.{enough_kept, kept_refuted, root_then, root_else}
+use Rattle.mark_board.proofs.RowsPosts.{enough_kept, kept_refuted, root_then, root_else}
 use Rattle.mark_board.proofs.rows.Rows.refute.Goals as goal
 
 pub cover-requires-clause-first : goal.cover-requires-clause-first

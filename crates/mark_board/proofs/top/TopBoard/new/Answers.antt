@@ -1,10 +1,10 @@
 use Rattle.std.proofs.Common.{◌≡◌, [], length, map, replicate, ◌∙◌}
-use Rattle.split_tree.specs.Top.{top, top_nodes}
+use Rattle.split_tree.specs.Parts.{top, top_nodes}
 use Rattle.mark_board.specs.declared.mark.Mark.TheVariants.{Open}
-use Rattle.mark_board.specs.Places.{worth_of}
-use Rattle.mark_board.proofs.Tops.{length-top_nodes}
-use Rattle.mark_board.proofs.Worths.{part_sound}
-use Rattle.mark_board.proofs.TopPlaces.{node_within, top_kept}
+use Rattle.mark_board.specs.TopPlaces.{worth_of}
+use Rattle.mark_board.proofs.BoardNumbers.{length-top_nodes}
+use Rattle.mark_board.proofs.RowsWorths.{part_sound}
+use Rattle.mark_board.proofs.TopPlacesNodes.{node_within, top_kept}
 use Rattle.mark_board.proofs.top.TopBoard.new.Goals as goal
 
 pub worths_of-requires : goal.worths_of-requires

@@ -1,7 +1,7 @@
 use Rattle.split_tree.specs.Leaves.{IsLeafAt}
-use Rattle.split_tree.specs.Top.{top}
+use Rattle.split_tree.specs.Parts.{top}
 use Rattle.split_tree.specs.declared.node.Leaf.TheVariants.{Cube}
-use Rattle.mark_board.proofs.TopPlaces.{no_cube_above}
+use Rattle.mark_board.proofs.TopPlacesNodes.{no_cube_above}
 use Rattle.mark_board.proofs.top.TopBoard.part_at.Goals as goal
 
 pub unreachable-requires : goal.unreachable-requires

@@ -1,5 +1,5 @@
-use Rattle.split_tree.specs.Top.{top}
-use Rattle.mark_board.proofs.Posts.{kept_marked}
+use Rattle.split_tree.specs.Parts.{top}
+use Rattle.mark_board.proofs.RowsPosts.{kept_marked}
 use Rattle.mark_board.proofs.top.TopBoard.place_marked.Goals as goal
 
 pub returns : goal.returns

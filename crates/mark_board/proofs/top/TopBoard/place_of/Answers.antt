@@ -1,8 +1,8 @@
 use Rattle.std.proofs.Common.{◌≡◌, ◌∙◌, sym, arith}
-use Rattle.split_tree.specs.Top.{top}
-use Rattle.split_tree.specs.Rows.{AreBranches}
-use Rattle.mark_board.specs.Places.{top_node}
-use Rattle.mark_board.proofs.TopPlaces.{place_root, place_first, place_second, place_own, nodes_long, nodes_read}
+use Rattle.split_tree.specs.Parts.{top}
+use Rattle.split_tree.specs.Navigation.{AreBranches}
+use Rattle.mark_board.specs.TopPlaces.{top_node}
+use Rattle.mark_board.proofs.TopPlacesNodes.{place_root, place_first, place_second, place_own, nodes_long, nodes_read}
 use Rattle.mark_board.proofs.top.TopBoard.place_of.Goals as goal
 
 pub loop-node-init : goal.loop-node-init

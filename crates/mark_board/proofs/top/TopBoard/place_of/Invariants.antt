@@ -1,8 +1,8 @@
 use Rattle.std.proofs.Common.{◌-◌, ◌<◌}
 use Rattle.split_tree.specs.SplitTree.{size}
-use Rattle.split_tree.specs.Rows.{HasBelow}
-use Rattle.split_tree.specs.Top.{top}
-use Rattle.mark_board.specs.Places.{top_node}
+use Rattle.split_tree.specs.Navigation.{HasBelow}
+use Rattle.split_tree.specs.Parts.{top}
+use Rattle.mark_board.specs.TopPlaces.{top_node}
 use Rattle.mark_board.proofs.top.TopBoard.place_of.Given as goal
 
 abbrev pub invariant-loop-node : goal.invariant-loop-node

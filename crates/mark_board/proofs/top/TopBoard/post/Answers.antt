@@ -1,13 +1,13 @@
 use Rattle.std.proofs.Common.{◌≡◌, ℕ, []}
-use Rattle.split_tree.specs.Top.{top}
+use Rattle.split_tree.specs.Parts.{top}
 use Rattle.split_tree.specs.Leaves.{IsTargetAt}
-use Rattle.split_tree.proofs.Coding.{subtree-root}
+use Rattle.split_tree.proofs.NodesCoding.{subtree-root}
 use Rattle.case_core.specs.Finding.{IsSound, target_of}
-use Rattle.mark_board.specs.Rows.{IsKept}
-use Rattle.mark_board.specs.Answers.{marks_after}
-use Rattle.mark_board.specs.Places.{mark_as}
-use Rattle.mark_board.proofs.Sounds.{sound_after, finding_sound}
-use Rattle.mark_board.proofs.TopPlaces.{path_of_top}
+use Rattle.mark_board.specs.Rows.{AreRowsKept}
+use Rattle.mark_board.specs.Posting.{marks_after}
+use Rattle.mark_board.specs.Findings.{mark_as}
+use Rattle.mark_board.proofs.MarkingSound.{sound_after, finding_sound}
+use Rattle.mark_board.proofs.TopPlacesNodes.{path_of_top}
 use Rattle.mark_board.proofs.top.TopBoard.post.Goals as goal
 
 pub post-requires-clause-node : goal.post-requires-clause-node
@@ -27,8 +27,8 @@ invariant_of-self c =
     let here : IsTargetAt board.case.now.tree finding.node (target_of finding.leaf finding.node) = rw c.requires.case at finding.here in
     let marks : c.post.new.self.marks.items ≡ marks_after c.post.result board.rows.marks.items c.args.place (mark_as finding.judged) =
     rw (c.mark_for.ensures, c.judged.ensures.value) at c.post.ensures.marks in
-    let kept : (worth : ℕ → ℕ) → IsKept (top board.cut board.case.now.tree) worth board.rows.marks.items board.rows.weights.items →
-    IsKept (top board.cut board.case.now.tree) worth c.post.new.self.marks.items c.post.new.self.weights.items =
+    let kept : (worth : ℕ → ℕ) → AreRowsKept (top board.cut board.case.now.tree) worth board.rows.marks.items board.rows.weights.items →
+    AreRowsKept (top board.cut board.case.now.tree) worth c.post.new.self.marks.items c.post.new.self.weights.items =
     rw (subtree-root board.above.tree, board.tree) at c.post.ensures.kept in
     record {
       low = board.low;

@@ -1,13 +1,13 @@
 use Rattle.std.proofs.Common.{◌≡◌, ℕ, []}
 use Rattle.cnf_text.specs.Formula.{IsRefuted}
 use Rattle.split_tree.specs.SplitTree.{path_at}
-use Rattle.split_tree.specs.Top.{top}
-use Rattle.split_tree.proofs.Coding.{subtree-root}
+use Rattle.split_tree.specs.Parts.{top}
+use Rattle.split_tree.proofs.NodesCoding.{subtree-root}
 use Rattle.mark_board.specs.declared.mark.Mark.TheVariants.{Refuted}
-use Rattle.mark_board.specs.Rows.{IsKept}
-use Rattle.mark_board.specs.Places.{part_root, part_place}
-use Rattle.mark_board.proofs.Sounds.{sound_after}
-use Rattle.mark_board.proofs.TopPlaces.{path_of_top}
+use Rattle.mark_board.specs.Rows.{AreRowsKept}
+use Rattle.mark_board.specs.TopPlaces.{part_root, part_place}
+use Rattle.mark_board.proofs.MarkingSound.{sound_after}
+use Rattle.mark_board.proofs.TopPlacesNodes.{path_of_top}
 use Rattle.mark_board.proofs.top.TopBoard.post_part.Goals as goal
 
 pub returns-clause-root : goal.returns-clause-root
@@ -21,8 +21,8 @@ invariant_of-self c =
     rw (c.requires.case, c.requires.cut) at verdict.refuted in
     let place : c.place_of_part-place.result ≡ part_place board.cut board.case.now.tree verdict.part =
     rw c.part.ensures at c.place_of_part-place.ensures.place in
-    let kept : (worth : ℕ → ℕ) → IsKept (top board.cut board.case.now.tree) worth board.rows.marks.items board.rows.weights.items →
-    IsKept (top board.cut board.case.now.tree) worth c.post.new.self.marks.items c.post.new.self.weights.items =
+    let kept : (worth : ℕ → ℕ) → AreRowsKept (top board.cut board.case.now.tree) worth board.rows.marks.items board.rows.weights.items →
+    AreRowsKept (top board.cut board.case.now.tree) worth c.post.new.self.marks.items c.post.new.self.weights.items =
     rw (subtree-root board.above.tree, board.tree) at c.post.ensures.kept in
     record {
       low = board.low;

@@ -1,7 +1,7 @@
 use Rattle.std.proofs.Common.{◌≡◌, ◌<◌, true, false, arith}
 use Rattle.split_tree.specs.SplitTree.{size}
-use Rattle.mark_board.proofs.Apart.{place_once}
-use Rattle.mark_board.proofs.TopPlaces.{node_within}
+use Rattle.mark_board.proofs.TopPlacesApart.{place_once}
+use Rattle.mark_board.proofs.TopPlacesNodes.{node_within}
 use Rattle.mark_board.proofs.BoardRows.{part_not_own, own_place}
 use Rattle.mark_board.proofs.top.TopBoard.takes.Goals as goal
 

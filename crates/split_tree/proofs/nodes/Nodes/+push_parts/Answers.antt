@@ -1,7 +1,7 @@
 use Rattle.std.proofs.Common.{◌-◌}
 use Rattle.split_tree.specs.SplitTree.{subtree_at}
 use Rattle.split_tree.specs.Parts.{part_nodes}
-use Rattle.split_tree.proofs.Cuts.{part_branches, both_parts}
+use Rattle.split_tree.proofs.PartsLaws.{part_branches, both_parts}
 use Rattle.split_tree.proofs.nodes.Nodes.+push_parts.Goals as goal
 
 pub returns-in-Some : goal.returns-in-Some

@@ -1,12 +1,12 @@
 use Rattle.std.proofs.Common.{◌-◌}
 use Rattle.split_tree.specs.declared.shape.Shape.TheVariants.{Split}
-use Rattle.split_tree.specs.SplitTree.{subtree_at, preorder}
-use Rattle.split_tree.specs.Top.{top, top_nodes}
+use Rattle.split_tree.specs.SplitTree.{subtree_at}
+use Rattle.split_tree.specs.Inner.Nodes.{preorder, HasVariable}
+use Rattle.split_tree.specs.Parts.{top, top_nodes}
 use Rattle.std.specs.List.{All}
 use Rattle.std.proofs.lemmas.List.Elements.{All-push}
-use Rattle.split_tree.specs.Rows.{HasVariable}
-use Rattle.split_tree.proofs.Steps.{split_branches}
-use Rattle.split_tree.proofs.Tops.{top_shapes, top_numbers, regroup}
+use Rattle.split_tree.proofs.NavigationSteps.{split_branches}
+use Rattle.split_tree.proofs.PartsTop.{top_shapes, top_numbers, regroup}
 use Rattle.split_tree.proofs.nodes.Nodes.+push_top.Goals as goal
 
 pub returns-in-Some-clause-shapes : goal.returns-in-Some-clause-shapes

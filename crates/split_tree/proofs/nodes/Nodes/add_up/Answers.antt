@@ -1,6 +1,6 @@
 use Rattle.std.proofs.Common.{◌≡◌, ◌<◌, ◌+◌, ◌-◌, ◌^◌, ℕ, arith}
 use Rattle.split_tree.specs.SplitTree.{total}
-use Rattle.split_tree.proofs.Totals.{TotalsFrom, sum_of, total_at, total_fits}
+use Rattle.split_tree.proofs.TablesTotals.{TotalsFrom, sum_of, total_at, total_fits}
 use Rattle.split_tree.proofs.nodes.Nodes.add_up.Goals as goal
 
 pub overflow_add-weights : goal.overflow_add-weights

@@ -1,6 +1,6 @@
 use Rattle.std.proofs.Common.{◌≡◌, ◌<◌, ℕ, length, get_or}
 use Rattle.split_tree.specs.SplitTree.{size, weight, depth_at}
-use Rattle.split_tree.proofs.Totals.{TotalsFrom}
+use Rattle.split_tree.proofs.TablesTotals.{TotalsFrom}
 use Rattle.split_tree.proofs.nodes.Nodes.add_up.Given as goal
 
 abbrev pub invariant-loop-i : goal.invariant-loop-i

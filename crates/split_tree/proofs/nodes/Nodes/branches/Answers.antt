@@ -1,8 +1,8 @@
 use Rattle.std.proofs.Common.{◌≡◌, ◌<◌, ◌+◌, length, ap, ◌∙◌, arith}
-use Rattle.split_tree.specs.SplitTree.{size, preorder, subtree_at}
-use Rattle.split_tree.specs.Rows.{AreEnds}
-use Rattle.split_tree.proofs.Coding.{stored_as, stored_shape, length-preorder}
-use Rattle.split_tree.proofs.Steps.{splits_at, split_inside, branches_stored, leaf_stored}
+use Rattle.split_tree.specs.SplitTree.{size, subtree_at}
+use Rattle.split_tree.specs.Inner.Nodes.{preorder, AreEnds}
+use Rattle.split_tree.proofs.NodesCoding.{stored_as, stored_shape, length-preorder}
+use Rattle.split_tree.proofs.NavigationSteps.{splits_at, split_inside, branches_stored, leaf_stored}
 use Rattle.split_tree.proofs.nodes.Nodes.branches.Goals as goal
 
 pub index-requires : goal.index-requires

@@ -1,6 +1,6 @@
 use Rattle.std.proofs.Common.{◌≡◌, arith}
 use Rattle.split_tree.specs.SplitTree.{size}
-use Rattle.split_tree.proofs.Leaves.{placed_all}
+use Rattle.split_tree.proofs.LeavesNodes.{placed_all}
 use Rattle.split_tree.proofs.nodes.Nodes.cube_nodes.Goals as goal
 
 pub returns : goal.returns

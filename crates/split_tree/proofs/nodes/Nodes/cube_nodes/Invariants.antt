@@ -1,5 +1,5 @@
 use Rattle.std.proofs.Common.{◌≡◌, length}
-use Rattle.split_tree.proofs.Leaves.{Placed}
+use Rattle.split_tree.proofs.LeavesNodes.{Placed}
 use Rattle.split_tree.proofs.nodes.Nodes.cube_nodes.Given as goal
 
 abbrev pub invariant-loop-i : goal.invariant-loop-i

@@ -1,5 +1,5 @@
 use Rattle.std.proofs.Common.{sym, ◌∙◌, arith}
-use Rattle.split_tree.proofs.Leaves.{listed_more, listed_past, listed_all}
+use Rattle.split_tree.proofs.LeavesNodes.{listed_more, listed_past, listed_all}
 use Rattle.split_tree.proofs.nodes.Nodes.missing_nodes.Goals as goal
 use Rattle.split_tree.proofs.nodes.Nodes.missing_nodes.Goals.{in-Missing+in_ok-push, in_default}
 

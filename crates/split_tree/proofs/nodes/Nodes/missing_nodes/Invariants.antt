@@ -1,4 +1,4 @@
-use Rattle.split_tree.proofs.Leaves.{Listed}
+use Rattle.split_tree.proofs.LeavesNodes.{Listed}
 use Rattle.split_tree.proofs.nodes.Nodes.missing_nodes.Given as goal
 
 abbrev pub invariant-loop-i : goal.invariant-loop-i

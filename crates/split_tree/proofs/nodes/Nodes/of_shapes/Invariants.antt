@@ -1,4 +1,4 @@
-use Rattle.split_tree.specs.SplitTree.{tree_of}
+use Rattle.split_tree.specs.Inner.Nodes.{tree_of}
 use Rattle.split_tree.proofs.nodes.Nodes.of_shapes.Given as goal
 
 abbrev pub ghost-ends_of : goal.ghost-ends_of

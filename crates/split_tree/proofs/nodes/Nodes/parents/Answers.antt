@@ -1,6 +1,6 @@
 use Rattle.std.proofs.Common.{◌≡◌, arith}
 use Rattle.split_tree.specs.SplitTree.{size}
-use Rattle.split_tree.proofs.Parents.{parented_all}
+use Rattle.split_tree.proofs.TablesParents.{parented_all}
 use Rattle.split_tree.proofs.nodes.Nodes.parents.Goals as goal
 
 pub returns : goal.returns

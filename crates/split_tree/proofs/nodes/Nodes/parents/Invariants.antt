@@ -1,6 +1,6 @@
 use Rattle.std.proofs.Common.{◌≡◌, length}
 use Rattle.split_tree.specs.SplitTree.{size}
-use Rattle.split_tree.proofs.Parents.{Parented}
+use Rattle.split_tree.proofs.TablesParents.{Parented}
 use Rattle.split_tree.proofs.nodes.Nodes.parents.Given as goal
 
 abbrev pub invariant-loop-i : goal.invariant-loop-i

@@ -1,10 +1,10 @@
 use Rattle.std.proofs.lemmas.Bool.{eqb-true, eq-eqb}
 use Rattle.std.proofs.Common.{◌+◌, ◌≡◌, [], sym, ◌∙◌, arith}
 use Rattle.split_tree.specs.SplitTree.{subtree_at, branch}
-use Rattle.split_tree.proofs.Coding.{subtree-root}
-use Rattle.split_tree.proofs.Labels.{label-root}
-use Rattle.split_tree.proofs.Steps.{step_path, split_under}
-use Rattle.split_tree.specs.Rows.{HasBelow}
+use Rattle.split_tree.proofs.NodesCoding.{subtree-root}
+use Rattle.split_tree.proofs.SplitTreeLabels.{label-root}
+use Rattle.split_tree.proofs.NavigationSteps.{step_path, split_under}
+use Rattle.split_tree.specs.Navigation.{HasBelow}
 use Rattle.split_tree.proofs.nodes.Nodes.path_to.Goals as goal
 
 pub loop-here-init : goal.loop-here-init

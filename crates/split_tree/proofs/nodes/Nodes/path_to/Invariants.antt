@@ -1,6 +1,6 @@
 use Rattle.std.proofs.Common.{◌≡◌, ◌-◌}
 use Rattle.split_tree.specs.SplitTree.{path_at}
-use Rattle.split_tree.specs.Rows.{HasBelow}
+use Rattle.split_tree.specs.Navigation.{HasBelow}
 use Rattle.split_tree.proofs.nodes.Nodes.path_to.Given as goal
 
 abbrev pub invariant-loop-here : goal.invariant-loop-here

@@ -1,6 +1,7 @@
 use Rattle.std.proofs.Common.{◌≡◌, length, ap, ◌∙◌, arith}
-use Rattle.split_tree.specs.SplitTree.{size, preorder}
-use Rattle.split_tree.proofs.Coding.{stored_as, stored_shape, length-preorder}
+use Rattle.split_tree.specs.SplitTree.{size}
+use Rattle.split_tree.specs.Inner.Nodes.{preorder}
+use Rattle.split_tree.proofs.NodesCoding.{stored_as, stored_shape, length-preorder}
 use Rattle.split_tree.proofs.nodes.Nodes.shape.Goals as goal
 
 pub index-requires : goal.index-requires

@@ -1,6 +1,7 @@
 use Rattle.std.proofs.Common.{◌≡◌, ◌∙◌, ap, length, arith}
-use Rattle.split_tree.specs.SplitTree.{size, tree_of}
-use Rattle.split_tree.proofs.Coding.{length-preorder}
+use Rattle.split_tree.specs.SplitTree.{size}
+use Rattle.split_tree.specs.Inner.Nodes.{tree_of}
+use Rattle.split_tree.proofs.NodesCoding.{length-preorder}
 use Rattle.split_tree.proofs.nodes.Nodes.size.Goals as goal
 
 pub returns-clause-size : goal.returns-clause-size

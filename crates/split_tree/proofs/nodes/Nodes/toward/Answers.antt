@@ -1,7 +1,7 @@
 use Rattle.std.proofs.Common.{◌<◌, ◌+◌, arith}
 use Rattle.split_tree.specs.SplitTree.{size}
-use Rattle.split_tree.specs.Rows.{AreEnds}
-use Rattle.split_tree.proofs.Steps.{splits_below, first_inside, negative_is, steps_positive, steps_negative}
+use Rattle.split_tree.specs.Inner.Nodes.{AreEnds}
+use Rattle.split_tree.proofs.NavigationSteps.{splits_below, first_inside, negative_is, steps_positive, steps_negative}
 use Rattle.split_tree.proofs.nodes.Nodes.toward.Goals as goal
 
 pub index-requires : goal.index-requires

@@ -1,7 +1,7 @@
 use Rattle.std.proofs.Common.{◌≡◌, get_or, length, ap, ◌∙◌, arith}
-use Rattle.split_tree.specs.SplitTree.{size, preorder, subtree_at}
-use Rattle.split_tree.specs.Rows.{HasVariable}
-use Rattle.split_tree.proofs.Coding.{stored_as, stored_shape, variable_of_split, no_split, length-preorder}
+use Rattle.split_tree.specs.SplitTree.{size, subtree_at}
+use Rattle.split_tree.specs.Inner.Nodes.{preorder, HasVariable}
+use Rattle.split_tree.proofs.NodesCoding.{stored_as, stored_shape, variable_of_split, no_split, length-preorder}
 use Rattle.split_tree.proofs.nodes.Nodes.variable_of.Goals as goal
 
 pub index-requires : goal.index-requires

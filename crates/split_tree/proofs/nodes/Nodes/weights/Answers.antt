@@ -1,6 +1,6 @@
 use Rattle.std.proofs.Common.{◌≡◌, get_or, ◌∙◌, arith}
 use Rattle.split_tree.specs.SplitTree.{weight, depth_at}
-use Rattle.split_tree.proofs.Totals.{weights_more, weight_root, weight_branch}
+use Rattle.split_tree.proofs.TablesTotals.{weights_more, weight_root, weight_branch}
 use Rattle.split_tree.proofs.nodes.Nodes.weights.Goals as goal
 use Rattle.split_tree.proofs.nodes.Nodes.weights.Goals.{then-i-eq0, else-i-eq0}
 

@@ -1,5 +1,5 @@
 use Rattle.std.proofs.Common.{◌-◌, ◌≤◌, get_or, length, arith}
-use Rattle.split_tree.proofs.Leaves.{count_leaves, few_leaves}
+use Rattle.split_tree.proofs.LeavesNodes.{count_leaves, few_leaves}
 use Rattle.split_tree.proofs.tree.Tree.cube_count.Goals as goal
 
 pub overflow_cast-result : goal.overflow_cast-result

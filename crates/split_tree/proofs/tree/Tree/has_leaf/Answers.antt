@@ -1,7 +1,7 @@
 use Rattle.std.proofs.Common.{◌≡◌, length, get_or, ◌-◌, refl, ap, arith}
 use Rattle.std.proofs.lemmas.Bool.{leb-true, le-leb}
 use Rattle.split_tree.specs.Leaves.{missing_nodes}
-use Rattle.split_tree.proofs.Leaves.{has_cube, cube_has}
+use Rattle.split_tree.proofs.LeavesNodes.{has_cube, cube_has}
 use Rattle.split_tree.proofs.tree.Tree.has_leaf.Goals as goal
 
 pub returns-then-number-ge1 : goal.returns-then-number-ge1

@@ -2,7 +2,7 @@ use Rattle.std.proofs.Common.{◌≡◌, ◌<◌, ◌≤◌, ◌+◌, ◌-◌, O
 use Rattle.std.proofs.lemmas.List.Sorted.{searched}
 use Rattle.split_tree.specs.SplitTree.{missing, size, subtrees, subtree_at}
 use Rattle.split_tree.specs.Leaves.{missing_nodes, cube_count, leaf_count}
-use Rattle.split_tree.proofs.Leaves.{count_leaves, few_leaves, missing_rise, missing_root, not_missed}
+use Rattle.split_tree.proofs.LeavesNodes.{count_leaves, few_leaves, missing_rise, missing_root, not_missed}
 use Rattle.split_tree.proofs.tree.Tree.leaf_at.Goals as goal
 
 pub overflow_cast-result : goal.overflow_cast-result

@@ -1,7 +1,7 @@
 use Rattle.std.proofs.Common.{◌≡◌, ◌≤◌, ◌+◌, length, ap, arith}
 use Rattle.split_tree.specs.SplitTree.{size}
 use Rattle.split_tree.specs.Leaves.{missing_nodes, cube_count, leaf_count}
-use Rattle.split_tree.proofs.Leaves.{count_leaves, few_leaves}
+use Rattle.split_tree.proofs.LeavesNodes.{count_leaves, few_leaves}
 use Rattle.split_tree.proofs.tree.Tree.leaf_count.Goals as goal
 
 pub overflow_cast-result : goal.overflow_cast-result

@@ -1,5 +1,5 @@
 use Rattle.std.proofs.Common.{sym, ◌∙◌, arith}
-use Rattle.split_tree.proofs.Descents.{sought_root, sought_leaf, sought_other, sought_more, sought_last}
+use Rattle.split_tree.proofs.NavigationPaths.{sought_root, sought_leaf, sought_other, sought_more, sought_last}
 use Rattle.split_tree.proofs.tree.Tree.node_of.Goals as goal
 use Rattle.split_tree.proofs.tree.Tree.node_of.Goals.{then-positive, else-positive}
 

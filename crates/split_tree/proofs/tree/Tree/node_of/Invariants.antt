@@ -1,4 +1,4 @@
-use Rattle.split_tree.proofs.Descents.{Sought}
+use Rattle.split_tree.proofs.NavigationPaths.{Sought}
 use Rattle.split_tree.proofs.tree.Tree.node_of.Given as goal
 
 abbrev pub invariant-loop-literal : goal.invariant-loop-literal

@@ -1,4 +1,4 @@
-use Rattle.split_tree.proofs.Leaves.{cube_within, missing_inside}
+use Rattle.split_tree.proofs.LeavesNodes.{cube_within, missing_inside}
 use Rattle.split_tree.proofs.tree.Tree.node_of_leaf.Goals as goal
 use Rattle.split_tree.proofs.tree.Tree.node_of_leaf.Goals.{in-Cube, in-Missing}
 

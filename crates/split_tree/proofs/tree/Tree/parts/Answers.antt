@@ -1,6 +1,6 @@
 use Rattle.std.proofs.Common.{arith}
-use Rattle.split_tree.proofs.Coding.{some_node, subtree-root}
-use Rattle.split_tree.proofs.Cuts.{few_parts}
+use Rattle.split_tree.proofs.NodesCoding.{some_node, subtree-root}
+use Rattle.split_tree.proofs.PartsLaws.{few_parts}
 use Rattle.split_tree.proofs.tree.Tree.parts.Goals as goal
 
 pub push_parts-requires : goal.push_parts-requires

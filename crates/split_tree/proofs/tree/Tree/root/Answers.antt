@@ -1,4 +1,4 @@
-use Rattle.split_tree.proofs.Coding.{some_node}
+use Rattle.split_tree.proofs.NodesCoding.{some_node}
 use Rattle.split_tree.proofs.tree.Tree.root.Goals as goal
 
 pub returns-clause-within : goal.returns-clause-within

@@ -1,7 +1,7 @@
 use Rattle.std.proofs.Common.{arith, ◌∙◌}
-use Rattle.split_tree.proofs.Coding.{some_node, stored_nodes, stored_tree, subtree-root}
-use Rattle.split_tree.specs.Top.{top}
-use Rattle.split_tree.proofs.Tops.{made, few_above, no_cubes}
+use Rattle.split_tree.proofs.NodesCoding.{some_node, stored_nodes, stored_tree, subtree-root}
+use Rattle.split_tree.specs.Parts.{top}
+use Rattle.split_tree.proofs.PartsTop.{made, few_above, no_cubes}
 use Rattle.split_tree.proofs.tree.Tree.top.Goals as goal
 
 pub push_top-requires : goal.push_top-requires

@@ -1,7 +1,7 @@
 use Rattle.std.proofs.Common.{◌≡◌, ℕ, suc, Bool}
 use Rattle.split_tree.specs.SplitTree.{depth_at, subtree_at}
-use Rattle.split_tree.proofs.Coding.{subtree-root}
-use Rattle.split_tree.proofs.Labels.{label-root}
+use Rattle.split_tree.proofs.NodesCoding.{subtree-root}
+use Rattle.split_tree.proofs.SplitTreeLabels.{label-root}
 use Rattle.split_tree.proofs.tree.Tree.total.Goals as goal
 
 pub returns : goal.returns

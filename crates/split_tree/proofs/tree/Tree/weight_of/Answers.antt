@@ -1,7 +1,7 @@
 use Rattle.std.proofs.Common.{◌∙◌}
 use Rattle.split_tree.specs.SplitTree.{depth_at, subtree_at}
-use Rattle.split_tree.proofs.Leaves.{leaf_there}
-use Rattle.split_tree.proofs.Totals.{leaf_total, weight_some}
+use Rattle.split_tree.proofs.LeavesNodes.{leaf_there}
+use Rattle.split_tree.proofs.TablesTotals.{leaf_total, weight_some}
 use Rattle.split_tree.proofs.tree.Tree.weight_of.Goals as goal
 
 pub returns-clause-weight : goal.returns-clause-weight

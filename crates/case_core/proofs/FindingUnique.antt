@@ -1,0 +1,67 @@
+-- A judgement of a proof from a target's path is the finding of the target.
+use Rattle.std.proofs.Common.{◌≡◌, ℕ, List, None, Some, sym, ◌∙◌, ap, subst, Result, Ok, Err}
+use Rattle.std.specs.Prelude.{IfOk}
+use Rattle.cnf_text.specs.Literal.{Literal}
+use Rattle.cnf_text.specs.Formula.{IsRefuted}
+use Rattle.lrat_text.specs.Proof.{proof_of}
+use Rattle.hint_check.specs.Live.{Live, start}
+use Rattle.hint_check.specs.Judgement.{judged_by, judgement}
+use Rattle.hint_check.specs.declared.Judged.{Judged}
+use Rattle.hint_check.specs.declared.Judged.TheVariants.{Refuted}
+use Rattle.split_tree.specs.Leaves.{IsPathOf, IsTargetAt}
+use Rattle.split_tree.specs.SplitTree.{SplitTree, path_at}
+use Rattle.split_tree.specs.declared.node.Target.{Target}
+use Rattle.case_core.specs.Case.{CaseOf, proof_for}
+use Rattle.case_core.specs.Inner.Finding.{IsJudgement}
+use Rattle.case_core.specs.Finding.{IsFinding, IsSound, HasSection}
+
+pub is_judged : {E : Type 0} (r : Result Judged E) (case : CaseOf) (target : Target) (proof path : List _) (live : Live)
+    → live ≡ start case.formula path → IsPathOf case.tree target path
+    → IfOk r (λ judged. judged ≡ judged_by live (proof_of proof))
+    → IfOk r (λ judged. judged ≡ Refuted → (formula : List (List Literal)) (path : List Literal) → live ≡ start formula path → IsRefuted formula path)
+    → IfOk r (λ judged. IsJudgement case target proof judged)
+is_judged (Ok judged) case target proof path live begun of is sound = record {
+  path = path;
+  of_target = of;
+  is = is ∙ ap (λ l. judged_by l (proof_of proof)) begun;
+  refuted = λ refuted. sound refuted case.formula path begun;
+}
+is_judged (Err e) case target proof path live begun of is sound = tt
+
+-- a target that stands at one place has one path
+pub one_path : (case : CaseOf) (target : Target) (a b : List Literal)
+    → ((i j : ℕ) → IsTargetAt case.tree i target → IsTargetAt case.tree j target → i ≡ j)
+    → IsPathOf case.tree target a → IsPathOf case.tree target b → a ≡ b
+one_path case target a b once x y = x.2 ∙ ap (path_at case.tree) (once x.0 y.0 x.1 y.1) ∙ sym y.2
+
+some_proof : (a b : List ℕ) → Some a ≡ Some b → a ≡ b
+some_proof a b e = cc
+
+pub is_found : (case : CaseOf) (target : Target) (proof : List ℕ) (judged : Judged)
+    → ((i j : ℕ) → IsTargetAt case.tree i target → IsTargetAt case.tree j target → i ≡ j)
+    → proof_for case.sections target ≡ Some proof → IsJudgement case target proof judged
+    → HasSection case target × IsFinding case target judged × IsSound case target judged
+is_found case target proof judged once found j = (
+  λ none. let clash : Some proof ≡ None = sym found ∙ none in cc,
+  λ path other of is.
+      j.is ∙ ap (λ p. judgement case.formula p (proof_of proof)) (one_path case target j.path path once j.of_target of)
+      ∙ ap (λ p. judgement case.formula path (proof_of p)) (some_proof proof other (sym found ∙ is)),
+  λ refuted path of. subst (λ (p : List Literal). IsRefuted case.formula p) (one_path case target j.path path once j.of_target of) (j.refuted refuted),
+)
+
+-- where a target stands, the node's number given twice
+pub stands_there : (a b : SplitTree) (node number : ℕ) (target : Target) → a ≡ b → number ≡ node → IsTargetAt a node target → IsTargetAt b number target
+stands_there a b node number target tree is here = subst (λ (t : SplitTree). IsTargetAt t number target) tree (rw is here)
+
+-- what is found of a target, of the same target otherwise named
+pub found_of : (case : CaseOf) (target other : Target) (node : ℕ) (judged : Judged) → other ≡ target
+    → HasSection case target × IsFinding case target judged × IsSound case target judged → IsTargetAt case.tree node target
+    → IsTargetAt case.tree node other × HasSection case other × IsFinding case other judged × IsSound case other judged
+found_of case target other node judged same found here =
+    subst (λ (t : Target). IsTargetAt case.tree node t × HasSection case t × IsFinding case t judged × IsSound case t judged) (sym same)
+    (here, found.0, found.1, found.2)
+
+-- a target that stands at one node of one tree does so under its other name and in the same tree
+pub only_there : (a b : SplitTree) (target named : Target) (node number : ℕ) → a ≡ b → number ≡ node → named ≡ target →
+    ((i : ℕ) → IsTargetAt a i target → i ≡ node) → (i : ℕ) → IsTargetAt b i named → i ≡ number
+only_there a b target named node number e f g only i at = only i (rw (e, ← g) at) ∙ sym f

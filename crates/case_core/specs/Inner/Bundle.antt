@@ -1,0 +1,62 @@
+-- Where a text is cut at its label lines.
+use Rattle.std.specs.Prelude.{◌≡◌, ◌⊎◌, ℕ, ◌+◌, ◌==◌, List, [], ◌∷◌, ◌++◌, length, true, false, All}
+use Rattle.cnf_text.specs.Tokens.{words}
+use Rattle.case_core.specs.Bundle.{lines_of, is_label, Labelled, labelled}
+
+-- a text and its end
+pub record EndsWith (text end : List ℕ) : Type 0 where
+  pub front : List ℕ
+  pub parts : text ≡ front ++ end
+
+-- none of its lines is a label line
+abbrev pub HasNoLabel : List ℕ → Type 0
+HasNoLabel text = (number : ℕ) → labelled number (lines_of text) ≡ []
+
+-- no byte of it is the letter l
+abbrev pub HasNoLetter : List ℕ → Type 0
+HasNoLetter bytes = All (λ b. (b == 108) ≡ false) bytes
+
+-- it ends where a line begins
+abbrev pub EndsAtLine : List ℕ → Type 0
+EndsAtLine front = (front ≡ []) ⊎ ((lines : List ℕ) × (front ≡ lines ++ 10 ∷ []))
+
+-- the end of a text from the start of a line on, before which no byte is the letter l
+pub record AfterPlainLines (text end : List ℕ) : Type 0 where
+  pub front : List ℕ
+  pub parts : text ≡ front ++ end
+  pub plain : HasNoLetter front
+  pub at_line : EndsAtLine front
+
+-- the first line is a label line
+pub record BeginsWithLabel (text : List ℕ) : Type 0 where
+  pub line : List ℕ
+  pub others : List (List ℕ)
+  pub lines : lines_of text ≡ line ∷ others
+  pub is : is_label line ≡ true
+
+-- the end of a text from its first label line on
+pub record FirstLabel (text end : List ℕ) : Type 0 where
+  pub ends : EndsWith text end
+  pub skipped : ℕ
+  pub counted : skipped + length (lines_of end) ≡ length (lines_of text)
+  pub labels : (number : ℕ)
+      → labelled number (lines_of text) ≡ labelled (number + skipped) (lines_of end)
+  pub begins : BeginsWithLabel end
+
+-- a label line, with its number, and the section below it
+abbrev pub at_line : ℕ → List ℕ → List ℕ → Labelled
+at_line number line section = record { line = number; label = words line; section = section }
+
+-- a text that begins with this label line and has no other
+abbrev pub OneLabel : List ℕ → List ℕ → List ℕ → Type 0
+OneLabel text line section =
+    (number : ℕ) → labelled number (lines_of text) ≡ at_line number line section ∷ []
+
+-- a text that begins with this label line, and its end from the next label line on
+pub record NextLabel (text line section end : List ℕ) : Type 0 where
+  pub ends : EndsWith text end
+  pub skipped : ℕ
+  pub counted : skipped + length (lines_of end) ≡ length (lines_of text)
+  pub labels : (number : ℕ) → labelled number (lines_of text)
+      ≡ at_line number line section ∷ labelled (number + skipped) (lines_of end)
+  pub begins : BeginsWithLabel end

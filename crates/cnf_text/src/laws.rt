@@ -1,0 +1,23 @@
+//! Laws of the definitions. The calls do nothing.
+
+ghost use Rattle.cnf_text.specs.Laws.{ItemsOrAFault, OneFault, OneListOfItems, NoFaultBesideItems};
+
+/// Each text stands for items, or has a fault.
+pub fn items_or_a_fault()
+    ensures { ItemsOrAFault }
+{}
+
+/// A text has one fault at most.
+pub fn one_fault()
+    ensures { OneFault }
+{}
+
+/// A text stands for one list of items at most.
+pub fn one_list_of_items()
+    ensures { OneListOfItems }
+{}
+
+/// A text that stands for items has no fault.
+pub fn no_fault_beside_items()
+    ensures { NoFaultBesideItems }
+{}

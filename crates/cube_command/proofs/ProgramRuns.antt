@@ -1,0 +1,170 @@
+-- What a run says of the bundle and of what was written, and what its status says.
+use Rattle.std.proofs.Common.{◌≡◌, ◌<◌, ◌⊎◌, ◌∙◌, sym, refl, subst, ℕ, Bool, true, false, List, Option}
+use Rattle.std.proofs.Common.{Result, Ok, Err, IfOk, IfErr, MatchResult, inl, inr, arith}
+use Rattle.std.specs.Io.KnownBytes.{Appends}
+use Rattle.bundle_files.specs.Files.{Held, IsBundleOf, IsRead}
+use Rattle.bundle_files.proofs.FilesFormula.{judged_unsatisfiable}
+use Rattle.cube_report.specs.declared.fault.Fault.{Fault}
+use Rattle.cube_report.specs.declared.fault.Fault.TheVariants.{Header, Token, Unfinished, TooLarge, Limit, Memory, Repeats, NotATree, Overlap, BadLabel, NoSuchLeaf, ProofTwice, Device, Thread}
+use Rattle.cube_report.specs.Faults.{IsInputFault}
+use Rattle.cube_report.specs.Correct.{IsCorrect, IsFaultOn, IsUnsatisfiable}
+use Rattle.cube_command.specs.Program.{IsRefused, IsReported, IsLineWritten, fault_line}
+use Rattle.cube_command.specs.Inner.Telling.{IsFaultWritten, status_of, status_of_answer}
+
+-- ---- the run
+
+-- the report that was written is the one on the bundle that was asked for
+pub reported : (held : Held) (file folder input old new : Option (List ℕ)) (read whole : List ℕ) (result : Result Bool Fault)
+    → IsBundleOf held file folder input read whole
+    → IfOk result (λ answer. (text : List ℕ) × IsCorrect whole text answer × Appends old new text)
+    → IfOk result (IsReported held file folder input old new)
+reported held file folder input old new read whole (Err fault) bundle is = tt
+reported held file folder input old new read whole (Ok answer) bundle is = record {
+  read = read;
+  whole = whole;
+  bundle = bundle;
+  text = is.0;
+  correct = is.1;
+  written = is.2;
+  sound = λ says. judged_unsatisfiable held folder read whole bundle.is_judged (is.1.sound says);
+}
+
+-- the fault is that of the bundle that was asked for
+pub faulty : (held : Held) (file folder input : Option (List ℕ)) (read whole : List ℕ) (result : Result Bool Fault)
+    → IsBundleOf held file folder input read whole
+    → IfErr result (λ fault. IsInputFault fault → IsFaultOn whole fault)
+    → IfErr result (λ fault. IsInputFault fault → IsRefused held file folder input fault)
+faulty held file folder input read whole (Ok answer) bundle is = tt
+faulty held file folder input read whole (Err fault) bundle is = λ input_is. record {
+  read = read;
+  whole = whole;
+  bundle = bundle;
+  first = is input_is;
+}
+
+-- ---- its status
+
+-- how a run was told, where `Same` says that nothing was written
+abbrev pub ToldRun : Result Bool Fault → ℕ → Type 0 → Option (List ℕ) → Option (List ℕ) → ℕ → ℕ → Type 0
+ToldRun run status Same old new before after =
+    MatchResult run (λ answer. (status ≡ status_of_answer answer) × Same) (λ fault. IsFaultWritten fault status old new before after)
+
+above_two : (fault : Fault) → 2 < status_of fault
+above_two Header = omega arith
+above_two (Token line) = omega arith
+above_two Unfinished = omega arith
+above_two (TooLarge line) = omega arith
+above_two Limit = omega arith
+above_two (Repeats cube) = omega arith
+above_two (NotATree first second) = omega arith
+above_two (Overlap first second) = omega arith
+above_two (BadLabel line) = omega arith
+above_two (NoSuchLeaf line) = omega arith
+above_two (ProofTwice line) = omega arith
+above_two Memory = omega arith
+above_two Device = omega arith
+above_two Thread = omega arith
+
+input_of_three : (fault : Fault) → status_of fault ≡ 3 → IsInputFault fault
+input_of_three Header is = (λ e. cc, λ e. cc, λ e. cc)
+input_of_three (Token line) is = (λ e. cc, λ e. cc, λ e. cc)
+input_of_three Unfinished is = (λ e. cc, λ e. cc, λ e. cc)
+input_of_three (TooLarge line) is = (λ e. cc, λ e. cc, λ e. cc)
+input_of_three Limit is = (λ e. cc, λ e. cc, λ e. cc)
+input_of_three (Repeats cube) is = (λ e. cc, λ e. cc, λ e. cc)
+input_of_three (NotATree first second) is = (λ e. cc, λ e. cc, λ e. cc)
+input_of_three (Overlap first second) is = (λ e. cc, λ e. cc, λ e. cc)
+input_of_three (BadLabel line) is = (λ e. cc, λ e. cc, λ e. cc)
+input_of_three (NoSuchLeaf line) is = (λ e. cc, λ e. cc, λ e. cc)
+input_of_three (ProofTwice line) is = (λ e. cc, λ e. cc, λ e. cc)
+input_of_three Memory is = absurd (omega arith)
+input_of_three Device is = absurd (omega arith)
+input_of_three Thread is = absurd (omega arith)
+
+-- a fault with status 4 or 5
+with_four : (fault : Fault) → status_of fault ≡ 4 → (fault ≡ Memory) ⊎ (fault ≡ Thread)
+with_four Memory is = inl refl
+with_four Thread is = inr refl
+with_four Header is = absurd (omega arith)
+with_four (Token line) is = absurd (omega arith)
+with_four Unfinished is = absurd (omega arith)
+with_four (TooLarge line) is = absurd (omega arith)
+with_four Limit is = absurd (omega arith)
+with_four (Repeats cube) is = absurd (omega arith)
+with_four (NotATree first second) is = absurd (omega arith)
+with_four (Overlap first second) is = absurd (omega arith)
+with_four (BadLabel line) is = absurd (omega arith)
+with_four (NoSuchLeaf line) is = absurd (omega arith)
+with_four (ProofTwice line) is = absurd (omega arith)
+with_four Device is = absurd (omega arith)
+
+with_five : (fault : Fault) → status_of fault ≡ 5 → fault ≡ Device
+with_five Device is = refl
+with_five Memory is = absurd (omega arith)
+with_five Thread is = absurd (omega arith)
+with_five Header is = absurd (omega arith)
+with_five (Token line) is = absurd (omega arith)
+with_five Unfinished is = absurd (omega arith)
+with_five (TooLarge line) is = absurd (omega arith)
+with_five Limit is = absurd (omega arith)
+with_five (Repeats cube) is = absurd (omega arith)
+with_five (NotATree first second) is = absurd (omega arith)
+with_five (Overlap first second) is = absurd (omega arith)
+with_five (BadLabel line) is = absurd (omega arith)
+with_five (NoSuchLeaf line) is = absurd (omega arith)
+with_five (ProofTwice line) is = absurd (omega arith)
+
+-- status 0
+pub sound_run : (held : Held) (asked file folder input out_old out_new : Option (List ℕ)) (run : Result Bool Fault) (status : ℕ) (Same : Type 0) (old new : Option (List ℕ)) (before after : ℕ)
+    → file ≡ asked → ToldRun run status Same old new before after
+    → IfOk run (IsReported held file folder input out_old out_new) → status ≡ 0
+    → (read : List ℕ) × IsRead held asked input read × IsUnsatisfiable read
+sound_run held asked file folder input out_old out_new (Ok true) status Same old new before after same told report is =
+    (report.read, subst (λ (f : Option (List ℕ)). IsRead held f input report.read) same report.bundle.is_read, report.sound refl)
+sound_run held asked file folder input out_old out_new (Ok false) status Same old new before after same told report is = let one : status ≡ 1 = told.0 in absurd (omega arith)
+sound_run held asked file folder input out_old out_new (Err fault) status Same old new before after same (inl told) report is =
+    let above : 2 < status_of fault = above_two fault in let has : status ≡ status_of fault = told.0 in absurd (omega arith)
+sound_run held asked file folder input out_old out_new (Err fault) status Same old new before after same (inr told) report is = let four : status ≡ 4 = told.1 in absurd (omega arith)
+
+-- status 2 is none of a run's
+pub never_two : (run : Result Bool Fault) (status : ℕ) (Same : Type 0) (old new : Option (List ℕ)) (before after : ℕ) → ToldRun run status Same old new before after → status ≡ 2 → ⊥
+never_two (Ok true) status Same old new before after told is = let none : status ≡ 0 = told.0 in omega arith
+never_two (Ok false) status Same old new before after told is = let one : status ≡ 1 = told.0 in omega arith
+never_two (Err fault) status Same old new before after (inl told) is = let above : 2 < status_of fault = above_two fault in let has : status ≡ status_of fault = told.0 in omega arith
+never_two (Err fault) status Same old new before after (inr told) is = let four : status ≡ 4 = told.1 in omega arith
+
+-- status 3
+pub fault_run : (held : Held) (asked_file asked_folder file folder input : Option (List ℕ)) (run : Result Bool Fault) (status : ℕ) (Same : Type 0) (old new : Option (List ℕ)) (before after : ℕ)
+    → file ≡ asked_file → folder ≡ asked_folder → ToldRun run status Same old new before after
+    → IfErr run (λ fault. IsInputFault fault → IsRefused held file folder input fault) → status ≡ 3
+    → (fault : Fault) × IsInputFault fault × IsRefused held asked_file asked_folder input fault × IsLineWritten old new before after (fault_line fault)
+fault_run held asked_file asked_folder file folder input (Ok true) status Same old new before after same same_too told refused is = let none : status ≡ 0 = told.0 in absurd (omega arith)
+fault_run held asked_file asked_folder file folder input (Ok false) status Same old new before after same same_too told refused is = let one : status ≡ 1 = told.0 in absurd (omega arith)
+fault_run held asked_file asked_folder file folder input (Err fault) status Same old new before after same same_too (inl told) refused is =
+    let input_is : IsInputFault fault = input_of_three fault (sym told.0 ∙ is) in (
+      fault,
+      input_is,
+      subst (λ (f : Option (List ℕ)). IsRefused held f asked_folder input fault) same (subst (λ (f : Option (List ℕ)). IsRefused held file f input fault) same_too (refused input_is)),
+      told.1,
+    )
+fault_run held asked_file asked_folder file folder input (Err fault) status Same old new before after same same_too (inr told) refused is = let four : status ≡ 4 = told.1 in absurd (omega arith)
+
+-- status 4
+pub memory_run : (run : Result Bool Fault) (status : ℕ) (Same : Type 0) (old new : Option (List ℕ)) (before after : ℕ) → ToldRun run status Same old new before after → status ≡ 4
+    → IsLineWritten old new before after (fault_line Memory) ⊎ IsLineWritten old new before after (fault_line Thread)
+memory_run (Ok true) status Same old new before after told is = let none : status ≡ 0 = told.0 in absurd (omega arith)
+memory_run (Ok false) status Same old new before after told is = let one : status ≡ 1 = told.0 in absurd (omega arith)
+memory_run (Err fault) status Same old new before after (inr told) is = inl told.2
+memory_run (Err fault) status Same old new before after (inl told) is = elim (with_four fault (sym told.0 ∙ is)) [
+  | inl memory ↦ inl (subst (λ (f : Fault). IsLineWritten old new before after (fault_line f)) memory told.1)
+  | inr thread ↦ inr (subst (λ (f : Fault). IsLineWritten old new before after (fault_line f)) thread told.1)
+]
+
+-- status 5
+pub device_run : (run : Result Bool Fault) (status : ℕ) (Same : Type 0) (old new : Option (List ℕ)) (before after : ℕ) → ToldRun run status Same old new before after → status ≡ 5
+    → IsLineWritten old new before after (fault_line Device)
+device_run (Ok true) status Same old new before after told is = let none : status ≡ 0 = told.0 in absurd (omega arith)
+device_run (Ok false) status Same old new before after told is = let one : status ≡ 1 = told.0 in absurd (omega arith)
+device_run (Err fault) status Same old new before after (inr told) is = let four : status ≡ 4 = told.1 in absurd (omega arith)
+device_run (Err fault) status Same old new before after (inl told) is =
+    subst (λ (f : Fault). IsLineWritten old new before after (fault_line f)) (with_five fault (sym told.0 ∙ is)) told.1

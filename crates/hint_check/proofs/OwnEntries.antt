@@ -1,0 +1,583 @@
+-- The proof's own clauses, seen as a finite map.
+use Rattle.std.proofs.Common.{◌≡◌, ◌+◌, ◌-◌, ◌<◌, ◌≤◌, ℕ, zero, suc, Bool, true, false, cond}
+use Rattle.std.proofs.Common.{nat_eq, Option, Some, None, List, [], ◌∷◌, ◌++◌, length, get_or, take}
+use Rattle.std.proofs.Common.{drop, slice_set, refl, sym, ap, ◌∙◌, subst, arith, inl, inr}
+use Rattle.std.proofs.Common.{append_assoc}
+use Rattle.std.specs.Prelude.{nat_lt, nat_le, if◌then◌else◌, slice_range}
+use Rattle.std.specs.Option.{IfSome, option_or, option_map}
+use Rattle.std.specs.Map.{lookup, remove_entry}
+use Rattle.std.specs.BTreeMap.{insert_entry}
+use Rattle.std.specs.Ordering.{nat_cmp, eq_by_cmp, match_ordering}
+use Rattle.std.specs.declared.cmp.Ordering.TheVariants.{Less, Equal, Greater}
+use Rattle.std.specs.Cmp.{nat_cmp_total}
+use Rattle.std.specs.FinMap as fin
+use Rattle.std.proofs.lemmas.Bool.{cases_Bool, cases_lt, both_ways, cond-true, cond-false, eqb-true}
+use Rattle.std.proofs.lemmas.Bool.Decides.{nat_tests}
+use Rattle.std.proofs.lemmas.Bool.{eq-eqb, ne_eqb, lt-ltb, le-ltb, lt-leb, le-leb}
+use Rattle.std.proofs.lemmas.List.{get_or-set_same, get_or-set_other, take-append-le, drop-append-le, length-drop}
+use Rattle.std.proofs.Math.Seq.{drop-append_seam, take-length}
+use Rattle.cnf_text.specs.Literal.{Literal}
+use Rattle.hint_check.specs.declared.own.Slot.{Slot}
+use Rattle.hint_check.specs.declared.own.Span.{Span}
+use Rattle.hint_check.specs.Inner.Own.{no_slot, slot_at, slot_clause, span_clause, near_at, far_at, entry_of, near_entries, far_entries, own_clauses, SlotsEndBy, SpansEndBy, SetsSlot, ListsAll}
+use Rattle.hint_check.proofs.LiveOverlay.{find-append, same_test, same_test_back}
+use Rattle.hint_check.specs.Literals.{has}
+use Rattle.hint_check.specs.Inner.Index.{Links, is_listed, Lists, Indexes, Awaits}
+use Rattle.hint_check.proofs.IndexIds.{Awaits-all, Awaits-next, Awaits-none}
+
+-- ---- look-ups in the map of far ids
+
+pub by_order : {X : Type 0} (q : ℕ) (es : List (ℕ × X)) → lookup (eq_by_cmp nat_cmp q) es ≡ lookup (nat_eq q) es
+by_order q [] = refl
+by_order q (e ∷ es) =
+    ap (λ b. cond b (Some e.1) (lookup (eq_by_cmp nat_cmp q) es)) (same_test q e.0)
+    ∙ ap (cond (nat_eq q e.0) (Some e.1)) (by_order q es)
+
+pub updated : {X : Type 0} (before after : List (ℕ × X)) (k : ℕ) (w : Option X)
+    → ((q : ℕ)
+    → lookup (eq_by_cmp nat_cmp q) after ≡ cond (eq_by_cmp nat_cmp k q) w (lookup (eq_by_cmp nat_cmp q) before))
+    → (q : ℕ) → lookup (nat_eq q) after ≡ cond (nat_eq k q) w (lookup (nat_eq q) before)
+updated before after k w h q =
+    sym (by_order q after) ∙ h q ∙ ap (λ b. cond b w (lookup (eq_by_cmp nat_cmp q) before)) (same_test k q)
+    ∙ ap (cond (nat_eq k q) w) (by_order q before)
+
+-- ---- what stands under an id
+
+near-below : (lits : List Literal) (first : ℕ) (slots : List Slot) (q : ℕ) → q < first
+    → near_at lits first slots q ≡ None
+near-below lits first slots q low =
+    cond-true (nat_lt q first) None (slot_clause lits (slot_at slots (q - first))) (lt-ltb q first low)
+
+near-from : (lits : List Literal) (first : ℕ) (slots : List Slot) (q : ℕ) → first ≤ q
+    → near_at lits first slots q ≡ slot_clause lits (slot_at slots (q - first))
+near-from lits first slots q high =
+    cond-false (nat_lt q first) None (slot_clause lits (slot_at slots (q - first))) (le-ltb q first high)
+
+none_either : {A : Type 0} (b : Bool) (o : Option A) → o ≡ None → o ≡ cond b None o
+none_either true o none = none
+none_either false o none = refl
+
+one_entry : (q n : ℕ) (x : Option (List Literal)) → fin.find nat_cmp q (entry_of n x) ≡ cond (nat_eq q n) x None
+one_entry q n None = none_either (nat_eq q n) None refl
+one_entry q n (Some clause) = ap (λ b. cond b (Some clause) None) (same_test q n)
+
+or_none : {A : Type 0} (x : Option A) → option_or x None ≡ x
+or_none None = refl
+or_none (Some x) = refl
+
+no_slots : (lits : List Literal) (n q : ℕ) → None ≡ near_at lits n [] q
+no_slots lits n q =
+    elim (nat_lt q n) as (λ b. None ≡ (if b then None else slot_clause lits no_slot))
+    [ true ↦ refl | false ↦ refl ]
+
+-- the first slot, and those behind it
+near-cons : (lits : List Literal) (n : ℕ) (slot : Slot) (slots : List Slot) (q : ℕ)
+    → option_or (cond (nat_eq q n) (slot_clause lits slot) None) (near_at lits (n + 1) slots q) ≡ near_at lits n
+    (slot ∷ slots) q
+near-cons lits n slot slots q =
+    elim (cases_lt q n) [
+      | inl low ↦ ap (λ o. option_or o (near_at lits (n + 1) slots q))
+          (cond-false (nat_eq q n) (slot_clause lits slot) None (ne_eqb q n (λ e. omega (arith, e, low))))
+          ∙ near-below lits (n + 1) slots q (omega arith) ∙ sym (near-below lits n (slot ∷ slots) q low)
+      | inr high ↦ elim (cases_Bool (nat_eq q n)) [
+        | inl here ↦ let e : q ≡ n = eqb-true q n here in
+            ap (λ o. option_or o (near_at lits (n + 1) slots q))
+            (cond-true (nat_eq q n) (slot_clause lits slot) None here)
+            ∙ ap (option_or (slot_clause lits slot)) (near-below lits (n + 1) slots q (omega (arith, e)))
+            ∙ or_none (slot_clause lits slot)
+            ∙ ap (λ i. slot_clause lits (slot_at (slot ∷ slots) i)) (let z : 0 ≡ q - n = omega (arith, e) in z)
+            ∙ sym (near-from lits n (slot ∷ slots) q high)
+        | inr apart ↦ let past : n + 1 ≤ q = let ne =
+            λ (e : q ≡ n). both_ways (nat_eq q n) apart (eq-eqb q n e) in omega (arith, high, ne) in
+            ap (λ o. option_or o (near_at lits (n + 1) slots q))
+            (cond-false (nat_eq q n) (slot_clause lits slot) None apart)
+            ∙ near-from lits (n + 1) slots q past
+            ∙ ap (λ i. slot_clause lits (slot_at (slot ∷ slots) i))
+            (let s : suc (q - (n + 1)) ≡ q - n = omega (arith, past) in s)
+            ∙ sym (near-from lits n (slot ∷ slots) q high)
+      ]
+    ]
+
+find-near : (lits : List Literal) (n : ℕ) (slots : List Slot) (q : ℕ)
+    → fin.find nat_cmp q (near_entries lits n slots) ≡ near_at lits n slots q
+find-near lits n [] q = no_slots lits n q
+find-near lits n (slot ∷ slots) q =
+    find-append q (entry_of n (slot_clause lits slot)) (near_entries lits (n + 1) slots)
+    ∙ ap (λ o. option_or o (fin.find nat_cmp q (near_entries lits (n + 1) slots)))
+    (one_entry q n (slot_clause lits slot))
+    ∙ ap (option_or (cond (nat_eq q n) (slot_clause lits slot) None)) (find-near lits (n + 1) slots q)
+    ∙ near-cons lits n slot slots q
+
+mapped : {A B : Type 0} (f : A → B) (b : Bool) (x : A) (o : Option A)
+    → cond b (Some (f x)) (option_map f o) ≡ option_map f (cond b (Some x) o)
+mapped f true x o = refl
+mapped f false x o = refl
+
+find-far : (lits : List Literal) (far : List (ℕ × Span)) (q : ℕ)
+    → fin.find nat_cmp q (far_entries lits far) ≡ far_at lits far q
+find-far lits [] q = refl
+find-far lits (e ∷ far) q =
+    ap (λ b. cond b (Some (span_clause lits e.1)) (fin.find nat_cmp q (far_entries lits far))) (same_test q e.0)
+    ∙ ap (cond (nat_eq q e.0) (Some (span_clause lits e.1))) (find-far lits far q)
+    ∙ mapped (span_clause lits) (nat_eq q e.0) e.1 (lookup (nat_eq q) far)
+
+pub own-get : (lits : List Literal) (first : ℕ) (slots : List Slot) (far : List (ℕ × Span)) (q : ℕ)
+    → fin.get (own_clauses lits first slots far) q ≡ option_or (near_at lits first slots q) (far_at lits far q)
+unfolding own_clauses
+own-get lits first slots far q =
+    fin.get-from_entries nat_cmp_total (near_entries lits first slots ++ far_entries lits far) q
+    ∙ find-append q (near_entries lits first slots) (far_entries lits far)
+    ∙ ap (λ o. option_or o (fin.find nat_cmp q (far_entries lits far))) (find-near lits first slots q)
+    ∙ ap (option_or (near_at lits first slots q)) (find-far lits far q)
+
+-- ---- more literals behind the others
+
+pub spans-found : (far : List (ℕ × Span)) (count : ℕ) → SpansEndBy far count → (q : ℕ)
+    → IfSome (lookup (nat_eq q) far) (λ span. (span.start ≤ span.end) × (span.end ≤ count))
+unfolding SpansEndBy
+spans-found [] count h q = tt
+spans-found (e ∷ far) count h q =
+    elim (nat_eq q e.0) as (λ b. IfSome (cond b (Some e.1) (lookup (nat_eq q) far))
+    (λ span. (span.start ≤ span.end) × (span.end ≤ count))) [ true ↦ h.0 | false ↦ spans-found far count h.1 q ]
+
+slice-append : (lits more : List Literal) (i j : ℕ) → i ≤ j → j ≤ length lits
+    → slice_range (lits ++ more) i j ≡ slice_range lits i j
+slice-append lits more i j ordered within =
+    let rest = length-drop i lits in
+    ap (take (j - i)) (drop-append-le i lits more (omega arith))
+    ∙ take-append-le (j - i) (drop i lits) more (omega (arith, rest))
+
+pub last_part : (lits more : List Literal) (end : ℕ) → end ≡ length lits + length more
+    → slice_range (lits ++ more) (length lits) end ≡ more
+last_part lits more end is =
+    ap (λ k. take k (drop (length lits) (lits ++ more)))
+    (let e : end - length lits ≡ length more = omega (arith, is) in e)
+    ∙ ap (take (length more)) (drop-append_seam lits more) ∙ take-length more
+
+module _ (lits more : List Literal) where
+  slot-grown : (slot : Slot) → slot.end ≤ length lits → slot_clause (lits ++ more) slot ≡ slot_clause lits slot
+  slot-grown slot within =
+      elim (cases_lt slot.end slot.start) [
+        | inl empty ↦ let none = lt-leb slot.start slot.end empty in
+            cond-false (nat_le slot.start slot.end)
+            (Some (slice_range (lits ++ more) slot.start slot.end)) None none
+            ∙ sym (cond-false (nat_le slot.start slot.end) (Some (slice_range lits slot.start slot.end)) None none)
+        | inr ordered ↦ ap (λ clause. if nat_le slot.start slot.end then Some clause else None)
+            (slice-append lits more slot.start slot.end ordered within)
+      ]
+
+  pub near-grown : (first : ℕ) (slots : List Slot) → SlotsEndBy slots (length lits) → (q : ℕ)
+      → near_at (lits ++ more) first slots q ≡ near_at lits first slots q
+  unfolding SlotsEndBy
+  near-grown first slots ends q =
+      ap (λ o. if nat_lt q first then None else o) (slot-grown (slot_at slots (q - first)) (ends (q - first)))
+
+  span-grown : (o : Option Span) → IfSome o (λ span. (span.start ≤ span.end) × (span.end ≤ length lits))
+      → option_map (span_clause (lits ++ more)) o ≡ option_map (span_clause lits) o
+  span-grown None h = refl
+  span-grown (Some span) h = ap Some (slice-append lits more span.start span.end h.0 h.1)
+
+  pub far-grown : (far : List (ℕ × Span)) → SpansEndBy far (length lits) → (q : ℕ)
+      → far_at (lits ++ more) far q ≡ far_at lits far q
+  far-grown far ends q = span-grown (lookup (nat_eq q) far) (spans-found far (length lits) ends q)
+
+-- ---- one slot set
+
+module _ (lits : List Literal) (first : ℕ) (before after : List Slot) (id : ℕ) where
+  set-cases : (slot : Slot) (q : ℕ) (b : Bool)
+      → slot_clause lits (cond b slot (slot_at before (q - first))) ≡ cond b (slot_clause lits slot)
+      (slot_clause lits (slot_at before (q - first)))
+  set-cases slot q true = refl
+  set-cases slot q false = refl
+
+  set-from : (slot : Slot) → SetsSlot first before after id slot → (q : ℕ) → first ≤ q
+      → near_at lits first after q ≡ cond (nat_eq id q) (slot_clause lits slot) (near_at lits first before q)
+  unfolding SetsSlot
+  set-from slot sets q high =
+      near-from lits first after q high ∙ ap (slot_clause lits) (sets q high) ∙ set-cases slot q (nat_eq id q)
+      ∙ ap (cond (nat_eq id q) (slot_clause lits slot)) (sym (near-from lits first before q high))
+
+  -- the clause of an id that may have a slot, and those of the others
+  pub near-put : (slot : Slot) → first ≤ id → SetsSlot first before after id slot → (q : ℕ)
+      → near_at lits first after q ≡ cond (nat_eq id q) (slot_clause lits slot) (near_at lits first before q)
+  near-put slot may sets q =
+      elim (cases_lt q first) [
+        | inl low ↦ near-below lits first after q low ∙ sym (near-below lits first before q low)
+            ∙ sym (cond-false (nat_eq id q) (slot_clause lits slot) (near_at lits first before q)
+            (ne_eqb id q (λ e. omega (arith, e, low, may))))
+        | inr high ↦ set-from slot sets q high
+      ]
+
+  pub near-take : SetsSlot first before after id no_slot → (q : ℕ)
+      → near_at lits first after q ≡ cond (nat_eq id q) None (near_at lits first before q)
+  near-take sets q =
+      elim (cases_lt q first) [
+        | inl low ↦ near-below lits first after q low ∙ sym (near-below lits first before q low)
+            ∙ none_either (nat_eq id q) (near_at lits first before q) (near-below lits first before q low)
+        | inr high ↦ set-from no_slot sets q high
+      ]
+
+near-same : (lits : List Literal) (first : ℕ) (before after : List Slot)
+    → ((i : ℕ) → slot_at after i ≡ slot_at before i) → (q : ℕ)
+    → near_at lits first after q ≡ near_at lits first before q
+near-same lits first before after same q =
+    ap (λ slot. if nat_lt q first then None else slot_clause lits slot) (same (q - first))
+
+-- the slot at one place is set, and no other
+pub SetsSlot-put : (first : ℕ) (before after : List Slot) (place id : ℕ) (slot : Slot) → id ≡ first + place
+    → ((i : ℕ) → slot_at after i ≡ cond (nat_eq place i) slot (slot_at before i))
+    → SetsSlot first before after id slot
+unfolding SetsSlot
+SetsSlot-put first before after place id slot is put q high =
+    put (q - first)
+    ∙ ap (λ b. cond b slot (slot_at before (q - first)))
+    (let same : nat_eq place (q - first) ≡ nat_eq id q = grind (arith, nat_tests) in same)
+
+-- a slot that is there is written
+pub slot-written : (before : List Slot) (place i : ℕ) (slot : Slot) → place < length before
+    → slot_at (slice_set before place slot) i ≡ cond (nat_eq place i) slot (slot_at before i)
+slot-written before place i slot room =
+    elim (cases_Bool (nat_eq place i)) [
+      | inl here ↦ ap (slot_at (slice_set before place slot)) (sym (eqb-true place i here))
+          ∙ get_or-set_same before place slot no_slot room
+          ∙ sym (cond-true (nat_eq place i) slot (slot_at before i) here)
+      | inr apart ↦ get_or-set_other before place i slot no_slot
+          (λ e. both_ways (nat_eq place i) apart (eq-eqb place i (sym e)))
+          ∙ sym (cond-false (nat_eq place i) slot (slot_at before i) apart)
+    ]
+
+-- the next slot is put behind the others
+pub slot-pushed : (before : List Slot) (slot : Slot) (i : ℕ)
+    → slot_at (before ++ slot ∷ []) i ≡ cond (nat_eq (length before) i) slot (slot_at before i)
+slot-pushed [] slot zero = refl
+slot-pushed [] slot (suc i) =
+    sym (cond-false (nat_eq 0 (suc i)) slot no_slot (ne_eqb 0 (suc i) (λ e. omega (arith, e))))
+slot-pushed (s ∷ before) slot zero =
+    sym (cond-false (nat_eq (suc (length before)) 0) slot s
+    (ne_eqb (suc (length before)) 0 (λ e. omega (arith, e))))
+slot-pushed (s ∷ before) slot (suc i) =
+    slot-pushed before slot i
+    ∙ ap (λ b. cond b slot (slot_at before i))
+    (let same : nat_eq (length before) i ≡ nat_eq (suc (length before)) (suc i) = grind (arith, nat_tests) in same)
+
+pub SetsSlot-write : (first : ℕ) (before after : List Slot) (place id : ℕ) (slot : Slot) → id ≡ first + place
+    → place < length before → after ≡ slice_set before place slot → SetsSlot first before after id slot
+SetsSlot-write first before after place id slot is room set =
+    SetsSlot-put first before after place id slot is
+    (λ i. ap (λ slots. slot_at slots i) set ∙ slot-written before place i slot room)
+
+past : (slots : List Slot) (i : ℕ) → length slots ≤ i → slot_at slots i ≡ no_slot
+past [] i h = refl
+past (slot ∷ slots) zero h = absurd (omega arith)
+past (slot ∷ slots) (suc i) h = past slots i (omega arith)
+
+unset : (b : Bool) (slot : Slot) → (b ≡ true → slot ≡ no_slot) → slot ≡ cond b no_slot slot
+unset true slot h = h refl
+unset false slot h = refl
+
+-- an id that has no slot has none to be emptied
+pub SetsSlot-low : (first : ℕ) (slots : List Slot) (id : ℕ) → id < first → SetsSlot first slots slots id no_slot
+unfolding SetsSlot
+SetsSlot-low first slots id low q high =
+    sym (cond-false (nat_eq id q) no_slot (slot_at slots (q - first))
+    (ne_eqb id q (λ e. omega (arith, e, low, high))))
+
+pub SetsSlot-past : (first : ℕ) (slots : List Slot) (id : ℕ) → length slots ≤ id - first
+    → SetsSlot first slots slots id no_slot
+unfolding SetsSlot
+SetsSlot-past first slots id beyond q high =
+    unset (nat_eq id q) (slot_at slots (q - first))
+    (λ here. ap (λ k. slot_at slots (k - first)) (sym (eqb-true id q here)) ∙ past slots (id - first) beyond)
+
+-- ---- a far id put in or taken out
+
+module _ (lits : List Literal) (far far' : List (ℕ × Span)) (id : ℕ) where
+  mapped_cond : (b : Bool) (x y : Option Span)
+      → option_map (span_clause lits) (cond b x y) ≡ cond b (option_map (span_clause lits) x)
+      (option_map (span_clause lits) y)
+  mapped_cond true x y = refl
+  mapped_cond false x y = refl
+
+  far-put : (span : Span)
+      → ((q : ℕ) → lookup (nat_eq q) far' ≡ cond (nat_eq id q) (Some span) (lookup (nat_eq q) far)) → (q : ℕ)
+      → far_at lits far' q ≡ cond (nat_eq id q) (Some (span_clause lits span)) (far_at lits far q)
+  far-put span put q = ap (option_map (span_clause lits)) (put q)
+      ∙ mapped_cond (nat_eq id q) (Some span) (lookup (nat_eq q) far)
+
+  far-take : ((q : ℕ) → lookup (nat_eq q) far' ≡ cond (nat_eq id q) None (lookup (nat_eq q) far)) → (q : ℕ)
+      → far_at lits far' q ≡ cond (nat_eq id q) None (far_at lits far q)
+  far-take taken q = ap (option_map (span_clause lits)) (taken q)
+      ∙ mapped_cond (nat_eq id q) None (lookup (nat_eq q) far)
+
+-- ---- the whole map
+
+module _ (lits more : List Literal) (first : ℕ) (slots slots' : List Slot) (far far' : List (ℕ × Span))
+    (slots_end : SlotsEndBy slots (length lits)) (spans_end : SpansEndBy far (length lits)) where
+  both-grown : (q : ℕ)
+      → option_or (near_at (lits ++ more) first slots q) (far_at (lits ++ more) far q) ≡ fin.get
+      (own_clauses lits first slots far) q
+  both-grown q =
+      ap (λ o. option_or o (far_at (lits ++ more) far q)) (near-grown lits more first slots slots_end q)
+      ∙ ap (option_or (near_at lits first slots q)) (far-grown lits more far spans_end q)
+      ∙ sym (own-get lits first slots far q)
+
+  put_first : {A : Type 0} (b : Bool) (v : A) (x y : Option A)
+      → option_or (cond b (Some v) x) y ≡ cond b (Some v) (option_or x y)
+  put_first true v x y = refl
+  put_first false v x y = refl
+
+  put_last : {A : Type 0} (b : Bool) (v : A) (x y : Option A)
+      → option_or (cond b None x) (cond b (Some v) y) ≡ cond b (Some v) (option_or x y)
+  put_last true v x y = refl
+  put_last false v x y = refl
+
+  -- nothing changes where only literals and empty slots are added
+  pub own-same : ((i : ℕ) → slot_at slots' i ≡ slot_at slots i) → far' ≡ far
+      → own_clauses (lits ++ more) first slots' far' ≡ own_clauses lits first slots far
+  own-same same is =
+      fin.same_map nat_cmp_total fin.nat_cmp-IsAntisymmetric (own_clauses (lits ++ more) first slots' far')
+      (own_clauses lits first slots far) (λ q.
+      own-get (lits ++ more) first slots' far' q
+      ∙ ap (λ o. option_or o (far_at (lits ++ more) far' q)) (near-same (lits ++ more) first slots slots' same q)
+      ∙ ap (λ es. option_or (near_at (lits ++ more) first slots q) (far_at (lits ++ more) es q)) is
+      ∙ both-grown q)
+
+  module _ (id : ℕ) where
+    inserted : ((q : ℕ)
+        → option_or (near_at (lits ++ more) first slots' q) (far_at (lits ++ more) far' q) ≡ cond (nat_eq id q)
+        (Some more) (option_or (near_at (lits ++ more) first slots q) (far_at (lits ++ more) far q)))
+        → own_clauses (lits ++ more) first slots' far' ≡ fin.insert (own_clauses lits first slots far) id more
+    inserted h =
+        fin.same_map nat_cmp_total fin.nat_cmp-IsAntisymmetric (own_clauses (lits ++ more) first slots' far')
+        (fin.insert (own_clauses lits first slots far) id more) (λ q.
+        own-get (lits ++ more) first slots' far' q ∙ h q
+        ∙ ap (cond (nat_eq id q) (Some more)) (both-grown q)
+        ∙ ap (λ b. cond b (Some more) (fin.get (own_clauses lits first slots far) q)) (same_test_back id q)
+        ∙ sym (fin.get-insert nat_cmp_total (own_clauses lits first slots far) id more q))
+
+    new-slot : (slot : Slot) → slot.start ≡ length lits → slot.end ≡ length lits + length more
+        → slot_clause (lits ++ more) slot ≡ Some more
+    new-slot slot starts ends =
+        cond-true (nat_le slot.start slot.end) (Some (slice_range (lits ++ more) slot.start slot.end)) None
+        (le-leb slot.start slot.end (omega (arith, starts, ends)))
+        ∙ ap Some (ap (λ i. slice_range (lits ++ more) i slot.end) starts ∙ last_part lits more slot.end ends)
+
+    -- the clause of a near id; one that it has in the map is behind it
+    pub own-insert-near : (slot : Slot) → slot.start ≡ length lits → slot.end ≡ length lits + length more
+        → first ≤ id → SetsSlot first slots slots' id slot → far' ≡ far
+        → own_clauses (lits ++ more) first slots' far' ≡ fin.insert (own_clauses lits first slots far) id more
+    own-insert-near slot starts ends may sets same = inserted (λ q.
+        ap (λ o. option_or o (far_at (lits ++ more) far' q))
+        (near-put (lits ++ more) first slots slots' id slot may sets q
+        ∙ ap (λ o. cond (nat_eq id q) o (near_at (lits ++ more) first slots q)) (new-slot slot starts ends))
+        ∙ ap (λ es. option_or (cond (nat_eq id q) (Some more) (near_at (lits ++ more) first slots q))
+        (far_at (lits ++ more) es q)) same
+        ∙ put_first (nat_eq id q) more (near_at (lits ++ more) first slots q) (far_at (lits ++ more) far q))
+
+    -- the clause of any other
+    pub own-insert-far : (span : Span) → span.start ≡ length lits → span.end ≡ length lits + length more
+        → SetsSlot first slots slots' id no_slot
+        → ((q : ℕ) → lookup (nat_eq q) far' ≡ cond (nat_eq id q) (Some span) (lookup (nat_eq q) far))
+        → own_clauses (lits ++ more) first slots' far' ≡ fin.insert (own_clauses lits first slots far) id more
+    own-insert-far span starts ends sets put = inserted (λ q.
+        ap (λ o. option_or o (far_at (lits ++ more) far' q))
+        (near-take (lits ++ more) first slots slots' id sets q)
+        ∙ ap (option_or (cond (nat_eq id q) None (near_at (lits ++ more) first slots q)))
+        (far-put (lits ++ more) far far' id span put q
+        ∙ ap (λ clause. cond (nat_eq id q) (Some clause) (far_at (lits ++ more) far q))
+        (ap (λ i. slice_range (lits ++ more) i span.end) starts ∙ last_part lits more span.end ends))
+        ∙ put_last (nat_eq id q) more (near_at (lits ++ more) first slots q) (far_at (lits ++ more) far q))
+
+take_both : {A : Type 0} (b : Bool) (x y : Option A)
+    → option_or (cond b None x) (cond b None y) ≡ cond b None (option_or x y)
+take_both true x y = refl
+take_both false x y = refl
+
+pub own-remove : (lits : List Literal) (first : ℕ) (slots slots' : List Slot) (far far' : List (ℕ × Span)) (id : ℕ)
+    → SetsSlot first slots slots' id no_slot
+    → ((q : ℕ) → lookup (nat_eq q) far' ≡ cond (nat_eq id q) None (lookup (nat_eq q) far))
+    → own_clauses lits first slots' far' ≡ fin.remove (own_clauses lits first slots far) id
+own-remove lits first slots slots' far far' id sets taken =
+    fin.same_map nat_cmp_total fin.nat_cmp-IsAntisymmetric (own_clauses lits first slots' far')
+    (fin.remove (own_clauses lits first slots far) id) (λ q.
+    own-get lits first slots' far' q
+    ∙ ap (λ o. option_or o (far_at lits far' q)) (near-take lits first slots slots' id sets q)
+    ∙ ap (option_or (cond (nat_eq id q) None (near_at lits first slots q))) (far-take lits far far' id taken q)
+    ∙ take_both (nat_eq id q) (near_at lits first slots q) (far_at lits far q)
+    ∙ ap (cond (nat_eq id q) None) (sym (own-get lits first slots far q))
+    ∙ ap (λ b. cond b None (fin.get (own_clauses lits first slots far) q)) (same_test_back id q)
+    ∙ sym (fin.get-remove nat_cmp_total (own_clauses lits first slots far) id q))
+
+pub own-none : (lits : List Literal) (first : ℕ) (slots : List Slot) (far : List (ℕ × Span)) → slots ≡ []
+    → far ≡ [] → own_clauses lits first slots far ≡ fin.empty
+own-none lits first slots far none none_far =
+    fin.same_map nat_cmp_total fin.nat_cmp-IsAntisymmetric (own_clauses lits first slots far) fin.empty (λ q.
+    own-get lits first slots far q
+    ∙ ap (λ es. option_or (near_at lits first es q) (far_at lits far q)) none
+    ∙ ap (λ es. option_or (near_at lits first [] q) (far_at lits es q)) none_far
+    ∙ ap (λ o. option_or o None) (sym (no_slots lits first q))
+    ∙ sym (fin.get-empty nat_cmp q))
+
+-- ---- where slots and spans end
+
+pub SlotsEndBy-none : (slots : List Slot) (count : ℕ) → slots ≡ [] → SlotsEndBy slots count
+unfolding SlotsEndBy
+SlotsEndBy-none slots count none place = let e = ap (λ es. (slot_at es place).end) none in omega (arith, e)
+
+pub SlotsEndBy-same : (slots slots' : List Slot) (count more : ℕ) → SlotsEndBy slots count
+    → ((i : ℕ) → slot_at slots' i ≡ slot_at slots i) → SlotsEndBy slots' (count + more)
+unfolding SlotsEndBy
+SlotsEndBy-same slots slots' count more h same place = let e = ap (λ slot. slot.end) (same place) in let low =
+    h place in omega (arith, e, low)
+
+set_end : (b : Bool) (slot old : Slot) (count : ℕ) → slot.end ≤ count → old.end ≤ count
+    → (cond b slot old).end ≤ count
+set_end true slot old count h k = h
+set_end false slot old count h k = k
+
+pub SlotsEndBy-set : (first : ℕ) (slots slots' : List Slot) (id : ℕ) (slot : Slot) (count more : ℕ)
+    → SlotsEndBy slots count → SetsSlot first slots slots' id slot → slot.end ≤ count + more
+    → SlotsEndBy slots' (count + more)
+unfolding SlotsEndBy SetsSlot
+SlotsEndBy-set first slots slots' id slot count more h sets within place =
+    let P : Slot → Type 0 = λ s. s.end ≤ count + more in
+    let here : first + place - first ≡ place = omega arith in
+    subst P (sym
+    (ap (slot_at slots') (sym here) ∙ sets (first + place) (omega arith)
+    ∙ ap (λ i. cond (nat_eq id (first + place)) slot (slot_at slots i)) here))
+    (set_end (nat_eq id (first + place)) slot (slot_at slots place) (count + more) within
+    (let low = h place in omega (arith, low)))
+
+pub SlotsEndBy-cleared : (first : ℕ) (slots slots' : List Slot) (id count : ℕ) → SlotsEndBy slots count
+    → SetsSlot first slots slots' id no_slot → SlotsEndBy slots' count
+SlotsEndBy-cleared first slots slots' id count h sets =
+    subst (SlotsEndBy slots') (let e : count + 0 ≡ count = omega arith in e)
+    (SlotsEndBy-set first slots slots' id no_slot count 0 h sets (omega arith))
+
+pub SpansEndBy-none : (far : List (ℕ × Span)) (count : ℕ) → far ≡ [] → SpansEndBy far count
+unfolding SpansEndBy
+SpansEndBy-none far count none = subst (λ es. SpansEndBy es count) (sym none) tt
+
+pub SpansEndBy-more : (far : List (ℕ × Span)) (count more : ℕ) → SpansEndBy far count
+    → SpansEndBy far (count + more)
+unfolding SpansEndBy
+SpansEndBy-more [] count more h = tt
+SpansEndBy-more (e ∷ far) count more h =
+    ((h.0.0, let low = h.0.1 in omega (arith, low)), SpansEndBy-more far count more h.1)
+
+pub SpansEndBy-put : (far : List (ℕ × Span)) (id : ℕ) (span : Span) (count : ℕ) → SpansEndBy far count
+    → span.start ≤ span.end → span.end ≤ count → SpansEndBy (insert_entry nat_cmp far id span) count
+unfolding SpansEndBy
+SpansEndBy-put [] id span count h ordered within = ((ordered, within), tt)
+SpansEndBy-put (e ∷ far) id span count h ordered within =
+    elim (nat_cmp id e.0) as (λ r. SpansEndBy
+    (match_ordering r ((id, span) ∷ e ∷ far) ((e.0, span) ∷ far) (e ∷ insert_entry nat_cmp far id span)) count) [
+      | Less ↦ ((ordered, within), h)
+      | Equal ↦ ((ordered, within), h.1)
+      | Greater ↦ (h.0, SpansEndBy-put far id span count h.1 ordered within)
+    ]
+
+pub SpansEndBy-take : (test : ℕ → Bool) (far : List (ℕ × Span)) (count : ℕ) → SpansEndBy far count
+    → SpansEndBy (remove_entry test far) count
+unfolding SpansEndBy
+SpansEndBy-take test [] count h = tt
+SpansEndBy-take test (e ∷ far) count h =
+    elim (test e.0) as (λ b. SpansEndBy (cond b far (e ∷ remove_entry test far)) count) [
+      | true ↦ h.1
+      | false ↦
+          (h.0, SpansEndBy-take test far count h.1)
+    ]
+
+pub SpansEndBy-head : (e : ℕ × Span) (far : List (ℕ × Span)) (count : ℕ) → SpansEndBy (e ∷ far) count
+    → (e.1.start ≤ e.1.end) × (e.1.end ≤ count)
+unfolding SpansEndBy
+SpansEndBy-head e far count h = h.0
+
+pub SpansEndBy-tail : (e : ℕ × Span) (far : List (ℕ × Span)) (count : ℕ) → SpansEndBy (e ∷ far) count
+    → SpansEndBy far count
+unfolding SpansEndBy
+SpansEndBy-tail e far count h = h.1
+
+pub span-within : (far : List (ℕ × Span)) (count id : ℕ) (span : Span) → SpansEndBy far count
+    → Some span ≡ lookup (nat_eq id) far → (span.start ≤ span.end) × (span.end ≤ count)
+span-within far count id span h is =
+    subst (λ o. IfSome o (λ s. (s.start ≤ s.end) × (s.end ≤ count))) (sym is) (spans-found far count h id)
+
+pub slot-within : (slots : List Slot) (count place : ℕ) (slot : Slot) → SlotsEndBy slots count
+    → slot ≡ slot_at slots place → slot.end ≤ count
+unfolding SlotsEndBy
+slot-within slots count place slot h is = subst (λ s. s.end ≤ count) (sym is) (h place)
+
+-- ---- the index of all clauses, from the rows of none
+
+pub ListsAll-end : (before after : Links) (entries : List (ℕ × List Literal))
+    → ((rest all : List (ℕ × List Literal)) → Awaits before (entries ++ rest) all → Awaits after rest all)
+    → ListsAll before after entries
+unfolding ListsAll
+ListsAll-end before after entries h = h
+
+-- the slot at a place, and those behind it
+near-drop : (lits : List Literal) (id : ℕ) (slots : List Slot) (i : ℕ) → i < length slots
+    → near_entries lits id (drop i slots) ≡ entry_of id (slot_clause lits (slot_at slots i)) ++ near_entries lits
+    (id + 1) (drop (suc i) slots)
+near-drop lits id [] i within = absurd (omega arith)
+near-drop lits id (slot ∷ slots) zero within = refl
+near-drop lits id (slot ∷ slots) (suc i) within = near-drop lits id slots i (omega arith)
+
+pub all-slots : (slots : List Slot) (i : ℕ) → length slots ≤ i → drop i slots ≡ []
+all-slots [] zero h = refl
+all-slots [] (suc i) h = refl
+all-slots (slot ∷ slots) zero h = absurd (omega arith)
+all-slots (slot ∷ slots) (suc i) h = all-slots slots i (omega arith)
+
+pub any_default : (slots : List Slot) (i : ℕ) (d e : Slot) → i < length slots → get_or slots i d ≡ get_or slots i e
+any_default [] i d e below = absurd (omega arith)
+any_default (slot ∷ slots) zero d e below = refl
+any_default (slot ∷ slots) (suc i) d e below = any_default slots i d e (omega arith)
+
+regrouped : (rows : Links) (xs ys zs all : List (ℕ × List Literal)) → Awaits rows ((xs ++ ys) ++ zs) all
+    → Awaits rows (xs ++ (ys ++ zs)) all
+regrouped rows xs ys zs all h = subst (λ es. Awaits rows es all) (append_assoc xs ys zs) h
+
+pub near-next : (rows : Links) (lits : List Literal) (id : ℕ) (slots : List Slot) (i : ℕ)
+    (rest all : List (ℕ × List Literal)) → i < length slots
+    → Awaits rows (near_entries lits id (drop i slots) ++ rest) all
+    → Awaits rows
+    (entry_of id (slot_clause lits (slot_at slots i)) ++ (near_entries lits (id + 1) (drop (i + 1) slots) ++ rest))
+    all
+near-next rows lits id slots i rest all within h =
+    regrouped rows (entry_of id (slot_clause lits (slot_at slots i)))
+    (near_entries lits (id + 1) (drop (i + 1) slots)) rest all
+    (subst (λ es. Awaits rows (es ++ rest) all)
+    (near-drop lits id slots i within
+    ∙ ap (λ k. entry_of id (slot_clause lits (slot_at slots i)) ++ near_entries lits (id + 1) (drop k slots))
+    (let e : suc i ≡ i + 1 = omega arith in e)) h)
+
+-- the clause of one entry is listed
+pub listed-one : (before after : Links) (id : ℕ) (clause : List Literal) (x : Option (List Literal))
+    (rest all : List (ℕ × List Literal)) → x ≡ Some clause → Lists before after clause id
+    → Awaits before (entry_of id x ++ rest) all → Awaits after rest all
+listed-one before after id clause x rest all is lists h =
+    Awaits-next before after (id, clause) rest all
+    (subst (λ o. Awaits before (entry_of id o ++ rest) all) is h) lists
+
+pub listed-none : (rows : Links) (id : ℕ) (x : Option (List Literal)) (rest all : List (ℕ × List Literal))
+    → x ≡ None → Awaits rows (entry_of id x ++ rest) all → Awaits rows rest all
+listed-none rows id x rest all is h = subst (λ o. Awaits rows (entry_of id o ++ rest) all) is h
+
+append-nil : {A : Type 0} (xs : List A) → xs ++ [] ≡ xs
+append-nil [] = refl
+append-nil (x ∷ xs) = ap (λ ys. x ∷ ys) (append-nil xs)
+
+pub own-Indexes : (start middle rows : Links) (lits : List Literal) (first : ℕ) (slots : List Slot)
+    (far : List (ℕ × Span)) → ListsAll start middle (near_entries lits first slots)
+    → ListsAll middle rows (far_entries lits far) → Indexes rows (fin.entries (own_clauses lits first slots far))
+unfolding ListsAll own_clauses Indexes
+own-Indexes start middle rows lits first slots far near beyond q l =
+    let all = near_entries lits first slots ++ far_entries lits far in
+    let done : Indexes rows all = Awaits-none rows all
+    (beyond [] all
+    (subst (λ es. Awaits middle es all) (sym (append-nil (far_entries lits far)))
+    (near (far_entries lits far) all (Awaits-all start all)))) in
+    subst (λ o. IfSome o (λ clause. has clause l ≡ true → is_listed rows l q ≡ true))
+    (sym (fin.get-from_entries nat_cmp_total all q) ∙ fin.get-entries (fin.from_entries all) q) (done q l)

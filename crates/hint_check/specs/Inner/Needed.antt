@@ -1,0 +1,26 @@
+-- The live clauses that need a group of hints, by their ids, for the contracts of private
+-- functions.
+use Rattle.std.specs.Prelude.{◌≡◌, ℕ, ◌==◌, Bool, false, List}
+use Rattle.std.specs.BTreeSet as set
+use Rattle.std.specs.BTreeSet.{BTreeSet}
+use Rattle.std.specs.List.{list_any}
+use Rattle.std.specs.Option.{option_map_or}
+use Rattle.std.specs.Ordering.{nat_cmp}
+use Rattle.std.specs.FinMap as map
+use Rattle.cnf_text.specs.Literal.{Literal}
+use Rattle.hint_check.specs.Literals.{Literals}
+use Rattle.hint_check.specs.Live.{Live}
+use Rattle.hint_check.specs.Addition.{needs_group}
+
+-- whether a clause is live under the id and needs a group
+abbrev pub is_needed : Live → Literals → Literal → ℕ → Bool
+is_needed live reached pivot id = option_map_or (needs_group reached pivot) (map.get live id) false
+
+-- the ids in the list are those of the live clauses that need a group
+abbrev pub NamesNeeded : Live → Literals → Literal → List ℕ → Type 0
+NamesNeeded live reached pivot ids =
+    (id : ℕ) → list_any (λ named. named == id) ids ≡ is_needed live reached pivot id
+
+-- the set has the ids of the list
+abbrev pub HasAll : BTreeSet ℕ → List ℕ → Type 0
+HasAll ids list = (id : ℕ) → set.contains nat_cmp ids id ≡ list_any (λ named. named == id) list

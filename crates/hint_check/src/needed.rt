@@ -1,0 +1,113 @@
+//! The live clauses that need a group of hints, by their ids.
+ghost use Rattle.std.specs.Prelude.{◌≡◌, ◌==◌, nat_eq, IfOk};
+ghost use Rattle.std.specs.BTreeSet.{contains};
+ghost use Rattle.std.specs.List.{list_any};
+ghost use Rattle.cnf_text.specs.Literal.{negation};
+ghost use Rattle.hint_check.specs.Literals.{has};
+ghost use Rattle.hint_check.specs.Inner.Live.{NamesHolders};
+ghost use Rattle.hint_check.specs.Inner.Needed.{is_needed, HasAll, NamesNeeded};
+
+use crate::assignment::Assignment;
+use crate::live::LiveClauses;
+use crate::tautology::holds_with_none_true;
+use cnf_text::literal::Lit;
+use std::alloc::{AllocError, Global};
+use std::collections::BTreeSet;
+use std::marker::Model;
+
+/// Up to this many ids are looked at one by one, and so many look-ups go over a list of any length.
+pub const FEW: usize = 8;
+
+/// Ids in a list, and a set of them where many are looked up in a list that is long. To a contract
+/// it is the list.
+#[derive(Drop)]
+pub struct Listed<'l> {
+    ids: &'l [u64],
+    set: Option<BTreeSet<u64>>,
+}
+
+impl<'l> Model for Listed<'l> {
+    ghost use Rattle.std.specs.Prelude.{List, ℕ};
+    ghost use Rattle.std.specs.Option.{IfSome};
+    ghost use Rattle.hint_check.specs.Inner.Needed.{HasAll};
+
+    ghost Value = { List ℕ };
+
+    ghost view = { λ listed. listed.ids.now };
+
+    ghost invariant = { λ listed. IfSome listed.set (λ set. HasAll set listed.ids.now) };
+}
+
+impl<'l> Listed<'l> {
+    ghost use Rattle.std.specs.Prelude.{◌≡◌, ◌==◌, IfOk};
+    ghost use Rattle.std.specs.List.{list_any};
+
+    /// These ids, of which so many will be looked up.
+    pub fn new(alloc: Global, ids: &'l [u64], look_ups: usize) -> Result<Listed<'l>, AllocError>
+        ensures { IfOk result (λ listed. listed ≡ ids.now) }
+    {
+        if ids.len() <= FEW || look_ups <= FEW {
+            return Ok(Listed { ids, set: None });
+        }
+        Ok(Listed {
+            ids,
+            set: Some(set_of(alloc, ids)?),
+        })
+    }
+
+    /// The ids in the list, as often as they stand there.
+    pub fn ids(&self) -> &'l [u64]
+        ensures { result.now ≡ self.now }
+    {
+        self.ids
+    }
+
+    /// Whether an id is in the list.
+    pub fn contains(&self, id: u64) -> bool
+        ensures { result ≡ list_any (λ named. named == id) self.now }
+    {
+        match &self.set {
+            Some(set) => set.contains(&id),
+            None => self.ids.contains(&id),
+        }
+    }
+}
+
+fn set_of(alloc: Global, ids: &[u64]) -> Result<BTreeSet<u64>, AllocError>
+    ensures { IfOk result (λ set. HasAll set ids.now) }
+{
+    let mut set = BTreeSet::new(alloc);
+    for id in ids {
+        set.insert(*id)?;
+    }
+    Ok(set)
+}
+
+/// Whether the clause that is live under an id needs a group.
+fn is_needed(live: &LiveClauses, reached: &Assignment, pivot: Lit, id: u64) -> bool
+    ensures { result ≡ is_needed live.now (has reached.now) pivot id }
+{
+    match live.get(id) {
+        Some(clause) => {
+            holds_with_none_true(clause, pivot.negated(), reached) && !live.is_tautology(id)
+        }
+        None => false,
+    }
+}
+
+/// Keeps of these ids, which name the holders of the pivot's negation, those whose clauses need a
+/// group.
+pub fn keep_needed(live: &LiveClauses, reached: &Assignment, pivot: Lit, ids: &mut Vec<u64>)
+    requires { NamesHolders live.now (negation pivot) ids.old.items }
+    ensures { NamesNeeded live.now (has reached.now) pivot ids.new.items }
+{
+    let mut kept = 0;
+    for place in 0..ids.len() {
+        let id = ids[place];
+        if is_needed(live, reached, pivot, id) {
+            ids[kept] = id;
+            kept += 1;
+        }
+    }
+    ids.truncate(kept);
+}
