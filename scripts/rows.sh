@@ -120,6 +120,11 @@ refuses Usage --help
 [ "$(wc -l < "$here/err")" -le 40 ]
 count "the help on one screen" $?
 refuses Usage -h
+for word in --version -V; do
+    run "$root/tests/rows/two_cubes_refuted.in" "$word"
+    [ "$(cat "$here/status")" = 2 ] && [ ! -s "$here/out" ] && [ "$(cat "$here/err")" = "cubeboard 0.1.0 (proved by $(rt version))" ]
+    count "the word $word" $?
+done
 refuses --no-such-word --no-such-word
 for word in --workers --cut --proofs; do
     refuses "$word" "$word"

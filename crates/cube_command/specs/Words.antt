@@ -33,17 +33,18 @@ proofs_word = record (new_rule (codes "proofs")) {
 abbrev pub file_word : Rule
 file_word = record (new_rule (codes "file")) { value_names = 1 }
 
-abbrev pub without_program : App → App
-without_program parser =
-    record { top = record parser.top { no_binary_name = true }; subs = parser.subs }
+-- the words come without the program's name, and `--version` may be among them
+abbrev pub with_version : App → App
+with_version parser =
+    record parser { top = record parser.top { no_binary_name = true; has_version = true } }
 
 abbrev pub words_taken : App
 words_taken =
     with_rule (with_rule
-    (with_rule (with_rule (without_program (new_app (codes "cubeboard"))) workers_word) cut_word)
+    (with_rule (with_rule (with_version (new_app (codes "cubeboard"))) workers_word) cut_word)
     proofs_word) file_word
 
--- these words fit that: `clap` finds no fault in them, and they don't ask for help
+-- these words fit that: `clap` finds no fault in them, and they ask for neither help nor the version
 abbrev pub AreTaken : List Text → Type 0
 AreTaken words = fault_of words_taken words ≡ []
 

@@ -32,10 +32,10 @@ use std::thread::Threads;
 /// `gate` is called beside each section.
 ///
 /// Answers the status: 0 for a report that says refuted, 1 for one that says open, 2 where the
-/// words can't be taken or ask for help, after the parser's text on `errors`, 3 where the input is
-/// refused, 4 where memory or the start of a thread is refused, 5 where a device failed: also where
-/// FILE can't be opened, and where a file of DIR is there and can't be read. A failed write to
-/// `errors` doesn't change it.
+/// words can't be taken or ask for help or the version, after the parser's text on `errors`, 3
+/// where the input is refused, 4 where memory or the start of a thread is refused, 5 where a device
+/// failed: also where FILE can't be opened, and where a file of DIR is there and can't be read. A
+/// failed write to `errors` doesn't change it.
 pub fn command<R, D, S, I, O, E, G>(
     rt: &R,
     store: &mut D,

@@ -2,7 +2,7 @@
 
 ghost use Rattle.std.specs.Prelude.{◌≡◌, ◌<◌, ◌≤◌, ℕ, List, Some, false, map, option_map, codes, IfOk, IfErr};
 ghost use Rattle.clap.specs.Words.{app_of, found_of, kind_of, new_app, one_text, rule_of};
-ghost use Rattle.cube_command.specs.Words.{AreTaken, asked_for, cut_word, file_word, proofs_word, without_program, words_taken, workers_word};
+ghost use Rattle.cube_command.specs.Words.{AreTaken, asked_for, cut_word, file_word, proofs_word, with_version, words_taken, workers_word};
 ghost use Rattle.cube_command.specs.Inner.Words.{with_numbers, Reads, SaysNumber};
 
 use check_crew::Settings;
@@ -22,6 +22,9 @@ pub struct Request<'a> {
     /// The file with the bundle, or `None` for the program's input.
     pub file: Option<&'a str>,
 }
+
+/// The version, and the identity of the kit that proved it, as `rt version` prints it.
+const VERSION: &str = "0.1.0 (proved by rattle-kit-13b logic dac8208d650f15bf)";
 
 /// What `--help` says below the words.
 const FORMATS: &str = "\
@@ -49,7 +52,7 @@ Status: 0 REFUTED, 1 OPEN, 2 words or help, 3 input refused, 4 memory or threads
 Example: printf 'p inccnf\\n1 0\\n-1 0\\na 0\\nl 1\\n3 0 1 2 0\\n' | cubeboard";
 
 /// What these words, without the program's name, ask for; or the parser's text, which is the help
-/// where it is asked for.
+/// or the version where that is asked for.
 pub fn request_of<'a, S: AsStr>(alloc: Global, words: &'a [S]) -> Result<Request<'a>, Error>
     // The request is what the words say.
     ensures proofs { IfOk result
@@ -117,10 +120,11 @@ fn numbers<'a>(alloc: Global) -> Result<Command<'a>, AllocError>
 
 /// A parser that takes no words yet, with the texts of the help.
 fn texts<'a>(alloc: Global) -> Command<'a>
-    ensures { app_of result ≡ without_program (new_app (codes "cubeboard")) }
+    ensures { app_of result ≡ with_version (new_app (codes "cubeboard")) }
 {
     Command::new(alloc, "cubeboard")
         .no_binary_name(true)
+        .version(VERSION)
         .about("Checks a refutation made by cube-and-conquer, and prints a report.")
         .after_help(FORMATS)
 }

@@ -496,6 +496,8 @@ fn other_words(rt: HostRuntime) -> Result<(), Fail> {
     for word in [
         "--help",
         "-h",
+        "--version",
+        "-V",
         "--proofs",
         "--workers",
         "--cut",

@@ -1,13 +1,13 @@
 -- The program's words without texts, and a number among them.
 use Rattle.std.specs.Prelude.{◌≡◌, ℕ, List, Option, Some, codes}
 use Rattle.std.specs.Str.Parse.{IsNumeral, digits_value, without_leading_plus}
-use Rattle.clap.specs.Words.{App, Text, fault_of, first_of, matches_of, new_app, one_of, with_rule}
-use Rattle.cube_command.specs.Words.{words_taken, without_program, workers_word, cut_word}
+use Rattle.clap.specs.Words.{App, Text, matches_of, new_app, one_of, with_rule}
+use Rattle.cube_command.specs.Words.{words_taken, with_version, workers_word, cut_word}
 
 -- the words with numbers alone
 abbrev pub with_numbers : App
 with_numbers =
-    with_rule (with_rule (without_program (new_app (codes "cubeboard"))) workers_word) cut_word
+    with_rule (with_rule (with_version (new_app (codes "cubeboard"))) workers_word) cut_word
 
 -- the text is there, and its decimal digits say this number
 abbrev pub Reads : Option Text → ℕ → Type 0
