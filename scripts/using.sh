@@ -95,6 +95,15 @@ try() {
     block 8.2
     [ "$(tr '\n' ' ' < "$here/out")" = "16 16 " ] && [ ! -s "$here/err" ]
     count "$2: the example: each leaf is refuted in one of the four reports" $?
+    rm proofs/1.lrat proofs/2.lrat proofs/14.lrat
+    echo 'garbage' > proofs/8.lrat
+    "$root/cubeboard" --proofs proofs case.icnf > report
+    . "$here/labels" > labels
+    [ "$(tr '\n' ',' < labels)" = "l n 16 17 15 0,l 8,l 14," ]
+    count "$2: the example: the labels of the open branches" $?
+    block 8.3
+    [ "$status" -eq 0 ] && grep -q '^n 16 17 15 0 refuted$' "$here/out" && [ "$(tail -n 1 "$here/out")" = "s REFUTED" ] && [ ! -s "$here/err" ]
+    count "$2: the example: what is left is refuted in the next run" $?
     cd "$here/unsplit" || exit 1
     pigeons > formula.cnf
     echo "a 0" > cubes
@@ -122,11 +131,19 @@ awk -v page="$here/page" '
     /[^ ]/ { inside = 0 }
 ' "$root/docs/USING.md"
 blocks=$(ls "$here/page" | tr '\n' ' ')
-if [ "$blocks" != "1.1 2.1 3.1 4.1 4.2 4.3 4.4 4.5 4.6 4.7 5.1 5.2 5.3 8.1 8.2 " ]; then
+if [ "$blocks" != "1.1 2.1 3.1 4.1 4.2 4.3 4.4 4.5 4.6 4.7 5.1 5.2 5.3 8.1 8.2 8.3 " ]; then
     echo "using: the page has the blocks $blocks, which this script doesn't know"
     echo "using: 0 passed, 1 failed"
     exit 1
 fi
+
+# The command of docs/FORMATS.md for the labels of open branches, the last one under "Questions to a report".
+awk '
+    /^## / { inside = 0; here = $0 == "## Questions to a report" }
+    here && /^    / { block = (inside ? block : "") substr($0, 5) "\n"; inside = 1; next }
+    /[^ ]/ { inside = 0 }
+    END { printf "%s", block }
+' "$root/docs/FORMATS.md" > "$here/labels"
 
 if takes_lrat; then
     try 4.2 "cadical with --lrat"
