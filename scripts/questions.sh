@@ -1,7 +1,7 @@
 #!/bin/sh
 # Runs the commands of docs/FORMATS.md under "Questions to a report" on the report and the bundle of tests/questions, and compares
 # what they print with the file `answers` there, where a line `--` stands between two of them; then on the reports of the examples, and
-# looks whether their answers fit together. The answers were written from the formats. The last line counts.
+# looks whether their answers fit together. The report and the answers were written from the formats. The last line counts.
 root=$(CDPATH= cd -- "$(dirname -- "$0")/.." && pwd) || exit 1
 here=$(mktemp -d) || exit 1
 trap 'rm -rf "$here"' EXIT
@@ -38,6 +38,13 @@ ask() {
 lines_of() {
     ask "$1" | wc -l
 }
+
+# Where the program is built: the report of tests/questions is that of the bundle there.
+program=$root/crates/cubeboard/out/cubeboard
+if [ -x "$program" ]; then
+    timeout 60 "$program" "$root/tests/questions/case.icnf" 2>&1 | cmp -s - "$root/tests/questions/report"
+    count "the report is the bundle's" $?
+fi
 
 cp "$root/tests/questions/report" "$root/tests/questions/case.icnf" "$here/run/"
 for number in 1 2 3 4 5 6 7; do
