@@ -199,19 +199,22 @@ if [ -w /dev/full ]; then
     count "a full device for the error" $?
 fi
 
-# The examples, as bundles and as folders.
-printf '0\n' > "$here/zero"
+# The examples, as bundles and as folders; the status is the one that goes with the report's last line.
 : > "$here/none"
 for report in "$root"/examples/*.report; do
     example=${report%.report}
+    case $(tail -n 1 "$report") in
+        "s REFUTED") echo 0 > "$here/wanted" ;;
+        *) echo 1 > "$here/wanted" ;;
+    esac
     clear_folder
     if [ -f "$example.icnf" ]; then
         run "$example.icnf"
-        compare "$(basename "$example").icnf" "$report" "$here/none" "$here/zero"
+        compare "$(basename "$example").icnf" "$report" "$here/none" "$here/wanted"
     fi
     if [ -d "$example" ]; then
         run /dev/null --proofs "$example/proofs" "$example/case.icnf"
-        compare "$(basename "$example")/proofs" "$report" "$here/none" "$here/zero"
+        compare "$(basename "$example")/proofs" "$report" "$here/none" "$here/wanted"
     fi
 done
 echo "rows: $passed passed, $failed failed"

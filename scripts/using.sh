@@ -1,9 +1,9 @@
 #!/bin/sh
 # Runs the commands of docs/USING.md, its indented lines, from top to bottom in an empty folder, and looks whether what the page
 # says of them holds: of the page's example, and from the bundle on of a formula that isn't split, five pigeons in four holes with one
-# empty cube. It needs the solver that the page names, `cadical` with `--lrat`. Where the `cadical` that is there hasn't that option, one
-# is made of it and of bench/tools/drat2lrat.rs by a Rust compiler, and the script says so; where there is neither, it says so and tries
-# nothing. The last line counts.
+# empty cube. Each way of the page to solve a leaf is tried where there is what it needs: `cadical` with `--lrat`; any `cadical` and a Rust
+# compiler for bench/tools/drat2lrat.rs, or drat-trim; `cryptominisat5` and that compiler. For each way that isn't tried, the script says so.
+# The last line counts.
 root=$(CDPATH= cd -- "$(dirname -- "$0")/.." && pwd) || exit 1
 here=$(mktemp -d) || exit 1
 trap 'rm -rf "$here"' EXIT
@@ -21,22 +21,6 @@ takes_lrat() {
     printf 'p cnf 1 2\n1 0\n-1 0\n' > "$here/units.cnf"
     cadical -q --lrat --no-binary "$here/units.cnf" "$here/units.lrat" > /dev/null 2>&1
     [ $? -eq 20 ] && [ -s "$here/units.lrat" ]
-}
-
-# Puts a `cadical` before the one that is there, which turns its DRAT proof into text LRAT.
-make_solver() {
-    mkdir "$here/bin"
-    rustc -O --edition 2024 -o "$here/bin/drat2lrat" "$root/bench/tools/drat2lrat.rs" > "$here/log" 2>&1 || return 1
-    cat > "$here/bin/cadical" << END
-#!/bin/sh
-# cadical -q --lrat --no-binary FORMULA PROOF
-"$(command -v cadical)" -q "\$4" "$here/proof.drat"
-status=\$?
-[ "\$status" -ne 20 ] || "$here/bin/drat2lrat" make "\$4" "\$5" "$here/proof.drat" || exit 1
-exit "\$status"
-END
-    chmod +x "$here/bin/cadical"
-    PATH=$here/bin:$PATH
 }
 
 # Counts one claim: its name, and whether it holds.
@@ -60,7 +44,7 @@ from_the_bundle() {
     block 3.1
     [ "$status" -eq 1 ] && grep -q "^t $2 0 " "$here/out" && grep -q '^o 0$' "$here/out" && [ ! -s "$here/err" ]
     count "$1: the status is 1 and the root is open before there are proofs" $?
-    block 4.1
+    for step in 4.1 $way 4.7; do block "$step"; done
     [ "$(grep -c '^cube [0-9]*: status 20$' "$here/out")" -eq "$2" ] && [ "$(ls proofs | wc -l)" -eq "$2" ] && [ ! -s "$here/err" ]
     count "$1: the solver refutes each leaf" $?
     block 5.1
@@ -84,14 +68,53 @@ pigeons() {
     done
 }
 
-command -v cadical > /dev/null 2>&1 || skip "there is no cadical"
-if ! takes_lrat; then
-    command -v rustc > /dev/null 2>&1 || skip "this cadical hasn't --lrat, and there is no Rust compiler to turn its proofs into LRAT"
-    make_solver || skip "this cadical hasn't --lrat, and bench/tools/drat2lrat.rs isn't compiled: $(head -n 1 "$here/log")"
-    takes_lrat || skip "this cadical hasn't --lrat, and what is made of it and of drat2lrat doesn't refute two units"
-    echo "using: this cadical hasn't --lrat: its DRAT proofs are turned into LRAT by bench/tools/drat2lrat.rs"
-fi
+# Whether a command is there: its name.
+has() {
+    command -v "$1" > /dev/null 2>&1
+}
 
+# The page from top to bottom by one of its ways to solve a leaf: the numbers of the blocks that it takes, and what it is.
+try() {
+    way=$1
+    rm -rf "$here/example" "$here/unsplit"
+    mkdir "$here/example" "$here/unsplit"
+    cd "$here/example" || exit 1
+    block 1.1
+    [ "$status" -eq 0 ] && [ ! -s "$here/err" ]
+    count "$2: the example: the formula is there" $?
+    block 2.1
+    [ "$status" -eq 0 ] && [ ! -s "$here/err" ]
+    count "$2: the example: the cubes are there" $?
+    from_the_bundle "$2: the example" 16
+    block 5.3
+    [ "$status" -eq 0 ] && grep -q '^n 16 17 0 refuted$' "$here/out" && [ ! -s "$here/err" ]
+    count "$2: the example: a proof for an inner node is accepted" $?
+    block 8.1
+    [ "$(grep -c '^s OPEN$' "$here/out")" -eq 4 ] && [ "$(cat ./*.report | grep -c ' refuted$')" -eq 16 ] && [ ! -s "$here/err" ]
+    count "$2: the example: four runs refute each cube once, and each leaves the others open" $?
+    block 8.2
+    [ "$(tr '\n' ' ' < "$here/out")" = "16 16 " ] && [ ! -s "$here/err" ]
+    count "$2: the example: each leaf is refuted in one of the four reports" $?
+    rm proofs/1.lrat proofs/2.lrat proofs/14.lrat
+    echo 'garbage' > proofs/8.lrat
+    "$root/cubeboard" --proofs proofs case.icnf > report
+    . "$here/labels" > labels
+    [ "$(tr '\n' ',' < labels)" = "l n 16 17 15 0,l 8,l 14," ]
+    count "$2: the example: the labels of the open branches" $?
+    block 8.3
+    [ "$status" -eq 0 ] && grep -q '^n 16 17 15 0 refuted$' "$here/out" && [ "$(tail -n 1 "$here/out")" = "s REFUTED" ] && [ ! -s "$here/err" ]
+    count "$2: the example: what is left is refuted in the next run" $?
+    cd "$here/unsplit" || exit 1
+    pigeons > formula.cnf
+    echo "a 0" > cubes
+    variables=20
+    clauses=45
+    from_the_bundle "$2: one empty cube" 1
+    [ "$(head -n 1 leaf.cnf)" = "p cnf 20 45" ] && cmp -s formula.cnf leaf.cnf
+    count "$2: one empty cube: the solver's input is the formula" $?
+}
+
+has cadical || has cryptominisat5 || skip "there is neither cadical nor cryptominisat5"
 # The launcher builds the program where that is needed.
 "$root/cubeboard" < /dev/null > "$here/out" 2> "$here/err"
 if [ $? -ne 3 ]; then
@@ -101,41 +124,46 @@ if [ $? -ne 3 ]; then
 fi
 
 # The page's blocks, each in a file of its own under the number of its part, a full stop, and which one of that part it is.
-mkdir "$here/page" "$here/example" "$here/unsplit"
+mkdir "$here/page"
 awk -v page="$here/page" '
     /^## / { part = $2 + 0; blocks = 0; inside = 0 }
     /^    / { if (!inside) blocks++; inside = 1; print substr($0, 5) > (page "/" part "." blocks); next }
     /[^ ]/ { inside = 0 }
 ' "$root/docs/USING.md"
 blocks=$(ls "$here/page" | tr '\n' ' ')
-if [ "$blocks" != "1.1 2.1 3.1 4.1 5.1 5.2 8.1 8.2 " ]; then
+if [ "$blocks" != "1.1 2.1 3.1 4.1 4.2 4.3 4.4 4.5 4.6 4.7 5.1 5.2 5.3 8.1 8.2 8.3 " ]; then
     echo "using: the page has the blocks $blocks, which this script doesn't know"
     echo "using: 0 passed, 1 failed"
     exit 1
 fi
 
-cd "$here/example" || exit 1
-block 1.1
-[ "$status" -eq 0 ] && [ ! -s "$here/err" ]
-count "the example: the formula is there" $?
-block 2.1
-[ "$status" -eq 0 ] && [ ! -s "$here/err" ]
-count "the example: the cubes are there" $?
-from_the_bundle "the example" 16
-block 8.1
-[ "$(grep -c '^s OPEN$' "$here/out")" -eq 4 ] && [ "$(cat ./*.report | grep -c ' refuted$')" -eq 16 ] && [ ! -s "$here/err" ]
-count "the example: four runs refute each cube once, and each leaves the others open" $?
-block 8.2
-[ "$(tr '\n' ' ' < "$here/out")" = "16 16 " ] && [ ! -s "$here/err" ]
-count "the example: each leaf is refuted in one of the four reports" $?
+# The command of docs/FORMATS.md for the labels of open branches, the last one under "Questions to a report".
+awk '
+    /^## / { inside = 0; here = $0 == "## Questions to a report" }
+    here && /^    / { block = (inside ? block : "") substr($0, 5) "\n"; inside = 1; next }
+    /[^ ]/ { inside = 0 }
+    END { printf "%s", block }
+' "$root/docs/FORMATS.md" > "$here/labels"
 
-cd "$here/unsplit" || exit 1
-pigeons > formula.cnf
-echo "a 0" > cubes
-variables=20
-clauses=45
-from_the_bundle "one empty cube" 1
-[ "$(head -n 1 leaf.cnf)" = "p cnf 20 45" ] && cmp -s formula.cnf leaf.cnf
-count "one empty cube: the solver's input is the formula" $?
+if takes_lrat; then
+    try 4.2 "cadical with --lrat"
+else
+    echo "using: there is no cadical that has --lrat, so that way isn't tried"
+fi
+if has cadical && has rustc; then
+    try "4.3 4.4" "cadical and drat2lrat"
+else
+    echo "using: there isn't cadical and a Rust compiler, so that way isn't tried"
+fi
+if has cadical && has drat-trim; then
+    try 4.5 "cadical and drat-trim"
+else
+    echo "using: there isn't cadical and drat-trim, so that way isn't tried"
+fi
+if has cryptominisat5 && has rustc; then
+    try "4.3 4.6" "cryptominisat5 and drat2lrat"
+else
+    echo "using: there isn't cryptominisat5 and a Rust compiler, so that way isn't tried"
+fi
 echo "using: $passed passed, $failed failed"
 [ "$failed" -eq 0 ]

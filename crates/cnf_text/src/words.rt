@@ -121,7 +121,7 @@ fn short_number(text: &[u8]) -> Option<(u64, &[u8])>
 }
 
 /// The next word where it is no short number without a sign.
-#[inline(never)]
+#[inline(always)]
 fn next_elsewhere(text: &[u8]) -> Option<(Word<'_>, Words<'_>)>
     ensures { MatchOption result
         (words_left text.now ≡ [])

@@ -1,0 +1,69 @@
+#!/bin/sh
+# Runs the commands of docs/FORMATS.md under "Questions to a report" on the report and the bundle of tests/questions, and compares
+# what they print with the file `answers` there, where a line `--` stands between two of them; then on the reports of the examples, and
+# looks whether their answers fit together. The report and the answers were written from the formats. The last line counts.
+root=$(CDPATH= cd -- "$(dirname -- "$0")/.." && pwd) || exit 1
+here=$(mktemp -d) || exit 1
+trap 'rm -rf "$here"' EXIT
+passed=0
+failed=0
+
+# Counts one claim: its name, and whether it holds.
+count() {
+    if [ "$2" -eq 0 ]; then
+        passed=$((passed + 1))
+    else
+        failed=$((failed + 1))
+        echo "questions: $1: this isn't so"
+    fi
+}
+
+# The questions' blocks, each in a file of its own under its number.
+mkdir "$here/page" "$here/run"
+awk -v page="$here/page" '
+    /^## / { inside = 0; here = $0 == "## Questions to a report" }
+    here && /^    / { if (!inside) blocks++; inside = 1; print substr($0, 5) > (page "/" blocks); next }
+    /[^ ]/ { inside = 0 }
+' "$root/docs/FORMATS.md"
+blocks=$(ls "$here/page" | tr '\n' ' ')
+[ "$blocks" = "1 2 3 4 5 6 7 " ]
+count "the page has seven questions" $?
+
+# Asks one of them in the folder of the report: its number.
+ask() {
+    (cd "$here/run" && sh "$here/page/$1" 2>&1)
+}
+
+# How many lines its answer has: its number.
+lines_of() {
+    ask "$1" | wc -l
+}
+
+# Where the program is built: the report of tests/questions is that of the bundle there.
+program=$root/crates/cubeboard/out/cubeboard
+if [ -x "$program" ]; then
+    timeout 60 "$program" "$root/tests/questions/case.icnf" 2>&1 | cmp -s - "$root/tests/questions/report"
+    count "the report is the bundle's" $?
+fi
+
+cp "$root/tests/questions/report" "$root/tests/questions/case.icnf" "$here/run/"
+for number in 1 2 3 4 5 6 7; do
+    [ "$number" -eq 1 ] || echo "--"
+    ask "$number"
+done > "$here/answers"
+cmp -s "$here/answers" "$root/tests/questions/answers"
+count "the answers are those of tests/questions" $?
+
+# Each leaf that is left has no accepted proof of its own; each open branch is one cube and has one label; nothing is left where
+# nothing is open.
+for report in "$root"/examples/*.report; do
+    example=${report%.report}
+    cp "$report" "$here/run/report"
+    if [ -d "$example" ]; then cp "$example/case.icnf" "$here/run/"; else cp "$example.icnf" "$here/run/case.icnf"; fi
+    open=$(grep -c '^o ' "$report")
+    [ "$(lines_of 3)" -eq "$(ask 2)" ] && [ "$(lines_of 6)" -le "$(ask 2)" ] && [ "$(lines_of 6)" -ge "$open" ] &&
+        [ "$(lines_of 5)" -eq "$open" ] && [ "$(lines_of 7)" -eq "$open" ]
+    count "$(basename "$example"): the answers fit together" $?
+done
+echo "questions: $passed passed, $failed failed"
+[ "$failed" -eq 0 ]
