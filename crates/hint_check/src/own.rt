@@ -154,6 +154,7 @@ impl OwnClauses {
     }
 
     /// Puts a clause under an id, in the place of one that was.
+    #[inline(always)]
     pub fn insert(&mut self, id: u64, lits: &[Lit]) -> Result<(), AllocError>
         ensures ok { OnOk result (self.new ≡ map.insert self.old id lits.now) }
         ensures err { OnErr result (self.new ≡ self.old) }
