@@ -1,13 +1,12 @@
 -- The ids listed for each literal.
-use Rattle.std.proofs.Common.{◌+◌, length, arith, ◌≡◌, ◌==◌, ◌||◌, ◌&&◌, ℕ, Bool, true, false, cond, nat_eq, Option, Some, None, List, [], ◌∷◌, ◌++◌, refl, sym, ap, ◌∙◌, inl, inr, subst}
+use Rattle.std.proofs.Common.{◌≡◌, ◌==◌, ◌||◌, ◌&&◌, ℕ, Bool, true, false, cond, nat_eq, Option, Some, None, List, [], ◌∷◌, ◌++◌, refl, sym, ap, ◌∙◌, inl, inr, subst}
 use Rattle.std.specs.Prelude.{if◌then◌else◌}
 use Rattle.std.specs.Option.{IfSome}
 use Rattle.std.specs.FinMap as fin
 use Rattle.std.specs.Ordering.{nat_cmp, eq_by_cmp}
 use Rattle.hint_check.proofs.LiveMaps.{same_key}
-use Rattle.hint_check.proofs.LiveStart.{enumerate_from-push}
-use Rattle.hint_check.proofs.LiveOverlay.{find-append, find-lookup, either_part, IfSome-weaker}
-use Rattle.std.specs.List.{list_any, enumerate_from}
+use Rattle.hint_check.proofs.LiveOverlay.{find-lookup, IfSome-weaker}
+use Rattle.std.specs.List.{list_any}
 use Rattle.std.specs.Map.{lookup}
 use Rattle.std.proofs.lemmas.Bool.{false≢true, or_cases, or_left, or_right, and_parts, and_from, eqb-true, eq-eqb, cond-true}
 use Rattle.cnf_text.specs.Literal.{Literal, literal_number, same}
@@ -66,28 +65,6 @@ module _ (before after : Links) (m : Literal) (id : ℕ) (adds : Adds before aft
               | inr earlier ↦ kept l q (h l q (or_right (is_listed start l q) (has literals l && (id == q)) (and_from (has literals l) (id == q) earlier parts.1)))
             ]
       ]
-
-pub Indexes-none : (rows : Links) → Indexes rows []
-unfolding Indexes
-Indexes-none rows q l = tt
-
-last_one : (after : Links) (clause : List Literal) (id q : ℕ) (l : Literal) (b : Bool) → eq_by_cmp nat_cmp q id ≡ b → ((m : Literal) → has clause m ≡ true → is_listed after m id ≡ true) → IfSome (cond b (Some clause) None) (λ c. has c l ≡ true → is_listed after l q ≡ true)
-last_one after clause id q l true here all = λ holds. subst (λ k. is_listed after l k ≡ true) (sym (same_key q id here)) (all l holds)
-last_one after clause id q l false apart all = tt
-
--- one more clause with its id
-pub Indexes-push : (before after : Links) (clauses : List (List Literal)) (clause : List Literal) (id : ℕ) → id ≡ length clauses + 1 → Indexes before (enumerate_from 1 clauses) → Lists before after clause id → Indexes after (enumerate_from 1 (clauses ++ clause ∷ []))
-unfolding Indexes Lists
-Indexes-push before after clauses clause id is h lists q l =
-    let P : List Literal → Type 0 = λ c. has c l ≡ true → is_listed after l q ≡ true in
-    let old = enumerate_from 1 clauses in
-    let all : (m : Literal) → has clause m ≡ true → is_listed after m id ≡ true =
-    λ m holds. lists m id (or_right (is_listed before m id) (has clause m && (id == id)) (and_from (has clause m) (id == id) holds (eq-eqb id id refl))) in
-    subst (λ o. IfSome o P)
-    (sym (ap (fin.find nat_cmp q) (enumerate_from-push 1 clauses clause ∙ ap (λ k. old ++ (k, clause) ∷ []) (let e : 1 + length clauses ≡ id = omega (arith, is) in e)) ∙ find-append q old ((id, clause) ∷ [])))
-    (either_part P (fin.find nat_cmp q old) (cond (eq_by_cmp nat_cmp q id) (Some clause) None)
-    (IfSome-weaker (fin.find nat_cmp q old) (h q l) (λ c was holds. lists l q (or_left (is_listed before l q) (has clause l && (id == q)) (was holds))))
-    (last_one after clause id q l (eq_by_cmp nat_cmp q id) refl all))
 
 pub Indexes-names : (rows : Links) (entries : List (ℕ × List Literal)) (l : Literal) (ids : List ℕ) → Indexes rows entries → ids ≡ ids_at rows (literal_number l) → NamesEntries entries l ids
 unfolding Indexes NamesEntries

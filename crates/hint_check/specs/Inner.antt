@@ -11,3 +11,4 @@ pub mod Own
 pub mod Grouped
 pub mod Needed
 pub mod Marked
+pub mod Holders

@@ -1,25 +1,27 @@
-use Rattle.std.proofs.Common.{◌≡◌, ◌++◌, refl, subst}
-use Rattle.std.specs.List.{enumerate_from}
-use Rattle.cnf_text.specs.Literal.{literal_number}
+use Rattle.std.proofs.Common.{◌≡◌, ◌==◌, ◌++◌, subst, List, ℕ, true}
+use Rattle.std.specs.FinMap as fin
+use Rattle.std.specs.Ordering.{nat_cmp}
+use Rattle.std.specs.List.{enumerate_from, list_any}
 use Rattle.hint_check.specs.Base.{formula_of}
-use Rattle.hint_check.specs.Inner.Index.{ids_at, NamesEntries, AddsHolders}
-use Rattle.hint_check.proofs.IndexIds.{Indexes-names}
-use Rattle.hint_check.proofs.LiveOverlay.{OnOk-weaker}
+use Rattle.hint_check.specs.Inner.Index.{NamesEntries, AddsHolders}
+use Rattle.hint_check.specs.Inner.Holders.{ids_of, NamesEach}
+use Rattle.hint_check.proofs.LiveOverlay.{OnOk-weaker, IfSome-weaker}
 use Rattle.hint_check.proofs.base.Base.list_holders.Goals as goal
 
 pub returns : goal.returns
-unfolding AddsHolders
+unfolding AddsHolders NamesEntries NamesEach
 returns c =
     let inside = c.self.inside in
     let lit = c.args.lit in
     let ids = c.args.ids.now.items in
-    let more = ids_at inside.index (literal_number lit) in
-    OnOk-weaker c.list.result (c.list.new.ids.items ≡ ids ++ more)
-    (AddsHolders (enumerate_from 1 c.args.self.now) lit ids c.list.new.ids.items)
+    let found = c.list.new.ids.items in
+    OnOk-weaker c.list.result
+    ((more : List ℕ) × (found ≡ ids ++ more) × ((id : ℕ) → list_any (λ named. named == id) (ids_of inside.holders lit) ≡ true → list_any (λ named. named == id) more ≡ true))
+    (AddsHolders (enumerate_from 1 c.args.self.now) lit ids found)
     (λ is. (
-      more,
-      is,
-      subst (λ clauses. NamesEntries (enumerate_from 1 clauses) lit more) c.self.view_is
-          (Indexes-names inside.index (enumerate_from 1 (formula_of inside.formula)) lit more c.self.invariant.1 refl),
+      is.0,
+      is.1,
+      subst (λ clauses. NamesEntries (enumerate_from 1 clauses) lit is.0) c.self.view_is
+          (λ q. IfSome-weaker (fin.find nat_cmp q (enumerate_from 1 (formula_of inside.formula))) (c.self.invariant.1.1 lit q) (λ clause names holds. is.2 q (names holds))),
     ))
     c.list.ensures

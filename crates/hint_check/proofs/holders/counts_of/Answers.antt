@@ -1,0 +1,45 @@
+use Rattle.std.proofs.Common.{◌≡◌, ◌+◌, ◌<◌, ◌∙◌, ap, sym, arith, length, get_or, take}
+use Rattle.std.proofs.lemmas.List.{take_all, get_or-replicate}
+use Rattle.std.proofs.lemmas.List.Sums.{sum_by_more}
+use Rattle.hint_check.specs.Inner.Holders.{hits, occurrences}
+use Rattle.hint_check.proofs.HoldersPlaces.{written}
+use Rattle.hint_check.proofs.holders.counts_of.Goals as goal
+
+pub loop-clause-init : goal.loop-clause-init
+loop-clause-init c =
+    let zeros = c.in_ok-counts.ensures.items_if_clones_equal (λ y e. e) in
+    record {
+      room = omega (arith, c.in_ok-counts.ensures.len);
+      counted = λ s below. ap (λ xs. get_or xs s 0) zeros ∙ get_or-replicate _ s 0 0 (omega (arith, c.in_ok-counts.ensures.len, below));
+    }
+
+pub loop-clause-preserved : goal.loop-clause-preserved
+loop-clause-preserved c =
+    let slots = c.args.slots.now in
+    let clauses = c.args.clauses.now in
+    let i = c.loop-clause.clause-index in
+    let old = c.loop-clause.counts in
+    let new = c.count_clause.new.counts in
+    let lent = c.deref_mut.ensures.value in
+    let same : length new ≡ length old.items = c.count_clause.auto.counts ∙ ap length lent in
+    let is = written new old.items old.len same (omega arith) in
+    record {
+      room = ap length is ∙ same ∙ c.loop-clause.invariant.room;
+      counted = λ s below.
+          let near : s < length old.items = omega (arith, ap length is, same, below) in
+          let more : occurrences slots (take (i + 1) clauses) s ≡ occurrences slots (take i clauses) s + hits slots s c.lits.result.now
+          = sum_by_more (hits slots s) clauses i c.clause-item.result c.loop-clause-test.true
+          ∙ ap (λ clause. occurrences slots (take i clauses) s + hits slots s clause) (sym c.clause-item.is ∙ sym c.lits.ensures) in
+          let counted : get_or new s 0 ≡ get_or c.deref_mut.result.now s 0 + hits slots s c.lits.result.now
+          = c.in_ok-count_clause.ensures s (omega (arith, near, ap length lent)) in
+          let before : get_or c.deref_mut.result.now s 0 ≡ occurrences slots (take i clauses) s
+          = ap (λ xs. get_or xs s 0) lent ∙ c.loop-clause.invariant.counted s near in
+          ap (λ xs. get_or xs s 0) is ∙ omega (arith, counted, before, more);
+    }
+
+pub returns : goal.returns
+returns c = (
+  c.loop-clause.invariant.room,
+  λ s below. c.loop-clause.invariant.counted s below
+      ∙ ap (λ clauses. occurrences c.args.slots.now clauses s) (take_all c.loop-clause.clause-index c.args.clauses.now c.loop-clause-test.false),
+)
