@@ -41,7 +41,7 @@ pub(crate) struct TopBoard<'c> {
     rows: Rows,
     ghost low: { cut ≤ 6 },
     ghost nodes: { above.nodes.items ≡ top_nodes cut 0 case.now.tree },
-    ghost tree: { above.tree ≡ top cut case.now.tree } by { Coded-set tree_code above.tree (top cut case.now.tree) },
+    ghost tree: { above.tree ≡ top cut case.now.tree } by { Coded-set tree_code _ _ },
     ghost kept: { AreRowsKept (top cut case.now.tree)
         (λ place. worth_of case.now.tree (top_node cut case.now.tree place)) rows.marks.items
         rows.weights.items },

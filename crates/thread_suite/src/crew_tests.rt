@@ -19,8 +19,8 @@ use std::sync::Wait;
 use std::sync::atomic::{AtomicU64, Ordering};
 use std::thread::Threads;
 
-/// The cubes of both variables, and proofs for the inner node with the path `1`, which ends without a conflict,
-/// and for the third cube.
+/// The cubes of both variables, and proofs for the inner node with the path `1`, which ends without
+/// a conflict, and for the third cube.
 const REJECTED_NODE: &str = four!(
     "a 1 2 0\na 1 -2 0\na -1 2 0\na -1 -2 0\nl n 1 0\n6 0 5 0\nl 3\n7 0 5 6 2 0\n"
 );
