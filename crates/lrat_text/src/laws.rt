@@ -1,6 +1,6 @@
 //! Laws of the definitions. Each function does nothing: its contract is the law.
 
-ghost use Rattle.std.specs.Prelude.{◌≡◌, [], ◌∷◌, ◌++◌, List, codes, true, false};
+ghost use Rattle.std.specs.Prelude.{◌≡◌, [], ◌∷◌, List, codes, false};
 ghost use Rattle.lrat_text.specs.Grammar.{StepSymbol, ProofStep, Add, Delete, Longest};
 ghost use Rattle.lrat_text.specs.Proof.{proof_in, proof_of, is_none_left};
 

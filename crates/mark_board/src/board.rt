@@ -1,10 +1,9 @@
 //! The board of a part of a cut, or the one above the parts.
 
-ghost use Rattle.std.specs.Prelude.{◌≡◌, ◌≢◌, ◌≤◌, ◌<◌, ◌-◌, ◌↔◌, ℕ, IfOk, IsTrue, replicate};
+ghost use Rattle.std.specs.Prelude.{◌≡◌, ◌≢◌, ◌≤◌, ◌<◌, ◌↔◌, ℕ, IfOk, IsTrue, replicate};
 ghost use Rattle.cnf_text.specs.Formula.{IsRefuted};
 ghost use Rattle.split_tree.specs.SplitTree.{size, subtree_at, path_at};
 ghost use Rattle.split_tree.specs.Leaves.{IsTargetAt};
-ghost use Rattle.split_tree.specs.Navigation.{HasBelow};
 ghost use Rattle.split_tree.specs.Parts.{top};
 ghost use Rattle.mark_board.specs.Board.{IsPlace, board_tree, tree_on, worth_on, IsRowOn, IsTargetRow, HasNode, TakesNode, TakesTarget};
 ghost use Rattle.mark_board.specs.Marking.{marked, open_weight, refuted_by, mark_at};

@@ -3,14 +3,13 @@
 ghost use Rattle.std.specs.Prelude.{◌≡◌, ◌≢◌, ◌≤◌, ◌<◌, ◌↔◌, ◌+◌, ℕ, IfOk, IsTrue, [], map, length, slice_index};
 ghost use Rattle.std.specs.Coded.{Coded-set};
 ghost use Rattle.split_tree.specs.TreeCode.{tree_code};
-ghost use Rattle.split_tree.specs.SplitTree.{size, subtree_at, path_at, IsSplit};
-ghost use Rattle.split_tree.specs.Navigation.{HasBelow};
+ghost use Rattle.split_tree.specs.SplitTree.{size, subtree_at};
 ghost use Rattle.split_tree.specs.Parts.{top, top_nodes};
 ghost use Rattle.mark_board.specs.Marking.{AreRefuted, marked, open_weight, refuted_by, mark_at};
 ghost use Rattle.mark_board.specs.Rows.{AreRowsKept};
 ghost use Rattle.mark_board.specs.TopPlaces.{part_count, part_place, top_node, worth_of, IsPlaceOf};
 ghost use Rattle.mark_board.specs.Findings.{mark_as};
-ghost use Rattle.mark_board.specs.Inner.Top.{IsOwnPlace, HasOwnPlace, IsPartAt};
+ghost use Rattle.mark_board.specs.Inner.Top.{HasOwnPlace, IsPartAt};
 
 use crate::mark::Mark;
 use crate::part::{PartVerdict, mark_for};
