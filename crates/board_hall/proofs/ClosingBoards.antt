@@ -44,16 +44,6 @@ includes_more v w p h x a = ⊎_elim (λ l. inl l) (λ r. inr (among_left v.seen
 includes_met : (v : View) (p : Pass) → Includes (meeting v (view_of p)) p
 includes_met v p x a = let w : View = view_of p in inr (among_right v.seen (w.posts ++ w.seen) x (⊎_elim (λ l. among_left w.posts w.seen x l) (λ r. among_right w.posts w.seen x r) a))
 
--- the first pass alone
-pub gathered_first : (first : Pass) (me : Hand) → me ≡ first.seat.me → (view_of first).owes ≡ None → Gathered first 0 [] me
-gathered_first first me is free = subst (Gathered first 0 []) (sym is) record {
-  none_out = first.rests.1;
-  rests = (first.rests.0, free);
-  parts = first.rests.2;
-  has_first = λ x a. a;
-  has_others = λ j d inside. absurd (omega (arith, inside));
-}
-
 -- one more pass was met
 pub gathered_more : (first p : Pass) (m : List Pass) (me after : Hand) → Gathered first (length m) m me → (view_of p).parts ≡ 1 → after ≡ (meeting me.0 (view_of p), me.1) → Gathered first (length (p ∷ m)) (p ∷ m) after
 gathered_more first p m me after g one is = let t = g.parts in subst (Gathered first (length (p ∷ m)) (p ∷ m)) (sym is) record {
@@ -67,15 +57,9 @@ gathered_more first p m me after g one is = let t = g.parts in subst (Gathered f
 pub moved_over : (all old new m : List Pass) (p : Pass) → all ≡ old ++ m → old ≡ new ++ p ∷ [] → all ≡ new ++ p ∷ m
 moved_over all old new m p e f = e ∙ (ap (λ l. l ++ m) f ∙ append_assoc new (p ∷ []) m)
 
-pub gathered_all : (first : Pass) (all old m : List Pass) (me : Hand) → all ≡ old ++ m → old ≡ [] → Gathered first (length m) m me → Gathered first (length all) all me
-gathered_all first all old m me e none_ g = subst (λ l. Gathered first (length l) l me) (sym (e ∙ ap (λ l. l ++ m) none_)) g
-
 -- a fact on each of several and a last one
 pub all_front : {A : Type 0} (P : A → Type 0) (xs : List A) (x : A) → All P (xs ++ x ∷ []) → All P xs
 all_front P xs x h j d inside = subst P (get_or-append xs (x ∷ []) d j inside) (h j d (let l = length-append xs (x ∷ []) in omega (arith, l, inside)))
-
-pub all_last : {A : Type 0} (P : A → Type 0) (xs : List A) (x : A) → All P (xs ++ x ∷ []) → P x
-all_last P xs x h = subst P (get_or_push xs x x (length xs) refl) (h (length xs) x (let l = length-append xs (x ∷ []) in omega (arith, l)))
 
 pub all_both : {A : Type 0} (P : A → Type 0) (all xs : List A) (x : A) → all ≡ xs ++ x ∷ [] → All P xs → P x → All P all
 all_both P all xs x e h last = subst (All P) (sym e) (λ j d inside. dite (ℕ_discrete j (length xs))

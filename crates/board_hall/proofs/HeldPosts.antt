@@ -55,11 +55,6 @@ after_new Marked marks row mark new = refl
 after_new RootMarked marks row mark new = refl
 after_new Already marks row mark new = absurd (new refl)
 
-after_already : (answer : Answer) (marks : List Mark) (row : ℕ) (mark : Mark) → answer ≡ Already → marks_after answer marks row mark ≡ marks
-after_already Marked marks row mark is = absurd (cc)
-after_already RootMarked marks row mark is = absurd (cc)
-after_already Already marks row mark is = refl
-
 -- the open weight and the root's mark of a board are those of its posts
 module _ (k : CutCase) (b : ℕ) (posts : List Post) (board : BoardOf) (is : IsBoardOf k b posts board) where
   pub tree_is : tree_on board ≡ tree_at k b
@@ -79,20 +74,6 @@ module _ (k : CutCase) (known : List Post) (old new : BoardOf) (x : Post) (answe
 
   pub stale : answer ≡ Already → mark_in known x.board x.row ≢ Open
   stale a e = p.already.0 a (is.marks x.row ∙ e)
-
-  abbrev at_place : ℕ → Type 0
-  at_place n = n ≡ size (board_tree k.cut k.case.tree (place_of k x.board))
-
-  pub board_same : answer ≡ Already → IsBoardOf k x.board known new
-  board_same a = let same = p.marks ∙ after_already answer old.marks x.row (mark_as x.judged) a in record {
-    is_at = record {
-      case_is = p.same.0 ∙ is.is_at.case_is;
-      cut_is = p.same.1 ∙ is.is_at.cut_is;
-      place_is = p.same.2 ∙ is.is_at.place_is;
-      long = ap (λ (ms : List Mark). length ms) same ∙ is.is_at.long;
-    };
-    marks = λ row. ap (λ ms. mark_at ms row) same ∙ is.marks row;
-  }
 
   other : (row : ℕ) → row ≢ x.row → mark_in (x ∷ known) x.board row ≡ mark_in known x.board row
   other row apart = ⊎_elim

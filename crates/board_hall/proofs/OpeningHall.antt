@@ -63,12 +63,6 @@ one_more k b total words more all slots y so first second weighs is =
       };
     }
 
-pub none_opened : (k : CutCase) → IsOpened k 0 [] []
-none_opened k = record {
-  words_are = record { long = refl; free = λ b inside. absurd (omega (arith, inside)); total = λ b inside. absurd (omega (arith, inside)) };
-  slots_are = record { long = refl; new = λ b inside. absurd (omega (arith, inside)) };
-}
-
 pub starts : (k : CutCase) (passes : ℕ) (words : List ℕ) (slots : List (Option BoardData)) → IsOpened k (board_count k) words slots → Reached k passes (opening words slots (newcomer k passes))
 starts k passes words slots so = (
   0,

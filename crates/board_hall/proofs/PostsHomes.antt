@@ -60,12 +60,3 @@ not_in_more k node part root end before is ends out i inside from to = dite (ℕ
 pub number_inside : (k : CutCase) (place : Place) (b : ℕ) → b ≡ board_number k place → IsPlace k.cut k.case.tree place → b < board_count k
 number_inside k (Part part) b e inside = omega (arith, e, inside)
 number_inside k Top b e inside = omega (arith, e)
-
-place_inside : (k : CutCase) (b : ℕ) → b < board_count k → IsPlace k.cut k.case.tree (place_of k b)
-place_inside k b inside = dite (ℕ_discrete b (parts_in k))
-    (λ top. subst (IsPlace k.cut k.case.tree) (sym (place_on_top k b top)) tt)
-    (λ apart. let part : b < parts_in k = omega (arith, inside, apart) in subst (IsPlace k.cut k.case.tree) (sym (place_in_part k b part)) part)
-
--- the place of the board on which a node's findings are posted
-pub home_place : (k : CutCase) (node b row : ℕ) → IsHome k node b row → IsPlaceFor k.cut k.case.tree node (place_of k b)
-home_place k node b row home = record { row = row; is_place = place_inside k b home.inside; is_row = home.is_row; has_targets = home.has_targets }

@@ -101,7 +101,8 @@ Becomes k x (posted.Already finding) v w =
     PostsNothing v w × (mark_in w.seen x.board x.row ≡ mark_as x.judged)
 
 -- the finding of a node was posted on the node's board, or came back
-pub record IsPosted (k : CutCase) (node : ℕ) (judged : Judged) (result : Posted) (v w : View) : Type 0 where
+pub record IsPosted (k : CutCase) (node : ℕ) (judged : Judged) (result : Posted) (v w : View)
+    : Type 0 where
   pub post : Post
   pub is_post : IsPostOf k node judged post
   pub sees : SeesOwn w post.board

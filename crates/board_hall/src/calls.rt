@@ -1,6 +1,6 @@
 //! The calls on what threads share.
 
-ghost use Rattle.std.specs.Prelude.{◌≡◌, ◌<◌, ◌≤◌, ℕ, None, Some, slice_index};
+ghost use Rattle.std.specs.Prelude.{◌≡◌, ◌<◌, ℕ, None, Some};
 ghost use Rattle.split_tree.specs.SplitTree.{size};
 ghost use Rattle.split_tree.specs.Leaves.{HasTarget};
 ghost use Rattle.mark_board.specs.Board.{IsPlace};
@@ -8,7 +8,7 @@ ghost use Rattle.mark_board.specs.Posting.{GivesBack};
 ghost use Rattle.mark_board.specs.VerdictOf.{verdict_of};
 ghost use Rattle.mark_board.specs.Boards.{IsPlaceFor};
 ghost use Rattle.case_core.specs.FindingOf.{finding_of};
-ghost use Rattle.board_hall.specs.Posts.{parts_in, open_by, mark_in};
+ghost use Rattle.board_hall.specs.Posts.{open_by, mark_in};
 ghost use Rattle.board_hall.specs.Halls.{core_of, shared_of, view_of, IsPassOf};
 ghost use Rattle.board_hall.specs.Clauses.{board_number, IsHome, IsVerdictOf, Stays, SeesOwn, PostsNothing, IsPosted, IsPartPosted, IsMarkSeen};
 

@@ -2,7 +2,7 @@
 
 ghost use Rattle.std.specs.Prelude.{◌≡◌, ℕ, ◌<◌, slice_index};
 ghost use Rattle.board_hall.specs.declared.view.CutCase.{CutCase};
-ghost use Rattle.board_hall.specs.Posts.{board_count, posts_of};
+ghost use Rattle.board_hall.specs.Posts.{board_count};
 ghost use Rattle.board_hall.specs.Hall.{HallState, HallStep, IsStart, Lawful, Reached, lock_word};
 ghost use Rattle.board_hall.specs.Laws.{IsWhole, IsWholeOfLeaves, NamesNoNode};
 

@@ -3,7 +3,7 @@
 ghost use Rattle.std.specs.Prelude.{◌≡◌, ◌+◌, ◌≤◌, ◌<◌, [], IfOk, All, vec_len, length};
 ghost use Rattle.mark_board.specs.Board.{IsPlace};
 ghost use Rattle.mark_board.specs.TopPlaces.{part_count};
-ghost use Rattle.board_hall.specs.Posts.{parts_in, board_count, place_of};
+ghost use Rattle.board_hall.specs.Posts.{board_count, place_of};
 ghost use Rattle.board_hall.specs.Hall.{newcomer};
 ghost use Rattle.board_hall.specs.Terms.{cut_case};
 ghost use Rattle.board_hall.specs.Halls.{core_of, shared_of, hall_of, IsNewPass};

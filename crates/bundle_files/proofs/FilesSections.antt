@@ -14,9 +14,6 @@ use Rattle.bundle_files.specs.Files.{proof_path, section_text}
 abbrev Leaf : Type 0
 Leaf = List ℕ × Option (List ℕ)
 
-pub none_added : (held : Held) (folder bundle : List ℕ) → AreAdded held folder [] bundle bundle
-none_added held folder bundle = record { leaves = []; named = refl; files = All-nil (λ (leaf : Leaf). Gives held (proof_path folder leaf.0) leaf.1); text = sym (append-nil bundle) }
-
 pub added_more : (held : Held) (folder : List ℕ) (first second : List (List ℕ)) (bundle part whole : List ℕ)
     → AreAdded held folder first bundle part
     → AreAdded held folder second part whole → AreAdded held folder (first ++ second) bundle whole
@@ -108,14 +105,6 @@ one_further first held folder kind bundle now new name done same name_is before 
     subst (λ (names : List (List ℕ)). AreAdded first folder names bundle new) (sym (next_name kind done))
     (added_more first folder (names_from kind 1 done) ((kind ++ decimal (done + 1)) ∷ []) bundle now new before
     (subst (λ (n : List ℕ). AreAdded first folder (n ∷ []) now new) name_is (subst (λ (h : Held). AreAdded h folder (name ∷ []) now new) same after)))
-
-pub all_done : (held : Held) (folder kind bundle now : List ℕ) (done count : ℕ) → done ≤ count → count ≤ done
-    → AreAdded held folder (names_from kind 1 done) bundle now
-    → AreAdded held folder (names_from kind 1 count) bundle now
-all_done held folder kind bundle now done count within reached added = subst (λ (n : ℕ). AreAdded held folder (names_from kind 1 n) bundle now) (same done count within reached) added
-  where
-    same : (d c : ℕ) → d ≤ c → c ≤ d → d ≡ c
-    same d c p q = omega arith
 
 -- the leaves of both kinds
 pub both_kinds : {T E : Type 0} (result : Result T E) (first held : Held) (folder bundle part whole : List ℕ) (cubes missing : ℕ) → held ≡ first

@@ -54,7 +54,8 @@ section_text name (Some proof) = codes "\nl " ++ name ++ codes "\n" ++ proof
 
 -- Leaves with these names were added, in this order: each whose file is there, with the file's
 -- bytes as its proof.
-pub record AreAdded (held : Held) (folder : List ℕ) (names : List (List ℕ)) (bundle whole : List ℕ) : Type 0 where
+pub record AreAdded (held : Held) (folder : List ℕ) (names : List (List ℕ)) (bundle whole : List ℕ)
+    : Type 0 where
   pub leaves : List (List ℕ × Option (List ℕ))
   pub named : map (λ leaf. leaf.0) leaves ≡ names
   pub files : All (λ leaf. Gives held (proof_path folder leaf.0) leaf.1) leaves
@@ -72,7 +73,8 @@ IsJudgedOf held (Some folder) bundle whole = IsWithProofs held folder bundle who
 
 -- for these words, FILE and DIR, and this input, the bundle that is read, and the one that is
 -- judged
-pub record IsBundleOf (held : Held) (file folder input : Option (List ℕ)) (read whole : List ℕ) : Type 0 where
+pub record IsBundleOf (held : Held) (file folder input : Option (List ℕ)) (read whole : List ℕ)
+    : Type 0 where
   pub is_read : IsRead held file input read
   pub is_judged : IsJudgedOf held folder read whole
 

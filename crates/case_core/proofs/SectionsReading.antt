@@ -99,11 +99,3 @@ nothing_read tree bundle sections (Some at) e first = record {
   ends = first.ends;
   begins = first.begins;
 }
-
--- ---- the label line that is refused
-
-same_name : (a b : Name) → Some a ≡ Some b → a ≡ b
-same_name a b e = cc
-
-same_number : (a b n m : ℕ) → a + n ≡ m → b + n ≡ m → a ≡ b
-same_number a b n m p q = omega arith

@@ -24,7 +24,7 @@ pub struct Finding<'c> {
     /// The number of the node at which the target stands.
     node: u32,
     judged: Judged,
-    pub ghost here: { IsTargetAt case.now.tree node (target_of leaf node) } by { IsTargetAt-prop case.now.tree node (target_of leaf node) },
+    pub ghost here: { IsTargetAt case.now.tree node (target_of leaf node) } by { IsTargetAt-prop _ _ _ },
     pub ghost only: { (i : ℕ) → IsTargetAt case.now.tree i (target_of leaf node) → i ≡ node },
     pub ghost has_section: { HasSection case.now (target_of leaf node) },
     pub ghost is: { IsFinding case.now (target_of leaf node) judged },

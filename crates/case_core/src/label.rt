@@ -1,6 +1,6 @@
 //! What a label line names: a leaf by its number, or an inner node by its path.
 
-ghost use Rattle.std.specs.Prelude.{◌≡◌, ◌∷◌, map, min, codes, IfOk, IfErr, Vec};
+ghost use Rattle.std.specs.Prelude.{◌≡◌, map, min, IfOk, IfErr, Vec};
 ghost use Rattle.std.specs.Option.{option_map};
 ghost use Rattle.cnf_text.specs.Tokens.{words};
 ghost use Rattle.cnf_text.specs.Icnf.{symbol_of};

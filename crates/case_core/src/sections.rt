@@ -2,7 +2,6 @@
 
 ghost use Rattle.std.specs.Prelude.{◌≡◌, ◌<◌, ◌≤◌, ◌+◌, length, OnOk, IfOk, IfErr, map};
 ghost use Rattle.cnf_text.specs.Tokens.{words};
-ghost use Rattle.split_tree.specs.SplitTree.{SplitTree};
 ghost use Rattle.case_core.specs.Label.{label_name};
 ghost use Rattle.case_core.specs.Inner.Label.{IsLimited};
 
@@ -20,8 +19,7 @@ pub(crate) struct Sections {
 }
 
 impl Sections {
-    ghost use Rattle.std.specs.Prelude.{◌≡◌, ◌≤◌, ◌+◌, [], ◌∷◌, ◌++◌, length, OnOk, IfOk, IfErr, map};
-    ghost use Rattle.split_tree.specs.Leaves.{HasTarget};
+    ghost use Rattle.std.specs.Prelude.{◌≡◌, ◌≤◌, ◌+◌, [], length, OnOk, IfOk, IfErr, map};
     ghost use Rattle.case_core.specs.Case.{section_in, part_in};
     ghost use Rattle.case_core.specs.Inner.Bundle.{EndsWith};
     ghost use Rattle.case_core.specs.Inner.Sections.{AreKept, StopsAt, GoesOn};

@@ -30,10 +30,6 @@ clause_front items ls l b is = rw (is, map-append) (append_assoc (spelled items)
 cube_front : (items : List Item) (ls : List Literal) (l : Literal) (b : List Symbol) → b ≡ spelled items ++ CubeMark ∷ map Signed ls → b ++ Signed l ∷ [] ≡ spelled items ++ CubeMark ∷ map Signed (ls ++ l ∷ [])
 cube_front items ls l b is = rw (is, map-append) (append_assoc (spelled items) (CubeMark ∷ map Signed ls) (Signed l ∷ []))
 
--- between two items an opening is empty
-between : {ls : List Literal} {cls cus : List (List Literal)} {n m : ℕ} {b : List Symbol} → Read Nothing ls cls cus n m b → Read Nothing [] cls cus n m b
-between r = rw r.is_opening at r
-
 pub begin_clause : (ls : List Literal) (cls cus : List (List Literal)) (n m : ℕ) (b : List Symbol) (l : Literal) → Read Nothing ls cls cus n m b → l.variable ≤ 268435455 → length cls < 16777216 → n < 16777216 → Read InClause (ls ++ l ∷ []) cls cus (n + 1) m (b ++ Signed l ∷ [])
 begin_clause ls cls cus n m b l r range count room =
     let same : ls ≡ [] = r.is_opening in

@@ -20,9 +20,6 @@ one_spelling a b e =
     let found = items_in_front b a [] (e ∙ sym (append-nil (spelled b))) in
     found.1 ∙ ap (λ m. b ++ m) (none_more found.0 found.2) ∙ append-nil b
 
-pub one_list : (tokens : List Token) (a b : List Item) → AreItems tokens a → AreItems tokens b → a ≡ b
-one_list tokens a b x y = one_spelling a b (sym x.0 ∙ y.0)
-
 -- a fault's token is none of a list of items within the limits
 broken_anyway : (before : List Symbol) (s : Symbol) (line : ℕ) (fault : TextFault) → FaultAt before s line fault → Begins Within (before ++ s ∷ []) → ⊥
 broken_anyway before s line (BadToken at_line) h begins = h.1 (begins.0, tt, begins.2)

@@ -126,13 +126,6 @@ sound_run held asked file folder input out_old out_new (Err fault) status Same o
     let above : 2 < status_of fault = above_two fault in let has : status ≡ status_of fault = told.0 in absurd (omega arith)
 sound_run held asked file folder input out_old out_new (Err fault) status Same old new before after same (inr told) report is = let four : status ≡ 4 = told.1 in absurd (omega arith)
 
--- status 2 is none of a run's
-pub never_two : (run : Result Bool Fault) (status : ℕ) (Same : Type 0) (old new : Option (List ℕ)) (before after : ℕ) → ToldRun run status Same old new before after → status ≡ 2 → ⊥
-never_two (Ok true) status Same old new before after told is = let none : status ≡ 0 = told.0 in omega arith
-never_two (Ok false) status Same old new before after told is = let one : status ≡ 1 = told.0 in omega arith
-never_two (Err fault) status Same old new before after (inl told) is = let above : 2 < status_of fault = above_two fault in let has : status ≡ status_of fault = told.0 in omega arith
-never_two (Err fault) status Same old new before after (inr told) is = let four : status ≡ 4 = told.1 in omega arith
-
 -- status 3
 pub fault_run : (held : Held) (asked_file asked_folder file folder input : Option (List ℕ)) (run : Result Bool Fault) (status : ℕ) (Same : Type 0) (old new : Option (List ℕ)) (before after : ℕ)
     → file ≡ asked_file → folder ≡ asked_folder → ToldRun run status Same old new before after

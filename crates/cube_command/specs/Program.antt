@@ -15,7 +15,8 @@ IsStatus status =
 -- The report on the bundle that the words ask for was written, and nothing more; its last line
 -- gives this answer, and where it says refuted, the formula of the bundle that was read has no
 -- model.
-pub record IsReported (held : Held) (file folder input old new : Option (List ℕ)) (answer : Bool) : Type 0 where
+pub record IsReported (held : Held) (file folder input old new : Option (List ℕ)) (answer : Bool)
+    : Type 0 where
   pub read : List ℕ
   pub whole : List ℕ
   pub bundle : IsBundleOf held file folder input read whole
@@ -25,7 +26,8 @@ pub record IsReported (held : Held) (file folder input old new : Option (List �
   pub sound : answer ≡ true → IsUnsatisfiable read
 
 -- the bundle that the words ask for has this fault, its first
-pub record IsRefused (held : Held) (file folder input : Option (List ℕ)) (fault : Fault) : Type 0 where
+pub record IsRefused (held : Held) (file folder input : Option (List ℕ)) (fault : Fault)
+    : Type 0 where
   pub read : List ℕ
   pub whole : List ℕ
   pub bundle : IsBundleOf held file folder input read whole

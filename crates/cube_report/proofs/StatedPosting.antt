@@ -37,12 +37,6 @@ pub record ArePostedOf (case : CaseOf) (done : List SectionOf) (marks : List Mar
   pub each : (node : ℕ) (target : Target) → IsTargetAt case.tree node target →
       MatchOption (proof_for done target) (mark_at marks node ≡ Open) (IsMark case target (mark_at marks node))
 
-pub nothing_posted : (case : CaseOf) (marks : List Mark) → marks ≡ replicate (size case.tree) Open → ArePostedOf case [] marks
-nothing_posted case marks e = record {
-  long = rw e (length-replicate (size case.tree) Open);
-  each = λ node target at. rw e (none_marked (size case.tree) node);
-}
-
 -- ---- the next section
 
 first_of : (front : List SectionOf) (s : SectionOf) (rest : List SectionOf) → section_at (front ++ s ∷ rest) (length front) ≡ s

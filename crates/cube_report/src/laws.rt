@@ -16,8 +16,8 @@ pub fn one_answer()
 {}
 
 /// A report in full. The clauses of the bundle are 1 and -1. It has no cube, so its tree is one
-/// missing leaf, and the proof of that leaf adds the empty clause: clause 1 forces 1, and clause 2 is
-/// falsified. So the leaf is refuted and no weight is open.
+/// missing leaf, and the proof of that leaf adds the empty clause: clause 1 forces 1, and clause 2
+/// is falsified. So the leaf is refuted and no weight is open.
 pub fn a_short_report()
     ensures { IsReportOn (codes "p inccnf\n1 0\n-1 0\nl m1\n3 0 1 2 0\n")
         (codes "t 0 1 1152921504606846976\nm 1 0 refuted\nw 0\ns REFUTED\n") }

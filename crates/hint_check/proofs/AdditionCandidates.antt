@@ -8,7 +8,7 @@ use Rattle.cnf_text.specs.Literal.{Literal, negation, same}
 use Rattle.hint_check.specs.Literals.{Literals, meets, has, is_tautology, negations, with_literal, with_literals}
 use Rattle.hint_check.specs.Addition.{others, no_literals}
 use Rattle.hint_check.proofs.ListTests.{any_map, any_implies}
-use Rattle.hint_check.proofs.LiteralsSets.{same-true, same-refl}
+use Rattle.hint_check.proofs.LiteralsSets.{same-true, same-refl, and_false, or_false}
 
 -- a function of the rest of a clause, at its next literal
 pub at_literal : {Y : Type 0} (F : List Literal → Y) (clause : List Literal) (i : ℕ) (l : Literal) → i < length clause → l ≡ get_or clause i l → F (drop i clause) ≡ F (l ∷ drop (i + 1) clause)
@@ -65,10 +65,6 @@ and_true : (b : Bool) → (b && true) ≡ b
 and_true true = refl
 and_true false = refl
 
-and_false : (b : Bool) → (b && false) ≡ false
-and_false true = refl
-and_false false = refl
-
 -- ---- a clause and its literals' negations
 signs-swap : (s t : Bool) → beq (not s) t ≡ beq s (not t)
 signs-swap true true = refl
@@ -83,32 +79,17 @@ has-negations : (clause : List Literal) (l : Literal) → has (negations clause)
 unfolding has
 has-negations clause l = any_map (λ m. same m l) negation clause ∙ ap (λ test. list_any test clause) (λ i m. same-negation m l i)
 
-or_none : (b : Bool) → (b || false) ≡ b
-or_none true = refl
-or_none false = refl
-
 -- a clause is a tautology where it has a literal of those that make it false
 pub meets-negations : (clause : List Literal) → meets (with_literals no_literals (negations clause)) clause ≡ is_tautology clause
 unfolding meets with_literals is_tautology
 meets-negations clause =
-    ap (λ test. list_any test clause) (λ i l. (or_none (has (negations clause) l) ∙ has-negations clause l) i)
+    ap (λ test. list_any test clause) (λ i l. (or_false (has (negations clause) l) ∙ has-negations clause l) i)
 
 same-self : (l : Literal) → same (negation l) l ≡ false
 same-self l = elim l.positive as (λ s. ((l.variable == l.variable) && beq (not s) s) ≡ false) [
   | true ↦ and_false (l.variable == l.variable)
   | false ↦ and_false (l.variable == l.variable)
 ]
-
-same-opposite : (l : Literal) → same l (negation l) ≡ false
-same-opposite l = elim l.positive as (λ s. ((l.variable == l.variable) && beq s (not s)) ≡ false) [
-  | true ↦ and_false (l.variable == l.variable)
-  | false ↦ and_false (l.variable == l.variable)
-]
-
--- a unit clause is no tautology
-pub unit-no_clash : (l : Literal) → false ≡ is_tautology (l ∷ [])
-unfolding is_tautology has
-unit-no_clash l = sym (ap (λ b. (b || false) || false) (same-opposite l))
 
 -- a literal clashes with one before it, or with one behind it that clashes with it as well
 clash-once : (later before rest : Bool) → (later ≡ true → rest ≡ true)
@@ -147,7 +128,7 @@ found-turn full set found new l rest is step =
 
 pub found-end : (full : Literals) (found : Bool) → (found || meets full []) ≡ found
 unfolding meets
-found-end full found = or_none found
+found-end full found = or_false found
 
 -- whether a clause holds a literal and no other of its literals is in a set, after some were looked at
 unfoldable pub held_after : Literals → Literal → Bool → List Literal → Bool
@@ -183,4 +164,4 @@ held_after-other set lit held l rest apart falsified =
 pub held_after-end : (set : Literals) (lit : Literal) (held : Bool) → held_after set lit held [] ≡ held
 unfolding held_after has
 held_after-end set lit held =
-    ap (λ b. (held || false) && not b) (meets-end set lit) ∙ and_true (held || false) ∙ or_none held
+    ap (λ b. (held || false) && not b) (meets-end set lit) ∙ and_true (held || false) ∙ or_false held

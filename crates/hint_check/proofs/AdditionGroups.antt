@@ -91,10 +91,6 @@ module _ (live : Live) (reached : Literals) (pivot : Literal) where
         | Some clause ↦ λ free. cond-false (needs_group reached pivot clause) (group_outcome (chain live (with_literals reached (negations (side_literals pivot clause))) hints)) None free
       ]
 
-  -- the clause that is live under an id that is needed
-  pub needed_clause : (id : ℕ) (clause : List Literal) → Some clause ≡ fin.get live id → is_needed live reached pivot id ≡ true → needs_group reached pivot clause ≡ true
-  needed_clause id clause found needed = ap (λ o. option_map_or (needs_group reached pivot) o false) found ∙ needed
-
   -- a live clause is looked at for the pivot's negation and the set reached, and is known to be a tautology or not
   module _ (id : ℕ) (clause : List Literal) (found : Some clause ≡ fin.get live id) where
     pub is_needed-held : (clash : Bool) → IfSome (fin.get live id) (λ c. clash ≡ is_tautology c) → (has clause (negation pivot) && not (meets reached (side_literals pivot clause))) ≡ true → not clash ≡ is_needed live reached pivot id

@@ -25,6 +25,7 @@ unless_refuted-true : (live : Live) (rest : Judged) → holds_empty_clause live 
 unfolding unless_refuted
 unless_refuted-true live rest some = cond-true (holds_empty_clause live) Refuted rest some
 
+-- with an empty clause live, whatever steps follow, the proof is refuted
 pub judged_from-refuted : (live : Live) (number : ℕ) (steps : List Step) (blank : Bool) → holds_empty_clause live ≡ true → judged_from live number steps blank ≡ Refuted
 unfolding judged_from
 judged_from-refuted live number [] blank some = unless_refuted-true live _ some
@@ -32,6 +33,7 @@ judged_from-refuted live number (Delete ids ∷ steps) blank some = unless_refut
 judged_from-refuted live number (Add addition ∷ steps) blank some = unless_refuted-true live _ some
 
 module _ (live : Live) (none : holds_empty_clause live ≡ false) (number : ℕ) (steps : List Step) (blank : Bool) where
+  -- without an empty clause live, a deletion leads to the judgement of the other steps without its clauses
   pub judged_from-delete : (ids : List ℕ) → judged_from live number (Delete ids ∷ steps) blank ≡ judged_from (without live ids) (number + 1) steps blank
   unfolding judged_from
   judged_from-delete ids = unless_refuted-false live _ none
@@ -40,22 +42,26 @@ module _ (live : Live) (none : holds_empty_clause live ≡ false) (number : ℕ)
   unfolding judged_from
   judged_from-add addition = unless_refuted-false live _ none
 
+  -- an addition with a fault is rejected for it
   pub judged_from-bad : (addition : Addition) (reason : Reason) → addition_fault live addition ≡ Some reason → judged_from live number (Add addition ∷ steps) blank ≡ Rejected number reason
   unfolding after_fault
   judged_from-bad addition reason bad =
       judged_from-add addition ∙ ap (λ fault. after_fault number fault (judged_from (with_clause live addition) (number + 1) steps blank)) bad
 
+  -- an addition without a fault leads to the judgement of the other steps with its clause
   pub judged_from-good : (addition : Addition) → addition_fault live addition ≡ None → judged_from live number (Add addition ∷ steps) blank ≡ judged_from (with_clause live addition) (number + 1) steps blank
   unfolding after_fault
   judged_from-good addition good =
       judged_from-add addition ∙ ap (λ fault. after_fault number fault (judged_from (with_clause live addition) (number + 1) steps blank)) good
 
+-- where no step is left and no empty clause is live, the proof is rejected for its end
 pub judged_from-end : (live : Live) (number : ℕ) (blank : Bool) → holds_empty_clause live ≡ false → judged_from live number [] blank ≡ Rejected number (end_reason blank)
 unfolding judged_from
 judged_from-end live number blank none = unless_refuted-false live _ none
 
 -- ---- when an empty clause is live
 
+-- a deletion makes no empty clause live
 pub without-holds_empty_clause : (live : Live) (ids : List ℕ) → holds_empty_clause live ≡ false → holds_empty_clause (without live ids) ≡ false
 unfolding holds_empty_clause
 without-holds_empty_clause live ids none =

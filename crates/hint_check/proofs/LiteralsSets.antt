@@ -25,6 +25,16 @@ pub not-not : (b : Bool) → not (not b) ≡ b
 not-not true = refl
 not-not false = refl
 
+-- nothing holds together with what doesn't hold
+pub and_false : (b : Bool) → (b && false) ≡ false
+and_false true = refl
+and_false false = refl
+
+-- of a test and one that doesn't hold, the first decides
+pub or_false : (a : Bool) → (a || false) ≡ a
+or_false true = refl
+or_false false = refl
+
 -- literals that are found the same are equal
 pub same-true : (l m : Literal) → same l m ≡ true → l ≡ m
 same-true l m e =
@@ -37,6 +47,22 @@ same-true l m e =
 pub same-refl : (l : Literal) → same l l ≡ true
 same-refl l = and_from (l.variable == l.variable) (beq l.positive l.positive) (eq-eqb l.variable l.variable refl) (beq-same l.positive)
 
+signs_opposite : (s : Bool) → beq s (not s) ≡ false
+signs_opposite true = refl
+signs_opposite false = refl
+
+-- no literal is the same as its negation
+same-opposite : (l : Literal) → same l (negation l) ≡ false
+same-opposite l =
+    ap (λ b. (l.variable == l.variable) && b) (signs_opposite l.positive)
+    ∙ and_false (l.variable == l.variable)
+
+-- a unit clause is no tautology
+pub unit-no_clash : (l : Literal) → false ≡ is_tautology (l ∷ [])
+unfolding is_tautology has
+unit-no_clash l = sym (ap (λ b. (b || false) || false) (same-opposite l))
+
+-- the negation of a negation is the literal
 pub negation-negation : (l : Literal) → negation (negation l) ≡ l
 negation-negation l = λ i. record { variable = l.variable; positive = not-not l.positive i }
 
@@ -147,21 +173,11 @@ flip-keeps v l m apart h =
           ap (λ b. cond m.positive b (not b)) (cond-false (eqb m.variable l.variable) l.positive (v m.variable) e) ∙ h
     ] refl
 
-beq_comm : (a b : Bool) → beq a b ≡ beq b a
-beq_comm true true = refl
-beq_comm true false = refl
-beq_comm false true = refl
-beq_comm false false = refl
-
 or_comm : (a b : Bool) → (a || b) ≡ (b || a)
 or_comm true true = refl
 or_comm true false = refl
 or_comm false true = refl
 or_comm false false = refl
-
-or_false : (a : Bool) → (a || false) ≡ a
-or_false true = refl
-or_false false = refl
 
 -- one more literal in a list
 pub has-push : (literals : List Literal) (l : Literal) → has (literals ++ l ∷ []) ≡ with_literal (has literals) l

@@ -44,14 +44,6 @@ marked-take before after id q taken =
     ∙ elim (nat_eq id q) as (λ b. unwrap_or (cond b None (lookup (nat_eq q) before)) false ≡ cond b false (is_marked before q))
     [ true ↦ refl | false ↦ refl ]
 
--- where no id is marked, none has a mark to be taken away
-pub unmarked-take : (marks : List (ℕ × Bool)) (id q : ℕ) → marks ≡ []
-    → is_marked marks q ≡ cond (nat_eq id q) false (is_marked marks q)
-unmarked-take marks id q none =
-    ap (λ m. is_marked m q) none
-    ∙ elim (nat_eq id q) as (λ b. false ≡ cond b false (is_marked [] q)) [ true ↦ refl | false ↦ refl ]
-    ∙ ap (λ m. cond (nat_eq id q) false (is_marked m q)) (sym none)
-
 module _ (marks : List (ℕ × Bool)) (entries : List (ℕ × List Literal)) where
   -- marks that answer alike
   pub MarksTautologies-same : (after : List (ℕ × Bool)) → ((q : ℕ) → is_marked after q ≡ is_marked marks q)

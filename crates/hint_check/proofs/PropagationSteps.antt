@@ -158,9 +158,6 @@ pub record Counts (set : Literals) (clause : List Literal) (count : ℕ) (last :
   pub none : count ≡ 0 → unfalsified set rest ≡ unfalsified set clause
   pub one : count ≡ 1 → last ∷ unfalsified set rest ≡ unfalsified set clause
 
-pub counts-start : (set : Literals) (clause : List Literal) (last : Literal) → Counts set clause 0 last clause
-counts-start set clause last = record { none = λ e. refl; one = λ e. absurd (omega (arith, e)) }
-
 pub counts-falsified : (set : Literals) (clause : List Literal) (count : ℕ) (last l : Literal) (rest : List Literal)
     → Counts set clause count last (l ∷ rest) → set (negation l) ≡ true → Counts set clause count last rest
 counts-falsified set clause count last l rest counts h = record {

@@ -37,8 +37,3 @@ module _ {A : Type 0} (d : A) where
 pub named-more : (places : List ℕ) (p i : ℕ) → is_named places i ≡ true → is_named (places ++ p ∷ []) i ≡ true
 named-more places p i h =
     list_any-append (λ named. nat_eq named i) places (p ∷ []) ∙ or_left (is_named places i) (is_named (p ∷ []) i) h
-
-pub named-last : (places : List ℕ) (p : ℕ) → is_named (places ++ p ∷ []) p ≡ true
-named-last places p =
-    list_any-append (λ named. nat_eq named p) places (p ∷ [])
-    ∙ or_right (is_named places p) (is_named (p ∷ []) p) (or_left (nat_eq p p) false (eq-eqb p p refl))

@@ -20,42 +20,6 @@ near-at marks n near = cond-true (nat_lt n 2097152) (slice_index marks.0 n) (map
 pub far-at : (marks : Marks) (n : ℕ) → 2097152 ≤ n → stamp_at marks n ≡ mapped_at marks.1 n
 far-at marks n far = cond-false (nat_lt n 2097152) (slice_index marks.0 n) (mapped_at marks.1 n) (le-ltb n 2097152 far)
 
--- where both parts answer alike, so do both together
-pub same-parts : (marks after : Marks) → ((n : ℕ) → slice_index after.0 n ≡ slice_index marks.0 n) → ((n : ℕ) → mapped_at after.1 n ≡ mapped_at marks.1 n) → (n : ℕ) → stamp_at after n ≡ stamp_at marks n
-same-parts marks after near far n = elim (nat_lt n 2097152) as (λ b. (if b then slice_index after.0 n else mapped_at after.1 n) ≡ (if b then slice_index marks.0 n else mapped_at marks.1 n)) [ true ↦ near n | false ↦ far n ]
-
-set_one : (stamps : List ℕ) (number stamp n : ℕ) → number < length stamps → slice_index (slice_set stamps number stamp) n ≡ (if number == n then stamp else slice_index stamps n)
-set_one stamps number stamp n room =
-    elim (cases_Bool (number == n)) [
-      | inl here ↦ let e : number ≡ n = eqb-true number n here in
-          ap (slice_index (slice_set stamps number stamp)) (sym e) ∙ get_or-set_same stamps number stamp 0 room
-          ∙ sym (cond-true (number == n) stamp (slice_index stamps n) here)
-      | inr apart ↦ get_or-set_other stamps number n stamp 0 (λ e. both_ways (number == n) apart (eq-eqb number n (sym e)))
-          ∙ sym (cond-false (number == n) stamp (slice_index stamps n) apart)
-    ]
-
-unset_other : (number n stamp old : ℕ) → (number ≡ n → ⊥) → old ≡ (if number == n then stamp else old)
-unset_other number n stamp old apart = sym (cond-false (number == n) stamp old (ne_eqb number n apart))
-
--- one near stamp set
-pub near-set : (marks : Marks) (after : List ℕ) (number stamp : ℕ) → number < 2097152 → number < length marks.0 → after ≡ slice_set marks.0 number stamp → (n : ℕ) → stamp_at (after, marks.1) n ≡ (if number == n then stamp else stamp_at marks n)
-near-set marks after number stamp near room is n =
-    elim (cases_lt n 2097152) [
-      | inl low ↦ near-at (after, marks.1) n low ∙ ap (λ stamps. slice_index stamps n) is ∙ set_one marks.0 number stamp n room
-          ∙ ap (λ old. if number == n then stamp else old) (sym (near-at marks n low))
-      | inr high ↦ far-at (after, marks.1) n high ∙ sym (far-at marks n high)
-          ∙ unset_other number n stamp (stamp_at marks n) (λ e. omega (arith, e, near, high))
-    ]
-
--- one other stamp set
-pub far-set : (marks : Marks) (after : List (ℕ × ℕ)) (number stamp : ℕ) → 2097152 ≤ number → ((n : ℕ) → mapped_at after n ≡ (if number == n then stamp else mapped_at marks.1 n)) → (n : ℕ) → stamp_at (marks.0, after) n ≡ (if number == n then stamp else stamp_at marks n)
-far-set marks after number stamp far set n =
-    elim (cases_lt n 2097152) [
-      | inl low ↦ near-at (marks.0, after) n low ∙ sym (near-at marks n low)
-          ∙ unset_other number n stamp (stamp_at marks n) (λ e. omega (arith, e, far, low))
-      | inr high ↦ far-at (marks.0, after) n high ∙ set n ∙ ap (λ old. if number == n then stamp else old) (sym (far-at marks n high))
-    ]
-
 -- ---- the literals that are set
 
 abbrev pub Sound : Marks → ℕ → List Literal → Type 0

@@ -90,11 +90,6 @@ group_read ids more leading candidate runs stop whole between left h run =
       read = rw (front, groups) (h.read ∙ rw (run.2) (sym (hints_push (ids_between 0 leading ids) (groups_in ids runs) (group_of candidate more) (stop_symbol stop ∷ left))));
     }
 
--- the end of the hints
-pub hints_end : (ids : List ℕ) (leading : ℕ) (runs : List GroupRun) (stop : Stop) (whole left : List StepSymbol) → HintsRead ids leading runs stop whole left → stop ≡ stops.End
-    → IsHints whole (ids_between 0 leading ids) (groups_in ids runs) left
-hints_end ids leading runs stop whole left h ends = (h.leading_ids, h.each, rw ends at h.read)
-
 all_between : (ids : List ℕ) → ids_between 0 (length ids) ids ≡ ids
 all_between ids =
     let whole : length ids - 0 ≡ length ids = omega arith in

@@ -170,17 +170,6 @@ no_ids_at_group t xs k rest run ids left found =
     let same = same_run xs ids (stops.Group k) stops.End rest left run.0 found.0 (sym run.2 ∙ found.1) in
     signs_differ 0 k (sym same.1)
 
--- whole steps
-pub no_step_nil : NoStep []
-no_step_nil (Add a) left found = nil_cons _ _ (found.2 ∙ ap (λ x. x ++ left) found.1.4)
-no_step_nil (Delete ids) left found = nil_cons _ _ (found.2 ∙ ap (λ x. x ++ left) found.1.1.2)
-
-pub no_step_front : (u : StepSymbol) (t : List StepSymbol) → ((n : ℕ) → n ≤ 4611686018427387904 → u ≡ positive n → ⊥) → NoStep (u ∷ t)
-no_step_front u t none (Add a) left found =
-    none a.id found.1.0.1 (heads _ _ _ _ (found.2 ∙ ap (λ x. x ++ left) found.1.4))
-no_step_front u t none (Delete ids) left found =
-    none found.1.1.0 found.1.1.1 (heads _ _ _ _ (found.2 ∙ ap (λ x. x ++ left) found.1.1.2))
-
 -- literals and their end mark don't begin with the mark of a deletion
 pub no_mark_in_literals : (ls : List Literal) (x t : List StepSymbol) → DeleteMark ∷ t ≡ map signed ls ++ end_mark ∷ x → ⊥
 no_mark_in_literals [] x t e = mark_is_no_numeral _ (heads _ _ _ _ e)
@@ -206,12 +195,6 @@ no_step_addition n t no_mark none (Add a) left found =
     none a.literals a.hints a.groups left (rw same found.1.0) found.1.1 found.1.2 found.1.3 (tails _ _ _ _ whole ∙ addition_parts a.literals a.hints a.groups left)
 no_step_addition n t no_mark none (Delete ids) left found =
     no_mark _ (tails _ _ _ _ (found.2 ∙ ap (λ x. x ++ left) found.1.1.2))
-
-pub no_step_zero : (n : ℕ) (t : List StepSymbol) → n ≡ 0 → ((r : List StepSymbol) → t ≡ DeleteMark ∷ r → ⊥) → NoStep (positive n ∷ t)
-no_step_zero n t zero_is no_mark = no_step_addition n t no_mark (λ literals hints groups left id all each every e. let some = id.0 in omega arith)
-
-pub no_step_literals : (n : ℕ) (t : List StepSymbol) → NoLiterals t → ((r : List StepSymbol) → t ≡ DeleteMark ∷ r → ⊥) → NoStep (positive n ∷ t)
-no_step_literals n t none no_mark = no_step_addition n t no_mark (λ literals hints groups left id all each every e. none literals _ (all, e))
 
 pub no_step_hints : (n : ℕ) (t : List StepSymbol) (ls : List Literal) (rest : List StepSymbol) → IsLiterals t ls rest → NoHints rest → ((r : List StepSymbol) → t ≡ DeleteMark ∷ r → ⊥) → NoStep (positive n ∷ t)
 no_step_hints n t ls rest found none no_mark =

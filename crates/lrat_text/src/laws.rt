@@ -1,7 +1,22 @@
-//! Laws of the definitions. The calls do nothing.
-ghost use Rattle.std.specs.Prelude.{◌≡◌, [], ◌∷◌, ◌++◌, codes, true, false};
-ghost use Rattle.lrat_text.specs.Grammar.{Add, Delete};
-ghost use Rattle.lrat_text.specs.Proof.{proof_of};
+//! Laws of the definitions. Each function does nothing: its contract is the law.
+
+ghost use Rattle.std.specs.Prelude.{◌≡◌, [], ◌∷◌, List, codes, false};
+ghost use Rattle.lrat_text.specs.Grammar.{StepSymbol, ProofStep, Add, Delete, Longest};
+ghost use Rattle.lrat_text.specs.Proof.{proof_in, proof_of, is_none_left};
+
+/// The steps of a proof are the longest list of whole steps with which its symbols begin.
+pub fn proof_is_longest()
+    ensures { (symbols : List StepSymbol) → (left : List StepSymbol)
+        × Longest symbols (proof_in symbols).steps left
+        × ((proof_in symbols).blank ≡ is_none_left left) }
+{}
+
+/// No other proof has the longest list of whole steps.
+pub fn only_longest()
+    ensures { (symbols : List StepSymbol) (steps : List ProofStep) (left : List StepSymbol)
+        → Longest symbols steps left
+        → proof_in symbols ≡ record { steps = steps; blank = is_none_left left } }
+{}
 
 /// A proof in full: behind a comment, the unit clause of variable 2 is added under the id 4, by the
 /// hints 1 and 3 and with a group for clause 2; then clauses 1 and 3 are deleted; and what follows

@@ -73,34 +73,6 @@ module _ {X : Type 0} (own whole : ℕ → X) where
       (length-top_nodes cut (suc node) p) (omega arith) in
       sym (ap own q) ∙ (e ∙ ap whole (f ∙ ap (λ (k : ℕ). get_or (top_nodes cut (suc (node + size p)) n) k 0) m))
 
-pub marked_top : (own posted : ℕ → Bool) (base cut node : ℕ) (t : SplitTree) → IsAtTop own posted base cut node t →
-    marked own base (top cut t) ≡ marked_on_top posted (λ number tree. posted number) cut node t
-marked_top own posted base zero node t h = at_root own posted base zero node t h
-marked_top own posted base (suc cut) node missing h = at_root own posted base (suc cut) node missing h
-marked_top own posted base (suc cut) node (cube k) h = at_root own posted base (suc cut) node (cube k) h
-marked_top own posted base (suc cut) node (split v p n) h =
-    rw (
-      at_root own posted base (suc cut) node (split v p n) h,
-      marked_top own posted (suc base) cut (suc node) p (at_first own posted base cut node v p n h),
-      marked_top own posted (suc (base + size (top cut p))) cut (suc (node + size p)) n (at_second own posted base cut node v p n h),
-    ) refl
-
-pub open_top : (worth total : ℕ → ℕ) (own posted : ℕ → Bool) (base cut node : ℕ) (t : SplitTree) → IsAtTop own posted base cut node t →
-    IsAtTop worth total base cut node t →
-    open_weight worth own base (top cut t) ≡ open_on_top (λ number tree. total number) posted (λ number tree. posted number) cut node t
-open_top worth total own posted base zero node t h w = rw (at_root own posted base zero node t h, at_root worth total base zero node t w) refl
-open_top worth total own posted base (suc cut) node missing h w =
-    rw (at_root own posted base (suc cut) node missing h, at_root worth total base (suc cut) node missing w) refl
-open_top worth total own posted base (suc cut) node (cube k) h w =
-    rw (at_root own posted base (suc cut) node (cube k) h, at_root worth total base (suc cut) node (cube k) w) refl
-open_top worth total own posted base (suc cut) node (split v p n) h w =
-    rw (
-      marked_top own posted base (suc cut) node (split v p n) h,
-      open_top worth total own posted (suc base) cut (suc node) p (at_first own posted base cut node v p n h) (at_first worth total base cut node v p n w),
-      open_top worth total own posted (suc (base + size (top cut p))) cut (suc (node + size p)) n (at_second own posted base cut node v p n h)
-          (at_second worth total base cut node v p n w),
-    ) refl
-
 -- ---- the top board marks the root exactly where the set does, and has its open weight
 
 pub agreed_marks : (refuted posted : ℕ → Bool) (cut node : ℕ) (t : SplitTree) → Agrees refuted posted cut node t →

@@ -220,12 +220,6 @@ module _ (formula : List (List Literal)) (refuted : ℕ → Bool) where
 
 -- ---- the top board
 
-pub top_marks : (refuted : ℕ → Bool) (cut node : ℕ) (t : SplitTree) → marked_on_top refuted (marked refuted) cut node t ≡ marked refuted node t
-top_marks refuted zero node t = refl
-top_marks refuted (suc cut) node missing = refl
-top_marks refuted (suc cut) node (cube k) = refl
-top_marks refuted (suc cut) node (split v p n) = rw (top_marks refuted cut (suc node) p, top_marks refuted cut (suc (node + size p)) n) refl
-
 -- the open weight of a marked node may be left out, since it is zero
 pub open_part : (worth : ℕ → ℕ) (refuted : ℕ → Bool) (node : ℕ) (t : SplitTree) →
     cond (marked refuted node t) 0 (open_weight worth refuted node t) ≡ open_weight worth refuted node t
@@ -233,18 +227,6 @@ open_part worth refuted node t = elim (cases_Bool (marked refuted node t)) [
   | inl is_marked ↦ rw (is_marked, marked_open worth refuted node t is_marked) refl
   | inr not_marked ↦ rw not_marked refl
 ]
-
-pub top_open : (worth : ℕ → ℕ) (refuted : ℕ → Bool) (cut node : ℕ) (t : SplitTree) →
-    open_on_top (open_weight worth refuted) refuted (marked refuted) cut node t ≡ open_weight worth refuted node t
-top_open worth refuted zero node t = open_part worth refuted node t
-top_open worth refuted (suc cut) node missing = open_part worth refuted node missing
-top_open worth refuted (suc cut) node (cube k) = open_part worth refuted node (cube k)
-top_open worth refuted (suc cut) node (split v p n) =
-    rw (
-      top_marks refuted (suc cut) node (split v p n),
-      top_open worth refuted cut (suc node) p,
-      top_open worth refuted cut (suc (node + size p)) n,
-    ) refl
 
 -- ---- open branches
 

@@ -1,5 +1,4 @@
 -- The words of private contracts: no public contract names them, and no other crate does.
 pub mod Rows
 pub mod Top
-pub mod Part
 pub mod Boards

@@ -63,7 +63,8 @@ IsWhollyOpen refuted tree node =
 
 -- a node of the tree, with the tree below it, that is wholly open, and is the root or has a parent
 -- that isn't
-pub record IsOpenBranch (refuted : ℕ → Bool) (tree : SplitTree) (place : NodeWithTree) : Type 0 where
+pub record IsOpenBranch (refuted : ℕ → Bool) (tree : SplitTree) (place : NodeWithTree)
+    : Type 0 where
   pub within : place.node < size tree
   pub below : place.tree ≡ subtree_at tree place.node
   pub whole : IsWhollyOpen refuted tree place.node

@@ -1,10 +1,9 @@
 //! The board of a part of a cut, or the one above the parts.
 
-ghost use Rattle.std.specs.Prelude.{◌≡◌, ◌≢◌, ◌≤◌, ◌<◌, ◌-◌, ◌↔◌, ℕ, IfOk, IsTrue, replicate};
+ghost use Rattle.std.specs.Prelude.{◌≡◌, ◌≢◌, ◌≤◌, ◌<◌, ◌↔◌, ℕ, IfOk, IsTrue, replicate};
 ghost use Rattle.cnf_text.specs.Formula.{IsRefuted};
 ghost use Rattle.split_tree.specs.SplitTree.{size, subtree_at, path_at};
 ghost use Rattle.split_tree.specs.Leaves.{IsTargetAt};
-ghost use Rattle.split_tree.specs.Navigation.{HasBelow};
 ghost use Rattle.split_tree.specs.Parts.{top};
 ghost use Rattle.mark_board.specs.Board.{IsPlace, board_tree, tree_on, worth_on, IsRowOn, IsTargetRow, HasNode, TakesNode, TakesTarget};
 ghost use Rattle.mark_board.specs.Marking.{marked, open_weight, refuted_by, mark_at};
@@ -18,7 +17,7 @@ ghost use Rattle.mark_board.specs.declared.rows.Answer.TheVariants.{RootMarked, 
 
 use crate::kind::Kind;
 use crate::mark::Mark;
-use crate::part::{PartAnswer, PartBoard, PartVerdict};
+use crate::part::{PartBoard, PartVerdict};
 use crate::place::Place;
 use crate::posted::{PartPosted, Posted};
 use crate::rows::Answer;
@@ -65,55 +64,6 @@ fn root_of_part(alloc: Global, case: &Case, cut: u32, part: u32) -> Result<NodeI
 {
     let parts = case.tree().parts(alloc, cut)?;
     Ok(parts[part as usize])
-}
-
-/// The post on the board of a part.
-fn post_in_part<'c>(board: &mut PartBoard<'c>, finding: Finding<'c>) -> Posted<'c>
-    requires case { finding.case.now ≡ board.old.case.now }
-    requires within { HasBelow board.old.case.now.tree board.old.root finding.node }
-    ensures same { (board.new.case.now ≡ board.old.case.now) × (board.new.cut ≡ board.old.cut)
-        × (board.new.part ≡ board.old.part) }
-    ensures marks { board.new.rows.marks.items
-        ≡ marks_after (posted_answer result) board.old.rows.marks.items
-        (finding.entry.node - board.old.root) (mark_as finding.entry.judged) }
-    ensures already { (posted_answer result ≡ Already)
-        ↔ (mark_at board.old.rows.marks.items (finding.entry.node - board.old.root) ≢ Open) }
-    ensures root { (posted_answer result ≡ RootMarked)
-        ↔ MarksRoot (subtree_at board.old.case.now.tree board.old.root) board.old.rows.marks.items
-        board.new.rows.marks.items }
-    ensures verdict { IsPostedOn (board_of (Kind.Part board.old)) result }
-    ensures back { GivesBack result finding.entry }
-{
-    match board.post(&finding) {
-        PartAnswer::Marked => Posted::Marked,
-        PartAnswer::RootMarked(verdict) => Posted::RootMarked(verdict),
-        PartAnswer::Already => Posted::Already(finding),
-    }
-}
-
-/// The post on the top board.
-fn post_on_top<'c>(board: &mut TopBoard<'c>, finding: Finding<'c>) -> Posted<'c>
-    requires case { finding.case.now ≡ board.old.case.now }
-    requires within { TakesNode (board_of (Kind.Top board.old)) finding.node }
-    ensures same { (board.new.case.now ≡ board.old.case.now) × (board.new.cut ≡ board.old.cut) }
-    ensures marks { (row : ℕ) → IsRowOn (board_of (Kind.Top board.old)) finding.entry.node row
-        → board.new.rows.marks.items
-        ≡ marks_after (posted_answer result) board.old.rows.marks.items row
-        (mark_as finding.entry.judged) }
-    ensures already { (row : ℕ) → IsRowOn (board_of (Kind.Top board.old)) finding.entry.node row
-        → (posted_answer result ≡ Already) ↔ (mark_at board.old.rows.marks.items row ≢ Open) }
-    ensures root { (posted_answer result ≡ RootMarked)
-        ↔ MarksRoot (top board.old.cut board.old.case.now.tree) board.old.rows.marks.items
-        board.new.rows.marks.items }
-    ensures verdict { IsPostedOn (board_of (Kind.Top board.old)) result }
-    ensures back { GivesBack result finding.entry }
-{
-    let place = board.place_of(finding.node());
-    match board.post(place, &finding) {
-        Answer::Marked => Posted::Marked,
-        Answer::RootMarked => Posted::TopMarked,
-        Answer::Already => Posted::Already(finding),
-    }
 }
 
 impl<'c> Board<'c> {
@@ -196,8 +146,8 @@ impl<'c> Board<'c> {
         ensures back { GivesBack result finding.entry }
     {
         match &mut self.kind {
-            Kind::Part(board) => post_in_part(board, finding),
-            Kind::Top(board) => post_on_top(board, finding),
+            Kind::Part(board) => board.post(finding),
+            Kind::Top(board) => board.post(finding),
         }
     }
 

@@ -1,6 +1,6 @@
 //! The board of a part.
 
-ghost use Rattle.std.specs.Prelude.{◌≡◌, ◌≢◌, ◌≤◌, ◌-◌, ◌<◌, ◌↔◌, ◌+◌, ℕ, IfOk, IsTrue};
+ghost use Rattle.std.specs.Prelude.{◌≡◌, ◌≢◌, ◌-◌, ◌<◌, ◌↔◌, ◌+◌, IfOk, IsTrue};
 ghost use Rattle.cnf_text.specs.Formula.{IsRefuted};
 ghost use Rattle.split_tree.specs.SplitTree.{size, subtree_at, path_at};
 ghost use Rattle.split_tree.specs.Navigation.{HasBelow};
@@ -11,6 +11,7 @@ ghost use Rattle.mark_board.specs.Findings.{mark_as};
 
 use crate::mark::Mark;
 use crate::place::Place;
+use crate::posted::Posted;
 use crate::rows::{Answer, Rows};
 use crate::stored::PartData;
 use case_core::{Case, Finding, Judged, NodeId};
@@ -47,17 +48,6 @@ pub fn mark_for(judged: Judged) -> Mark
     }
 }
 
-/// What became of a finding on the board of a part.
-#[derive(Drop)]
-pub(crate) enum PartAnswer<'c> {
-    /// The target stands as the finding says.
-    Marked,
-    /// The same, and this marked the part's root.
-    RootMarked(PartVerdict<'c>),
-    /// The target had a finding: nothing changed.
-    Already,
-}
-
 /// The board of a part.
 #[derive(Drop)]
 pub(crate) struct PartBoard<'c> {
@@ -80,9 +70,10 @@ impl<'c> PartBoard<'c> {
     ghost use Rattle.mark_board.specs.declared.rows.Answer.TheVariants.{RootMarked, Already};
     ghost use Rattle.mark_board.specs.declared.mark.Mark.TheVariants.{Open};
     ghost use Rattle.mark_board.specs.declared.place.Place.TheVariants.{Part};
-    ghost use Rattle.mark_board.specs.Posting.{marks_after, MarksRoot};
-    ghost use Rattle.mark_board.specs.Inner.Part.{answer_of, HasVerdictOf};
-    ghost use Rattle.mark_board.specs.BoardData.{IsPartData};
+    ghost use Rattle.mark_board.specs.declared.kind.Kind.TheVariants.{Part as part_kind};
+    ghost use Rattle.mark_board.specs.Posting.{marks_after, MarksRoot, posted_answer};
+    ghost use Rattle.mark_board.specs.Posting.{IsPostedOn, GivesBack};
+    ghost use Rattle.mark_board.specs.BoardData.{board_of, IsPartData};
 
     /// The board of a part of a case, with nothing marked.
     pub fn new(
@@ -220,24 +211,25 @@ impl<'c> PartBoard<'c> {
     }
 
     /// Marks a finding's target as it says, if that has no finding yet.
-    pub fn post(&mut self, finding: &Finding<'c>) -> PartAnswer<'c>
+    pub fn post(&mut self, finding: Finding<'c>) -> Posted<'c>
         // A finding of the board's case, of a node of the part.
-        requires case { finding.now.case.now ≡ self.old.case.now }
-        requires within { HasBelow self.old.case.now.tree self.old.root finding.now.node }
+        requires case { finding.case.now ≡ self.old.case.now }
+        requires within { HasBelow self.old.case.now.tree self.old.root finding.node }
         // The board stays that of its part, with the mark where none was.
         ensures same { (self.new.case.now ≡ self.old.case.now) × (self.new.cut ≡ self.old.cut)
-            × (self.new.part ≡ self.old.part) × (self.new.root ≡ self.old.root) }
+            × (self.new.part ≡ self.old.part) }
         ensures marks { self.new.rows.marks.items
-            ≡ marks_after (answer_of result) self.old.rows.marks.items
-            (finding.now.node - self.old.root) (mark_as finding.now.judged) }
-        // A verdict is that of the board's part.
-        ensures verdict { HasVerdictOf result self.old.case.now self.old.cut self.old.part }
+            ≡ marks_after (posted_answer result) self.old.rows.marks.items
+            (finding.entry.node - self.old.root) (mark_as finding.entry.judged) }
         // When it answers that the target had a mark, and when that the root became marked.
-        ensures already { (answer_of result ≡ Already)
-            ↔ (mark_at self.old.rows.marks.items (finding.now.node - self.old.root) ≢ Open) }
-        ensures root { (answer_of result ≡ RootMarked)
+        ensures already { (posted_answer result ≡ Already)
+            ↔ (mark_at self.old.rows.marks.items (finding.entry.node - self.old.root) ≢ Open) }
+        ensures root { (posted_answer result ≡ RootMarked)
             ↔ MarksRoot (subtree_at self.old.case.now.tree self.old.root) self.old.rows.marks.items
             self.new.rows.marks.items }
+        // A verdict is that of the board's part; a finding that wasn't posted is given back.
+        ensures verdict { IsPostedOn (board_of (part_kind self.old)) result }
+        ensures back { GivesBack result finding.entry }
     {
         let case = self.case;
         let root = self.root as usize;
@@ -245,9 +237,9 @@ impl<'c> PartBoard<'c> {
         let mark = mark_for(finding.judged());
         let answer = self.rows.post(case.tree(), root, node, mark);
         match answer {
-            Answer::Already => PartAnswer::Already,
-            Answer::Marked => PartAnswer::Marked,
-            Answer::RootMarked => PartAnswer::RootMarked(PartVerdict {
+            Answer::Already => Posted::Already(finding),
+            Answer::Marked => Posted::Marked,
+            Answer::RootMarked => Posted::RootMarked(PartVerdict {
                 case,
                 cut: self.cut,
                 part: self.part,

@@ -1,10 +1,10 @@
 //! The marks of the nodes of a tree, and the open weight below each.
 
-ghost use Rattle.std.specs.Prelude.{◌≡◌, ◌≢◌, ◌<◌, ◌↔◌, ◌^◌, ℕ, List, length, IfOk, IsTrue, slice_index, slice_set, replicate};
+ghost use Rattle.std.specs.Prelude.{◌≡◌, ◌≢◌, ◌<◌, ◌↔◌, ℕ, length, IfOk, IsTrue, slice_index, slice_set, replicate};
 ghost use Rattle.split_tree.specs.SplitTree.{size, subtree_at};
 ghost use Rattle.mark_board.specs.declared.mark.Mark.TheVariants.{Open, Refuted};
-ghost use Rattle.mark_board.specs.Marking.{marked, open_weight, refuted_by, mark_at};
-ghost use Rattle.mark_board.specs.Rows.{IsWeighed, AreRowsKept};
+ghost use Rattle.mark_board.specs.Marking.{refuted_by, mark_at};
+ghost use Rattle.mark_board.specs.Rows.{AreRowsKept};
 ghost use Rattle.mark_board.specs.Inner.Rows.{CoversFrom, HasKept};
 ghost use Rattle.mark_board.specs.Posting.{marks_after, MarksRoot};
 

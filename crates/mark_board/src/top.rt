@@ -3,17 +3,17 @@
 ghost use Rattle.std.specs.Prelude.{◌≡◌, ◌≢◌, ◌≤◌, ◌<◌, ◌↔◌, ◌+◌, ℕ, IfOk, IsTrue, [], map, length, slice_index};
 ghost use Rattle.std.specs.Coded.{Coded-set};
 ghost use Rattle.split_tree.specs.TreeCode.{tree_code};
-ghost use Rattle.split_tree.specs.SplitTree.{size, subtree_at, path_at, IsSplit};
-ghost use Rattle.split_tree.specs.Navigation.{HasBelow};
+ghost use Rattle.split_tree.specs.SplitTree.{size, subtree_at};
 ghost use Rattle.split_tree.specs.Parts.{top, top_nodes};
 ghost use Rattle.mark_board.specs.Marking.{AreRefuted, marked, open_weight, refuted_by, mark_at};
 ghost use Rattle.mark_board.specs.Rows.{AreRowsKept};
 ghost use Rattle.mark_board.specs.TopPlaces.{part_count, part_place, top_node, worth_of, IsPlaceOf};
 ghost use Rattle.mark_board.specs.Findings.{mark_as};
-ghost use Rattle.mark_board.specs.Inner.Top.{IsOwnPlace, HasOwnPlace, IsPartAt};
+ghost use Rattle.mark_board.specs.Inner.Top.{HasOwnPlace, IsPartAt};
 
 use crate::mark::Mark;
 use crate::part::{PartVerdict, mark_for};
+use crate::posted::Posted;
 use crate::rows::{Answer, Rows};
 use crate::stored::TopData;
 use case_core::{Case, Finding, Leaf, NodeId, Tree};
@@ -41,7 +41,7 @@ pub(crate) struct TopBoard<'c> {
     rows: Rows,
     ghost low: { cut ≤ 6 },
     ghost nodes: { above.nodes.items ≡ top_nodes cut 0 case.now.tree },
-    ghost tree: { above.tree ≡ top cut case.now.tree } by { Coded-set tree_code above.tree (top cut case.now.tree) },
+    ghost tree: { above.tree ≡ top cut case.now.tree } by { Coded-set tree_code _ _ },
     ghost kept: { AreRowsKept (top cut case.now.tree)
         (λ place. worth_of case.now.tree (top_node cut case.now.tree place)) rows.marks.items
         rows.weights.items },
@@ -53,8 +53,11 @@ impl<'c> TopBoard<'c> {
     ghost use Rattle.std.specs.Prelude.{replicate};
     ghost use Rattle.mark_board.specs.declared.rows.Answer.TheVariants.{RootMarked, Already};
     ghost use Rattle.mark_board.specs.declared.mark.Mark.TheVariants.{Open, Refuted as refuted_mark};
-    ghost use Rattle.mark_board.specs.Posting.{marks_after, MarksRoot};
-    ghost use Rattle.mark_board.specs.BoardData.{IsTopData};
+    ghost use Rattle.mark_board.specs.declared.kind.Kind.TheVariants.{Top as top_kind};
+    ghost use Rattle.mark_board.specs.Board.{IsRowOn, TakesNode};
+    ghost use Rattle.mark_board.specs.Posting.{marks_after, MarksRoot, posted_answer};
+    ghost use Rattle.mark_board.specs.Posting.{IsPostedOn, GivesBack};
+    ghost use Rattle.mark_board.specs.BoardData.{board_of, IsTopData};
 
     /// The top board of a cut of a case, with nothing marked.
     pub fn new(alloc: Global, case: &'c Case, cut: u32) -> Result<TopBoard<'c>, AllocError>
@@ -197,23 +200,35 @@ impl<'c> TopBoard<'c> {
         self.rows.post(&self.above.tree, 0, place, Mark::Refuted)
     }
 
-    /// Marks the own node at a place as its finding says, if it has no mark yet.
-    pub fn post(&mut self, place: usize, finding: &Finding<'c>) -> Answer
-        // A finding of the board's case, and the place of its node.
-        requires case { finding.now.case.now ≡ self.old.case.now }
-        requires place { IsOwnPlace self.old.cut self.old.case.now.tree finding.now.node place }
+    /// Marks a finding's target as it says, if that has no finding yet.
+    pub fn post(&mut self, finding: Finding<'c>) -> Posted<'c>
+        // A finding of the board's case, of an inner node above the cut.
+        requires case { finding.case.now ≡ self.old.case.now }
+        requires within { TakesNode (board_of (top_kind self.old)) finding.node }
         // The board stays that of its case and cut, with the mark where none was.
         ensures same { (self.new.case.now ≡ self.old.case.now) × (self.new.cut ≡ self.old.cut) }
-        ensures marks { self.new.rows.marks.items
-            ≡ marks_after result self.old.rows.marks.items place (mark_as finding.now.judged) }
-        // When it answers that the place had a mark, and when that the root became marked.
-        ensures already { (result ≡ Already) ↔ (mark_at self.old.rows.marks.items place ≢ Open) }
-        ensures root { (result ≡ RootMarked)
+        ensures marks { (row : ℕ) → IsRowOn (board_of (top_kind self.old)) finding.entry.node row
+            → self.new.rows.marks.items
+            ≡ marks_after (posted_answer result) self.old.rows.marks.items row
+            (mark_as finding.entry.judged) }
+        // When it answers that the target had a mark, and when that the root became marked.
+        ensures already { (row : ℕ) → IsRowOn (board_of (top_kind self.old)) finding.entry.node row
+            → (posted_answer result ≡ Already) ↔ (mark_at self.old.rows.marks.items row ≢ Open) }
+        ensures root { (posted_answer result ≡ RootMarked)
             ↔ MarksRoot (top self.old.cut self.old.case.now.tree) self.old.rows.marks.items
             self.new.rows.marks.items }
+        // No verdict of a part comes from it; a finding that wasn't posted is given back.
+        ensures verdict { IsPostedOn (board_of (top_kind self.old)) result }
+        ensures back { GivesBack result finding.entry }
     {
-        self.rows
-            .post(&self.above.tree, 0, place, mark_for(finding.judged()))
+        let place = self.place_of(finding.node());
+        let mark = mark_for(finding.judged());
+        let answer = self.rows.post(&self.above.tree, 0, place, mark);
+        match answer {
+            Answer::Marked => Posted::Marked,
+            Answer::RootMarked => Posted::TopMarked,
+            Answer::Already => Posted::Already(finding),
+        }
     }
 
     /// What is posted of the node or part at a place.

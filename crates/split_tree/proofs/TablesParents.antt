@@ -98,53 +98,9 @@ parent_depth tree p c r =
 
 -- ---- filling the table of parents
 
-pub one_leaf : (tree : SplitTree) (i first second : ℕ) → AreBranches tree i first second → IsLeaf (subtree_at tree i) → ⊥
-one_leaf tree i first second b l = rw b.is at l
-
-same_branches : (tree : SplitTree) (i f s first second : ℕ) → AreBranches tree i f s → AreBranches tree i first second → (f ≡ first) × (s ≡ second)
-same_branches tree i f s first second a b =
-    let e : split a.variable a.positive a.negative ≡ split b.variable b.positive b.negative = sym a.is ∙ b.is in
-    let p : a.positive ≡ b.positive = cc in
-    let n : size a.positive ≡ size b.positive = ap size p in
-    (omega (arith, a.first_is, b.first_is), omega (arith, a.second_is, b.second_is))
-
 -- the table has the parent of each branch of the nodes before `i`
 abbrev pub Parented : SplitTree → ℕ → List ℕ → Type 0
 Parented tree i parents = (j c : ℕ) → j < i → IsParent tree j c → IsParent tree (get_or parents c 0) c
-
-pub parented_more : (tree : SplitTree) (parents : List ℕ) (i first second : ℕ) → length parents ≡ size tree → AreBranches tree i first second →
-    Parented tree i parents → Parented tree (i + 1) (set (set parents first i) second i)
-parented_more tree parents i first second long b known j c l p =
-    let w : second < size tree = b.within in
-    let f : first ≡ i + 1 = b.first_is in
-    let g : second ≡ i + 1 + size b.positive = b.second_is in
-    let in_first : first < length parents = omega arith in
-    let in_second : second < length (set parents first i) = rw length-set (omega arith) in
-    elim (cases_eq c second) [
-      | inl same ↦ rw (same, get_or-set_same (set parents first i) second i 0 in_second)
-          (record { first = first; second = second; branches = b; one_of = inr refl })
-      | inr other ↦ rw (get_or-set_other (set parents first i) second c i 0 other) (elim (cases_eq c first) [
-        | inl same ↦ rw (same, get_or-set_same parents first i 0 in_first)
-            (record { first = first; second = second; branches = b; one_of = inl refl })
-        | inr neither ↦ rw (get_or-set_other parents first c i 0 neither) (elim (cases_lt j i) [
-          | inl less ↦ known j c less p
-          | inr more ↦
-              let here : j ≡ i = omega arith in
-              let q : IsParent tree i c = rw here at p in
-              let e = same_branches tree i q.first q.second first second q.branches b in
-              absurd (elim q.one_of [ inl is_first ↦ neither (is_first ∙ e.0) | inr is_second ↦ other (is_second ∙ e.1) ])
-        ])
-      ])
-    ]
-
-pub parented_leaf : (tree : SplitTree) (parents : List ℕ) (i : ℕ) → IsLeaf (subtree_at tree i) → Parented tree i parents → Parented tree (i + 1) parents
-parented_leaf tree parents i leaf known j c l p = elim (cases_lt j i) [
-  | inl less ↦ known j c less p
-  | inr more ↦
-      let here : j ≡ i = omega arith in
-      let q : IsParent tree i c = rw here at p in
-      absurd (one_leaf tree i q.first q.second q.branches leaf)
-]
 
 pub parented_all : (tree : SplitTree) (parents : List ℕ) → length parents ≡ size tree → Parented tree (size tree) parents → AreParents tree parents
 parented_all tree parents long known = record {

@@ -1,6 +1,7 @@
 //! Laws of splitting trees. Each function does nothing: its contract is the law.
 
 ghost use Rattle.split_tree.specs.Laws.{AllFitOrAClash, TreeWhereAllFit, TreeIsOnlyOne, CubePathIsCube, PathsAreApart, TotalIsBounded, BranchesRefuteTheirNode};
+ghost use Rattle.split_tree.specs.Parts.{EachLeafInOnePart, PartTotalsAddUp, PartsAreSubtrees, PartsAreFew};
 
 /// All cubes of a list fit, or the list has a clash.
 pub fn all_fit_or_a_clash()
@@ -35,4 +36,24 @@ pub fn total_is_bounded()
 /// A formula that is refuted on both branches of a path is refuted on the path.
 pub fn branches_refute_their_node()
     ensures { BranchesRefuteTheirNode }
+{}
+
+/// Each leaf of a tree lies in exactly one part of a cut.
+pub fn each_leaf_in_one_part()
+    ensures { EachLeafInOnePart }
+{}
+
+/// The totals of the parts add up to the total of the tree.
+pub fn part_totals_add_up()
+    ensures { PartTotalsAddUp }
+{}
+
+/// A part's tree is the one below the node of its number.
+pub fn parts_are_subtrees()
+    ensures { PartsAreSubtrees }
+{}
+
+/// A cut has at most 2 to its power parts.
+pub fn parts_are_few()
+    ensures { PartsAreFew }
 {}

@@ -16,10 +16,10 @@ mod tree;
 
 pub use clash::TreeFault;
 pub use laws::{
-    all_fit_or_a_clash, branches_refute_their_node, cube_path_is_cube, paths_are_apart,
-    total_is_bounded, tree_is_only_one, tree_where_all_fit,
+    all_fit_or_a_clash, branches_refute_their_node, cube_path_is_cube, each_leaf_in_one_part,
+    part_totals_add_up, parts_are_few, parts_are_subtrees, paths_are_apart, total_is_bounded,
+    tree_is_only_one, tree_where_all_fit,
 };
 pub use node::{Leaf, NodeId, Target};
-pub use parts::{each_leaf_in_one_part, part_totals_add_up, parts_are_few, parts_are_subtrees};
 pub use top::Top;
 pub use tree::{Tree, build};

@@ -2,7 +2,7 @@
 
 ghost use Rattle.std.specs.Prelude.{◌≡◌, ◌≤◌, ◌<◌, ◌++◌, length, IfOk, OnOk};
 ghost use Rattle.split_tree.specs.SplitTree.{size, subtree_at};
-ghost use Rattle.split_tree.specs.Parts.{part_nodes, EachLeafInOnePart, PartTotalsAddUp, PartsAreSubtrees, PartsAreFew};
+ghost use Rattle.split_tree.specs.Parts.{part_nodes};
 
 use crate::node::NodeId;
 use crate::nodes::Nodes;
@@ -43,23 +43,3 @@ impl Tree {
         Ok(parts)
     }
 }
-
-/// Each leaf of a tree lies in exactly one part of a cut.
-pub fn each_leaf_in_one_part()
-    ensures { EachLeafInOnePart }
-{}
-
-/// The totals of the parts add up to the total of the tree.
-pub fn part_totals_add_up()
-    ensures { PartTotalsAddUp }
-{}
-
-/// A part's tree is the one below the node of its number.
-pub fn parts_are_subtrees()
-    ensures { PartsAreSubtrees }
-{}
-
-/// A cut has at most 2 to its power parts.
-pub fn parts_are_few()
-    ensures { PartsAreFew }
-{}

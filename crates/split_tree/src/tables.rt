@@ -1,6 +1,6 @@
 //! Tables over the nodes of a tree, each made once.
 
-ghost use Rattle.std.specs.Prelude.{◌≡◌, ◌+◌, ◌^◌, ◌<◌, ℕ, suc, length, IfOk};
+ghost use Rattle.std.specs.Prelude.{◌≡◌, ◌+◌, ◌<◌, ℕ, suc, IfOk};
 ghost use Rattle.split_tree.specs.SplitTree.{size, weight};
 ghost use Rattle.split_tree.specs.Leaves.{missing_nodes};
 ghost use Rattle.split_tree.specs.Inner.Tables.{AreParents, AreWeights, AreCubeLeaves, AreCubeNodes};

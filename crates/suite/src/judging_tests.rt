@@ -387,8 +387,8 @@ const NO_CLAUSE: &[Proof] = &[
     ),
 ];
 
-/// Over the eight clauses: proofs that delete some of them, others of them, and need those; and candidates among a
-/// proof's own clauses, over one variable and then over another.
+/// Over the eight clauses: proofs that delete some of them, others of them, and need those; and
+/// candidates among a proof's own clauses, over one variable and then over another.
 const TWICE_FOUR: &[Proof] = &[
     (&[], "9 11 0 5 6 0\n10 0 9 7 8 0\n", None),
     (&[], "0 d 5 6 7 8 0\n9 1 0 1 2 0\n10 0 9 3 4 0\n", None),

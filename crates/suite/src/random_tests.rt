@@ -374,7 +374,8 @@ const FORMULAS: &[Given] = &[
     (PAIRS, &PAIRS_STEPS),
 ];
 
-/// On one scratch for all formulas, in two rounds, so that each follows a longer one or a shorter one.
+/// On one scratch for all formulas, in two rounds, so that each follows a longer one or a shorter
+/// one.
 #[test]
 fn both_judges_agree(rt: HostRuntime) {
     let mut trials = Trials {

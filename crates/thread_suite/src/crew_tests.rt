@@ -1,6 +1,5 @@
 //! Runs by several workers: that they are at work at once, in which order they take the sections,
 //! and that what they find is what one thread finds.
-ghost use Rattle.std.specs.Prelude.{◌≡◌};
 
 use crate::cases::case;
 use board_hall::Pass;
@@ -19,8 +18,8 @@ use std::sync::Wait;
 use std::sync::atomic::{AtomicU64, Ordering};
 use std::thread::Threads;
 
-/// The cubes of both variables, and proofs for the inner node with the path `1`, which ends without a conflict,
-/// and for the third cube.
+/// The cubes of both variables, and proofs for the inner node with the path `1`, which ends without
+/// a conflict, and for the third cube.
 const REJECTED_NODE: &str = four!(
     "a 1 2 0\na 1 -2 0\na -1 2 0\na -1 -2 0\nl n 1 0\n6 0 5 0\nl 3\n7 0 5 6 2 0\n"
 );

@@ -180,7 +180,8 @@ fn dropped_verdicts(rt: HostRuntime) {
     assert!(rt; drop_verdicts(&rt, rt.alloc(), &case));
 }
 
-/// Posts a leaf in a thread of its own, which keeps the pass: when the thread has ended, it is lost.
+/// Posts a leaf in a thread of its own, which keeps the pass: when the thread has ended, it is
+/// lost.
 fn lose_pass<R: Threads + Wait + Abort + Sync>(
     rt: &R,
     alloc: Global,
@@ -240,8 +241,8 @@ fn lacks_pass<R: Threads + Wait + Abort + Sync>(
     done && comes_back_alone(hall, passes)
 }
 
-// Where a pass is lost, because its thread has ended and didn't give it back, the hall isn't closed:
-// the other pass comes back.
+// Where a pass is lost, because its thread has ended and didn't give it back, the hall isn't
+// closed: the other pass comes back.
 #[test]
 fn lost_pass(rt: HostRuntime) {
     let case = case(&rt, rt.alloc(), BOTH_CUBES);

@@ -12,7 +12,8 @@ use Rattle.board_hall.specs.Hall.{IsBoard}
 
 -- each board is at home with these posts, and the top board marks a part exactly where the part's
 -- own root is marked
-pub record AreHome (k : CutCase) (posts : List Post) (slots : List (Option BoardData)) : Type 0 where
+pub record AreHome (k : CutCase) (posts : List Post) (slots : List (Option BoardData))
+    : Type 0 where
   pub long : length slots ≡ board_count k
   pub board : (b : ℕ) → b < board_count k →
       (y : BoardData) × (get_elem? slots b ≡ some (Some y)) × IsBoard k b posts y

@@ -21,6 +21,7 @@ pub record AreNewBoards (k : CutCase) (boards : ℕ) (slots : List (Option Board
       (y : BoardData) × (get_elem? slots b ≡ some (Some y)) × IsBoard k b [] y
 
 -- the first boards, with nothing posted
-pub record IsOpened (k : CutCase) (boards : ℕ) (words : List ℕ) (slots : List (Option BoardData)) : Type 0 where
+pub record IsOpened (k : CutCase) (boards : ℕ) (words : List ℕ) (slots : List (Option BoardData))
+    : Type 0 where
   pub words_are : AreOpeningWords k boards words
   pub slots_are : AreNewBoards k boards slots

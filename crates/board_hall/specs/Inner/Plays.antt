@@ -21,7 +21,8 @@ OwedIsOpen k owes posts =
     mark_in posts (parts_in k) (part_place k.cut k.case.tree part) ≡ Open
 
 -- the pass has board b, with the posts on it
-pub record Took (me : Hand) (b : ℕ) (posts : List Post) (y : BoardData) (after : Hand) : Type 0 where
+pub record Took (me : Hand) (b : ℕ) (posts : List Post) (y : BoardData) (after : Hand)
+    : Type 0 where
   pub after_is : after ≡ (taking b posts me.0, (b, Some y) ∷ me.1)
   pub board : IsBoard me.0.of b posts y
   pub real : AreReal me.0.of posts

@@ -22,7 +22,8 @@ pub record AreReady (case : CaseOf) (hall : HallOf) (jobs : JobsOf) (order : Lis
   pub order_is : IsOrder (length case.sections) order
 
 -- the passes have done nothing yet
-pub record AreNew (hall : HallOf) (jobs : JobsOf) (passes : List Pass) (job_passes : List JobPassOf) : Type 0 where
+pub record AreNew (hall : HallOf) (jobs : JobsOf) (passes : List Pass) (job_passes : List JobPassOf)
+    : Type 0 where
   pub of_hall : All (IsNewPass hall) passes
   pub of_jobs : All (λ pass. pass ≡ new_pass jobs) job_passes
 

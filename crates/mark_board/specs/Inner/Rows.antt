@@ -15,7 +15,8 @@ pub record StepsDown (tree : SplitTree) (node target next : ℕ) : Type 0 where
 
 -- of the nodes that have the target below them, what a new mark there covers is open below those
 -- from `first` on alone
-pub record CoversFrom (tree : SplitTree) (worth : ℕ → ℕ) (refuted : ℕ → Bool) (target first : ℕ) : Type 0 where
+pub record CoversFrom (tree : SplitTree) (worth : ℕ → ℕ) (refuted : ℕ → Bool) (target first : ℕ)
+    : Type 0 where
   pub has_below : HasBelow tree first target
   pub covered : (j : ℕ) → j < first → HasBelow tree j target →
       open_below worth refuted target j (subtree_at tree j) ≡ 0

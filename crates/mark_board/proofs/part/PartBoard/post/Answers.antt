@@ -13,7 +13,7 @@ use Rattle.mark_board.proofs.part.PartBoard.post.Goals as goal
 pub invariant_of-self : goal.invariant_of-self
 invariant_of-self c =
     let board = c.args.self.now in
-    let finding = c.args.finding.now in
+    let finding = c.args.finding in
     let sound : IsSound board.case.now (target_of finding.leaf finding.node) finding.judged = rw c.requires.case at finding.sound in
     let here : IsTargetAt board.case.now.tree finding.node (target_of finding.leaf finding.node) = rw c.requires.case at finding.here in
     let marks : c.post-answer.new.self.marks.items ≡ marks_after c.post-answer.result board.rows.marks.items (finding.node - board.root) (mark_as finding.judged) =
@@ -33,7 +33,7 @@ invariant_of-self c =
 pub invariant_of-result : goal.invariant_of-result
 invariant_of-result c =
     let board = c.args.self.now in
-    let finding = c.args.finding.now in
+    let finding = c.args.finding in
     let sound : IsSound board.case.now (target_of finding.leaf finding.node) finding.judged = rw c.requires.case at finding.sound in
     let here : IsTargetAt board.case.now.tree finding.node (target_of finding.leaf finding.node) = rw c.requires.case at finding.here in
     let marks : c.post-answer.new.self.marks.items ≡ marks_after c.post-answer.result board.rows.marks.items (finding.node - board.root) (mark_as finding.judged) =
