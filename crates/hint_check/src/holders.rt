@@ -11,11 +11,10 @@ use cnf_text::formula::Clause;
 use cnf_text::literal::Lit;
 use std::alloc::{AllocError, Global};
 
-/// All numbers below this are near, as far as the formula has any.
+/// Numbers below this are near in each formula that has greater ones.
 const REACH: u32 = 65536;
 
-/// A formula has so few literals of far numbers that its near ones have room for as many of a
-/// number as it has literals.
+/// All numbers of a formula are near where there are at most so many for each literal of it.
 const NUMBERS_PER_LITERAL: usize = 2;
 
 /// A slot for each literal's number.
@@ -103,7 +102,7 @@ fn is_repeated(named: &[u32], place: usize) -> bool
     place > 0 && named[place - 1] == named[place]
 }
 
-/// How far the near numbers reach: over all numbers of a formula that has literals enough.
+/// How far the near numbers reach: over all, unless these are many more than the literals.
 fn reach_for(clauses: &[Clause]) -> u32 {
     let mut literals: usize = 0;
     let mut numbers: u32 = 0;
