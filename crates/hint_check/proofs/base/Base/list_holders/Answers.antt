@@ -1,7 +1,7 @@
 use Rattle.std.proofs.Common.{◌≡◌, ◌++◌, refl, subst}
 use Rattle.std.specs.List.{enumerate_from}
 use Rattle.cnf_text.specs.Literal.{literal_number}
-use Rattle.hint_check.specs.Base.{formula_of}
+use Rattle.std.specs.Cow.{cow_value}
 use Rattle.hint_check.specs.Inner.Index.{ids_at, NamesEntries, AddsHolders}
 use Rattle.hint_check.proofs.IndexIds.{Indexes-names}
 use Rattle.hint_check.proofs.LiveOverlay.{OnOk-weaker}
@@ -20,6 +20,6 @@ returns c =
       more,
       is,
       subst (λ clauses. NamesEntries (enumerate_from 1 clauses) lit more) c.self.view_is
-          (Indexes-names inside.index (enumerate_from 1 (formula_of inside.formula)) lit more c.self.invariant.1 refl),
+          (Indexes-names inside.index (enumerate_from 1 (cow_value inside.formula)) lit more c.self.invariant.1 refl),
     ))
     c.list.ensures
