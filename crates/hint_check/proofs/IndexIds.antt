@@ -18,6 +18,7 @@ use Rattle.hint_check.proofs.LiteralsSets.{same-true, has-push}
 none_listed : (b : Bool) → false ≡ true → b ≡ true
 none_listed b h = absurd (false≢true h)
 
+-- no literals are listed without a change
 pub Lists-none : (rows : Links) (id : ℕ) → Lists rows rows [] id
 unfolding Lists has
 Lists-none rows id l q h =
@@ -55,6 +56,7 @@ module _ (before after : Links) (m : Literal) (id : ℕ) (adds : Adds before aft
       ap (list_any (λ n. n == q)) (adds (literal_number m) ∙ cond-true (nat_eq (literal_number m) (literal_number m)) (once id (ids_at before (literal_number m))) (ids_at before (literal_number m)) (eq-eqb (literal_number m) (literal_number m) refl))
       ∙ once-new id q (ids_at before (literal_number m)) h
 
+  -- one more literal is listed
   pub Lists-push : (start : Links) (literals : List Literal) → Lists start before literals id → Lists start after (literals ++ m ∷ []) id
   unfolding Lists with_literal
   Lists-push start literals h l q either =
@@ -67,6 +69,7 @@ module _ (before after : Links) (m : Literal) (id : ℕ) (adds : Adds before aft
             ]
       ]
 
+-- any index lists no clauses
 pub Indexes-none : (rows : Links) → Indexes rows []
 unfolding Indexes
 Indexes-none rows q l = tt
@@ -89,6 +92,7 @@ Indexes-push before after clauses clause id is h lists q l =
     (IfSome-weaker (fin.find nat_cmp q old) (h q l) (λ c was holds. lists l q (or_left (is_listed before l q) (has clause l && (id == q)) (was holds))))
     (last_one after clause id q l (eq_by_cmp nat_cmp q id) refl all))
 
+-- the ids listed for a literal name all clauses that hold it
 pub Indexes-names : (rows : Links) (entries : List (ℕ × List Literal)) (l : Literal) (ids : List ℕ) → Indexes rows entries → ids ≡ ids_at rows (literal_number l) → NamesEntries entries l ids
 unfolding Indexes NamesEntries
 Indexes-names rows entries l ids h is q =
@@ -120,11 +124,13 @@ module _ (own own' : List (ℕ × List Literal)) (id : ℕ) where
       (take-Indexes rows q l (lookup (nat_eq q) own) (nat_eq id q)
       (subst (λ o. IfSome o (λ c. has c l ≡ true → is_listed rows l q ≡ true)) (find-lookup q own) (h q l)))
 
+  -- a clause that was listed, and then put under its id, is in the index where there is one
   pub MayIndex-put : (index after : Option (Links)) (clause : List Literal) → IfSome index (λ rows. Indexes rows own) → MayList index after clause id → ((q : ℕ) → lookup (nat_eq q) own' ≡ cond (nat_eq id q) (Some clause) (lookup (nat_eq q) own)) → IfSome after (λ rows. Indexes rows own')
   MayIndex-put index None clause h lists put = tt
   MayIndex-put None (Some after) clause h lists put = absurd lists
   MayIndex-put (Some before) (Some after) clause h lists put = Indexes-put before after clause h lists put
 
+  -- an index stays one of the clauses that are left
   pub MayIndex-take : (index : Option (Links)) → IfSome index (λ rows. Indexes rows own) → ((q : ℕ) → lookup (nat_eq q) own' ≡ cond (nat_eq id q) None (lookup (nat_eq q) own)) → IfSome index (λ rows. Indexes rows own')
   MayIndex-take None h taken = tt
   MayIndex-take (Some rows) h taken = Indexes-take rows h taken

@@ -1,7 +1,7 @@
 -- The program's words without texts, and a number among them.
 use Rattle.std.specs.Prelude.{◌≡◌, ℕ, List, Option, Some, codes}
 use Rattle.std.specs.Str.Parse.{IsNumeral, digits_value, without_leading_plus}
-use Rattle.clap.specs.Words.{App, Text, fault_of, first_of, matches_of, new_app, one_of, with_rule}
+use Rattle.clap.specs.Words.{App, Text, matches_of, new_app, one_of, with_rule}
 use Rattle.cube_command.specs.Words.{words_taken, without_program, workers_word, cut_word}
 
 -- the words with numbers alone
