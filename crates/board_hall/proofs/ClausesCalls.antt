@@ -36,6 +36,7 @@ noted_keeps x owes me after n = record {
   out = ap (λ (m : Hand). m.1) n.after_is;
 }
 
+-- a pass stays one of its hall and forgets nothing by a post
 pub keeps : (k : CutCase) (x : Post) (r : Posted) (me after : Hand) → Recorded k x r me after → Keeps me after
 keeps k x posted.Marked me after e = noted_keeps x None me after e.0
 keeps k x (posted.RootMarked verdict) me after e = noted_keeps x (Some x.board) me after e.0
@@ -48,6 +49,7 @@ keeps k x (posted.Already f) me after e = record {
   out = ap (λ (m : Hand). m.1) e.0;
 }
 
+-- a pass stays one of its hall and forgets nothing by a part's post
 pub part_keeps : (k : CutCase) (x : Post) (r : PartPosted) (me after : Hand) → PartRecorded k x r me after → Keeps me after
 part_keeps k x part_posted.Marked me after e = noted_keeps x None me after e.0
 part_keeps k x part_posted.RootMarked me after e = noted_keeps x None me after e.0
@@ -100,6 +102,7 @@ module _ (k : CutCase) (x : Post) (b : ℕ) (v : View) (me mid after : Hand) (is
     makes_root : MarksRootOf k x (mark_in after.0.seen x.board) → MakesRoot k x me.0.known
     makes_root m = record { was = sym was_root ∙ m.was; is = sym is_root ∙ m.is }
 
+  -- what a post on a held board recorded is what the clause of `post` says
   pub becomes : (mark_in after.0.seen x.board x.row ≢ Open → mark_in after.0.seen x.board x.row ≡ mark_as x.judged) → (r : Posted) → Recorded k x r me mid → Becomes k x r v after.0
   becomes settles posted.Marked e = (has_posted None e.0, owes_is None e.0, (λ m. e.1 (makes_root None e.0 m)))
   becomes settles (posted.RootMarked verdict) e = (has_posted (Some x.board) e.0, owes_is (Some x.board) e.0, marks_root (Some x.board) e.0 e.1, e.2)
@@ -112,6 +115,7 @@ module _ (k : CutCase) (x : Post) (b : ℕ) (v : View) (me mid after : Hand) (is
     settles (λ o. e.1 (sym (seen_is x.row ∙ (λ i. mark_in (ap (λ (m : Hand). m.0.known) e.0 i) x.board x.row)) ∙ o)),
   )
 
+  -- what a part's post recorded is what the clause of `post_part` says
   pub part_becomes : (r : PartPosted) → PartRecorded k x r me mid → PartBecomes k x r v after.0
   part_becomes part_posted.Marked e = (has_posted None e.0, owes_is None e.0, (λ m. e.1 (makes_root None e.0 m)))
   part_becomes part_posted.RootMarked e = (has_posted None e.0, owes_is None e.0, marks_root None e.0 e.1)

@@ -54,6 +54,7 @@ gathered_more first p m me after g one is = let t = g.parts in subst (Gathered f
   has_others = All-cons (Includes (meeting me.0 (view_of p))) p m (includes_met me.0 p) (λ j d inside. includes_more me.0 (view_of p) (get_or m j d) (g.has_others j d inside));
 }
 
+-- the last of some passes is moved to the front of the others
 pub moved_over : (all old new m : List Pass) (p : Pass) → all ≡ old ++ m → old ≡ new ++ p ∷ [] → all ≡ new ++ p ∷ m
 moved_over all old new m p e f = e ∙ (ap (λ l. l ++ m) f ∙ append_assoc new (p ∷ []) m)
 
@@ -61,6 +62,7 @@ moved_over all old new m p e f = e ∙ (ap (λ l. l ++ m) f ∙ append_assoc new
 pub all_front : {A : Type 0} (P : A → Type 0) (xs : List A) (x : A) → All P (xs ++ x ∷ []) → All P xs
 all_front P xs x h j d inside = subst P (get_or-append xs (x ∷ []) d j inside) (h j d (let l = length-append xs (x ∷ []) in omega (arith, l, inside)))
 
+-- what holds of some and of one more behind them holds of all
 pub all_both : {A : Type 0} (P : A → Type 0) (all xs : List A) (x : A) → all ≡ xs ++ x ∷ [] → All P xs → P x → All P all
 all_both P all xs x e h last = subst (All P) (sym e) (λ j d inside. dite (ℕ_discrete j (length xs))
     (λ is. subst P (sym (get_or_push xs x d j (sym is))) last)

@@ -381,6 +381,7 @@ module _ (k : CutCase) where
       (let v : View = g.0 in let more : 1 < v.parts = g.2 in
       arrives record { words = s.words; homes = s.homes; views = set s.views id (with_parts (v.parts - 1) v) } (stands_for s l id v (v.parts - 1) g.1 (λ z. absurd (omega arith))))
 
+  -- each step keeps a state lawful
   pub step_keeps : (s t : HallState) → Lawful k s → HallStep k s t → Lawful k t
   step_keeps s t l (takes id b g) = take_keeps id b s t l g
   step_keeps s t l (posts id b x owes g) = post_keeps id b s t x owes l g
@@ -390,6 +391,7 @@ module _ (k : CutCase) where
   step_keeps s t l (comes id g) = come_keeps id s t l g
 
   module _ (passes : ℕ) where
+    -- the start of a hall is lawful
     pub start_lawful : (s : HallState) → IsStart k passes s → Lawful k s
     start_lawful s g = subst (λ vs. Lawful k record { words = s.words; homes = s.homes; views = vs }) (sym g.one_pass) record {
       words = g.words;

@@ -60,6 +60,7 @@ module _ (k : CutCase) (b : ℕ) (posts : List Post) (board : BoardOf) (is : IsB
   pub tree_is : tree_on board ≡ tree_at k b
   tree_is = λ i. board_tree (is.is_at.cut_is i) (is.is_at.case_is i).tree (is.is_at.place_is i)
 
+  -- the open weight of a held board is that of the posts on it
   pub weight_is : open_weight (worth_on board) (refuted_by board.marks) 0 (tree_on board) ≡ open_by k b (mark_in posts b)
   weight_is = λ i. open_weight (λ row. worth_of (is.is_at.case_is i).tree (board_node (is.is_at.cut_is i) (is.is_at.case_is i).tree (is.is_at.place_is i) row)) (λ row. is_refuted (is.marks row i)) 0
       (board_tree (is.is_at.cut_is i) (is.is_at.case_is i).tree (is.is_at.place_is i))
@@ -69,6 +70,7 @@ module _ (k : CutCase) (b : ℕ) (posts : List Post) (board : BoardOf) (is : IsB
 
 module _ (k : CutCase) (known : List Post) (old new : BoardOf) (x : Post) (answer : Answer) (is : IsBoardOf k x.board known old)
     (within : x.row < size (tree_at k x.board)) (p : BoardPosted old new x.row (mark_as x.judged) answer) where
+  -- a post that was new found no mark
   pub fresh : answer ≢ Already → mark_in known x.board x.row ≡ Open
   fresh n = ⊎_elim (λ e. sym (is.marks x.row) ∙ e) (λ not. absurd (n (p.already.1 not))) (open_or (mark_at old.marks x.row))
 
@@ -84,6 +86,7 @@ module _ (k : CutCase) (known : List Post) (old new : BoardOf) (x : Post) (answe
   pub first_mark : mark_in (x ∷ known) x.board x.row ≡ mark_as x.judged
   first_mark = λ i. mark_by (is_itself x i) x (mark_in known x.board x.row)
 
+  -- after a post that was new, the board is that of the posts with this one
   pub board_new : answer ≢ Already → IsBoardOf k x.board (x ∷ known) new
   board_new n = let same = p.marks ∙ after_new answer old.marks x.row (mark_as x.judged) n in let long = is.is_at.long in record {
     is_at = record {
@@ -180,12 +183,14 @@ IsNew (posted.RootMarked verdict) = Unit {0}
 IsNew posted.TopMarked = Unit {0}
 IsNew (posted.Already finding) = ⊥
 
+-- an answer that gives no finding back is of a post that was new
 pub new_of : (r : Posted) → ((f : Finding) → r ≢ posted.Already f) → IsNew r
 new_of posted.Marked n = tt
 new_of (posted.RootMarked verdict) n = tt
 new_of posted.TopMarked n = tt
 new_of (posted.Already f) n = absurd (n f refl)
 
+-- a post that was new didn't find a mark
 pub not_already : (r : Posted) → IsNew r → posted_answer r ≢ Already
 not_already posted.Marked n e = cc
 not_already (posted.RootMarked verdict) n e = cc
@@ -249,6 +254,7 @@ pub part_within : (k : CutCase) (b part row : ℕ) → b ≡ parts_in k → part
 part_within k b part row top inside here =
     subst (λ (p : ℕ × Place). p.0 < size (board_tree k.cut k.case.tree p.1)) (λ i. (sym here i, sym (ap (λ c. place_if c b) (eq-eqb b (parts_in k) top)) i)) (part_is k.cut k.case.tree part inside).within
 
+-- a verdict of a part of this hall is a post of that part
 pub part_post : (k : CutCase) (b row part cut : ℕ) (case : CaseOf) → case ≡ k.case → cut ≡ k.cut → b ≡ parts_in k → part < parts_in k → row ≡ part_place k.cut k.case.tree part
     → IsRefuted case.formula (path_at case.tree (part_root cut case.tree part)) → IsPartPost k part record { board = b; row = row; judged = judged_refuted }
 part_post k b row part cut case e f top inside here sound = record {
@@ -259,6 +265,7 @@ part_post k b row part cut case e f top inside here sound = record {
   sound = subst (λ (p : CaseOf × ℕ). IsRefuted p.0.formula (path_at p.0.tree (part_root p.1 p.0.tree part))) (λ i. (e i, f i)) sound;
 }
 
+-- what a part's post did at its place it did at its row
 pub part_posted_of : (old new : BoardOf) (place row : ℕ) (answer : Answer) → row ≡ place → (new.case ≡ old.case) × (new.cut ≡ old.cut) × (new.place ≡ old.place)
     → new.marks ≡ marks_after answer old.marks place Refuted → (answer ≡ Already) ↔ (mark_at old.marks place ≢ Open) → (answer ≡ RootMarked) ↔ MarksRoot (tree_on old) old.marks new.marks
     → BoardPosted old new row (mark_as judged_refuted) answer
@@ -284,11 +291,13 @@ module _ (k : CutCase) (known : List Post) (old new : BoardOf) (x : Post) (is : 
   part_new part_posted.RootMarked p none_ = tt
   part_new (part_posted.Already verdict) p none_ = stale k known old new x Already is within p refl none_
 
+  -- a part's post that was new didn't find a mark
   pub part_not_already : (r : PartPosted) → IsNewPart r → part_posted_answer r ≢ Already
   part_not_already part_posted.Marked n e = cc
   part_not_already part_posted.RootMarked n e = cc
   part_not_already (part_posted.Already verdict) n e = absurd n
 
+  -- a part's post that was noted is recorded
   pub part_recorded : (r : PartPosted) → PartAnswers r → (me after : Hand) → me.0.known ≡ known → mark_in known x.board x.row ≡ Open → after ≡ (posting x None me.0, me.1) → PartRecorded k x r me after
   part_recorded part_posted.Marked p me after same none_ e = (
     record { after_is = e; new = (λ i. mark_in (same i) x.board x.row) ∙ none_ },

@@ -112,6 +112,7 @@ under_marked refuted tree none above row within under leaf m =
 itself_below : (tree : SplitTree) (row : ℕ) → HasBelow tree row row
 itself_below tree row = let s = some_node (subtree_at tree row) in record { reached = omega arith; before_end = omega (arith, s) }
 
+-- where sections name leaves alone, a free board is that of its leaves' posts
 pub whole_of_leaves : (k : CutCase) (passes : ℕ) (s : HallState) → NamesNoNode k → Reached k passes s → (b : ℕ) → b < board_count k → get_or s.words (lock_word b) 0 ≡ 0 → IsWholeOfLeaves k b s
 whole_of_leaves k passes s names g b within free =
     let w = whole k passes s g b within free in let tree : SplitTree = tree_at k b in let real = all_real k s (reached_lawful k passes s g) in let posts : List Post = posts_of s.views in

@@ -21,6 +21,7 @@ use Rattle.board_hall.specs.Posts.{board_count, place_of, open_by}
 use Rattle.board_hall.specs.Hall.{newcomer, Reached, IsBoardOf, IsBoard}
 use Rattle.board_hall.specs.Inner.Opening.{IsOpened}
 
+-- a new board is that of no posts
 pub new_board : (k : CutCase) (b : ℕ) (place : Place) (board : BoardOf) → place_of k b ≡ place → board.case ≡ k.case → board.cut ≡ k.cut → board.place ≡ place → board.marks ≡ replicate (size (board_tree k.cut k.case.tree place)) Open → IsBoardOf k b [] board
 new_board k b place board at case cut is_at none_ = record {
   is_at = record {
@@ -32,12 +33,14 @@ new_board k b place board at case cut is_at none_ = record {
   marks = λ row. ap (λ ms. mark_at ms row) none_ ∙ none_marked (size (board_tree k.cut k.case.tree place)) row;
 }
 
+-- a new board without its case is that of no posts
 pub new_stored : (k : CutCase) (b : ℕ) (board : BoardOf) (y : BoardData) → IsBoardOf k b [] board → IsDataOf board.case y → stored_board board.case y ≡ board → IsBoard k b [] y
 new_stored k b board y is held same = let e = is.is_at.case_is in record {
   is_data = subst (λ c. IsDataOf c y) e held;
   is_board = subst (IsBoardOf k b []) (sym same ∙ (λ i. stored_board (e i) y)) is;
 }
 
+-- one more board is opened
 pub one_more : (k : CutCase) (b total : ℕ) (words more all : List ℕ) (slots : List (Option BoardData)) (y : BoardData) → IsOpened k b words slots → more ≡ words ++ 0 ∷ [] → all ≡ more ++ total ∷ []
     → total ≡ open_by k b (λ _. Open) → IsBoard k b [] y → IsOpened k (b + 1) all (slots ++ Some y ∷ [])
 one_more k b total words more all slots y so first second weighs is =
@@ -63,6 +66,7 @@ one_more k b total words more all slots y so first second weighs is =
       };
     }
 
+-- a hall with all its boards opened is at its start, which is reached
 pub starts : (k : CutCase) (passes : ℕ) (words : List ℕ) (slots : List (Option BoardData)) → IsOpened k (board_count k) words slots → Reached k passes (opening words slots (newcomer k passes))
 starts k passes words slots so = (
   0,

@@ -19,6 +19,7 @@ pub record Out (me : Hand) (b : ℕ) (y : BoardData) (after : Hand) : Type 0 whe
   pub real : AreReal me.0.of after.0.known
   pub owed : b ≡ parts_in me.0.of → OwedIsOpen me.0.of me.0.owes after.0.known
 
+-- a lock that was taken is that of its board, and the pass has the board
 pub taken : (board word : ℕ) (me after : Hand) → word ≡ 2 * board → me.1 ≡ [] → ((b : ℕ) × (posts : List Post) × (y : BoardData) × (word ≡ lock_word b) × Took me b posts y after)
     → (y : BoardData) × Out me board y after
 taken board word me after here none_ t =

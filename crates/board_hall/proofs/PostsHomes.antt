@@ -6,7 +6,7 @@ use Rattle.split_tree.specs.SplitTree.{size, subtree_at}
 use Rattle.mark_board.specs.declared.place.Place.{Place}
 use Rattle.mark_board.specs.declared.place.Place.TheVariants.{Part, Top}
 use Rattle.mark_board.specs.Board.{IsPlace, IsRow, HasTargets}
-use Rattle.mark_board.specs.Boards.{part_tree, IsPlaceFor}
+use Rattle.mark_board.specs.Boards.{part_tree}
 use Rattle.mark_board.specs.TopPlaces.{part_root}
 use Rattle.mark_board.proofs.BoardsTogether.{WhereIs, is_own, is_in, where_is}
 use Rattle.board_hall.specs.declared.view.CutCase.{CutCase}
@@ -32,6 +32,7 @@ home_at k b place inside e node row at targets = record {
   has_targets = subst (λ p. HasTargets k.cut k.case.tree p row) (sym e) targets;
 }
 
+-- a node under a part's root has its row on the part's board
 pub home_in_part : (k : CutCase) (part node root end : ℕ) → part < parts_in k → root ≡ part_root k.cut k.case.tree part → end ≡ root + size (subtree_at k.case.tree root) → root ≤ node → node < end → (row : ℕ) × IsHome k node part row
 home_in_part k part node root end inside is ends from before =
     let w : node - root < size (part_tree k.cut k.case.tree part) = subst (λ (r : ℕ). node - root < size (subtree_at k.case.tree r)) is (omega (arith, ends, from, before)) in
@@ -42,6 +43,7 @@ on_top_by : (k : CutCase) (b node : ℕ) → b ≡ parts_in k → ((part : ℕ) 
 on_top_by k b node top none_ (is_own row l s e) = (row, home_at k b Top (omega (arith, top)) (place_on_top k b top) node row record { within = l; here = e } s)
 on_top_by k b node top none_ (is_in part row l m e) = absurd (none_ part l (omega (arith, e)) (omega (arith, e, m)))
 
+-- a node in no part has its row on the top board
 pub home_on_top : (k : CutCase) (b node : ℕ) → b ≡ parts_in k → node < size k.case.tree → ((part : ℕ) → part < parts_in k → NotIn k node part) → (row : ℕ) × IsHome k node b row
 home_on_top k b node top inside none_ = on_top_by k b node top none_ (where_is k.cut k.case.tree node inside)
 

@@ -35,6 +35,7 @@ no_part_here k node board row part post home of_part board_is row_is =
     let is_top : (board == parts_in k) ≡ true = eq-eqb board (parts_in k) top in
     own_no_part k.cut k.case.tree row part (rw is_top at home.has_targets) of_part.within (sym row_is ∙ of_part.here)
 
+-- where a node's row has a mark, it is that of its target's finding
 pub one_mark : (k : CutCase) (posts : List Post) → AreReal k posts → (node board row : ℕ) (target : Target) (judged : Judged) → IsHome k node board row
     → IsTargetAt k.case.tree node target → HasSection k.case target → IsFinding k.case target judged → mark_in posts board row ≢ Open → mark_in posts board row ≡ mark_as judged
 one_mark k posts real node board row target judged home at has is marked =

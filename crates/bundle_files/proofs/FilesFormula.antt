@@ -125,6 +125,7 @@ pub added_keep_formula : (held : Held) (folder : List ℕ) (names : List (List �
     → IsFormulaOf whole formula ↔ IsFormulaOf bundle formula
 added_keep_formula held folder names bundle whole formula added = rw added.text (sections_keep_formula bundle added.leaves formula)
 
+-- added proofs leave the formula as it is
 pub proofs_keep_formula : (held : Held) (folder bundle whole : List ℕ) (formula : List (List Literal))
     → IsWithProofs held folder bundle whole
     → IsFormulaOf whole formula ↔ IsFormulaOf bundle formula

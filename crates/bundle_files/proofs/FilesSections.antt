@@ -1,5 +1,5 @@
 -- Leaves whose proofs are added to a bundle, one after the other.
-use Rattle.std.proofs.Common.{◌≡◌, ◌∙◌, sym, ap, ap₂, refl, subst, ℕ, zero, suc, ◌+◌, ◌≤◌, add-zero, is_some}
+use Rattle.std.proofs.Common.{◌≡◌, ◌∙◌, sym, ap, ap₂, refl, subst, ℕ, zero, suc, ◌+◌, add-zero, is_some}
 use Rattle.std.proofs.Common.{unwrap_or, Bool, true, false, List, [], ◌∷◌, ◌++◌, length, decimal, codes}
 use Rattle.std.proofs.Common.{append_assoc, append-nil, arith}
 use Rattle.std.proofs.Common.{Option, None, Some, Result, Ok, Err, OnOk, take}
@@ -97,6 +97,7 @@ next_name kind done = ap (names_from kind 1) (next_suc done) ∙ names_more kind
     turned : (n : ℕ) → 1 + n ≡ n + 1
     turned n = omega arith
 
+-- one more leaf's section was added
 pub one_further : (first held : Held) (folder kind bundle now new name : List ℕ) (done : ℕ) → held ≡ first
     → name ≡ kind ++ decimal (done + 1)
     → AreAdded first folder (names_from kind 1 done) bundle now → AreAdded held folder (name ∷ []) now new

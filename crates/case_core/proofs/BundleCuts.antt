@@ -23,6 +23,7 @@ pub record CutOff (text rest : List ℕ) : Type 0 where
 no_more : (n : ℕ) → n ≡ n + 0
 no_more n = omega arith
 
+-- at first nothing is cut off
 pub nothing_cut : (text : List ℕ) → CutOff text text
 nothing_cut text = record { done = []; parts = refl; front = refl; skipped = 0; counted = omega arith; labels = λ number. ap (λ n. labelled n (lines_of text)) (no_more number) }
 
@@ -87,6 +88,7 @@ some_split : (rest line : List ℕ) (below : Option (Bor (List ℕ)))
 some_split rest line None split = ([], split)
 some_split rest line (Some r) split = (lines_of r.now, split)
 
+-- what stands before the label line that was found is the text before all labels
 pub front_found : (text rest line : List ℕ) (before : ℕ) (below : Option (Bor (List ℕ))) → CutOff text rest
     → MatchOption below (lines_of rest ≡ line ∷ []) (λ r. lines_of rest ≡ line ∷ lines_of r.now) → is_label line ≡ true → before ≡ length text - length rest
     → take before text ≡ text_before (lines_of text)
@@ -124,6 +126,7 @@ part_below text end line section start ends at is =
     ∙ drop-append-add ends.front end (length line + 1) in
     ap (take (length section)) same ∙ is
 
+-- the line ends before a place and the lines from it on are all lines
 pub line_number : (text end : List ℕ) (before count : ℕ) → EndsWith text end → before ≡ length text - length end → count ≡ count_by is_line_end (take before text)
     → count + 1 + length (lines_of end) ≡ length (lines_of text) + 1
 line_number text end before count ends counted is =

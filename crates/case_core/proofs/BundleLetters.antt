@@ -78,6 +78,7 @@ plain_lines text lines end cut p =
 no_letter_before : (lines : List ℕ) → HasNoLetter (lines ++ 10 ∷ []) → HasNoLetter lines
 no_letter_before lines h = subst (λ (l : List ℕ). HasNoLetter l) (take-append_seam lines (10 ∷ [])) (All-take (λ x. (x == 108) ≡ false) (length lines) (lines ++ 10 ∷ []) h)
 
+-- lines that are no labels are cut off as well
 pub plain_cut : (text rest end : List ℕ) → CutOff text rest → AfterPlainLines rest end → CutOff text end
 plain_cut text rest end cut after =
     let there : CutOff text (after.front ++ end) = subst (λ (r : List ℕ). CutOff text r) after.parts cut in

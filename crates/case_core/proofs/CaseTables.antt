@@ -220,6 +220,7 @@ no_places : (n : ℕ) → 0 ≡ count_by is_place (replicate n 0)
 no_places zero = refl
 no_places (suc n) = no_places n
 
+-- of no sections no place is kept
 pub nothing_kept : (tree : SplitTree) (n : ℕ) → n ≡ size tree → AreKept tree [] (replicate n 0)
 nothing_kept tree n e = record {
   are_sections = λ i l. absurd (omega arith);
@@ -240,6 +241,7 @@ pub targets_in : (text : List ℕ) (sections : List Section)
 targets_in text [] = refl
 targets_in text (section ∷ sections) = ap (λ targets. section.target ∷ targets) (targets_in text sections)
 
+-- one more section is kept at its node's place
 pub kept_pushed : (tree : SplitTree) (text : List ℕ) (old new : List Section) (s : Section) (places : List ℕ) (node index len : ℕ) → AreKept tree (map (section_in text) old) places → new ≡ old ++ s ∷ []
     → len ≡ length new → index ≡ node → get_or places index 0 ≡ 0 → node < size tree → IsTargetAt tree node s.target → ((i : ℕ) → IsTargetAt tree i s.target → i ≡ node)
     → AreKept tree (map (section_in text) new) (set places index len)
@@ -250,6 +252,7 @@ kept_pushed tree text old new s places node index len k e counted is free within
     let at : get_or places node 0 ≡ 0 = ap (λ i. get_or places i 0) (sym is) ∙ free in
     rw (items, n, is) (kept_more tree (map (section_in text) old) places (section_in text s) node k at within here only)
 
+-- one more section is no more than the nodes
 pub few_pushed : (tree : SplitTree) (text : List ℕ) (old new : List Section) (s : Section) (places : List ℕ) (node index len : ℕ) → AreKept tree (map (section_in text) old) places → new ≡ old ++ s ∷ []
     → len ≡ length new → index ≡ node → get_or places index 0 ≡ 0 → node < size tree → IsTargetAt tree node s.target → ((i : ℕ) → IsTargetAt tree i s.target → i ≡ node)
     → len ≤ size tree

@@ -15,6 +15,7 @@ use Rattle.case_core.specs.Case.{CaseOf, proof_for}
 use Rattle.case_core.specs.Inner.Finding.{IsJudgement}
 use Rattle.case_core.specs.Finding.{IsFinding, IsSound, HasSection}
 
+-- what a checker over the formula and the path answers is the judgement of the proof
 pub is_judged : {E : Type 0} (r : Result Judged E) (case : CaseOf) (target : Target) (proof path : List _) (live : Live)
     → live ≡ start case.formula path → IsPathOf case.tree target path
     → IfOk r (λ judged. judged ≡ judged_by live (proof_of proof))
@@ -37,6 +38,7 @@ one_path case target a b once x y = x.2 ∙ ap (path_at case.tree) (once x.0 y.0
 some_proof : (a b : List ℕ) → Some a ≡ Some b → a ≡ b
 some_proof a b e = cc
 
+-- the judgement of a target's section is the target's finding
 pub is_found : (case : CaseOf) (target : Target) (proof : List ℕ) (judged : Judged)
     → ((i j : ℕ) → IsTargetAt case.tree i target → IsTargetAt case.tree j target → i ≡ j)
     → proof_for case.sections target ≡ Some proof → IsJudgement case target proof judged

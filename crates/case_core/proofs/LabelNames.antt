@@ -39,9 +39,11 @@ told_none : (found : Option ℕ) → None ≡ option_map capped (unsigned_of fou
 told_none None e = refl
 told_none (Some v) e = absurd (cc)
 
+-- a number that was read of digits is their value, up to the greatest that is told apart
 pub digits_read : (bs : List ℕ) (number : code.Number) → (get_or bs 0 0 ≡ 45 → ⊥) → Some number ≡ option_map capped (number_of bs) → Some number.magnitude ≡ option_map (λ v. min v 18446744073709551615) (decimal bs)
 digits_read bs number plain e = told_plain (decimal bs) number (e ∙ ap (option_map capped) (number_plain bs plain))
 
+-- bytes that spell no number are no digits
 pub no_digits : (bs : List ℕ) → (get_or bs 0 0 ≡ 45 → ⊥) → None ≡ option_map capped (number_of bs) → None ≡ option_map (λ v. min v 18446744073709551615) (decimal bs)
 no_digits bs plain e = told_none (decimal bs) (e ∙ ap (option_map capped) (number_plain bs plain))
 
@@ -56,6 +58,7 @@ told_value (Some v) value e = (v, refl, same_value value _ e)
 abbrev pub NoTarget : SplitTree → Option Name → Type 0
 NoTarget tree name = (value : Name) × (name ≡ Some value) × ((target : Target) → IsNamed tree value target → ⊥)
 
+-- a number above all cubes names no target
 pub no_great_cube : (tree : SplitTree) (found : Option ℕ) (value : ℕ) → IsLimited tree → Some value ≡ option_map (λ v. min v 18446744073709551615) found → 4294967296 ≤ value → NoTarget tree (option_map CubeName found)
 no_great_cube tree found value limited told great =
     let r = told_value found value told in (
@@ -66,6 +69,7 @@ no_great_cube tree found value limited told great =
           let e : value ≡ min r.0 18446744073709551615 = r.2 in absurd (omega arith),
     )
 
+-- a number that no cube of the tree has names no target
 pub no_cube : (tree : SplitTree) (found : Option ℕ) (value : ℕ) → Some value ≡ option_map (λ v. min v 18446744073709551615) found → value < 4294967296 → (HasLeaf tree (Cube value) → ⊥) → NoTarget tree (option_map CubeName found)
 no_cube tree found value told few none =
     let r = told_value found value told in
@@ -73,6 +77,7 @@ no_cube tree found value told few none =
     let same : r.0 ≡ value = omega arith in
     (CubeName r.0, ap (option_map CubeName) r.1, λ target named. none (subst (λ (n : ℕ). HasLeaf tree (Cube n)) same named.1))
 
+-- a number above all missing leaves names no target
 pub no_great_missing : (tree : SplitTree) (found : Option ℕ) (value : ℕ) → Some value ≡ option_map (λ v. min v 18446744073709551615) found → length (missing_nodes tree) < value → NoTarget tree (option_map MissingName found)
 no_great_missing tree found value told great =
     let r = told_value found value told in (
@@ -83,6 +88,7 @@ no_great_missing tree found value told great =
           let e : value ≡ min r.0 18446744073709551615 = r.2 in absurd (omega arith),
     )
 
+-- a number that no missing leaf of the tree has names no target
 pub no_missing : (tree : SplitTree) (found : Option ℕ) (value : ℕ) → Some value ≡ option_map (λ v. min v 18446744073709551615) found → value < 4294967296 → (HasLeaf tree (Missing value) → ⊥) → NoTarget tree (option_map MissingName found)
 no_missing tree found value told few none =
     let r = told_value found value told in
@@ -90,14 +96,17 @@ no_missing tree found value told few none =
     let same : r.0 ≡ value = omega arith in
     (MissingName r.0, ap (option_map MissingName) r.1, λ target named. none (subst (λ (n : ℕ). HasLeaf tree (Missing n)) same named.1))
 
+-- a leaf's name that begins with `m` is a missing leaf's number
 pub leaf_missing : (word : List ℕ) → get_or word 0 0 ≡ 109 → leaf_name word ≡ option_map MissingName (decimal (drop 1 word))
 unfolding leaf_name
 leaf_missing word h = rw h refl
 
+-- a leaf's name that doesn't begin with `m` is a cube's number
 pub leaf_cube : (word : List ℕ) → (get_or word 0 0 ≡ 109 → ⊥) → leaf_name word ≡ option_map CubeName (decimal word)
 unfolding leaf_name
 leaf_cube word h = rw (ne_eqb (get_or word 0 0) 109 h) refl
 
+-- no bytes begin with no byte above 0
 pub nothing_first : (bs : List ℕ) (b : ℕ) → 0 < b → length bs ≡ 0 → get_or bs 0 0 ≡ b → ⊥
 nothing_first [] b some h e = absurd (omega arith)
 nothing_first (x ∷ bs) b some h e = absurd (omega arith)
@@ -128,6 +137,7 @@ one_more done l (Some path) = ap Some (sym (append_assoc done (l ∷ []) path))
 goes_on : (whole left : List Symbol) (done : List Literal) (l : Literal) → path_of_symbols whole ≡ option_map (λ path. done ++ path) (path_of_symbols (Signed l ∷ left)) → path_of_symbols whole ≡ option_map (λ path. (done ++ l ∷ []) ++ path) (path_of_symbols left)
 goes_on whole left done l e = e ∙ one_more done l (path_of_symbols left)
 
+-- one more literal of a path was read
 pub literal_read : (whole before left : List Symbol) (path pushed : List Literal) (fits : Bool) (l : Literal) → ReadSoFar whole before path fits → before ≡ Signed l ∷ left → pushed ≡ path ++ l ∷ [] → ReadSoFar whole left pushed fits
 literal_read whole before left path pushed fits l r is e = record {
   done = r.done ++ l ∷ [];
@@ -136,6 +146,7 @@ literal_read whole before left path pushed fits l r is e = record {
   too_large = λ large within. r.too_large large (in_front r.done (l ∷ []) within);
 }
 
+-- a path with a variable that is too large is no inner node's
 pub large_read : (whole before left : List Symbol) (path : List Literal) (fits : Bool) (l : Literal) → ReadSoFar whole before path fits → before ≡ Signed l ∷ left → 268435455 < l.variable → ReadSoFar whole left path false
 large_read whole before left path fits l r is large = record {
   done = r.done ++ l ∷ [];
@@ -148,16 +159,20 @@ large_read whole before left path fits l r is large = record {
 pub first_symbol : (line rest : List (List ℕ)) (word : List ℕ) (l : Literal) → line ≡ word ∷ rest → symbol_of word ≡ Signed l → map symbol_of line ≡ Signed l ∷ map symbol_of rest
 first_symbol line rest word l is e = ap (map symbol_of) is ∙ ap (λ s. s ∷ map symbol_of rest) e
 
+-- a path with a variable out of range names no target
 pub no_node_in_range : (tree : SplitTree) (whole : Option (List Literal)) (path : List Literal) → IsLimited tree → whole ≡ Some path → (IsPathInRange path → ⊥) → NoTarget tree (option_map PathName whole)
 no_node_in_range tree whole path limited is large =
     (PathName path, ap (option_map PathName) is, λ target named. large (subst IsPathInRange named.2.2 (limited.paths named.0)))
 
+-- a path that no inner node has names no target
 pub no_node : (tree : SplitTree) (whole : Option (List Literal)) (path : List Literal) → whole ≡ Some path → IsNodeOf tree path None → NoTarget tree (option_map PathName whole)
 no_node tree whole path is none =
     (PathName path, ap (option_map PathName) is, λ target named. none named.0 named.2.0 named.2.1 named.2.2)
 
+-- bytes that aren't none are some
 pub some_bytes : (bs : List ℕ) → (length bs ≡ 0 → ⊥) → 0 < length bs
 some_bytes bs some = omega (arith, some)
 
+-- what isn't below a limit has reached it
 pub at_least : (limit value : ℕ) → (value < limit → ⊥) → limit ≤ value
 at_least limit value above = omega (arith, above)

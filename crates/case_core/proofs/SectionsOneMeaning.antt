@@ -15,6 +15,7 @@ cubes_in_range [] h = tt
 cubes_in_range (ClauseItem literals ∷ items) h = cubes_in_range items h.1
 cubes_in_range (CubeItem literals ∷ items) h = (h.0, cubes_in_range items h.1)
 
+-- a tree of the cubes that were read is one of the text's cubes
 pub has_tree : {Z : Type 0} (tree : SplitTree) (items : List Item) (cubes : List (Vec Literal Z)) → Within items → clash.cube_lists cubes ≡ cubes_of items → IsTreeOf tree (numbered 1 (clash.cube_lists cubes))
     → total 0 tree ≤ 2 ^ 60 + 2 ^ 24 → HasTree tree items
 has_tree tree items cubes within e is total_is =

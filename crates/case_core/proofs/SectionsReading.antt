@@ -6,7 +6,7 @@ use Rattle.split_tree.specs.SplitTree.{SplitTree}
 use Rattle.case_core.specs.Bundle.{lines_of, is_label, text_before, Labelled, labelled, labels_of}
 use Rattle.case_core.specs.Inner.Bundle.{HasNoLabel, BeginsWithLabel, FirstLabel, at_line, OneLabel, NextLabel}
 use Rattle.case_core.specs.Case.{SectionOf, AreSections}
-use Rattle.case_core.specs.Label.{Name, label_name}
+use Rattle.case_core.specs.Label.{label_name}
 use Rattle.case_core.specs.Inner.Sections.{GoesOn, LabelAt}
 use Rattle.case_core.specs.Sections.{IsSectionOf, AreLabelled, AreSectionsOf}
 
@@ -20,12 +20,14 @@ same_line a b x y e = cc
 begins_is : (text line : List ℕ) (others : List (List ℕ)) → BeginsWithLabel text → lines_of text ≡ line ∷ others → is_label line ≡ true
 begins_is text line others b e = subst (λ (l : List ℕ). is_label l ≡ true) (same_line b.line line b.others others (sym b.lines ∙ e)) b.is
 
+-- the last line of a text, as its last label
 pub last_part : (text line : List ℕ) → BeginsWithLabel text → lines_of text ≡ line ∷ [] → OneLabel text line []
 last_part text line b split number = ap (labelled number) split ∙ one_labelled number line [] (begins_is text line [] b split)
 
 two_steps : (n s : ℕ) → (n + 1) + s ≡ n + suc s
 two_steps n s = omega arith
 
+-- a label's line, its section, and the next label behind it
 pub next_part : (text line below section : List ℕ) (next : Option (Bor (List ℕ))) → BeginsWithLabel text → lines_of text ≡ line ∷ lines_of below → text ≡ line ++ 10 ∷ below
     → section ≡ text_before (lines_of below) → MatchOption next (HasNoLabel below) (λ at. FirstLabel below at.now)
     → MatchOption next (OneLabel text line section) (λ at. NextLabel text line section at.now)
@@ -48,6 +50,7 @@ next_part text line below section (Some at) b split whole is first = record {
   begins = first.begins;
 }
 
+-- what is left from the next label on is shorter
 pub next_shorter : (text below : List ℕ) (next : Option (Bor (List ℕ))) → length below < length text → MatchOption next (HasNoLabel below) (λ at. FirstLabel below at.now)
     → IfSome next (λ at. length at.now < length text)
 next_shorter text below None less first = tt
@@ -71,6 +74,7 @@ one_more tree before old new label line proof number so_far g apart = record {
   apart = apart;
 }
 
+-- one more section was read
 pub read_on : (tree : SplitTree) (bundle text line section : List ℕ) (old new : List SectionOf) (next : Option (Bor (List ℕ))) → LabelAt tree bundle old text
     → MatchOption next (OneLabel text line section) (λ at. NextLabel text line section at.now) → GoesOn tree old new (label_name (words line)) section → AreSections tree new
     → MatchOption next (AreSectionsOf tree (labels_of bundle) new) (λ at. LabelAt tree bundle new at.now)
@@ -87,6 +91,7 @@ read_on tree bundle text line section old new (Some rest) at n g apart = record 
   begins = n.begins;
 }
 
+-- at first no section was read
 pub nothing_read : (tree : SplitTree) (bundle : List ℕ) (sections : List SectionOf) (first : Option (Bor (List ℕ))) → sections ≡ [] → MatchOption first (HasNoLabel bundle) (λ at. FirstLabel bundle at.now)
     → MatchOption first (AreSectionsOf tree (labels_of bundle) sections) (λ at. LabelAt tree bundle sections at.now)
 nothing_read tree bundle sections None e none = rw (e, none 1) (record { labelled = tt; apart = λ i l. absurd (omega arith) })

@@ -144,6 +144,7 @@ one_case bundle a b x y =
     same_case a b (x.formula ∙ ap (λ i. clauses_of i) items ∙ sym y.formula) tree
     (sections_once b.tree (labels_of bundle) a.sections b.sections (subst (λ (t : SplitTree). AreLabelled t (labels_of bundle) a.sections) tree x.sections.labelled) y.sections.labelled)
 
+-- no bundle has both a case and a fault
 pub case_or_fault : (bundle : List ℕ) (case : CaseOf) (fault : CaseFault) → IsCaseOf bundle case → IsFaultOf bundle fault → ⊥
 case_or_fault bundle case fault x (InText text e f) = no_text_fault (icnf_text bundle) text x.items x.text f
 case_or_fault bundle case fault x (InCubes items k e stands clashes) =
@@ -178,6 +179,7 @@ read_only (Err fault) bundle ok err case is = is_memory fault (λ other. case_or
 
 -- ---- the fault that is handed on
 
+-- a result's fault that is this one has what this one has
 pub handed_on : {X : Type 0} (r : Result X CaseFault) (P : CaseFault → Type 0) (fault : CaseFault) → IsErrAnd r (λ e. e ≡ fault) → P fault → IfErr r P
 handed_on (Ok x) P fault h p = tt
 handed_on (Err e) P fault h p = subst P (sym h) p

@@ -127,6 +127,7 @@ one_label_fault tree labels a b f g = at_one_place tree labels a b f g (places f
 clash_or_tree : (items others : List Item) (tree : SplitTree) (k : TreeFault) → items ≡ others → clash.IsClashFault (cubes_of items) k → IsTreeOf tree (numbered 1 (cubes_of others)) → ⊥
 clash_or_tree items others tree k e f is = no_clash (cubes_of others) k (fits others tree is) (subst (λ (i : List Item). clash.IsClashFault (cubes_of i) k) e f)
 
+-- a bundle has one fault at most
 pub one_fault : (bundle : List ℕ) (a b : CaseFault) → IsFaultOf bundle a → IsFaultOf bundle b → a ≡ b
 one_fault bundle a b (InText x e f) (InText y d g) = e ∙ ap of_text (one_text_fault (icnf_text bundle) x y f g) ∙ sym d
 one_fault bundle a b (InText x e f) (InCubes items k d stands g) = absurd (no_text_fault (icnf_text bundle) x items stands f)

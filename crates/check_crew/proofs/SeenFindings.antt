@@ -126,5 +126,6 @@ pub some_found_empty : (passes : List JobPassOf) → 0 < length passes → All (
 some_found_empty [] some_pass all = absurd (omega arith)
 some_found_empty (p ∷ ps) some_pass all = let h : p.found_empty ≡ true = all 0 p (omega arith) in rw h refl
 
+-- both tests hold
 pub both_true : (m n : ℕ) (b : Bool) → m ≡ n → b ≡ true → ((m == n) && b) ≡ true
 both_true m n b e t = rw (e, t) (grind (arith, nat_tests))

@@ -39,6 +39,7 @@ as_many case sections are =
     sym (length-map sections target_of) ∙ ap (λ (xs : List Target). length xs) are
     ∙ length-map case.sections target_there
 
+-- a section that stands at a place is the one that is found there
 pub section_here : (case : CaseOf) (sections : List Section) (place : ℕ) (other : Section)
     → map (λ section. section.target) sections ≡ targets_of case.sections → AreSections case.tree case.sections
     → place < length case.sections → IsSectionHere case place (get_or sections place other).target

@@ -27,6 +27,7 @@ mark_in-stays (post ∷ posts) more board row marked = elim (cases_Bool (is_at p
   | inr other ↦ rw other (mark_in-stays posts more board row (rw other at marked))
 ]
 
+-- what was seen stays seen
 pub seen_stays : (before after : View) → Stays before after → (node : ℕ) → HasSeen before node → HasSeen after node
 seen_stays before after stays node seen = record {
   board = seen.board;

@@ -23,6 +23,7 @@ pub err_at : {R : Type 0} (r : Result R TextFault) (reader : Reader) (s : Symbol
 err_at (Ok x) reader s word line is h = tt
 err_at (Err fault) reader s word line is h = λ symbol means. rw (is symbol means) (h line)
 
+-- a fault of the symbol that a word means is one of each symbol that it means
 pub err_here : {R : Type 0} (r : Result R TextFault) (reader : Reader) (s : Symbol) (word : Word) (line : ℕ) → ((symbol : Symbol) → Means word symbol → symbol ≡ s) → IfErr r (λ fault. BreaksRule reader s line fault) → IfErr r (λ fault. (symbol : Symbol) → Means word symbol → BreaksRule reader symbol line fault)
 err_here (Ok x) reader s word line is h = tt
 err_here (Err fault) reader s word line is h = λ symbol means. rw (is symbol means) h
@@ -75,6 +76,7 @@ finished (Ok file) reader tokens read h =
     let found = h (symbols_of tokens) read in
     (found.0, (found.1, found.2), found.3)
 
+-- tokens that end inside an item have no fault but that
 pub not_finished : (r : Result IcnfFile TextFault) (reader : Reader) (tokens : List Token) → HasRead reader (symbols_of tokens) → IfErr r (λ fault. (fault ≡ Unfinished) × ((before : List Symbol) → HasRead reader before → (items : List Item) → before ≡ spelled items → ⊥)) → IfErr r (λ fault. fault ≢ Memory → IsTokensFault tokens fault)
 not_finished (Ok file) reader tokens read h = tt
 not_finished (Err fault) reader tokens read h = λ _. rw h.0 (unfinished reader tokens read h.1)

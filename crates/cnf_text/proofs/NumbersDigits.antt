@@ -18,6 +18,7 @@ use Rattle.cnf_text.specs.Numbers.{digits_value, decimal, number_of, negative_of
 none_some : (n : ℕ) → None ≡ Some n → ⊥
 none_some n e = cc
 
+-- no digits have the value 0
 pub no_digits : digits_value [] ≡ 0
 unfolding digits_value
 no_digits = refl
@@ -32,6 +33,7 @@ value_more bs i limit h =
     capped_step (digits_value (take i bs)) (get_or bs i 0 - 48) limit
     ∙ ap (λ v. min v limit) (sym (fold_more {X = ℕ} {Y = ℕ} (λ value digit. value * 10 + (digit - 48)) 0 bs i 0 h))
 
+-- one more digit behind digits
 pub digits_more : (bs : List ℕ) (i : ℕ) → i < length bs → list_all is_ascii_digit (take i bs) ≡ true → is_ascii_digit (get_or bs i 0) ≡ true → list_all is_ascii_digit (take (i + 1) bs) ≡ true
 digits_more bs i h all one = list_all_more is_ascii_digit bs i 0 h ∙ rw (all, one) refl
 
@@ -40,11 +42,13 @@ pub no_decimal : (bs : List ℕ) (i : ℕ) → i < length bs → is_ascii_digit 
 unfolding decimal
 no_decimal bs i h one = rw (list_all_at is_ascii_digit bs i 0 h one, and_right (is_some_text bs) false refl) refl
 
+-- no bytes are no number in decimal form
 pub decimal_none : (bs : List ℕ) → length bs ≡ 0 → decimal bs ≡ None
 unfolding decimal
 decimal_none [] h = refl
 decimal_none (b ∷ bs) h = absurd (omega arith)
 
+-- some bytes that are all digits are a number in decimal form
 pub decimal_all : (bs : List ℕ) (i : ℕ) → length bs ≤ i → (length bs ≡ 0 → ⊥) → list_all is_ascii_digit (take i bs) ≡ true → decimal bs ≡ Some (digits_value (take i bs))
 unfolding decimal
 decimal_all [] i h some all = absurd (some refl)
@@ -63,6 +67,7 @@ pub number_plain : (bs : List ℕ) → (get_or bs 0 0 ≡ 45 → ⊥) → number
 unfolding number_of
 number_plain bs h = rw (ne_eqb (get_or bs 0 0) 45 h) refl
 
+-- no bytes begin with no minus sign
 pub first_none : (bs : List ℕ) → length bs ≡ 0 → get_or bs 0 0 ≡ 45 → ⊥
 first_none [] h e = cc
 first_none (b ∷ bs) h e = absurd (omega arith)
@@ -78,6 +83,7 @@ large_number (Some number) told e large =
     let big : 268435455 < number.magnitude = omega arith in
     (record { variable = number.magnitude; positive = not number.negative }, rw (ne_eqb number.magnitude 0 (λ zero_is. omega arith)) refl, big)
 
+-- a token other than `a` is the symbol of the number that it spells, if it spells one
 pub other_symbol : (bytes : List ℕ) → bytes_eq bytes (97 ∷ []) ≡ false → symbol_of bytes ≡ symbol_of_number (number_of bytes)
 other_symbol bytes h = rw h refl
 
@@ -111,5 +117,6 @@ told_plain bs n h small = ap (option_map capped) (number_plain bs (no_minus bs n
 pub front_of_front : (bs : List ℕ) (k n : ℕ) → n ≤ k → take n (take k bs) ≡ take n bs
 front_of_front bs k n short = take-take n k bs short
 
+-- what lies within the front of some bytes is no longer than the front
 pub within_front : (bs : List ℕ) (k n : ℕ) → k ≤ length bs → n ≤ length (take k bs) → n ≤ k
 within_front bs k n whole within = let same : length (take k bs) ≡ k = length-take-le k bs whole in omega arith

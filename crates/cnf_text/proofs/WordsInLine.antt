@@ -98,6 +98,7 @@ pub comment_at : (bs : List ℕ) (k : ℕ) → k ≡ position_or_len (λ b. not 
 unfolding is_comment
 comment_at bs k at_k inside = rw (find_at (λ b. not (is_blank b)) bs, ← at_k, slice_get-get_or bs k 0) refl
 
+-- a line of blanks alone is no comment
 pub no_comment : (bs : List ℕ) (k : ℕ) → k ≡ position_or_len (λ b. not (is_blank b)) bs → length bs ≤ k → false ≡ is_comment bs
 unfolding is_comment
 no_comment bs k at_k h = rw (find_at (λ b. not (is_blank b)) bs, ← at_k, slice_get_past bs k) refl

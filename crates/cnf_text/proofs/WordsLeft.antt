@@ -31,6 +31,7 @@ first_line (b ∷ bs) = elim (cases_Bool (is_line_end b)) [
   }
 ]
 
+-- the empty text has no words left
 pub nothing_left : words_left [] ≡ []
 unfolding words_left words
 nothing_left = refl
@@ -172,6 +173,7 @@ pub words_of_tokens : (bs : List ℕ)
 unfolding token_lines
 words_of_tokens bs = sym (lines_again 1 (slice_split is_line_end bs))
 
+-- a text has no more words than bytes
 pub no_more_words : (bs : List ℕ) → length (map (λ (t : Token). t.bytes) (tokens_of bs)) ≤ length bs
 no_more_words bs = rw (length-map (tokens_of bs) (λ (t : Token). t.bytes)) (count-tokens 1 bs)
 
@@ -187,6 +189,7 @@ number_and_space bs n some within all behind =
     (digits_left bs n some (omega arith) all (λ _. rw behind refl)).0
     ∙ ap (λ more. take n bs ∷ more) (ap words_left (drop_at bs n 32 within behind) ∙ left_blank 32 (drop (n + 1) bs) refl refl)
 
+-- a text that begins with a digit begins with no blank
 pub visible_at : (bs : List ℕ) (n : ℕ) → (n ≡ 0 → ⊥) → n ≤ length bs
     → list_all is_ascii_digit (take n bs) ≡ true → is_blank (get_or bs 0 0) ≡ false
 visible_at bs n some within all = digits_visible bs n 0 all (omega arith) (omega arith)
@@ -210,6 +213,7 @@ plain_at_once (b ∷ bs) some above other =
     slice_split-cons_no is_line_end b bs (visible_inside b visible) ∙ ap (onto_first b) cut.parts in
     left_whole (b ∷ bs) (b ∷ cut.line) cut.lines parts (plain_line b cut.line visible other)
 
+-- the first byte behind some is the one at their count
 pub first_behind : (bs : List ℕ) (k : ℕ) → get_or (drop k bs) 0 0 ≡ get_or bs k 0
 first_behind bs k = get_or-drop k bs 0 0 ∙ ap (λ i. get_or bs i 0) (plus_none k)
 
@@ -251,6 +255,7 @@ minus_left (b ∷ bs) word more visible is =
     left_word (45 ∷ b ∷ bs) (omega arith) minus ∙ rw (one_further 45 (b ∷ bs) minus) refl in
     whole ∙ onto_word 45 _ word _ more (sym (left_word (b ∷ bs) (omega arith) visible) ∙ is)
 
+-- behind a minus sign, a number without a sign is one below zero
 pub minus_first : (bs word : List ℕ) (more : List (List ℕ)) → 0 < length bs → get_or bs 0 0 ≡ 45
     → is_blank (get_or (take (length bs - 1) (drop 1 bs)) 0 0) ≡ false
     → words_left (take (length bs - 1) (drop 1 bs)) ≡ word ∷ more → words_left bs ≡ (45 ∷ word) ∷ more
@@ -272,11 +277,13 @@ pub behind_blank : (bs : List ℕ) → 0 < length bs → is_blank (get_or bs 0 0
 behind_blank bs some blank inside =
     rw take_rest (sym (left_blank (get_or bs 0 0) (drop 1 bs) blank inside) ∙ sym (ap words_left (drop_at bs 0 _ some refl)))
 
+-- behind a line's end the words are those of the lines below
 pub behind_end : (bs : List ℕ) → 0 < length bs → get_or bs 0 0 ≡ 10
     → words_of_lines (slice_split is_line_end (take (length bs - 1) (drop 1 bs))) ≡ words_left bs
 behind_end bs some ends =
     rw take_rest (sym (left_end (drop 1 bs)) ∙ sym (ap words_left (drop_at bs 0 10 some ends)))
 
+-- no words are left in no bytes
 pub none_left : (bs : List ℕ) → length bs < 1 → words_left bs ≡ []
 none_left [] none = nothing_left
 none_left (b ∷ bs) none = absurd (omega arith)

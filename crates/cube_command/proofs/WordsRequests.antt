@@ -69,6 +69,7 @@ pub nothing_taken : {A : Type 0} (text : A → Text) (words : List A) → length
     → AreTaken (map text words)
 nothing_taken text words none = ap (fault_of words_taken) (no_words text words none) ∙ no_words_taken
 
+-- no words ask for nothing
 pub nothing_asked : {A : Type 0} (text : A → Text) (words : List A) → length words ≡ 0
     → (file_of (map text words) ≡ None) × (folder_of (map text words) ≡ None)
 nothing_asked text words none = (ap file_of (no_words text words none) ∙ no_file, ap folder_of (no_words text words none) ∙ no_proofs)

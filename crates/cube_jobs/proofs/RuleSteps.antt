@@ -45,6 +45,7 @@ alone : (v : Knowledge) (j : ℕ) (u : Knowledge) → j ≢ 0 → get_elem? (v �
 alone v zero u apart e = apart refl
 alone v (suc j) u apart e = some-ne-none u (sym e)
 
+-- at first nothing is held twice
 pub begins : HeldOnce [] (knowing 0 1 1 [] ∷ [])
 begins = record {
   next = 0;
@@ -62,6 +63,7 @@ range_more : (next left : ℕ) → range_with_len next (suc left) ≡ range_with
 range_more next zero = ap (λ (n : ℕ). n ∷ []) (omega arith)
 range_more next (suc left) = ap (λ (xs : List ℕ). next ∷ xs) (range_more (next + 1) left ∙ ap (λ (n : ℕ). range_with_len (next + 1) left ++ n ∷ []) (omega arith))
 
+-- one more section in the queue keeps the rule
 pub puts : (port : ℕ) (v : Knowledge) (place : ℕ) → 0 < v.shares → v.shares ≡ v.all_shares → v.sections ≡ place
     → Pushes HeldOnce port v (place ∷ []) (λ w. w ≡ knowing (v.sections + 1) v.all_shares v.shares v.claims)
 puts port v place share whole is items views h at =
@@ -108,6 +110,7 @@ all_before next (x ∷ xs) none =
     let before : x < next = dite (dec_lt x next) (λ (is : x < next). is) (λ not_before. let is_none = none x (omega (arith, not_before)) in absurd (omega arith)) in
     All-cons (λ earlier. earlier < next) x xs before (all_before next xs (λ place later. omega (arith, none place later, sum_by-cons (λ (p : ℕ). cond {A = ℕ} (p == place) 1 0) x xs)))
 
+-- a claim keeps the rule
 pub takes : (port : ℕ) (v : Knowledge) → 0 < v.shares → Takes HeldOnce port v 1 (Claims v)
 takes port v share [] items views any few h at = absurd (omega arith)
 takes port v share (x ∷ y ∷ xs) items views any few h at = absurd (omega arith)
@@ -138,6 +141,7 @@ takes port v share (x ∷ []) items views any few h at =
       },
     )
 
+-- finding the queue empty keeps the rule
 pub finds : (port : ℕ) (v : Knowledge) → Finds HeldOnce port v (FoundEmpty v)
 finds port v views h at = record { views = views; pass = port; held = h; knew = at }
 
@@ -155,6 +159,7 @@ learns v share whole found place =
     let only = total_only (λ u. times place u.claims) (λ u. u.shares) found.views found.pass v (λ j u e idle. ap (times place) ((h.fit j u e).idle idle)) found.knew (h.shares ∙ sym mine.1 ∙ sym whole) in
     rw sections (sym only ∙ h.claimed place)
 
+-- one more pass keeps the rule while the queue is filled
 pub grows : (port : ℕ) (v : Knowledge) → 0 < v.shares → v.shares ≡ v.all_shares → Forks HeldOnce port v (knowing v.sections (v.all_shares + 1) (v.shares + 1) v.claims) (knowing 0 0 0 [])
 grows port v share whole items views h at =
     let left : Knowledge = knowing v.sections (v.all_shares + 1) (v.shares + 1) v.claims in let right : Knowledge = knowing 0 0 0 [] in
@@ -171,6 +176,7 @@ grows port v share whole items views h at =
           (others_fit (h.next + h.left) h.all_shares views port v at (h.shares ∙ sym all ∙ sym whole) h.fit (h.next + h.left) (h.all_shares + 1)));
     }
 
+-- a pass that is split keeps the rule
 pub shares : (port : ℕ) (v : Knowledge) → 1 < v.shares → Forks HeldOnce port v (knowing v.sections v.all_shares (v.shares - 1) v.claims) (knowing v.sections v.all_shares 1 [])
 shares port v some_parts items views h at =
     let left : Knowledge = knowing v.sections v.all_shares (v.shares - 1) v.claims in let right : Knowledge = knowing v.sections v.all_shares 1 [] in
@@ -186,6 +192,7 @@ shares port v some_parts items views h at =
           (fit_set (h.next + h.left) h.all_shares views port left (record { known = λ _. mine; idle = λ none. absurd (omega arith) }) (λ i x _ there. h.fit i x there));
     }
 
+-- a pass that takes over what another knows keeps the rule
 pub merges : (port : ℕ) (v : Knowledge) (other : ℕ) (w : Knowledge) → 0 < v.shares
     → Merges HeldOnce port v other w (knowing v.sections v.all_shares (v.shares + w.shares) (v.claims ++ w.claims)) (knowing 0 0 0 [])
 merges port v other w share items views h at apart at' =

@@ -1,8 +1,7 @@
 -- What a report says of the formula.
 use Rattle.std.proofs.Common.{◌≡◌, ℕ, Bool, true, false, List, [], ◌∷◌, ◌++◌, length, append-nil, append_assoc, arith, refl, sym, ap, ◌∙◌, subst, Option, None, Some, IfSome, Result, Ok, Err, IfOk, IfErr, IsErrAnd, OnErr}
 use Rattle.std.specs.Prelude.{codes}
-use Rattle.cnf_text.specs.Literal.{Literal}
-use Rattle.cnf_text.specs.Formula.{HasNoModel, IsRefuted}
+use Rattle.cnf_text.specs.Formula.{IsRefuted}
 use Rattle.cnf_text.specs.Icnf.{clauses_of}
 use Rattle.cnf_text.proofs.IcnfUnique.{one_text_of, text_of}
 use Rattle.split_tree.specs.SplitTree.{subtrees, total}
@@ -16,7 +15,7 @@ use Rattle.cube_report.specs.declared.fault.Fault.{Fault}
 use Rattle.cube_report.specs.Faults.{IsInputFault}
 use Rattle.cube_report.specs.Report.{answer_line, total_line, cube_lines, missing_lines, node_lines, open_lines, weight_line}
 use Rattle.cube_report.specs.Stated.{IsStated}
-use Rattle.cube_report.specs.Correct.{IsCorrect, IsFormulaOf, SaysRefuted, IsUnsatisfiable, IsFaultOn}
+use Rattle.cube_report.specs.Correct.{IsCorrect, SaysRefuted, IsUnsatisfiable, IsFaultOn}
 
 no_nil : (ys : List ℕ) (b : ℕ) → [] ≡ ys ++ b ∷ [] → ⊥
 no_nil [] b e = cc
@@ -64,6 +63,7 @@ pub of_known : (P : List ℕ → Type 0) (known : Option (List ℕ)) (read : Lis
 of_known P None read same holds = tt
 of_known P (Some left) read same holds = subst P same holds
 
+-- a report that says refuted has the answer true
 pub outcome_says : (bundle text : List ℕ) (answer : Bool) → IsCorrect bundle text answer → SaysRefuted text → answer ≡ true
 outcome_says bundle text answer outcome says =
     let ends = last_part (total_line (cube_count outcome.case.tree) (length (missing_nodes outcome.case.tree)) (total 0 outcome.case.tree))
@@ -106,6 +106,7 @@ pub sound_of : (known : Option (List ℕ)) (read : List ℕ) (result : Result Bo
 sound_of known read (Ok answer) is h = λ says. of_known IsUnsatisfiable known read is (h says)
 sound_of known read (Err fault) is h = tt
 
+-- where all of an input was read, the fault of what was read is the input's
 pub fault_of : (known : Option (List ℕ)) (read : List ℕ) (result : Result Bool Fault)
     → IfSome known (λ left. read ≡ left)
     → IfErr result (λ fault. IsInputFault fault → IsFaultOn read fault)

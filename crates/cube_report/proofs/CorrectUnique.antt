@@ -71,6 +71,7 @@ one_judged bundle a b first second x y =
     let findings : AreFindings b first = subst (λ (c : CaseOf). AreFindings c first) same x.findings in
     (same, one_list_of_marks b first second findings y.findings)
 
+-- a bundle has one report at most
 pub one_report : (bundle first second : List ℕ) → IsReportOn bundle first → IsReportOn bundle second →
     first ≡ second
 one_report bundle first second x y =
@@ -78,6 +79,7 @@ one_report bundle first second x y =
     x.3 ∙ (ap (λ (c : CaseOf). report_text c x.1) same.0
     ∙ (ap (λ (m : List Mark). report_text y.0 m) same.1 ∙ sym y.3))
 
+-- a bundle has one answer at most
 pub one_answer : (bundle : List ℕ) (first second : Bool) → IsAnswerOn bundle first → IsAnswerOn bundle second →
     first ≡ second
 one_answer bundle first second x y =

@@ -97,6 +97,7 @@ node_more case marks n (split v p m ∷ trees) (suc b) l =
     rw q (ap (λ (xs : List ℕ). section_line case marks n ++ xs) (node_more case marks (suc n) trees b (omega arith))
     ∙ sym (append_assoc (section_line case marks n) (node_lines case marks (suc n) (take b trees)) (node_part case marks (suc n + b) (get_or trees b missing))))
 
+-- the line of an inner node is that of its section, if it has one
 pub split_part : (case : CaseOf) (marks : List Mark) (node : ℕ) (t : SplitTree) → IsSplit t → node_part case marks node t ≡ section_line case marks node
 split_part case marks node missing s = absurd s
 split_part case marks node (cube k) s = absurd s
@@ -105,9 +106,11 @@ split_part case marks node (split v p n) s = refl
 splits : (t : SplitTree) (v : ℕ) (p n : SplitTree) → t ≡ split v p n → IsSplit t
 splits t v p n e = rw e tt
 
+-- a node with branches is an inner node
 pub is_split : (tree : SplitTree) (node first second : ℕ) → AreBranches tree node first second → IsSplit (subtree_at tree node)
 is_split tree node first second b = splits (subtree_at tree node) b.variable b.positive b.negative b.is
 
+-- a leaf has no line among those of the inner nodes
 pub leaf_part : (case : CaseOf) (marks : List Mark) (node : ℕ) (t : SplitTree) → IsLeaf t → node_part case marks node t ≡ []
 leaf_part case marks node missing s = refl
 leaf_part case marks node (cube k) s = refl
@@ -143,6 +146,7 @@ goes_on first text next before line after e f g = rw (f, e, g) (append_assoc fir
 
 -- ---- one turn of each loop
 
+-- one more cube's line
 pub cube_turn : (tree : SplitTree) (marks : List Mark) (first text next : List ℕ) (b : ℕ) (mark : Mark) → text ≡ first ++ cube_lines tree marks 1 b →
     next ≡ text ++ cube_line (b + 1) mark → HasLeaf tree (CubeLeaf (b + 1)) →
     ((node : ℕ) → IsTargetAt tree node (Named (CubeLeaf (b + 1))) → mark ≡ mark_at marks node) → next ≡ first ++ cube_lines tree marks 1 (b + 1)
@@ -155,6 +159,7 @@ cube_turn tree marks first text next b mark e f has is =
     ∙ ap (λ (x : Mark). cube_lines tree marks 1 b ++ cube_line (b + 1) x) (sym m))) in
     goes_on first text next (cube_lines tree marks 1 b) (cube_line (b + 1) mark) (cube_lines tree marks 1 (b + 1)) e f more
 
+-- one more missing leaf's line
 pub missing_turn : (tree : SplitTree) (marks : List Mark) (first text next : List ℕ) (b : ℕ) (path : List Literal) (mark : Mark) → b < length (missing_nodes tree) →
     text ≡ first ++ missing_lines tree marks 1 (take b (missing_nodes tree)) → next ≡ text ++ missing_line (b + 1) path mark →
     IsPathOf tree (Named (MissingLeaf (b + 1))) path → ((node : ℕ) → IsTargetAt tree node (Named (MissingLeaf (b + 1))) → mark ≡ mark_at marks node) →
@@ -172,6 +177,7 @@ missing_turn tree marks first text next b path mark l e f of is =
     ∙ ap (λ (x : Mark). missing_lines tree marks 1 (take b (missing_nodes tree)) ++ missing_line (b + 1) path x) (sym m)))) in
     goes_on first text next (missing_lines tree marks 1 (take b (missing_nodes tree))) (missing_line (b + 1) path mark) (missing_lines tree marks 1 (take (b + 1) (missing_nodes tree))) e f more
 
+-- the lines of one more node
 pub node_turn : (case : CaseOf) (marks : List Mark) (first text next : List ℕ) (b : ℕ) → b < size case.tree → text ≡ first ++ node_lines case marks 0 (take b (subtrees case.tree)) →
     next ≡ text ++ node_part case marks b (subtree_at case.tree b) → next ≡ first ++ node_lines case marks 0 (take (b + 1) (subtrees case.tree))
 node_turn case marks first text next b l e f =
@@ -185,6 +191,7 @@ node_turn case marks first text next b l e f =
 some_place : NodeWithTree
 some_place = record { node = 0; tree = missing }
 
+-- one more open branch's line
 pub open_turn : (tree : SplitTree) (targets : List Target) (places : List NodeWithTree) (first text next : List ℕ) (b : ℕ) (target : Target) (path : List Literal) → AreTargetsAt tree targets places →
     b < length targets → target ≡ get_or targets b target → text ≡ first ++ open_lines tree (take b places) → next ≡ text ++ open_line path → IsPathOf tree target path →
     ((i j : ℕ) → IsTargetAt tree i target → IsTargetAt tree j target → i ≡ j) → next ≡ first ++ open_lines tree (take (b + 1) places)
@@ -197,11 +204,13 @@ open_turn tree targets places first text next b target path are l item e f of on
     ap (λ (k : ℕ). open_lines tree (take k places)) q ∙ (open_more tree places b some_place long ∙ ap (λ (x : List Literal). open_lines tree (take b places) ++ open_line x) (sym p)) in
     goes_on first text next (open_lines tree (take b places)) (open_line path) (open_lines tree (take (b + 1) places)) e f more
 
+-- once all open branches were written, all their lines stand
 pub all_open : (tree : SplitTree) (targets : List Target) (places : List NodeWithTree) (first text : List ℕ) (b : ℕ) → AreTargetsAt tree targets places → length targets ≤ b →
     text ≡ first ++ open_lines tree (take b places) → text ≡ first ++ open_lines tree places
 all_open tree targets places first text b are l e =
     e ∙ ap (λ (xs : List NodeWithTree). first ++ open_lines tree xs) (take_all b places (omega (arith, same_long tree targets places are)))
 
+-- a target of the open branches stands at its branch
 pub branch_stands : (tree : SplitTree) (targets : List Target) (places : List NodeWithTree) (i : ℕ) (target : Target) → AreTargetsAt tree targets places → i < length targets →
     target ≡ get_or targets i target → (node : ℕ) × IsTargetAt tree node target
 branch_stands tree targets places i target are l item =

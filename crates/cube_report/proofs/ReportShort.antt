@@ -203,5 +203,6 @@ text_is : report ≡ report_text case_of_bundle marks
 unfolding total_line missing_line weight_line digits
 text_is = refl
 
+-- the report of one short bundle
 pub a_short_report : IsReportOn (codes "p inccnf\n1 0\n-1 0\nl m1\n3 0 1 2 0\n") (codes "t 0 1 1152921504606846976\nm 1 0 refuted\nw 0\ns REFUTED\n")
 a_short_report = (case_of_bundle, marks, record { case_is = is_case; findings = findings }, text_is)

@@ -1,10 +1,10 @@
 -- The marks while the findings of a case's sections are posted, one after the other.
 use Rattle.std.proofs.Common.{◌≡◌, ◌↔◌, ℕ, zero, suc, ◌+◌, ◌<◌, List, [], ◌∷◌, ◌++◌, length}
-use Rattle.std.proofs.Common.{length-set, take, drop, map, get_or, set, replicate, Bool, true}
+use Rattle.std.proofs.Common.{length-set, take, drop, map, get_or, set, Bool, true}
 use Rattle.std.proofs.Common.{false, refl, sym, ap, ◌∙◌, subst, arith, inl, inr, get_or-set_other}
 use Rattle.std.proofs.Common.{get_or-set_same, None, Some}
 use Rattle.std.proofs.lemmas.Bool.{cases_Bool, cases_eq}
-use Rattle.std.proofs.lemmas.List.{length-replicate, take-append-drop, drop_more, take_more}
+use Rattle.std.proofs.lemmas.List.{take-append-drop, drop_more, take_more}
 use Rattle.std.specs.Prelude.{MatchOption}
 use Rattle.cnf_text.specs.Literal.{Literal}
 use Rattle.lrat_text.specs.Proof.{proof_of}
@@ -25,7 +25,6 @@ use Rattle.mark_board.specs.declared.mark.Mark.TheVariants.{Open}
 use Rattle.mark_board.specs.Marking.{mark_at}
 use Rattle.mark_board.specs.Findings.{mark_as}
 use Rattle.mark_board.specs.Boards.{marks_with}
-use Rattle.mark_board.proofs.BoardsMarks.{none_marked}
 
 -- the mark of a proof's judgement from the target's path
 abbrev pub IsMark : CaseOf → Target → Mark → List ℕ → Type 0
@@ -125,6 +124,7 @@ module _ (case : CaseOf) (sections : List Section) (i : ℕ) (section : Section)
         more = take_more xs i _ inside;
       }
 
+  -- a section's target is one of the tree's
   pub section_target : HasTarget case.tree section.target
   section_target = there.has_target
 
@@ -144,6 +144,7 @@ module _ (case : CaseOf) (sections : List Section) (i : ℕ) (section : Section)
       (new_target case.tree (take i case.sections) h.here h.rest (rw h.whole at are)
       (front_shorter (take i case.sections) h.here h.rest)).1
 
+  -- the finding of one more section is posted
   pub one_turn : (old new : List Mark) (node : ℕ) (target : Target) (judged : Judged) (posted : Bool)
       → ArePostedOf case (take i case.sections) old → target ≡ section.target → IsTargetAt case.tree node target
       → ((j : ℕ) → IsTargetAt case.tree j target → j ≡ node) → IsFinding case target judged

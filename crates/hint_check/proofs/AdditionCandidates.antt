@@ -45,18 +45,22 @@ pub with_literals-none : (set : Literals) → with_literals set [] ≡ set
 unfolding with_literals has
 with_literals-none set = refl
 
+-- literals join a set one after another
 pub with_literals-more : (set : Literals) (l : Literal) (rest : List Literal) → with_literals set (l ∷ rest) ≡ with_literals (with_literal set l) rest
 unfolding with_literals with_literal has
 with_literals-more set l rest = λ i x. or_assoc_swap (same l x) (has rest x) (set x) i
 
+-- the literal itself is none of the others
 pub others-excepted : (excepted l : Literal) (rest : List Literal) → same l excepted ≡ true → others excepted (l ∷ rest) ≡ others excepted rest
 unfolding others
 others-excepted excepted l rest h = cond-false (not (same l excepted)) (l ∷ others excepted rest) (others excepted rest) (not_from_true (same l excepted) h)
 
+-- another literal is one of the others
 pub others-other : (excepted l : Literal) (rest : List Literal) → same l excepted ≡ false → others excepted (l ∷ rest) ≡ l ∷ others excepted rest
 unfolding others
 others-other excepted l rest h = cond-true (not (same l excepted)) (l ∷ others excepted rest) (others excepted rest) (not_from_false (same l excepted) h)
 
+-- no literals have no others
 pub others-none : (excepted : Literal) → others excepted [] ≡ []
 unfolding others
 others-none excepted = refl
@@ -126,6 +130,7 @@ found-turn full set found new l rest is step =
     ∙ ap (λ b. found || b) (ap (λ all. set l || meets all rest) (sym is)
     ∙ sym (meets-negations-turn set l rest) ∙ ap (λ all. meets all (l ∷ rest)) is)
 
+-- at the end of a clause no more clashes are found
 pub found-end : (full : Literals) (found : Bool) → (found || meets full []) ≡ found
 unfolding meets
 found-end full found = or_false found
@@ -134,11 +139,13 @@ found-end full found = or_false found
 unfoldable pub held_after : Literals → Literal → Bool → List Literal → Bool
 held_after set lit held rest = (held || has rest lit) && not (meets set (others lit rest))
 
+-- at the start of a clause nothing was found
 pub held_after-start : (set : Literals) (lit : Literal) (clause : List Literal)
     → held_after set lit false clause ≡ (has clause lit && not (meets set (others lit clause)))
 unfolding held_after
 held_after-start set lit clause = refl
 
+-- the literal itself is found
 pub held_after-here : (set : Literals) (lit : Literal) (held : Bool) (l : Literal) (rest : List Literal)
     → same l lit ≡ true → held_after set lit held (l ∷ rest) ≡ held_after set lit true rest
 unfolding held_after has
@@ -147,6 +154,7 @@ held_after-here set lit held l rest here =
     ∙ ap (λ b. b && not (meets set (others lit (l ∷ rest)))) (or_right held true refl)
     ∙ ap not (meets-excepted set lit l rest here)
 
+-- another literal that is in the set decides
 pub held_after-true : (set : Literals) (lit : Literal) (held : Bool) (l : Literal) (rest : List Literal)
     → same l lit ≡ false → set l ≡ true → held_after set lit held (l ∷ rest) ≡ false
 unfolding held_after
@@ -154,6 +162,7 @@ held_after-true set lit held l rest apart holds =
     ap (λ b. (held || has (l ∷ rest) lit) && not b) (meets-true set lit l rest apart holds)
     ∙ and_false (held || has (l ∷ rest) lit)
 
+-- another literal that isn't in the set changes nothing
 pub held_after-other : (set : Literals) (lit : Literal) (held : Bool) (l : Literal) (rest : List Literal)
     → same l lit ≡ false → set l ≡ false → held_after set lit held (l ∷ rest) ≡ held_after set lit held rest
 unfolding held_after has
@@ -161,6 +170,7 @@ held_after-other set lit held l rest apart falsified =
     ap (λ b. (held || (b || has rest lit)) && not (meets set (others lit (l ∷ rest)))) apart
     ∙ ap (λ b. (held || has rest lit) && not b) (meets-false set lit l rest apart falsified)
 
+-- at the end of a clause the literal is held where it was found
 pub held_after-end : (set : Literals) (lit : Literal) (held : Bool) → held_after set lit held [] ≡ held
 unfolding held_after has
 held_after-end set lit held =

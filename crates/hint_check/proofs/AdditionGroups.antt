@@ -55,12 +55,14 @@ unparted true false false h = absurd (false≢true (sym h))
 unparted false clash met h = refl
 
 module _ (live : Live) (reached : Literals) (pivot : Literal) where
+  -- the first fault is the next group's, or that of those after it
   pub groups_fault-turn : (groups : List Group) (i : ℕ) (group : Group) → i < length groups → group ≡ get_or groups i no_group → groups_fault live reached pivot (drop i groups) ≡ option_or (group_fault live reached pivot group) (groups_fault live reached pivot (drop (i + 1) groups))
   unfolding groups_fault
   groups_fault-turn groups i group within is =
       at_drop_more (groups_fault live reached pivot) groups i no_group within
       ∙ ap (λ g. option_or (group_fault live reached pivot g) (groups_fault live reached pivot (drop (i + 1) groups))) (sym is)
 
+  -- behind the last group there is no fault
   pub groups_fault-end : (groups : List Group) (i : ℕ) → length groups ≤ i → groups_fault live reached pivot (drop i groups) ≡ None
   unfolding groups_fault
   groups_fault-end groups i past = at_drop_all (groups_fault live reached pivot) groups i past
@@ -93,6 +95,7 @@ module _ (live : Live) (reached : Literals) (pivot : Literal) where
 
   -- a live clause is looked at for the pivot's negation and the set reached, and is known to be a tautology or not
   module _ (id : ℕ) (clause : List Literal) (found : Some clause ≡ fin.get live id) where
+    -- any other clause needs one where it is no tautology
     pub is_needed-held : (clash : Bool) → IfSome (fin.get live id) (λ c. clash ≡ is_tautology c) → (has clause (negation pivot) && not (meets reached (side_literals pivot clause))) ≡ true → not clash ≡ is_needed live reached pivot id
     unfolding needs_group
     is_needed-held clash told held =
@@ -100,6 +103,7 @@ module _ (live : Live) (reached : Literals) (pivot : Literal) where
         ∙ parted (has clause (negation pivot)) (is_tautology clause) (meets reached (side_literals pivot clause)) held
         ∙ ap (λ o. option_map_or (needs_group reached pivot) o false) found
 
+    -- a clause without the pivot's negation, or with another literal that is true, needs no group
     pub is_needed-free : (has clause (negation pivot) && not (meets reached (side_literals pivot clause))) ≡ false → false ≡ is_needed live reached pivot id
     unfolding needs_group
     is_needed-free free =
@@ -137,6 +141,7 @@ module _ (live : Live) (reached : Literals) (pivot : Literal) where
       (λ all. get-all test live (λ id. covered_where_needed groups id (λ needed. all_named (has_group groups) ids id all (named id ∙ needed))))
       (λ all. named_all (has_group groups) ids (λ id listed. needed_is_covered groups id (all-get test live id all) (sym (named id) ∙ listed)))
 
+  -- where no group has a fault, each clause that needs a group has to have one
   pub pivot_fault-needed : (groups : List Group) (ids : List ℕ) → NamesNeeded live reached pivot ids → groups_fault live reached pivot groups ≡ None → pivot_fault live reached pivot groups ≡ cond (list_all (has_group groups) ids) None (Some Candidate)
   unfolding pivot_fault
   pivot_fault-needed groups ids named none =
@@ -149,6 +154,7 @@ unfolding resolution_fault
 resolution_fault-empty live [] groups reached h = refl
 resolution_fault-empty live (l ∷ literals) groups reached h = absurd (omega arith)
 
+-- without a conflict, the fault is that of the groups for the first literal
 pub resolution_fault-pivot : (live : Live) (literals : List Literal) (groups : List Group) (reached : Literals) (pivot : Literal) → 1 ≤ length literals → pivot ≡ get_or literals 0 pivot → resolution_fault live literals groups (Reached reached) ≡ pivot_fault live reached pivot groups
 unfolding resolution_fault
 resolution_fault-pivot live [] groups reached pivot h is = absurd (omega arith)

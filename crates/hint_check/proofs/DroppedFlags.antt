@@ -13,17 +13,20 @@ pub NamesDropped-unset : (flags : List Bool) (places : List ℕ)
 unfolding NamesDropped
 NamesDropped-unset flags places none i h = absurd (false≢true (sym (none i) ∙ h))
 
+-- the same for flags that answer alike
 pub NamesDropped-same : (flags flags' : List Bool) (places : List ℕ)
     → ((i : ℕ) → get_or flags' i false ≡ get_or flags i false)
     → NamesDropped flags places → NamesDropped flags' places
 unfolding NamesDropped
 NamesDropped-same flags flags' places same names i h = names i (sym (same i) ∙ h)
 
+-- one more name does no harm
 pub NamesDropped-more : (flags : List Bool) (places : List ℕ) (p : ℕ) → NamesDropped flags places
     → NamesDropped flags (places ++ p ∷ [])
 unfolding NamesDropped
 NamesDropped-more flags places p names i h = named-more places p i (names i h)
 
+-- where a flag is set, its place is named
 pub NamesDropped-here : (flags : List Bool) (places : List ℕ) (i : ℕ) → NamesDropped flags places
     → get_or flags i false ≡ true → is_named places i ≡ true
 unfolding NamesDropped

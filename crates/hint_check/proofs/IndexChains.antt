@@ -30,6 +30,7 @@ pub LeadBack-none : LeadBack []
 unfolding LeadBack
 LeadBack-none place below = absurd (omega (arith, below))
 
+-- nothing is noted of no links
 pub NotesLast-none : (reach : ℕ) → NotesLast [] reach [] []
 unfolding NotesLast IsLast
 NotesLast-none reach n =
@@ -44,6 +45,7 @@ Walks links n first ids place =
     (place ≤ length links) × (ids ++ ids_at (take place links) n ≡ first ++ ids_at links n)
     × (0 < place → (get_or links (place - 1) no_link).number ≡ n)
 
+-- a walk begins at the last link of its number
 pub Walks-start : (links : Links) (reach : ℕ) (near : List ℕ) (far : List (ℕ × ℕ)) (n place : ℕ) (first : List ℕ)
     → NotesLast links reach near far → place ≡ last_place reach near far n → Walks links n first first place
 unfolding NotesLast IsLast
@@ -51,6 +53,7 @@ Walks-start links reach near far n place first notes is =
     let last = subst (λ p. IsLast links n (length links) p) (sym is) (notes n) in
     (last.0, ap (λ ids. first ++ ids) (last.1 ∙ ap (λ ls. ids_at ls n) (take_all (length links) links (omega arith))), last.2)
 
+-- a walk that has come to no link has all ids of the number
 pub Walks-end : (links : Links) (n : ℕ) (first ids : List ℕ) (place : ℕ) → place ≤ 0 → Walks links n first ids place
     → ids ≡ first ++ ids_at links n
 Walks-end links n first ids place none walks =
@@ -67,6 +70,7 @@ module _ (links : Links) (n : ℕ) (first ids : List ℕ) (place : ℕ) (link : 
       subst (λ k. IsLast links k (place - 1) link.before) here
       (subst (λ l. IsLast links l.number (place - 1) l.before) (sym is) (leads (place - 1) (omega (arith, walks.0, some))))
 
+  -- a walk goes back
   pub Walks-smaller : link.before < place
   unfolding IsLast
   Walks-smaller = omega (arith, back.0, some)
@@ -83,6 +87,7 @@ module _ (links : Links) (n : ℕ) (first ids : List ℕ) (place : ℕ) (link : 
       (eq-eqb link.number n here)
       ∙ ap (λ more. link.id ∷ more) (sym back.1)
 
+  -- a walk goes on from a link to the one before it
   pub Walks-step : Walks links n first (ids ++ link.id ∷ []) link.before
   unfolding IsLast
   Walks-step = (
@@ -97,6 +102,7 @@ module _ (links : Links) (reach : ℕ) (near : List ℕ) (far : List (ℕ × ℕ
   unfolding NotesLast IsLast
   start-ids = (notes n).1 ∙ ap (λ ls. ids_at ls n) (take_all (length links) links (omega arith))
 
+  -- the last link of a number is one of the links
   pub start-within : last_place reach near far n ≤ length links
   unfolding NotesLast IsLast
   start-within = (notes n).0
@@ -117,6 +123,7 @@ module _ (links : Links) (reach : ℕ) (near : List ℕ) (far : List (ℕ × ℕ
         ∙ last.2 some,
   )
 
+  -- a link that leads to the one noted for its number leads back, as those before it do
   pub LeadBack-push : LeadBack pushed
   unfolding LeadBack NotesLast
   LeadBack-push place below =
@@ -133,6 +140,7 @@ module _ (links : Links) (reach : ℕ) (near : List ℕ) (far : List (ℕ × ℕ
             (carried x.number (length links) (last_place reach near far x.number) (omega arith) (notes x.number))))
       ]
 
+  -- the last link of each number is noted, after one more link
   pub NotesLast-push : (near' : List ℕ) (far' : List (ℕ × ℕ)) → SetsPlace reach near far near' far' x.number (length pushed) → NotesLast pushed reach near' far'
   unfolding NotesLast SetsPlace IsLast
   NotesLast-push near' far' sets n =
@@ -177,6 +185,7 @@ module _ (reach : ℕ) (near : List ℕ) (far : List (ℕ × ℕ)) (number place
   other : (n : ℕ) (p : ℕ) → (number ≡ n → ⊥) → p ≡ last_place reach near far n → p ≡ (if nat_eq number n then place else last_place reach near far n)
   other n p apart is = is ∙ sym (cond-false (nat_eq number n) place (last_place reach near far n) (ne_eqb number n apart))
 
+  -- a place noted for a number within reach
   pub SetsPlace-near : (made : List ℕ) → number < reach → ((n : ℕ) → get_or made n 0 ≡ get_or near n 0) → number < length made
       → SetsPlace reach near far (slice_set made number place) far number place
   unfolding SetsPlace
@@ -194,6 +203,7 @@ module _ (reach : ℕ) (near : List ℕ) (far : List (ℕ × ℕ)) (number place
             (far-place reach (slice_set made number place) far n over ∙ sym (far-place reach near far n over))
       ]
 
+  -- a place noted for a number out of reach
   pub SetsPlace-far : (far' : List (ℕ × ℕ)) → reach ≤ number
       → ((q : ℕ) → lookup (nat_eq q) far' ≡ cond (nat_eq number q) (Some place) (lookup (nat_eq q) far))
       → SetsPlace reach near far near far' number place
@@ -225,12 +235,14 @@ module _ (links : Links) (reach : ℕ) (near : List ℕ) (far : List (ℕ × ℕ
         sym (start-ids links reach near far notes n) ∙ first-id links n [] [] (last_place reach near far n) last leads some walks refl,
       )
 
+  -- an id that the last link has isn't listed again
   pub once-there : has_id links (last_place reach near far n) id ≡ true → once id (ids_at links n) ≡ ids_at links n
   once-there there =
       let parts = and_parts (nat_lt 0 (last_place reach near far n)) (last.id == id) there in
       let found = last-first (ltb-true 0 (last_place reach near far n) parts.0) in
       ap (once id) found.1 ∙ cond-true (last.id == id) (last.id ∷ found.0) (id ∷ last.id ∷ found.0) parts.1 ∙ sym found.1
 
+  -- an id that the last link doesn't have is listed
   pub once-more : has_id links (last_place reach near far n) id ≡ false → once id (ids_at links n) ≡ id ∷ ids_at links n
   once-more apart =
       elim (cases_lt 0 (last_place reach near far n)) [
@@ -294,6 +306,7 @@ module _ (links : Links) (reach : ℕ) (near near' : List ℕ) (far : List (ℕ 
         ]
       ]
 
+  -- with all heads forgotten, nothing is noted of no links
   pub NotesLast-forgotten : NotesLast [] reach near' []
   unfolding NotesLast
   NotesLast-forgotten n =

@@ -17,6 +17,7 @@ use Rattle.hint_check.proofs.LiteralsSets.{same-true, has-push}
 none_listed : (b : Bool) → false ≡ true → b ≡ true
 none_listed b h = absurd (false≢true h)
 
+-- no literals are listed without a change
 pub Lists-none : (rows : Links) (id : ℕ) → Lists rows rows [] id
 unfolding Lists has
 Lists-none rows id l q h =
@@ -54,6 +55,7 @@ module _ (before after : Links) (m : Literal) (id : ℕ) (adds : Adds before aft
       ap (list_any (λ n. n == q)) (adds (literal_number m) ∙ cond-true (nat_eq (literal_number m) (literal_number m)) (once id (ids_at before (literal_number m))) (ids_at before (literal_number m)) (eq-eqb (literal_number m) (literal_number m) refl))
       ∙ once-new id q (ids_at before (literal_number m)) h
 
+  -- one more literal is listed
   pub Lists-push : (start : Links) (literals : List Literal) → Lists start before literals id → Lists start after (literals ++ m ∷ []) id
   unfolding Lists with_literal
   Lists-push start literals h l q either =
@@ -66,6 +68,7 @@ module _ (before after : Links) (m : Literal) (id : ℕ) (adds : Adds before aft
             ]
       ]
 
+-- the ids listed for a literal name all clauses that hold it
 pub Indexes-names : (rows : Links) (entries : List (ℕ × List Literal)) (l : Literal) (ids : List ℕ) → Indexes rows entries → ids ≡ ids_at rows (literal_number l) → NamesEntries entries l ids
 unfolding Indexes NamesEntries
 Indexes-names rows entries l ids h is q =
@@ -97,11 +100,13 @@ module _ (own own' : List (ℕ × List Literal)) (id : ℕ) where
       (take-Indexes rows q l (lookup (nat_eq q) own) (nat_eq id q)
       (subst (λ o. IfSome o (λ c. has c l ≡ true → is_listed rows l q ≡ true)) (find-lookup q own) (h q l)))
 
+  -- a clause that was listed, and then put under its id, is in the index where there is one
   pub MayIndex-put : (index after : Option (Links)) (clause : List Literal) → IfSome index (λ rows. Indexes rows own) → MayList index after clause id → ((q : ℕ) → lookup (nat_eq q) own' ≡ cond (nat_eq id q) (Some clause) (lookup (nat_eq q) own)) → IfSome after (λ rows. Indexes rows own')
   MayIndex-put index None clause h lists put = tt
   MayIndex-put None (Some after) clause h lists put = absurd lists
   MayIndex-put (Some before) (Some after) clause h lists put = Indexes-put before after clause h lists put
 
+  -- an index stays one of the clauses that are left
   pub MayIndex-take : (index : Option (Links)) → IfSome index (λ rows. Indexes rows own) → ((q : ℕ) → lookup (nat_eq q) own' ≡ cond (nat_eq id q) None (lookup (nat_eq q) own)) → IfSome index (λ rows. Indexes rows own')
   MayIndex-take None h taken = tt
   MayIndex-take (Some rows) h taken = Indexes-take rows h taken

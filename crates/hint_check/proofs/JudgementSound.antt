@@ -20,6 +20,7 @@ use Rattle.hint_check.specs.declared.Reason.{Reason}
 use Rattle.hint_check.proofs.LiveMaps.{values-none}
 use Rattle.hint_check.proofs.LawsSound.{Models, addition_fault-extends}
 
+-- a model of the live clauses and of one more is a model of all
 pub models-insert : (v : ℕ → Bool) (live : Live) (id : ℕ) (clause : List Literal) → Models v live → clause_true v clause ≡ true → Models v (fin.insert live id clause)
 models-insert v live id clause model h q =
     rw (fin.get-insert nat_cmp_total live id clause q)
@@ -33,6 +34,7 @@ models-retain_keys v live keep model q =
     rw (fin.get-retain_keys live keep q (λ x e. ap keep (sym (fin.nat_cmp-IsAntisymmetric q x e))))
     (elim (keep q) as (λ b. IfSome (cond b (fin.get live q) None) (λ c. clause_true v c ≡ true)) [ true ↦ model q | false ↦ tt ])
 
+-- a model of the live clauses is one of those that are left
 pub models-without : (v : ℕ → Bool) (live : Live) (ids : List ℕ) → Models v live → Models v (without live ids)
 unfolding without
 models-without v live ids model = models-retain_keys v live (λ id. not (list_any (λ named. named == id) ids)) model

@@ -90,10 +90,12 @@ insert-empty live id clause empty =
     some-get is_empty (fin.insert live id clause) id clause
     (fin.get-insert nat_cmp_total live id clause id ∙ cond-true (eq_by_cmp nat_cmp id id) (Some clause) (fin.get live id) (eq_by_cmp-same id)) empty
 
+-- a clause is empty where it has no literals
 pub length-is_empty : (clause : List Literal) → (length clause == 0) ≡ is_empty clause
 length-is_empty [] = refl
 length-is_empty (l ∷ literals) = ne_eqb (length (l ∷ literals)) 0 (λ e. omega (arith, e))
 
+-- where no step is left to read and no empty clause is live, the proof is rejected for its end
 pub judged-end : (live : Live) (number : ℕ) (left : Unread) (reason : Reason) → holds_empty_clause live ≡ false → left.steps ≡ [] → reason ≡ end_reason left.blank → judged_from live number left.steps left.blank ≡ Rejected number reason
 judged-end live number left reason none done is =
     ap (λ steps. judged_from live number steps left.blank) done ∙ judged_from-end live number left.blank none ∙ ap (Rejected number) (sym is)

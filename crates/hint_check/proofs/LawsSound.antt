@@ -27,6 +27,7 @@ EffectHolds v Falsified = ⊥
 EffectHolds v (Forces l) = literal_true v l ≡ true
 EffectHolds v Undecided = Unit {0}
 
+-- under an assignment no conflict is reached, and what is reached holds
 abbrev pub OutcomeHolds : (ℕ → Bool) → Outcome → Type 0
 OutcomeHolds v (Reached set) = SetHolds v set
 OutcomeHolds v (Bad reason) = Unit {0}

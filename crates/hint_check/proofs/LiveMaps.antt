@@ -119,9 +119,11 @@ get-without live ids q =
     get-retain_keys live (λ id. not (list_any (λ named. named == id) ids)) q (λ x e. ap (λ id. not (list_any (λ named. named == id) ids)) (sym (nat_cmp-IsAntisymmetric q x e)))
     ∙ cond-not (list_any (λ named. named == q) ids) (get live q) None
 
+-- without no ids, all are left
 pub without-none : (live : Live) → without live [] ≡ live
 without-none live = fin.same_map nat_cmp_total nat_cmp-IsAntisymmetric (without live []) live (get-without live [])
 
+-- ids are taken out one after another
 pub without-push : (live : Live) (ids : List ℕ) (id : ℕ) → without live (ids ++ id ∷ []) ≡ fin.remove (without live ids) id
 without-push live ids id =
     fin.same_map nat_cmp_total nat_cmp-IsAntisymmetric (without live (ids ++ id ∷ [])) (fin.remove (without live ids) id) (λ q.
@@ -163,10 +165,12 @@ module _ {X : Type 0} where
       let parts = and_parts (p e.1) (list_all (λ e. p e.1) es) h in
       (parts.0, all-values p es parts.1)
 
+  -- what holds of each value holds of what is found under a key
   pub get-from_values : (p : X → Bool) (m : FinMap nat_cmp X) → All (λ x. p x ≡ true) (fin.values m) → (q : ℕ) → IfSome (get m q) (λ x. p x ≡ true)
   get-from_values p m h q =
       all-get (λ e. p e.1) m q (values-all p (entries m) (recursion_from_All (λ x. p x ≡ true) (fin.values m) h))
 
+  -- what holds of what is found under each key holds of each value
   pub values-from_get : (p : X → Bool) (m : FinMap nat_cmp X) → ((q : ℕ) → IfSome (get m q) (λ x. p x ≡ true)) → All (λ x. p x ≡ true) (fin.values m)
   values-from_get p m h =
       All-from_recursion (λ x. p x ≡ true) (fin.values m) (all-values p (entries m) (get-all (λ e. p e.1) m h))

@@ -111,6 +111,7 @@ or_none : {A : Type 0} (x : Option A) → option_or x None ≡ x
 or_none None = refl
 or_none (Some x) = refl
 
+-- with nothing dropped and no own clauses, those of the base are live
 pub overlay-start : (base : List (List Literal)) (dropped : List Bool) (own : List (ℕ × List Literal)) → dropped ≡ [] → own ≡ [] → overlay base dropped own ≡ fin.from_entries (enumerate_from 1 base)
 overlay-start base dropped own kept none =
     fin.same_map nat_cmp_total fin.nat_cmp-IsAntisymmetric (overlay base dropped own) (fin.from_entries (enumerate_from 1 base)) (λ q.
@@ -132,6 +133,7 @@ take_both true x y = refl
 take_both false x y = refl
 
 module _ (base : List (List Literal)) (before after : List Bool) (own own' : List (ℕ × List Literal)) (k : ℕ) (drops : Drops base before after k) where
+  -- a clause put among the own ones, with the base's dropped, is put among the live ones
   pub overlay-insert : (v : List Literal) → ((q : ℕ) → lookup (nat_eq q) own' ≡ cond (nat_eq k q) (Some v) (lookup (nat_eq q) own)) → overlay base after own' ≡ fin.insert (overlay base before own) k v
   overlay-insert v h =
       fin.same_map nat_cmp_total fin.nat_cmp-IsAntisymmetric (overlay base after own') (fin.insert (overlay base before own) k v) (λ q.
@@ -143,6 +145,7 @@ module _ (base : List (List Literal)) (before after : List Bool) (own own' : Lis
       ∙ ap (λ b. cond b (Some v) (fin.get (overlay base before own) q)) (same_test_back k q)
       ∙ sym (fin.get-insert nat_cmp_total (overlay base before own) k v q))
 
+  -- a clause taken out of the own ones, with the base's dropped, is taken out of the live ones
   pub overlay-remove : ((q : ℕ) → lookup (nat_eq q) own' ≡ cond (nat_eq k q) None (lookup (nat_eq q) own)) → overlay base after own' ≡ fin.remove (overlay base before own) k
   overlay-remove h =
       fin.same_map nat_cmp_total fin.nat_cmp-IsAntisymmetric (overlay base after own') (fin.remove (overlay base before own) k) (λ q.
@@ -175,6 +178,7 @@ either_gone : {A : Type 0} (a b : Bool) (x : Option A) → cond (a || b) None x 
 either_gone true b x = refl
 either_gone false b x = refl
 
+-- the flag of an id drops its clause of the base, and no other
 pub flagged-Drops : (base : List (List Literal)) (before made after : List Bool) (id count : ℕ) → count ≡ length base
     → ((q : ℕ) → is_dropped made q ≡ is_dropped before q)
     → ((q : ℕ) → 1 ≤ q → q ≤ count → is_dropped after q ≡ (nat_eq id q || is_dropped made q)) → Drops base before after id
@@ -197,6 +201,7 @@ flagged-Drops base before made after id count is same flagged q =
 lookup-entries : (m : Live) (q : ℕ) → lookup (nat_eq q) (fin.entries m) ≡ fin.get m q
 lookup-entries m q = sym (fin.get-entries m q ∙ find-lookup q (fin.entries m))
 
+-- what is found after a clause was put under an id
 pub inserted : (before after : Live) (id : ℕ) (clause : List Literal) → after ≡ fin.insert before id clause → (q : ℕ) → lookup (nat_eq q) (fin.entries after) ≡ cond (nat_eq id q) (Some clause) (lookup (nat_eq q) (fin.entries before))
 inserted before after id clause is q =
     lookup-entries after q ∙ ap (λ m. fin.get m q) is
@@ -204,6 +209,7 @@ inserted before after id clause is q =
     ∙ ap (λ b. cond b (Some clause) (fin.get before q)) (sym (same_test_back id q))
     ∙ ap (cond (nat_eq id q) (Some clause)) (sym (lookup-entries before q))
 
+-- what is found after an id was taken out
 pub removed : (before after : Live) (id : ℕ) → after ≡ fin.remove before id → (q : ℕ)
     → lookup (nat_eq q) (fin.entries after) ≡ cond (nat_eq id q) None (lookup (nat_eq q) (fin.entries before))
 removed before after id is q =
@@ -214,18 +220,21 @@ removed before after id is q =
 
 -- ---- an id that the base has a clause for, and any other
 
+-- above the base's ids there is no clause of the base
 pub base_clause-past : (base : List (List Literal)) (dropped : List Bool) (q : ℕ) → length base < q
     → None ≡ base_clause base dropped q
 base_clause-past base dropped q past =
     sym (same_none (is_dropped dropped q) (fin.find nat_cmp q (enumerate_from 1 base))
     (let e : q ≡ 1 + (q - 1) = omega arith in find-past q 1 (q - 1) base e (omega arith)))
 
+-- a clause of the base that isn't dropped is live
 pub overlay-base : (base : List (List Literal)) (dropped : List Bool) (own : Live) (q : ℕ) (clause : List Literal)
     → Some clause ≡ base_clause base dropped q → Some clause ≡ fin.get (overlay base dropped (fin.entries own)) q
 overlay-base base dropped own q clause found =
     ap (λ o. option_or o (lookup (nat_eq q) (fin.entries own))) found
     ∙ sym (overlay-get base dropped (fin.entries own) q)
 
+-- where the base has no clause, the own one is live
 pub overlay-own : (base : List (List Literal)) (dropped : List Bool) (own : Live) (q : ℕ)
     → None ≡ base_clause base dropped q → fin.get own q ≡ fin.get (overlay base dropped (fin.entries own)) q
 overlay-own base dropped own q none =
@@ -237,6 +246,7 @@ none_long : {A : Type 0} (xs : List A) → length xs ≡ 0 → xs ≡ []
 none_long [] none = refl
 none_long (x ∷ xs) none = absurd (omega arith)
 
+-- the empty map has no entries
 pub no_entries : (m : Live) → m ≡ fin.empty → fin.entries m ≡ []
 no_entries m is =
     none_long (fin.entries m) (sym (fin.len-entries m) ∙ ap fin.len is ∙ fin.len-empty nat_cmp (List Literal))
@@ -269,6 +279,7 @@ or_here p xs ys h = list_any-append p xs ys ∙ or_left (list_any p xs) (list_an
 or_there : (p : ℕ → Bool) (xs ys : List ℕ) → list_any p ys ≡ true → list_any p (xs ++ ys) ≡ true
 or_there p xs ys h = list_any-append p xs ys ∙ or_right (list_any p xs) (list_any p ys) h
 
+-- the ids of own clauses and of the base's name all live clauses that hold a literal
 pub overlay-NamesHolders : (base : List (List Literal)) (dropped : List Bool) (own : List (ℕ × List Literal)) (live : Live) (l : Literal) (ids of_own of_base : List ℕ) → overlay base dropped own ≡ live → ids ≡ of_own ++ of_base → NamesEntries own l of_own → NamesEntries (enumerate_from 1 base) l of_base → NamesHolders live l ids
 unfolding NamesEntries
 overlay-NamesHolders base dropped own live l ids of_own of_base is listed own_named named q =
@@ -277,10 +288,12 @@ overlay-NamesHolders base dropped own live l ids of_own of_base is listed own_na
     (IfSome-weaker (fin.find nat_cmp q (enumerate_from 1 base)) (named q) (λ clause later holds. or_there (λ n. n == q) of_own of_base (later holds)))
     (IfSome-weaker (fin.find nat_cmp q own) (own_named q) (λ clause later holds. or_here (λ n. n == q) of_own of_base (later holds))))
 
+-- what holds anyway holds of an error
 pub OnErr-always : {A E : Type 0} (r : Result A E) (P : Type 0) → P → OnErr r P
 OnErr-always (Ok x) P h = tt
 OnErr-always (Err e) P h = h
 
+-- what follows from a fact is said where the fact was
 pub OnOk-weaker : {A E : Type 0} (r : Result A E) (P Q : Type 0) → (P → Q) → OnOk r P → OnOk r Q
 OnOk-weaker (Ok x) P Q w h = w h
 OnOk-weaker (Err e) P Q w h = tt

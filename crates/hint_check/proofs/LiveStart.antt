@@ -28,6 +28,7 @@ find-past q n (x ∷ xs) past =
 unfoldable pub numbered : List (List Literal) → Live
 numbered clauses = fin.from_entries (enumerate_from 1 clauses)
 
+-- one more clause has the next id
 pub numbered-push : (clauses : List (List Literal)) (clause : List Literal) (id : ℕ) → id ≡ length clauses + 1 → numbered (clauses ++ clause ∷ []) ≡ fin.insert (numbered clauses) id clause
 unfolding numbered
 numbered-push clauses clause id is =
@@ -35,6 +36,7 @@ numbered-push clauses clause id is =
     ∙ fin.from_entries_push nat_cmp_total fin.nat_cmp-IsAntisymmetric (enumerate_from 1 clauses) (1 + length clauses) clause (find-past (1 + length clauses) 1 clauses (omega arith))
     ∙ ap (λ k. fin.insert (fin.from_entries (enumerate_from 1 clauses)) k clause) (let e : 1 + length clauses ≡ id = omega arith in e)
 
+-- the formula's clauses and the path's units, numbered, are those at the start
 pub numbered-start : (formula : List (List Literal)) (path : List Literal) → numbered (formula ++ units path) ≡ start formula path
 unfolding numbered
 numbered-start formula path = refl
@@ -43,6 +45,7 @@ append_nil : {A : Type 0} (xs : List A) → xs ++ [] ≡ xs
 append_nil [] = refl
 append_nil (x ∷ xs) = ap (λ ys. x ∷ ys) (append_nil xs)
 
+-- without a path, the clauses at the start are the formula's
 pub numbered-alone : (formula : List (List Literal)) → fin.from_entries {R = nat_cmp} (enumerate_from 1 formula) ≡ numbered (formula ++ units [])
 unfolding numbered
 numbered-alone formula = ap (λ clauses. fin.from_entries (enumerate_from 1 clauses)) (sym (append_nil formula))

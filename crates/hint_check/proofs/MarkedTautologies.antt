@@ -75,6 +75,7 @@ module _ (marks : List (ℕ × Bool)) (entries : List (ℕ × List Literal)) whe
         (subst (λ b. IfSome (cond (nat_eq id q) (Some clause) (lookup (nat_eq q) entries)) (λ c. b ≡ is_tautology c)) (sym (marked q))
         (put_here (nat_eq id q) mark (is_marked marks q) clause (lookup (nat_eq q) entries) is (told q)))
 
+    -- a clause taken out, and its mark with it
     pub MarksTautologies-take : ((q : ℕ) → is_marked more q ≡ cond (nat_eq id q) false (is_marked marks q))
         → ((q : ℕ) → lookup (nat_eq q) later ≡ cond (nat_eq id q) None (lookup (nat_eq q) entries))
         → MarksTautologies marks entries → MarksTautologies more later
@@ -84,6 +85,7 @@ module _ (marks : List (ℕ × Bool)) (entries : List (ℕ × List Literal)) whe
         (subst (λ b. IfSome (cond (nat_eq id q) None (lookup (nat_eq q) entries)) (λ c. b ≡ is_tautology c)) (sym (marked q))
         (take_here (nat_eq id q) (is_marked marks q) (lookup (nat_eq q) entries) (told q)))
 
+-- any marks are right of no clauses
 pub MarksTautologies-none : (marks : List (ℕ × Bool)) (entries : List (ℕ × List Literal)) → entries ≡ [] → MarksTautologies marks entries
 unfolding MarksTautologies
 MarksTautologies-none marks entries none q =
@@ -118,6 +120,7 @@ module _ (base : List (List Literal)) (dropped : List Bool) (own : List (ℕ × 
   shown : (P : List Literal → Type 0) → IfSome (option_or (base_clause base dropped q) (lookup (nat_eq q) own)) P → IfSome (fin.get live q) P
   shown P h = subst (λ o. IfSome o P) (sym (overlay-get base dropped own q) ∙ ap (λ m. fin.get m q) is) h
 
+  -- what is said of a base's clause is said of the live one, where the base has it
   pub told-base : (P : List Literal → Type 0) (clause : List Literal) → Some clause ≡ base_clause base dropped q
       → IfSome (lookup (nat_eq q) (enumerate_from 1 base)) P → IfSome (fin.get live q) P
   told-base P clause found told =
@@ -125,5 +128,6 @@ module _ (base : List (List Literal)) (dropped : List Bool) (own : List (ℕ × 
       subst (λ o. IfSome o P) (sym (find-lookup q (enumerate_from 1 base)) ∙ kept_found (is_dropped dropped q) (fin.find nat_cmp q (enumerate_from 1 base)) clause found) told in
       shown P (subst (λ o. IfSome (option_or o (lookup (nat_eq q) own)) P) found here)
 
+  -- what is said of an own clause is said of the live one, where the base has none
   pub told-own : (P : List Literal → Type 0) → None ≡ base_clause base dropped q → IfSome (lookup (nat_eq q) own) P → IfSome (fin.get live q) P
   told-own P none told = shown P (subst (λ o. IfSome (option_or o (lookup (nat_eq q) own)) P) none told)

@@ -33,6 +33,7 @@ by_order q (e ∷ es) =
     ap (λ b. cond b (Some e.1) (lookup (eq_by_cmp nat_cmp q) es)) (same_test q e.0)
     ∙ ap (cond (nat_eq q e.0) (Some e.1)) (by_order q es)
 
+-- an update that is said by one comparison of keys, said by the other
 pub updated : {X : Type 0} (before after : List (ℕ × X)) (k : ℕ) (w : Option X)
     → ((q : ℕ)
     → lookup (eq_by_cmp nat_cmp q) after ≡ cond (eq_by_cmp nat_cmp k q) w (lookup (eq_by_cmp nat_cmp q) before))
@@ -121,6 +122,7 @@ find-far lits (e ∷ far) q =
     ∙ ap (cond (nat_eq q e.0) (Some (span_clause lits e.1))) (find-far lits far q)
     ∙ mapped (span_clause lits) (nat_eq q e.0) e.1 (lookup (nat_eq q) far)
 
+-- the own clause of an id is the near one, or else the far one
 pub own-get : (lits : List Literal) (first : ℕ) (slots : List Slot) (far : List (ℕ × Span)) (q : ℕ)
     → fin.get (own_clauses lits first slots far) q ≡ option_or (near_at lits first slots q) (far_at lits far q)
 unfolding own_clauses
@@ -260,6 +262,7 @@ slot-pushed (s ∷ before) slot (suc i) =
     ∙ ap (λ b. cond b slot (slot_at before i))
     (let same : nat_eq (length before) i ≡ nat_eq (suc (length before)) (suc i) = grind (arith, nat_tests) in same)
 
+-- a slot that is there is set
 pub SetsSlot-write : (first : ℕ) (before after : List Slot) (place id : ℕ) (slot : Slot) → id ≡ first + place
     → place < length before → after ≡ slice_set before place slot → SetsSlot first before after id slot
 SetsSlot-write first before after place id slot is room set =
@@ -282,6 +285,7 @@ SetsSlot-low first slots id low q high =
     sym (cond-false (nat_eq id q) no_slot (slot_at slots (q - first))
     (ne_eqb id q (λ e. omega (arith, e, low, high))))
 
+-- an id behind all slots has none to be emptied
 pub SetsSlot-past : (first : ℕ) (slots : List Slot) (id : ℕ) → length slots ≤ id - first
     → SetsSlot first slots slots id no_slot
 unfolding SetsSlot
@@ -393,6 +397,7 @@ take_both : {A : Type 0} (b : Bool) (x y : Option A)
 take_both true x y = refl
 take_both false x y = refl
 
+-- an id whose slot was emptied and that is no far one any more is taken out
 pub own-remove : (lits : List Literal) (first : ℕ) (slots slots' : List Slot) (far far' : List (ℕ × Span)) (id : ℕ)
     → SetsSlot first slots slots' id no_slot
     → ((q : ℕ) → lookup (nat_eq q) far' ≡ cond (nat_eq id q) None (lookup (nat_eq q) far))
@@ -408,6 +413,7 @@ own-remove lits first slots slots' far far' id sets taken =
     ∙ ap (λ b. cond b None (fin.get (own_clauses lits first slots far) q)) (same_test_back id q)
     ∙ sym (fin.get-remove nat_cmp_total (own_clauses lits first slots far) id q))
 
+-- without slots and far clauses there are no own clauses
 pub own-none : (lits : List Literal) (first : ℕ) (slots : List Slot) (far : List (ℕ × Span)) → slots ≡ []
     → far ≡ [] → own_clauses lits first slots far ≡ fin.empty
 own-none lits first slots far none none_far =
@@ -420,10 +426,12 @@ own-none lits first slots far none none_far =
 
 -- ---- where slots and spans end
 
+-- no slots end anywhere
 pub SlotsEndBy-none : (slots : List Slot) (count : ℕ) → slots ≡ [] → SlotsEndBy slots count
 unfolding SlotsEndBy
 SlotsEndBy-none slots count none place = let e = ap (λ es. (slot_at es place).end) none in omega (arith, e)
 
+-- slots end among more literals, too
 pub SlotsEndBy-same : (slots slots' : List Slot) (count more : ℕ) → SlotsEndBy slots count
     → ((i : ℕ) → slot_at slots' i ≡ slot_at slots i) → SlotsEndBy slots' (count + more)
 unfolding SlotsEndBy
@@ -435,6 +443,7 @@ set_end : (b : Bool) (slot old : Slot) (count : ℕ) → slot.end ≤ count → 
 set_end true slot old count h k = h
 set_end false slot old count h k = k
 
+-- slots end among the literals after one that does was set
 pub SlotsEndBy-set : (first : ℕ) (slots slots' : List Slot) (id : ℕ) (slot : Slot) (count more : ℕ)
     → SlotsEndBy slots count → SetsSlot first slots slots' id slot → slot.end ≤ count + more
     → SlotsEndBy slots' (count + more)
@@ -448,16 +457,19 @@ SlotsEndBy-set first slots slots' id slot count more h sets within place =
     (set_end (nat_eq id (first + place)) slot (slot_at slots place) (count + more) within
     (let low = h place in omega (arith, low)))
 
+-- slots end where they did after one was emptied
 pub SlotsEndBy-cleared : (first : ℕ) (slots slots' : List Slot) (id count : ℕ) → SlotsEndBy slots count
     → SetsSlot first slots slots' id no_slot → SlotsEndBy slots' count
 SlotsEndBy-cleared first slots slots' id count h sets =
     subst (SlotsEndBy slots') (let e : count + 0 ≡ count = omega arith in e)
     (SlotsEndBy-set first slots slots' id no_slot count 0 h sets (omega arith))
 
+-- no spans end anywhere
 pub SpansEndBy-none : (far : List (ℕ × Span)) (count : ℕ) → far ≡ [] → SpansEndBy far count
 unfolding SpansEndBy
 SpansEndBy-none far count none = subst (λ es. SpansEndBy es count) (sym none) tt
 
+-- spans end among more literals, too
 pub SpansEndBy-more : (far : List (ℕ × Span)) (count more : ℕ) → SpansEndBy far count
     → SpansEndBy far (count + more)
 unfolding SpansEndBy
@@ -465,6 +477,7 @@ SpansEndBy-more [] count more h = tt
 SpansEndBy-more (e ∷ far) count more h =
     ((h.0.0, let low = h.0.1 in omega (arith, low)), SpansEndBy-more far count more h.1)
 
+-- spans end among the literals after one that does was put in
 pub SpansEndBy-put : (far : List (ℕ × Span)) (id : ℕ) (span : Span) (count : ℕ) → SpansEndBy far count
     → span.start ≤ span.end → span.end ≤ count → SpansEndBy (insert_entry nat_cmp far id span) count
 unfolding SpansEndBy
@@ -477,6 +490,7 @@ SpansEndBy-put (e ∷ far) id span count h ordered within =
       | Greater ↦ (h.0, SpansEndBy-put far id span count h.1 ordered within)
     ]
 
+-- spans end among the literals after one was taken out
 pub SpansEndBy-take : (test : ℕ → Bool) (far : List (ℕ × Span)) (count : ℕ) → SpansEndBy far count
     → SpansEndBy (remove_entry test far) count
 unfolding SpansEndBy
@@ -488,21 +502,25 @@ SpansEndBy-take test (e ∷ far) count h =
           (h.0, SpansEndBy-take test far count h.1)
     ]
 
+-- the first span ends among the literals
 pub SpansEndBy-head : (e : ℕ × Span) (far : List (ℕ × Span)) (count : ℕ) → SpansEndBy (e ∷ far) count
     → (e.1.start ≤ e.1.end) × (e.1.end ≤ count)
 unfolding SpansEndBy
 SpansEndBy-head e far count h = h.0
 
+-- the spans after the first end among the literals
 pub SpansEndBy-tail : (e : ℕ × Span) (far : List (ℕ × Span)) (count : ℕ) → SpansEndBy (e ∷ far) count
     → SpansEndBy far count
 unfolding SpansEndBy
 SpansEndBy-tail e far count h = h.1
 
+-- a far id's span ends among the literals
 pub span-within : (far : List (ℕ × Span)) (count id : ℕ) (span : Span) → SpansEndBy far count
     → Some span ≡ lookup (nat_eq id) far → (span.start ≤ span.end) × (span.end ≤ count)
 span-within far count id span h is =
     subst (λ o. IfSome o (λ s. (s.start ≤ s.end) × (s.end ≤ count))) (sym is) (spans-found far count h id)
 
+-- a slot ends among the literals
 pub slot-within : (slots : List Slot) (count place : ℕ) (slot : Slot) → SlotsEndBy slots count
     → slot ≡ slot_at slots place → slot.end ≤ count
 unfolding SlotsEndBy
@@ -510,6 +528,7 @@ slot-within slots count place slot h is = subst (λ s. s.end ≤ count) (sym is)
 
 -- ---- the index of all clauses, from the rows of none
 
+-- entries that were waited for before, and aren't after, are listed
 pub ListsAll-end : (before after : Links) (entries : List (ℕ × List Literal))
     → ((rest all : List (ℕ × List Literal)) → Awaits before (entries ++ rest) all → Awaits after rest all)
     → ListsAll before after entries
@@ -524,12 +543,14 @@ near-drop lits id [] i within = absurd (omega arith)
 near-drop lits id (slot ∷ slots) zero within = refl
 near-drop lits id (slot ∷ slots) (suc i) within = near-drop lits id slots i (omega arith)
 
+-- behind the last slot there is none
 pub all-slots : (slots : List Slot) (i : ℕ) → length slots ≤ i → drop i slots ≡ []
 all-slots [] zero h = refl
 all-slots [] (suc i) h = refl
 all-slots (slot ∷ slots) zero h = absurd (omega arith)
 all-slots (slot ∷ slots) (suc i) h = all-slots slots i (omega arith)
 
+-- a slot that is there doesn't depend on what stands for none
 pub any_default : (slots : List Slot) (i : ℕ) (d e : Slot) → i < length slots → get_or slots i d ≡ get_or slots i e
 any_default [] i d e below = absurd (omega arith)
 any_default (slot ∷ slots) zero d e below = refl
@@ -539,6 +560,7 @@ regrouped : (rows : Links) (xs ys zs all : List (ℕ × List Literal)) → Await
     → Awaits rows (xs ++ (ys ++ zs)) all
 regrouped rows xs ys zs all h = subst (λ es. Awaits rows es all) (append_assoc xs ys zs) h
 
+-- the clause of the next slot is waited for, and then those behind it
 pub near-next : (rows : Links) (lits : List Literal) (id : ℕ) (slots : List Slot) (i : ℕ)
     (rest all : List (ℕ × List Literal)) → i < length slots
     → Awaits rows (near_entries lits id (drop i slots) ++ rest) all
@@ -561,6 +583,7 @@ listed-one before after id clause x rest all is lists h =
     Awaits-next before after (id, clause) rest all
     (subst (λ o. Awaits before (entry_of id o ++ rest) all) is h) lists
 
+-- an id without a clause isn't waited for
 pub listed-none : (rows : Links) (id : ℕ) (x : Option (List Literal)) (rest all : List (ℕ × List Literal))
     → x ≡ None → Awaits rows (entry_of id x ++ rest) all → Awaits rows rest all
 listed-none rows id x rest all is h = subst (λ o. Awaits rows (entry_of id o ++ rest) all) is h
@@ -569,6 +592,7 @@ append-nil : {A : Type 0} (xs : List A) → xs ++ [] ≡ xs
 append-nil [] = refl
 append-nil (x ∷ xs) = ap (λ ys. x ∷ ys) (append-nil xs)
 
+-- an index in which near and far clauses were listed is one of the own clauses
 pub own-Indexes : (start middle rows : Links) (lits : List Literal) (first : ℕ) (slots : List Slot)
     (far : List (ℕ × Span)) → ListsAll start middle (near_entries lits first slots)
     → ListsAll middle rows (far_entries lits far) → Indexes rows (fin.entries (own_clauses lits first slots far))

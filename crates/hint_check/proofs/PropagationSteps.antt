@@ -23,10 +23,12 @@ resume (Some first) literals = cond (list_all (same first) literals) (Forces fir
 unfoldable pub effect_after : Literals → Option Literal → List Literal → Effect
 effect_after set forced rest = resume forced (unfalsified set rest)
 
+-- at the start of a clause no literal was looked at
 pub effect_after-start : (set : Literals) (clause : List Literal) → effect_after set None clause ≡ effect_of (unfalsified set clause)
 unfolding effect_after resume
 effect_after-start set clause = refl
 
+-- a falsified literal changes nothing
 pub effect_after-falsified : (set : Literals) (forced : Option Literal) (l : Literal) (rest : List Literal) → set (negation l) ≡ true → effect_after set forced (l ∷ rest) ≡ effect_after set forced rest
 unfolding effect_after unfalsified
 effect_after-falsified set forced l rest h =
@@ -37,26 +39,31 @@ unfolding effect_after unfalsified
 effect_after-left set forced l rest h =
     ap (resume forced) (cond-true (not (set (negation l))) (l ∷ filter (λ m. not (set (negation m))) rest) (filter (λ m. not (set (negation m))) rest) (not_from_false (set (negation l)) h))
 
+-- the first literal that isn't falsified
 pub effect_after-first : (set : Literals) (l : Literal) (rest : List Literal) → set (negation l) ≡ false → effect_after set None (l ∷ rest) ≡ effect_after set (Some l) rest
 unfolding effect_after resume effect_of
 effect_after-first set l rest h = effect_after-left set None l rest h
 
+-- the same literal again changes nothing
 pub effect_after-same : (set : Literals) (first l : Literal) (rest : List Literal) → set (negation l) ≡ false → same first l ≡ true → effect_after set (Some first) (l ∷ rest) ≡ effect_after set (Some first) rest
 unfolding effect_after resume
 effect_after-same set first l rest h e =
     effect_after-left set (Some first) l rest h
     ∙ ap (λ b. cond (b && list_all (same first) (unfalsified set rest)) (Forces first) Undecided) e
 
+-- with a second literal left the clause is undecided
 pub effect_after-other : (set : Literals) (first l : Literal) (rest : List Literal) → set (negation l) ≡ false → same first l ≡ false → effect_after set (Some first) (l ∷ rest) ≡ Undecided
 unfolding effect_after resume
 effect_after-other set first l rest h e =
     effect_after-left set (Some first) l rest h
     ∙ ap (λ b. cond (b && list_all (same first) (unfalsified set rest)) (Forces first) Undecided) e
 
+-- a clause with all literals falsified is falsified
 pub effect_after-none : (set : Literals) → effect_after set None [] ≡ Falsified
 unfolding effect_after resume effect_of unfalsified
 effect_after-none set = refl
 
+-- a clause with one literal left forces it
 pub effect_after-one : (set : Literals) (first : Literal) → effect_after set (Some first) [] ≡ Forces first
 unfolding effect_after resume unfalsified
 effect_after-one set first = refl
@@ -66,6 +73,7 @@ pub effect_after-turn : (set : Literals) (forced : Option Literal) (clause : Lis
 effect_after-turn set forced clause i l within is =
     at_drop_more (effect_after set forced) clause i l within ∙ ap (λ m. effect_after set forced (m ∷ drop (i + 1) clause)) (sym is)
 
+-- at the end of a clause its effect is known
 pub effect_after-end : (set : Literals) (forced : Option Literal) (clause : List Literal) (i : ℕ) → length clause ≤ i → effect_after set forced (drop i clause) ≡ effect_after set forced []
 effect_after-end set forced clause i past = at_drop_all (effect_after set forced) clause i past
 
@@ -83,6 +91,7 @@ unfolding unfalsified
 unfalsified-left set l rest h =
     cond-true (not (set (negation l))) (l ∷ unfalsified set rest) (unfalsified set rest) (not_from_false (set (negation l)) h)
 
+-- of no literals none is left
 pub unfalsified-none : (set : Literals) → unfalsified set [] ≡ []
 unfolding unfalsified
 unfalsified-none set = refl
@@ -158,6 +167,7 @@ pub record Counts (set : Literals) (clause : List Literal) (count : ℕ) (last :
   pub none : count ≡ 0 → unfalsified set rest ≡ unfalsified set clause
   pub one : count ≡ 1 → last ∷ unfalsified set rest ≡ unfalsified set clause
 
+-- a falsified literal isn't counted
 pub counts-falsified : (set : Literals) (clause : List Literal) (count : ℕ) (last l : Literal) (rest : List Literal)
     → Counts set clause count last (l ∷ rest) → set (negation l) ≡ true → Counts set clause count last rest
 counts-falsified set clause count last l rest counts h = record {
@@ -165,6 +175,7 @@ counts-falsified set clause count last l rest counts h = record {
   one = λ e. ap (λ ls. last ∷ ls) (sym (unfalsified-falsified set l rest h)) ∙ counts.one e;
 }
 
+-- a literal that isn't falsified is counted, and is the last one
 pub counts-left : (set : Literals) (clause : List Literal) (count : ℕ) (last l : Literal) (rest : List Literal)
     → Counts set clause count last (l ∷ rest) → set (negation l) ≡ false → Counts set clause (count + 1) l rest
 counts-left set clause count last l rest counts h = record {
@@ -175,6 +186,7 @@ counts-left set clause count last l rest counts h = record {
 -- ---- one hint after another
 
 module _ (live : Live) (set : Literals) (hint : ℕ) (hints : List ℕ) where
+  -- a hint that names no live clause is bad
   pub chain-missing : fin.get live hint ≡ None → chain live set (hint ∷ hints) ≡ Bad Hint
   unfolding chain after_hint
   chain-missing none = ap (λ found. after_hint found set (λ l. chain live (with_literal set l) hints)) none
@@ -195,13 +207,16 @@ module _ (live : Live) (set : Literals) (hint : ℕ) (hints : List ℕ) where
   unfolding after_effect
   chain-forces clause l found is = chain-found clause found (Forces l) is
 
+  -- a hint's clause with two literals left is bad
   pub chain-undecided : (clause : List Literal) → fin.get live hint ≡ Some clause → effect_of (unfalsified set clause) ≡ Undecided → chain live set (hint ∷ hints) ≡ Bad NotUnit
   unfolding after_effect
   chain-undecided clause found is = chain-found clause found Undecided is
 
+-- the hints that are left begin with the next one
 pub chain-turn : (live : Live) (set : Literals) (hints : List ℕ) (i : ℕ) → i < length hints → chain live set (drop i hints) ≡ chain live set (get_or hints i 0 ∷ drop (i + 1) hints)
 chain-turn live set hints i within = at_drop_more (chain live set) hints i 0 within
 
+-- behind the last hint the set is reached
 pub chain-end : (live : Live) (set : Literals) (hints : List ℕ) (i : ℕ) → length hints ≤ i → chain live set (drop i hints) ≡ Reached set
 unfolding chain
 chain-end live set hints i past = at_drop_all (chain live set) hints i past

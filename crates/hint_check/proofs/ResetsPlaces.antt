@@ -8,6 +8,7 @@ use Rattle.hint_check.proofs.LiveMaps.{or_false}
 use Rattle.hint_check.specs.Inner.Resets.{is_named, Resets}
 
 module _ {A : Type 0} (d : A) where
+  -- nothing is set back in no places
   pub Resets-none : (xs : List A) → Resets d [] xs xs
   unfolding Resets
   Resets-none xs i = refl

@@ -1,10 +1,10 @@
 -- Stamps, and the literals that they say are set.
 use Rattle.std.proofs.Common.{◌≡◌, ◌==◌, ◌+◌, ◌-◌, ◌<◌, ◌≤◌, ℕ, zero, suc, Bool, true, false, ◌||◌, List, [], ◌∷◌, ◌++◌, length, get_or, take, slice_index, min, subst, refl, sym, ap, ◌∙◌, arith, inl, inr}
-use Rattle.std.proofs.lemmas.Bool.{cases_Bool, cases_lt, both_ways, cond-true, cond-false, lt-ltb, le-ltb, ne_eqb, or_left, eqb-true, eq-eqb}
-use Rattle.std.specs.Prelude.{if◌then◌else◌, nat_eq, nat_lt, is_some, slice_set, cond, Option, Some, None}
+use Rattle.std.proofs.lemmas.Bool.{cases_Bool, cases_lt, cond-true, cond-false, lt-ltb, le-ltb, ne_eqb, or_left, eqb-true, eq-eqb}
+use Rattle.std.specs.Prelude.{if◌then◌else◌, nat_eq, nat_lt, is_some, cond, Option, Some, None}
 use Rattle.std.specs.Map.{lookup}
 use Rattle.std.specs.Option.{unwrap_or}
-use Rattle.std.proofs.lemmas.List.{get_or_past, get_or-set_same, get_or-set_other, take_at}
+use Rattle.std.proofs.lemmas.List.{get_or_past, take_at}
 use Rattle.std.proofs.lemmas.List.{take_all, take-append-le, take-take, length_push, length-take}
 use Rattle.std.proofs.lemmas.List.{length-take-le}
 use Rattle.cnf_text.specs.Literal.{Literal, literal_number, same}
@@ -22,9 +22,12 @@ far-at marks n far = cond-false (nat_lt n 2097152) (slice_index marks.0 n) (mapp
 
 -- ---- the literals that are set
 
+-- stamps of this epoch are those of the literals set, no stamp is above it, and no literal is set
+-- twice
 abbrev pub Sound : Marks → ℕ → List Literal → Type 0
 Sound marks epoch trail = (1 ≤ epoch) × StampsAre marks epoch trail × NoneAbove marks epoch × NoRepeats trail
 
+-- a literal has the epoch's stamp exactly where it is set
 pub Sound-parts : (marks : Marks) (epoch : ℕ) (trail : List Literal) → Sound marks epoch trail → (l : Literal) → (stamp_at marks (literal_number l) == epoch) ≡ has trail l
 unfolding StampsAre
 Sound-parts marks epoch trail h = h.1
@@ -67,6 +70,7 @@ Sound-none marks epoch trail none low = (
   subst NoRepeats (sym none) none-NoRepeats,
 )
 
+-- in the next epoch no literal is set
 pub Sound-next : (marks : Marks) (epoch : ℕ) (trail after : List Literal) → Sound marks epoch trail → after ≡ [] → Sound marks (epoch + 1) after
 unfolding NoneAbove
 Sound-next marks epoch trail after h none = Sound-none marks (epoch + 1) after none (λ n. let low = h.2 n in omega (arith, low))
@@ -74,9 +78,11 @@ Sound-next marks epoch trail after h none = Sound-none marks (epoch + 1) after n
 stamp_at-none : (n : ℕ) → stamp_at ([], []) n ≡ 0
 stamp_at-none n = elim (nat_lt n 2097152) as (λ b. (if b then slice_index [] n else mapped_at [] n) ≡ 0) [ true ↦ refl | false ↦ refl ]
 
+-- without stamps no literal is set
 pub Sound-start : (marks : Marks) (trail : List Literal) → marks ≡ ([], []) → trail ≡ [] → Sound marks 1 trail
 Sound-start marks trail empty none = Sound-none marks 1 trail none (λ n. let zero_there = ap (λ ms. stamp_at ms n) empty ∙ stamp_at-none n in omega (arith, zero_there))
 
+-- the same for stamps that answer alike
 pub Sound-same : (marks after : Marks) (epoch : ℕ) (trail : List Literal) → Sound marks epoch trail → ((n : ℕ) → stamp_at after n ≡ stamp_at marks n) → Sound after epoch trail
 unfolding StampsAre NoneAbove
 Sound-same marks after epoch trail h same =
@@ -129,6 +135,7 @@ no-higher true new old epoch h k = h
 no-higher false new old epoch h k = k
 
 module _ (marks after : Marks) (epoch : ℕ) (trail : List Literal) (l : Literal) where
+  -- one more literal is set, and stamped
   pub Sound-push : Sound marks epoch trail → has trail l ≡ false → ((n : ℕ) → stamp_at after n ≡ (if literal_number l == n then epoch else stamp_at marks n)) → Sound after epoch (trail ++ l ∷ [])
   unfolding StampsAre NoneAbove with_literal
   Sound-push h new set = (
@@ -144,6 +151,7 @@ module _ (marks after : Marks) (epoch : ℕ) (trail : List Literal) (l : Literal
   unset m true here some new old = low-apart 0 epoch (omega (arith, some)) ∙ sym (ap (has trail) (sym (same-true l m here)) ∙ new)
   unset m false here some new old = old
 
+  -- the last literal that was set is set no more, and its stamp is gone
   pub Sound-pop : Sound marks epoch (trail ++ l ∷ []) → ((n : ℕ) → stamp_at after n ≡ (if literal_number l == n then 0 else stamp_at marks n)) → Sound after epoch trail
   unfolding StampsAre NoneAbove with_literal
   Sound-pop h set = (
@@ -187,16 +195,20 @@ there : (b c : Bool) → (b ≡ true → c ≡ true) → c ≡ (b || c)
 there true c h = h refl
 there false c h = refl
 
+-- a literal that is set needn't join the set
 pub with_literal-there : (trail : List Literal) (l : Literal) → has trail l ≡ true → has trail ≡ with_literal (has trail) l
 unfolding with_literal
 with_literal-there trail l h = λ i m. there (same l m) (has trail m) (λ e. ap (has trail) (sym (same-true l m e)) ∙ h) i
 
+-- a list extends itself
 pub Extends-same : (before : List Literal) → Extends before before
 Extends-same before = take_all (length before) before (omega arith)
 
+-- a list with one more at its end extends it
 pub Extends-push : (before : List Literal) (l : Literal) → Extends before (before ++ l ∷ [])
 Extends-push before l = take_at before (l ∷ []) (length before) refl
 
+-- what extends an extension extends the list
 pub Extends-trans : (first second third : List Literal) → Extends first second → Extends second third → Extends first third
 Extends-trans first second third h k =
     let shorter : length first ≤ length second = let e : length first ≡ min (length first) (length second) = sym (ap length h) ∙ length-take (length first) second in omega (arith, e) in

@@ -9,7 +9,7 @@ use Rattle.lrat_text.specs.declared.steps.Stop.{Stop}
 use Rattle.lrat_text.specs.declared.steps.Stop.TheVariants as stops
 use Rattle.lrat_text.specs.Buffer.{ids_between, group_in, groups_in}
 use Rattle.lrat_text.specs.Grammar.{StepSymbol, HintGroup, IsId, IsGroup, hint_symbols, positive, DeleteMark, Delete, BeginsWith}
-use Rattle.lrat_text.specs.Inner.Steps.{stop_symbol, IsStop, IsRun, IsHints, IsIds}
+use Rattle.lrat_text.specs.Inner.Steps.{stop_symbol, IsStop, IsRun, IsIds}
 use Rattle.lrat_text.proofs.GrammarDecoding.{hints_push, hints_nil, deletion_begins}
 
 abbrev pub EndsWithin : List ℕ → GroupRun → Type 0

@@ -40,6 +40,7 @@ heads a b x y e = cc
 pub tails : (a b : StepSymbol) (x y : List StepSymbol) → a ∷ x ≡ b ∷ y → x ≡ y
 tails a b x y e = cc
 
+-- no symbols aren't some
 pub nil_cons : (a : StepSymbol) (x : List StepSymbol) → [] ≡ a ∷ x → ⊥
 nil_cons a x e = cc
 
@@ -52,6 +53,7 @@ pub no_run_after : (xs : List ℕ) (t : List StepSymbol) → AllByRecursion IsId
 no_run_after [] t all none = none
 no_run_after (x ∷ xs) t all none = no_run_cons x (map positive xs ++ t) all.0 (no_run_after xs t all.1 none)
 
+-- no symbols are no run of ids, since what stops it is missing
 pub no_run_nil : NoRun []
 no_run_nil [] stop left run = absurd (nil_cons _ _ run.2)
 no_run_nil (y ∷ ys) stop left run = absurd (nil_cons _ _ run.2)
@@ -59,6 +61,7 @@ no_run_nil (y ∷ ys) stop left run = absurd (nil_cons _ _ run.2)
 id_bound : (id : ℕ) → IsId id → id ≤ 4611686018427387904
 id_bound id is = is.1
 
+-- no run of ids begins with a stray symbol
 pub no_run_stray : (u : StepSymbol) (t : List StepSymbol) → IsReadAs words.Stray u → NoRun (u ∷ t)
 no_run_stray u t means [] stops.End left run = means.0 (record { negative = false; magnitude = 0 }) (omega arith) (heads _ _ _ _ run.2)
 no_run_stray u t means [] (stops.Group k) left run = means.0 (record { negative = true; magnitude = k }) (id_bound k run.1) (heads _ _ _ _ run.2)
@@ -67,11 +70,13 @@ no_run_stray u t means (y ∷ ys) stop left run = means.0 (record { negative = f
 mark_is_no_numeral : (n : Number) → DeleteMark ≡ Numeral n → ⊥
 mark_is_no_numeral n e = cc
 
+-- no run of ids begins with the mark of a deletion
 pub no_run_mark : (u : StepSymbol) (t : List StepSymbol) → IsReadAs words.DeleteMark u → NoRun (u ∷ t)
 no_run_mark u t means [] stops.End left run = mark_is_no_numeral _ (sym means ∙ heads _ _ _ _ run.2)
 no_run_mark u t means [] (stops.Group k) left run = mark_is_no_numeral _ (sym means ∙ heads _ _ _ _ run.2)
 no_run_mark u t means (y ∷ ys) stop left run = mark_is_no_numeral _ (sym means ∙ heads _ _ _ _ run.2)
 
+-- where ids go on with what begins no run, none began before them
 pub stuck_run : (start left : List StepSymbol) (xs : List ℕ) → start ≡ map positive xs ++ left → AllByRecursion IsId xs → NoRun left → NoRun start
 stuck_run start left xs is all none = rw is (no_run_after xs left all none)
 
@@ -90,6 +95,7 @@ same_run (x ∷ xs) (y ∷ ys) s t a b all others e =
 literal_is_no_end : (l : Literal) → IsVariable l.variable → signed l ≡ end_mark → ⊥
 literal_is_no_end l is e = let zero_is : l.variable ≡ 0 = same_magnitude _ _ e in let some = is.0 in omega arith
 
+-- where no literals begin, none do after one more literal
 pub no_literals_cons : (l : Literal) (t : List StepSymbol) → IsVariable l.variable → NoLiterals t → NoLiterals (signed l ∷ t)
 no_literals_cons l t is none [] left found = literal_is_no_end l is (heads _ _ _ _ found.1)
 no_literals_cons l t is none (k ∷ ks) left found = none ks left (found.0.1, tails _ _ _ _ found.1)
@@ -98,14 +104,17 @@ no_literals_after : (ls : List Literal) (t : List StepSymbol) → AllByRecursion
 no_literals_after [] t all none = none
 no_literals_after (l ∷ ls) t all none = no_literals_cons l (map signed ls ++ t) all.0 (no_literals_after ls t all.1 none)
 
+-- no symbols are no literals, since the end mark is missing
 pub no_literals_nil : NoLiterals []
 no_literals_nil [] left found = nil_cons _ _ found.1
 no_literals_nil (k ∷ ks) left found = nil_cons _ _ found.1
 
+-- literals don't begin with a symbol that is neither an end mark nor a literal
 pub no_literals_at : (u : StepSymbol) (t : List StepSymbol) → (u ≡ end_mark → ⊥) → ((l : Literal) → IsVariable l.variable → u ≡ signed l → ⊥) → NoLiterals (u ∷ t)
 no_literals_at u t no_end no_literal [] left found = no_end (heads _ _ _ _ found.1)
 no_literals_at u t no_end no_literal (k ∷ ks) left found = no_literal k found.0.0 (heads _ _ _ _ found.1)
 
+-- where literals go on with what begins none, none began before them
 pub stuck_literals : (start left : List StepSymbol) (ls : List Literal) → start ≡ map signed ls ++ left → AllByRecursion (λ literal. IsVariable literal.variable) ls → NoLiterals left → NoLiterals start
 stuck_literals start left ls is all none = rw is (no_literals_after ls left all none)
 
@@ -140,6 +149,7 @@ hints_nil hints x = append_assoc (map positive hints) [] x
 pub hints_cons : (hints : List ℕ) (g : HintGroup) (gs : List HintGroup) (x : List StepSymbol) → hint_symbols hints (g ∷ gs) ++ x ≡ map positive hints ++ negative g.candidate ∷ (hint_symbols g.hints gs ++ x)
 hints_cons hints g gs x = append_assoc (map positive hints) (negative g.candidate ∷ hint_symbols g.hints gs) x
 
+-- where no run of ids begins, no hints do
 pub no_hints_from_run : (t : List StepSymbol) → NoRun t → NoHints t
 no_hints_from_run t none hints [] left found = none hints stops.End left (found.0, tt, found.2 ∙ hints_nil hints (end_mark ∷ left))
 no_hints_from_run t none hints (g ∷ gs) left found =
@@ -153,6 +163,7 @@ no_hints_group xs k t all none hints (g ∷ gs) left found =
     let same = same_run xs hints (stops.Group k) (stops.Group g.candidate) t (hint_symbols g.hints gs ++ end_mark ∷ left) all found.0 (found.2 ∙ hints_cons hints g gs (end_mark ∷ left)) in
     none g.hints gs left (found.1.0.1, found.1.1, same.2)
 
+-- hints that a candidate follows, and no hints after it, are no hints
 pub no_hints_after : (hints : List ℕ) (groups : List HintGroup) (k : ℕ) (t : List StepSymbol) → AllByRecursion IsId hints → AllByRecursion IsGroup groups → NoHints t → NoHints (hint_symbols hints groups ++ negative k ∷ t)
 no_hints_after hints [] k t all each none = rw hints_nil (no_hints_group hints k t all none)
 no_hints_after hints (g ∷ gs) k t all each none =
@@ -162,9 +173,11 @@ no_hints_after hints (g ∷ gs) k t all each none =
 pub hints_push : (hints : List ℕ) (gs : List HintGroup) (g : HintGroup) (x : List StepSymbol) → hint_symbols hints (gs ++ g ∷ []) ++ x ≡ hint_symbols hints gs ++ negative g.candidate ∷ (map positive g.hints ++ x)
 hints_push hints gs g x = rw (flat_map-append, append-nil) (simp append_assoc)
 
+-- where no run of ids begins, no list of ids does
 pub no_ids_from_run : (t : List StepSymbol) → NoRun t → NoIds t
 no_ids_from_run t none ids left found = none ids stops.End left (found.0, tt, found.1)
 
+-- a run of ids that ends at a candidate is no list of ids with an end mark
 pub no_ids_at_group : (t : List StepSymbol) (xs : List ℕ) (k : ℕ) (rest : List StepSymbol) → IsRun t xs (stops.Group k) rest → NoIds t
 no_ids_at_group t xs k rest run ids left found =
     let same = same_run xs ids (stops.Group k) stops.End rest left run.0 found.0 (sym run.2 ∙ found.1) in
@@ -181,6 +194,7 @@ addition_parts literals hints groups left =
     append_assoc (map signed literals) (end_mark ∷ (hint_symbols hints groups ++ end_mark ∷ [])) left
     ∙ ap (λ x. map signed literals ++ end_mark ∷ x) (append_assoc (hint_symbols hints groups) (end_mark ∷ []) left)
 
+-- the mark of a deletion without ids begins no step
 pub no_step_deletion : (n : ℕ) (t : List StepSymbol) → NoIds t → NoStep (positive n ∷ DeleteMark ∷ t)
 no_step_deletion n t none (Add a) left found =
     no_mark_in_literals a.literals _ t (tails _ _ _ _ (found.2 ∙ ap (λ x. x ++ left) found.1.4) ∙ addition_parts a.literals a.hints a.groups left)
@@ -196,6 +210,7 @@ no_step_addition n t no_mark none (Add a) left found =
 no_step_addition n t no_mark none (Delete ids) left found =
     no_mark _ (tails _ _ _ _ (found.2 ∙ ap (λ x. x ++ left) found.1.1.2))
 
+-- literals without hints begin no step
 pub no_step_hints : (n : ℕ) (t : List StepSymbol) (ls : List Literal) (rest : List StepSymbol) → IsLiterals t ls rest → NoHints rest → ((r : List StepSymbol) → t ≡ DeleteMark ∷ r → ⊥) → NoStep (positive n ∷ t)
 no_step_hints n t ls rest found none no_mark =
     no_step_addition n t no_mark (λ literals hints groups left id all each every e.
@@ -218,6 +233,7 @@ deletion_begins n t left ids bound found = (
   ap (λ x. positive n ∷ DeleteMark ∷ x) (found.1 ∙ sym (append_assoc (map positive ids) (end_mark ∷ []) left)),
 )
 
+-- a word that isn't read as an end mark stands for none
 pub not_end : (word : Word) (symbol : StepSymbol) → IsReadAs word symbol → HasId word → (word ≡ words.End → ⊥) → symbol ≡ end_mark → ⊥
 not_end words.End symbol means has other e = other refl
 not_end (words.Positive n) symbol means has other e = let zero_is : n ≡ 0 = same_magnitude _ _ (sym means.1 ∙ e) in let some = has.0 in omega arith
@@ -238,9 +254,11 @@ pub ok_each : {A : Type 0} (result : Result A StepFault) (P : A → Type 0) (Q :
 ok_each (Ok kind) P Q more h = λ symbol. more symbol kind h
 ok_each (Err fault) P Q more h = tt
 
+-- what follows from each fault is said of a result's fault
 pub err_each : {A : Type 0} (result : Result A StepFault) (P Q : StepFault → Type 0) → ((fault : StepFault) → P fault → Q fault) → IfErr result P → IfErr result Q
 err_each (Ok kind) P Q more h = tt
 err_each (Err fault) P Q more h = more fault h
 
+-- the two faults of a step are apart
 pub not_memory : Unreadable ≡ Memory → ⊥
 not_memory e = cc

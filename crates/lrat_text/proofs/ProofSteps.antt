@@ -88,6 +88,7 @@ rest_of (suc n) symbols room =
           (record { left = more.left; begins = (step.left, begins, more.begins); none = more.none; blank = more.blank })
     ] refl
 
+-- the steps of a proof are the longest list of whole steps
 pub proof_in-longest : (symbols : List StepSymbol) → (left : List StepSymbol) × Longest symbols (proof_in symbols).steps left × ((proof_in symbols).blank ≡ is_none_left left)
 proof_in-longest symbols =
     let rest = rest_of (length symbols) symbols (omega arith) in
@@ -133,11 +134,13 @@ reader_at proof failed = record { steps = proof.steps; blank = proof.blank; fail
 pub read-new : (text : List ℕ) (found : List (List ℕ)) → found ≡ map (λ (token : Token). token.bytes) (tokens_of text) → reader_at (proof_in (symbols found)) false ≡ unread (proof_of text)
 read-new text found is = ap (λ seen. reader_at (proof_in seen) false) (ap symbols is ∙ map-map step_symbol_of (λ (token : Token). token.bytes) (tokens_of text))
 
+-- a reader of no symbols has no step left, and only blanks
 pub read-blank : (seen symbols : List StepSymbol) (failed : Bool) → seen ≡ symbols → seen ≡ [] → failed ≡ false → reader_at (proof_in symbols) failed ≡ record { steps = []; blank = true; failed = false }
 read-blank seen symbols failed same none on =
     let is : proof_in symbols ≡ record { steps = []; blank = true } = ap proof_in (sym same ∙ none) ∙ proof_in-none [] (none-no_step [] refl) in
     λ i. reader_at (is i) (on i)
 
+-- a reader of symbols that begin with a step has it, and the others after it
 pub read-step : (seen symbols left : List StepSymbol) (step : ProofStep) (failed : Bool) → seen ≡ symbols → BeginsWith seen step left → reader_at (proof_in symbols) failed ≡ record { steps = step ∷ (proof_in left).steps; blank = (proof_in left).blank; failed = failed }
 read-step seen symbols left step failed same begins =
     ap (λ s. reader_at (proof_in s) failed) (sym same) ∙ ap (λ p. reader_at p failed) (proof_in-step seen step left begins)
@@ -146,6 +149,7 @@ some_left : (symbols : List StepSymbol) → (symbols ≡ [] → ⊥) → is_none
 some_left [] some = absurd (some refl)
 some_left (symbol ∷ symbols) some = refl
 
+-- where symbols are left and begin no step, no step is left, and more than blanks
 pub read-nothing : (seen symbols : List StepSymbol) → seen ≡ symbols → NoStep seen → (seen ≡ [] → ⊥) → ((proof_in symbols).steps ≡ []) × ((proof_in symbols).blank ≡ false)
 read-nothing seen symbols same none some =
     let is : proof_in symbols ≡ record { steps = []; blank = is_none_left seen } = ap proof_in (sym same) ∙ proof_in-none seen none in

@@ -75,6 +75,7 @@ module _ {X : Type 0} (own whole : ℕ → X) where
 
 -- ---- the top board marks the root exactly where the set does, and has its open weight
 
+-- posts that agree with a set of nodes mark on the top board what the set does
 pub agreed_marks : (refuted posted : ℕ → Bool) (cut node : ℕ) (t : SplitTree) → Agrees refuted posted cut node t →
     marked_on_top posted (λ number tree. posted number) cut node t ≡ marked refuted node t
 agreed_marks refuted posted zero node t h = h
@@ -83,6 +84,7 @@ agreed_marks refuted posted (suc cut) node (cube k) h = h
 agreed_marks refuted posted (suc cut) node (split v p n) h =
     rw (h.0, agreed_marks refuted posted cut (suc node) p h.1, agreed_marks refuted posted cut (suc (node + size p)) n h.2) refl
 
+-- posts that agree with a set of nodes leave open on the top board what the set does
 pub agreed_open : (worth : ℕ → ℕ) (refuted posted : ℕ → Bool) (cut node : ℕ) (t : SplitTree) → Agrees refuted posted cut node t →
     open_on_top (open_weight worth refuted) posted (λ number tree. posted number) cut node t ≡ open_weight worth refuted node t
 agreed_open worth refuted posted zero node t h = rw h (open_part worth refuted node t)

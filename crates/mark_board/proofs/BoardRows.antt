@@ -43,6 +43,7 @@ pub record IsPartRow (board : PartBoard) (node row : ℕ) : Type 0 where
   pub is : node - board.root ≡ row
   pub there : board.root + row ≡ node
 
+-- a row of a part's board is that of a node below the part's root
 pub part_row : (board : PartBoard) (node row : ℕ) → IsRowOn (board_of (part_kind board)) node row → IsPartRow board node row
 part_row board node row at =
     let w : row < size (subtree_at board.case.now.tree board.root) = rw board.placed at.within in
@@ -58,12 +59,14 @@ part_tree : (board : PartBoard) (node row : ℕ) → IsPartRow board node row �
 part_tree board node row p =
     ap (λ (i : ℕ). subtree_at board.case.now.tree i) (sym p.there) ∙ below board.case.now.tree board.root row board.inside p.within
 
+-- a node below the part's root is marked where its row is
 pub part_marked : (board : PartBoard) (node row : ℕ) (x : Bool) → IsRowOn (board_of (part_kind board)) node row →
     x ≡ marked (refuted_by board.rows.marks.items) (node - board.root) (subtree_at board.case.now.tree node) →
     x ≡ marked (refuted_by board.rows.marks.items) row (subtree_at (tree_on (board_of (part_kind board))) row)
 part_marked board node row x at e =
     let p = part_row board node row at in rw (← board.placed) (rw (p.is, part_tree board node row p) at e)
 
+-- what is open below a node under the part's root is open below its row
 pub part_open : (board : PartBoard) (node row x : ℕ) → IsRowOn (board_of (part_kind board)) node row →
     x ≡ open_weight (λ place. worth_of board.case.now.tree (board.root + place)) (refuted_by board.rows.marks.items) (node - board.root) (subtree_at board.case.now.tree node) →
     x ≡ open_weight (worth_on (board_of (part_kind board))) (refuted_by board.rows.marks.items) row (subtree_at (tree_on (board_of (part_kind board))) row)
@@ -74,6 +77,7 @@ part_open board node row x at e =
     (subtree_at (subtree_at board.case.now.tree root) row) = rw (← board.placed) (rw (p.is, part_tree board node row p) at e) in
     k
 
+-- a part's board takes each node from the part's root on
 pub part_takes : (board : PartBoard) (node : ℕ) → HasBelow board.case.now.tree board.root node → TakesNode (board_of (part_kind board)) node
 part_takes board node b =
     let reached : board.root ≤ node = b.reached in
@@ -93,6 +97,7 @@ lies_there cut tree node place l h =
       own = λ is. h;
     }
 
+-- an inner node above the cut has its own place
 pub own_place : (cut : ℕ) (tree : SplitTree) (node place : ℕ) → IsOwnPlace cut tree node place → IsPlaceOf cut tree node place
 own_place cut tree node place o = lies_there cut tree node place o.within o.here
 
@@ -108,23 +113,28 @@ part_not_own cut tree part place l e s =
     let k : IsSplit (subtree_at (top cut tree) r.0) = rw q at s in
     rw r.3 at k
 
+-- the top board takes each node with a place of its own
 pub own_takes : (board : TopBoard) (node : ℕ) → HasOwnPlace board.cut board.case.now.tree node → TakesNode (board_of (top_kind board)) node
 own_takes board node o = (
   o.0,
   record { is_row = record { within = o.1.within; here = o.1.here }; has_targets = o.1.inner },
 )
 
+-- each node that the top board takes has a place of its own
 pub takes_own : (board : TopBoard) (node : ℕ) → TakesNode (board_of (top_kind board)) node → HasOwnPlace board.cut board.case.now.tree node
 takes_own board node t = (t.0, record { within = t.1.is_row.within; here = t.1.is_row.here; inner = t.1.has_targets })
 
+-- the place that was found for a node is its row
 pub top_row : (board : TopBoard) (node row place : ℕ) → IsRowOn (board_of (top_kind board)) node row → IsPlaceOf board.cut board.case.now.tree node place → place ≡ row
 top_row board node row place at is = place_once board.cut board.case.now.tree node place row is (top_place board node row at)
 
+-- the place that was found for a node that the top board takes is the node's own
 pub top_own : (board : TopBoard) (node row place : ℕ) → IsTargetRow (board_of (top_kind board)) node row → IsPlaceOf board.cut board.case.now.tree node place →
     IsOwnPlace board.cut board.case.now.tree node place
 top_own board node row place at is =
     rw (top_row board node row place at.is_row is) (record { within = at.is_row.within; here = at.is_row.here; inner = at.has_targets })
 
+-- a node on the top board is one of the tree's
 pub top_inside : (board : TopBoard) (node row : ℕ) → IsRowOn (board_of (top_kind board)) node row → node < size board.case.now.tree
 top_inside board node row at = rw at.here at (node_within board.case.now.tree board.cut row at.within)
 
@@ -150,6 +160,7 @@ part_path : (board : PartBoard) (node row : ℕ) → IsPartRow board node row �
 part_path board node row p =
     sym (label_below branch [] [] board.case.now.tree board.root row board.inside p.within) ∙ ap (λ (i : ℕ). path_at board.case.now.tree i) p.there
 
+-- a node that is marked on a part's board has no model with its path
 pub part_sound_marked : (board : PartBoard) (node row : ℕ) → IsRowOn (board_of (part_kind board)) node row →
     marked (refuted_by board.rows.marks.items) row (subtree_at (tree_on (board_of (part_kind board))) row) ≡ true →
     IsRefuted board.case.now.formula (path_at board.case.now.tree node)
@@ -158,6 +169,7 @@ part_sound_marked board node row at m =
     rw (part_path board node row p) at (sound_row board.case.now.formula (refuted_by board.rows.marks.items) (path_at board.case.now.tree board.root)
     (subtree_at board.case.now.tree board.root) row board.sound p.within (rw (← board.placed) at m))
 
+-- a node that is refuted on a part's board has no model with its path
 pub part_sound_mark : (board : PartBoard) (node row : ℕ) → IsRowOn (board_of (part_kind board)) node row → mark_at board.rows.marks.items row ≡ Refuted →
     IsRefuted board.case.now.formula (path_at board.case.now.tree node)
 part_sound_mark board node row at m =
@@ -165,6 +177,7 @@ part_sound_mark board node row at m =
     rw (part_path board node row p) at (sound_mark board.case.now.formula board.rows.marks.items (path_at board.case.now.tree board.root)
     (subtree_at board.case.now.tree board.root) row board.sound p.within m)
 
+-- a node that is marked on the top board has no model with its path
 pub top_sound_marked : (board : TopBoard) (node row : ℕ) → IsRowOn (board_of (top_kind board)) node row →
     marked (refuted_by board.rows.marks.items) row (subtree_at (top board.cut board.case.now.tree) row) ≡ true →
     IsRefuted board.case.now.formula (path_at board.case.now.tree node)
@@ -172,6 +185,7 @@ top_sound_marked board node row at m =
     rw (path_of_top board.case.now.tree board.cut row at.within, at.here) at (sound_row board.case.now.formula (refuted_by board.rows.marks.items) []
     (top board.cut board.case.now.tree) row board.sound at.within m)
 
+-- a node that is refuted on the top board has no model with its path
 pub top_sound_mark : (board : TopBoard) (node row : ℕ) → IsRowOn (board_of (top_kind board)) node row → mark_at board.rows.marks.items row ≡ Refuted →
     IsRefuted board.case.now.formula (path_at board.case.now.tree node)
 top_sound_mark board node row at m =

@@ -227,6 +227,7 @@ new_boards above parts low place marks count each =
 
 -- ---- the board of a node
 
+-- a node with a part's place has its row on the part's board
 pub place_in_part : (cut : ℕ) (tree : SplitTree) (node place part : ℕ) → IsPlaceOf cut tree node place → part < part_count cut tree →
     part_place cut tree part ≡ place → IsPlaceFor cut tree node (Part part)
 place_in_part cut tree node place part p l e =
@@ -246,12 +247,14 @@ place_in_part cut tree node place part p l e =
 pub parts_listed : (cut : ℕ) (tree : SplitTree) (nodes : List ℕ) → nodes ≡ part_nodes cut 0 tree → length nodes ≡ part_count cut tree
 parts_listed cut tree nodes e = ap length (e ∙ parts_on_top cut tree) ∙ length-map (missing_nodes (top cut tree)) (top_node cut tree)
 
+-- as many parts are listed as there are
 pub part_listed : (cut : ℕ) (tree : SplitTree) (nodes : List ℕ) → nodes ≡ part_nodes cut 0 tree → (k : ℕ) → k < length nodes → k < part_count cut tree
 part_listed cut tree nodes e k l =
     let c : length nodes ≡ part_count cut tree = ap length (e ∙ parts_on_top cut tree) ∙ length-map (missing_nodes (top cut tree)) (top_node cut tree) in
     omega (arith, c)
 
 module _ (above : BoardOf) (parts : List BoardOf) (h : AreBoards above parts) where
+  -- the mark that the top board has of an own node is that of all boards
   pub mark_on_top : (target : Target) (node : ℕ) (mark : Mark) → IsPlaceFor above.cut above.case.tree node Top → IsTargetAt above.case.tree node target →
       ((i row : ℕ) → IsTargetAt above.case.tree i target → IsRowOn above i row → mark ≡ mark_at above.marks row) → mark ≡ mark_at (boards_of above parts).marks node
   mark_on_top target node mark p here is =
@@ -268,6 +271,7 @@ module _ (above : BoardOf) (parts : List BoardOf) (h : AreBoards above parts) wh
       let b = h.at_part k l in
       rw (part_is_there k board l e, b.case_is, b.cut_is, b.place_is) at
 
+  -- the mark that a part's board has is that of all boards
   pub mark_in_part : (k : ℕ) (target : Target) (node : ℕ) (board : BoardOf) (mark : Mark) → IsPlaceFor above.cut above.case.tree node (Part k) → IsTargetAt above.case.tree node target →
       board ≡ get_or parts k board →
       ((i row : ℕ) → IsTargetAt board.case.tree i target → IsRowOn board i row → mark ≡ mark_at board.marks row) → mark ≡ mark_at (boards_of above parts).marks node
@@ -278,6 +282,7 @@ module _ (above : BoardOf) (parts : List BoardOf) (h : AreBoards above parts) wh
       is node p.row (rw case here) (part_row_on k node p.row board p.is_place e p.is_row)
       ∙ (ap (λ (x : BoardOf). mark_at x.marks p.row) same ∙ read_in_part above parts h k node p.row p.is_place p.is_row)
 
+  -- the top board's root is marked exactly where the tree's root is
   pub root_on_top : (node : ℕ) (is_marked : Bool) → node ≡ 0 → ((row : ℕ) → IsRowOn above node row → is_marked ≡ marked (refuted_by above.marks) row (subtree_at (tree_on above) row)) →
       is_marked ≡ marked (refuted_by (boards_of above parts).marks) 0 above.case.tree
   root_on_top node is_marked e is =
@@ -285,11 +290,13 @@ module _ (above : BoardOf) (parts : List BoardOf) (h : AreBoards above parts) wh
       let t : tree_on above ≡ top above.cut above.case.tree = rw h.at_top.place_is refl in
       is 0 (rw h.at_top.place_is at) ∙ (ap (marked (refuted_by above.marks) 0) (subtree-root (tree_on above) ∙ t) ∙ root_agrees above parts h)
 
+-- the path of the root is empty
 pub root_path : (tree : SplitTree) → path_at tree 0 ≡ []
 root_path tree = label-root branch [] [] tree
 
 -- ---- making the parts' boards
 
+-- new boards of all places are boards together
 pub boards_new : (above : BoardOf) (parts : List BoardOf) (case : CaseOf) (cut : ℕ) → cut ≤ 6 → above.case ≡ case → above.cut ≡ cut → above.place ≡ Top →
     above.marks ≡ replicate (size (top cut case.tree)) Open → AreNewParts case cut parts (part_count cut case.tree) →
     AreBoards above parts × ((boards_of above parts).marks ≡ replicate (size case.tree) Open)

@@ -150,6 +150,7 @@ module _ (above : BoardOf) (parts : List BoardOf) (h : AreBoards above parts) (n
   was_open : (answer : Answer) → IsPost above new node mark answer → (answer ≡ Already → ⊥) → mark_at (boards_of above parts).marks node ≡ Open
   was_open answer p ne = sym (read_on_top above parts h node row at s) ∙ no_mark answer _ (p.already row own_row_on) ne
 
+  -- after a post on the top board the boards have that mark more
   pub after_top : (answer : Answer) → IsPost above new node mark answer → AfterTop answer
   after_top Marked p =
       let t = top_set Marked p (p.marks row own_row_on) in (t.0, t.1, (λ _. was_open Marked p (λ q. cc), λ _. refl))
@@ -166,6 +167,7 @@ pub record IsPostIn (above : BoardOf) (parts : List BoardOf) (k node : ℕ) (mar
   pub place : IsPlaceFor above.cut above.case.tree node (Part k)
   pub post : IsPost (get_or parts k above) new node mark answer
 
+-- a post on a part's board asks for what the board asks for
 pub post_in : (above : BoardOf) (parts : List BoardOf) → AreBoards above parts → (boards : BoardsOf) → boards_of above parts ≡ boards → (k node : ℕ) (mark : Mark) (old new : BoardOf)
     (answer : Answer) → IsPlaceFor boards.cut boards.case.tree node (Part k) → old ≡ get_or parts k old → IsPost old new node mark answer →
     IsPostIn above parts k node mark new answer
@@ -176,6 +178,7 @@ post_in above parts h boards v k node mark old new answer place e p =
 true_not_false : {A : Type 0} → false ≡ true → A
 true_not_false e = absurd (cc)
 
+-- a post that found a mark on a part's board changes none of the boards
 pub in_already : (above : BoardOf) (parts : List BoardOf) (h : AreBoards above parts) (boards : BoardsOf) → boards_of above parts ≡ boards → (k node : ℕ) (mark : Mark) (new : BoardOf) →
     IsPostIn above parts k node mark new Already →
     AreBoards above (set parts k new) × ((boards_of above (set parts k new)).marks ≡ boards.marks) × (false ≡ true ↔ (mark_at boards.marks node ≡ Open))
@@ -183,6 +186,7 @@ in_already above parts h boards v k node mark new p =
     let r = part_already above parts h k node p.place.row mark new p.place.is_place p.place.is_row p.post in
     rw (← v) (r.0, r.1, (λ f. true_not_false f, λ e. absurd (r.2 e)))
 
+-- after a post on a part's board the boards have that mark more
 pub in_marked : (above : BoardOf) (parts : List BoardOf) (h : AreBoards above parts) (boards : BoardsOf) → boards_of above parts ≡ boards → (k node : ℕ) (mark : Mark) (new : BoardOf) →
     IsPostIn above parts k node mark new Marked →
     AreBoards above (set parts k new) × ((boards_of above (set parts k new)).marks ≡ set boards.marks node mark) × (true ≡ true ↔ (mark_at boards.marks node ≡ Open))
@@ -193,6 +197,7 @@ in_marked above parts h boards v k node mark new p =
 part_of : (a b : ℕ) → Part a ≡ Part b → a ≡ b
 part_of a b e = cc
 
+-- after a post that marked a part's root, and the part's own, the boards have that mark more
 pub in_root_marked : (above : BoardOf) (parts : List BoardOf) (h : AreBoards above parts) (boards : BoardsOf) → boards_of above parts ≡ boards → (k node : ℕ) (mark : Mark) (old new : BoardOf) →
     IsPostIn above parts k node mark new RootMarked → old ≡ get_or parts k old → (part : ℕ) → old.place ≡ Part part → (there : BoardOf) (answer : Answer) →
     there.case ≡ above.case → there.cut ≡ above.cut → there.place ≡ above.place →

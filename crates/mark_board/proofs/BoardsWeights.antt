@@ -36,15 +36,18 @@ own_inner cut tree node row at (split v a b) e s =
       inner = inner_of (subtree_at tree node) v w.positive w.negative (ap (subtree_at tree) (sym here) ∙ w.is);
     }
 
+-- a node of the top board's own is an inner node
 pub own_is_inner : (cut : ℕ) (tree : SplitTree) (node : ℕ) → IsPlaceFor cut tree node Top → IsInner tree node
 own_is_inner cut tree node p = own_inner cut tree node p.row p.is_row (subtree_at (top cut tree) p.row) refl p.has_targets
 
+-- no inner node is a leaf
 pub not_both : (t : SplitTree) → IsSplit t → IsLeaf t → ⊥
 not_both missing s l = s
 not_both (cube k) s l = s
 not_both (split v p n) s l = l
 
 module _ (above : BoardOf) (parts : List BoardOf) (h : AreBoards above parts) where
+  -- a node of the top board's own has its row there
   pub own_row : (node : ℕ) (p : IsPlaceFor above.cut above.case.tree node Top) → IsTargetRow above node p.row
   own_row node p = record { is_row = rw h.at_top.place_is p.is_row; has_targets = rw h.at_top.place_is p.has_targets }
 
@@ -86,12 +89,14 @@ module _ (above : BoardOf) (parts : List BoardOf) (h : AreBoards above parts) wh
   abbrev OpenAt : BoardsOf → ℕ → ℕ
   OpenAt boards node = open_weight (worth_of boards.case.tree) (refuted_by boards.marks) node (subtree_at boards.case.tree node)
 
+  -- above the cut, the open weight below an unmarked node is that below its branches
   pub both_open : (boards : BoardsOf) → boards_of above parts ≡ boards → (node first second a b : ℕ) (mark : Mark) → AreBranches above.case.tree node first second →
       mark ≡ mark_at (boards_of above parts).marks node → (mark ≡ Refuted → ⊥) → a ≡ OpenAt boards first → b ≡ OpenAt boards second → a + b ≡ OpenAt boards node
   both_open boards v node first second a b mark branches e ne =
       subst (λ (x : BoardsOf). a ≡ OpenAt x first → b ≡ OpenAt x second → a + b ≡ OpenAt x node) v
       (λ f g. ap (λ (i : ℕ). i + b) f ∙ (ap (λ (i : ℕ). OpenAt (boards_of above parts) first + i) g ∙ both_below node first second mark branches e ne))
 
+-- an open weight is at most the total, and so fits
 pub open_fits : (tree : SplitTree) (refuted : ℕ → Bool) (node : ℕ) → node < size tree → total 0 tree ≤ 2 ^ 60 + 2 ^ 24 →
     open_weight (worth_of tree) refuted node (subtree_at tree node) < 2 ^ 64
 open_fits tree refuted node l t =

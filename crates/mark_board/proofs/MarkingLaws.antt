@@ -1,5 +1,5 @@
 -- Laws of marks and open weights.
-use Rattle.std.proofs.Common.{◌≡◌, ◌≢◌, ℕ, zero, suc, ◌+◌, ◌<◌, ◌≤◌, ◌&&◌, ◌||◌, ◌==◌, not, Bool, true, false, refl, ◌∙◌, inl, inr, arith, get_or, add-zero, List, [], ◌∷◌, ◌++◌, cond}
+use Rattle.std.proofs.Common.{◌≡◌, ◌≢◌, ℕ, suc, ◌+◌, ◌<◌, ◌≤◌, ◌&&◌, ◌||◌, ◌==◌, not, Bool, true, false, refl, ◌∙◌, inl, inr, arith, get_or, add-zero, List, [], ◌∷◌, ◌++◌, cond}
 use Rattle.std.proofs.lemmas.Bool.{cases_eq, cases_Bool, and_parts, and_from, or_cases}
 use Rattle.std.proofs.lemmas.Bool.Decides.{nat_tests}
 use Rattle.cnf_text.specs.Literal.{Literal}
@@ -8,7 +8,7 @@ use Rattle.split_tree.specs.SplitTree.{SplitTree, missing, cube, split, size, la
 use Rattle.split_tree.proofs.LawsRefuting.{both_refuted}
 use Rattle.split_tree.proofs.NodesCoding.{some_node}
 use Rattle.split_tree.proofs.SplitTreeLabels.{label_positive, label_negative, label-root}
-use Rattle.mark_board.specs.Marking.{marked, open_weight, whole_weight, open_below, marked_on_top, open_on_top, NodeWithTree, wholly_open, open_branches, weight_under, AreApart, AreRefuted, IsWithin}
+use Rattle.mark_board.specs.Marking.{marked, open_weight, whole_weight, open_below, NodeWithTree, wholly_open, open_branches, weight_under, AreApart, AreRefuted, IsWithin}
 
 -- each leaf from this node on weighs something
 abbrev pub Weighs : (ℕ → ℕ) → ℕ → SplitTree → Type 0

@@ -324,5 +324,6 @@ module _ (refuted : ℕ → Bool) (whole : SplitTree) where
       let inside : place.node < size whole = is.within in
       listed_has 0 whole some (subtree-root whole) place (listed_of place is) (omega arith) (omega arith)
 
+-- the open branches are all wholly open nodes whose parents aren't
 pub are_all : OpenBranchesAreAll
 are_all refuted tree place = (all_listed refuted tree place, all_stand refuted tree place)

@@ -7,7 +7,7 @@ use Rattle.split_tree.specs.SplitTree.{SplitTree, size, subtree_at, labels, bran
 use Rattle.split_tree.specs.Navigation.{HasBelow}
 use Rattle.split_tree.specs.Leaves.{IsTargetAt}
 use Rattle.split_tree.specs.declared.node.Target.{Target}
-use Rattle.split_tree.proofs.SplitTreeLabels.{label_below}
+use Rattle.split_tree.proofs.SplitTreeLabels.{below, label_below}
 use Rattle.hint_check.specs.declared.Judged.{Judged}
 use Rattle.hint_check.specs.declared.Judged.TheVariants.{Refuted as judged_refuted, Rejected as judged_rejected}
 use Rattle.case_core.specs.Case.{CaseOf}
@@ -55,6 +55,7 @@ sound_set formula path t place marks mark new old r l k =
       ]
     ]
 
+-- after a post that is sound, what is marked has no model
 pub sound_after : (formula : List (List Literal)) (path : List Literal) (t : SplitTree) (place : ℕ) (marks : List Mark) (mark : Mark) (answer : Answer) →
     (mark ≡ Refuted → place < size t → IsRefuted formula (get_or (labels branch path t) place [])) →
     AreRefuted formula (refuted_by marks) path 0 t → AreRefuted formula (refuted_by (marks_after answer marks place mark)) path 0 t
@@ -82,10 +83,19 @@ finding_in_part case target judged root node h b s here m l =
     ap (λ (i : ℕ). path_at case.tree i) (sym q) ∙ label_below branch [] [] case.tree root (node - root) h l in
     rw p at (finding_sound case target judged node s here m)
 
+-- a node below another is one of the tree there
 pub place_within : (tree : SplitTree) (root node : ℕ) → HasBelow tree root node → node - root < size (subtree_at tree root)
 place_within tree root node b =
     let l : root ≤ node = b.reached in
     let e : node < root + size (subtree_at tree root) = b.before_end in omega arith
+
+-- the tree at a node below another, in the tree there
+pub subtree_below : (tree : SplitTree) (root node : ℕ) → root < size tree → HasBelow tree root node
+    → subtree_at tree node ≡ subtree_at (subtree_at tree root) (node - root)
+subtree_below tree root node inside b =
+    let r = b.reached in
+    let q : root + (node - root) ≡ node = omega (arith, r) in
+    ap (λ i. subtree_at tree i) (sym q) ∙ below tree root (node - root) inside (place_within tree root node b)
 
 -- a marked root has no model
 pub root_refuted : (formula : List (List Literal)) (path : List Literal) (t : SplitTree) (refuted : ℕ → Bool) → AreRefuted formula refuted path 0 t →

@@ -18,6 +18,7 @@ pub record Walked (tree : SplitTree) (refuted : ℕ → Bool) (targets : List Ta
   pub clear : IsClear refuted tree number
   pub within : number ≤ size tree
 
+-- at first no node was passed
 pub walk_start : (tree : SplitTree) (refuted : ℕ → Bool) → Walked tree refuted [] 0
 walk_start tree refuted = record { listed = []; all = from_start refuted tree; stand = tt; clear = clear_start refuted tree; within = omega arith }
 
@@ -30,6 +31,7 @@ one_more tree (t ∷ targets) (p ∷ places) target place h at = (h.0, one_more 
 
 module _ (tree : SplitTree) (refuted : ℕ → Bool) (targets : List Target) (number end weight : ℕ) (w : Walked tree refuted targets number) (l : number < size tree)
     (e : end ≡ number + size (subtree_at tree number)) (is : weight ≡ open_weight (worth_of tree) refuted number (subtree_at tree number)) where
+  -- below a node with nothing open, nothing is listed
   pub walk_past : weight ≡ 0 → Walked tree refuted targets end
   walk_past z = rw e (record {
     listed = w.listed;
@@ -39,6 +41,7 @@ module _ (tree : SplitTree) (refuted : ℕ → Bool) (targets : List Target) (nu
     within = inside tree number l;
   })
 
+  -- a wholly open node is listed, and the walk goes on behind it
   pub walk_list : (weight ≡ 0 → ⊥) → weight ≡ worth_of tree number → (target : Target) → IsTargetAt tree number target → Walked tree refuted (targets ++ target ∷ []) end
   walk_list some whole target at = rw e (record {
     listed = w.listed ++ record { node = number; tree = subtree_at tree number } ∷ [];
@@ -50,6 +53,7 @@ module _ (tree : SplitTree) (refuted : ℕ → Bool) (targets : List Target) (nu
     within = inside tree number l;
   })
 
+  -- below a node that is open in part, the walk goes on
   pub walk_into : (weight ≡ 0 → ⊥) → (weight ≡ worth_of tree number → ⊥) → Walked tree refuted targets (number + 1)
   walk_into some part =
       let free = some_not_marked tree refuted number (λ z. some (is ∙ z)) in
@@ -63,6 +67,7 @@ module _ (tree : SplitTree) (refuted : ℕ → Bool) (targets : List Target) (nu
         within = omega arith;
       })
 
+-- once all nodes were passed, the list has all open branches
 pub walk_end : (tree : SplitTree) (refuted : ℕ → Bool) (targets : List Target) (number : ℕ) → Walked tree refuted targets number → size tree ≤ number →
     AreTargetsAt tree targets (open_branches refuted 0 tree)
 walk_end tree refuted targets number w l =

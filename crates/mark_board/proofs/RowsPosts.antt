@@ -126,14 +126,17 @@ zero_is false x f g = elim (cases_eq x 0) [ inl e ↦ let k : false ≡ true = f
 
 -- ---- a mark that is read
 
+-- the mark that is read at a row is the row's
 pub mark_read : (tree : SplitTree) (marks : List Mark) (node : ℕ) (x : Mark) → length marks ≡ size tree →
     node < size tree → x ≡ get_or marks node x → x ≡ mark_at marks node
 mark_read tree marks node x b h e = get_or_read marks node x (omega (arith, b)) e Open
 
+-- a row with a refuted mark is refuted
 pub refuted_read : (tree : SplitTree) (marks : List Mark) (node : ℕ) (x : Mark) → length marks ≡ size tree →
     node < size tree → x ≡ get_or marks node x → x ≡ Refuted → refuted_by marks node ≡ true
 refuted_read tree marks node x b h e r = ap is_refuted (sym (mark_read tree marks node x b h e) ∙ r)
 
+-- a row with another mark than a refuted one isn't refuted
 pub clear_read : (tree : SplitTree) (marks : List Mark) (node : ℕ) (x : Mark) → length marks ≡ size tree →
     node < size tree → x ≡ get_or marks node x → (x ≡ Refuted → ⊥) → refuted_by marks node ≡ false
 clear_read tree marks node x b h e r = ap is_refuted (sym (mark_read tree marks node x b h e)) ∙ not_refuted_mark x r
@@ -169,6 +172,7 @@ new_kept tree worth weights w l h = record {
 written : (old new : List ℕ) (n : ℕ) → length new ≡ length old → n ≡ length old → take n (new ++ drop (length new) old) ≡ new
 written old new n e f = rw (drop_all (length new) old (omega arith), append-nil new) (take_all n new (omega arith))
 
+-- after a refutation the board keeps what it has to
 pub kept_refuted : (tree : SplitTree) (worth : ℕ → ℕ) (marks : List Mark) (old lent new : List ℕ) (n node first : ℕ) → AreRowsKept tree worth marks old → node < size tree → lent ≡ old → length lent ≡ n →
     CoversFrom tree worth (refuted_by marks) node first → TakesWeight tree first node (get_or lent node 0) lent new →
     AreRowsKept tree worth (set marks node Refuted) (take n (new ++ drop (length new) old))
@@ -180,6 +184,7 @@ kept_refuted tree worth marks old lent new n node first k h e l s t =
       board = refuted_board tree worth marks old new node first Refuted k.board h refl s t2;
     })
 
+-- a rejected proof leaves the open weights as they are
 pub kept_rejected : (tree : SplitTree) (worth : ℕ → ℕ) (marks : List Mark) (weights : List ℕ) (node : ℕ) (mark : Mark) → AreRowsKept tree worth marks weights → node < size tree → mark_at marks node ≡ Open →
     (mark ≡ Refuted → ⊥) → AreRowsKept tree worth (set marks node mark) weights
 kept_rejected tree worth marks weights node mark k h e n = record {
@@ -187,6 +192,7 @@ kept_rejected tree worth marks weights node mark k h e n = record {
   board = rejected_board tree worth marks weights node mark k.board h e n;
 }
 
+-- a rejected proof marks no root
 pub rejected_root : (tree : SplitTree) (worth : ℕ → ℕ) (marks : List Mark) (weights : List ℕ) (node : ℕ) (mark : Mark) → AreRowsKept tree worth marks weights → node < size tree → mark_at marks node ≡ Open →
     (mark ≡ Refuted → ⊥) → MarksRoot tree marks (set marks node mark) → ⊥
 rejected_root tree worth marks weights node mark k h e n r =
@@ -195,6 +201,7 @@ rejected_root tree worth marks weights node mark k h e n r =
     let both : true ≡ false = sym r.is ∙ (same ∙ r.was) in
     absurd (cc)
 
+-- each node on the way has at least the weight that a new mark takes
 pub enough_kept : (tree : SplitTree) (worth : ℕ → ℕ) (marks : List Mark) (old lent : List ℕ) (node first : ℕ) → AreRowsKept tree worth marks old → node < size tree → lent ≡ old →
     CoversFrom tree worth (refuted_by marks) node first → (j : ℕ) → first ≤ j → j < length lent → HasBelow tree j node →
     get_or lent node 0 ≤ get_or lent j 0
@@ -234,6 +241,7 @@ root_then tree worth marks old new node x y b k l e h f g = (
   λ r. let z : y ≡ 0 = root_zero tree worth (set marks node Refuted) new y l f r.is in g ∙ test_same y 0 z,
 )
 
+-- where nothing is open before it, a refutation marks no root
 pub root_else : (tree : SplitTree) (worth : ℕ → ℕ) (marks : List Mark) (old : List ℕ) (node x : ℕ) (b : Bool) → AreRowsKept tree worth marks old → x ≡ get_or old 0 x → x ≤ 0 → b ≡ nat_lt 0 x →
     (b ≡ true) ↔ MarksRoot tree marks (set marks node Refuted)
 root_else tree worth marks old node x b k e h g =
@@ -250,6 +258,7 @@ kept_marked tree worth marks weights node x k h e =
     zero_is (marked (refuted_by marks) node (subtree_at tree node)) x (λ z. zero_marked tree worth marks weights node k.weighed k.board h (sym e ∙ z))
     (λ m. e ∙ marked_zero tree worth marks weights node k.board h m)
 
+-- the first number of a board is its open weight
 pub kept_open : (tree : SplitTree) (worth : ℕ → ℕ) (marks : List Mark) (weights : List ℕ) (x : ℕ) → AreRowsKept tree worth marks weights →
     x ≡ get_or weights 0 0 → x ≡ open_weight worth (refuted_by marks) 0 tree
 kept_open tree worth marks weights x k e =
@@ -257,5 +266,6 @@ kept_open tree worth marks weights x k e =
     let s : 0 < size tree = omega (arith, some_node tree) in
     e ∙ rw r at (k.board.are_open.is 0 s)
 
+-- a board has a row
 pub kept_some : (tree : SplitTree) (worth : ℕ → ℕ) (marks : List Mark) (weights : List ℕ) → AreRowsKept tree worth marks weights → 0 < length weights
 kept_some tree worth marks weights k = some_row tree worth marks weights k.board

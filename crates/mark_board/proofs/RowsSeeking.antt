@@ -153,6 +153,8 @@ step_same worth refuted tree node target next s l h k d own =
 
 -- ---- the way down
 
+-- on the way down to the target: of what is open there, nodes before `first` have nothing open
+-- below them, and those from there on the same
 pub record IsSought (tree : SplitTree) (worth : ℕ → ℕ) (refuted : ℕ → Bool) (target here first : ℕ) : Type 0 where
   pub has_first : HasBelow tree first target
   pub has_here : HasBelow tree here target
@@ -164,6 +166,7 @@ pub record IsSought (tree : SplitTree) (worth : ℕ → ℕ) (refuted : ℕ → 
 pub root_has : (tree : SplitTree) (target : ℕ) → target < size tree → HasBelow tree 0 target
 root_has tree target h = let r : subtree_at tree 0 ≡ tree = subtree-root tree in record { reached = omega arith; before_end = rw r (omega arith) }
 
+-- at the root the first one is the root
 pub seek_start : (tree : SplitTree) (worth : ℕ → ℕ) (refuted : ℕ → Bool) (target : ℕ) → target < size tree → IsSought tree worth refuted target 0 0
 seek_start tree worth refuted target h = record {
   has_first = root_has tree target h;
@@ -173,6 +176,7 @@ seek_start tree worth refuted target h = record {
   clear = λ j l m b. let z : j ≡ 0 = omega arith in rw z refl;
 }
 
+-- below a node that isn't refuted the first one stays
 pub seek_clear : (tree : SplitTree) (worth : ℕ → ℕ) (refuted : ℕ → Bool) (target here first next : ℕ) → IsSought tree worth refuted target here first →
     target < size tree → here < target → StepsDown tree here target next → refuted here ≡ false → IsSought tree worth refuted target next first
 seek_clear tree worth refuted target here first next s h l d own =
@@ -195,6 +199,7 @@ seek_clear tree worth refuted target here first next s h l d own =
       ];
     }
 
+-- below a refuted node the first one is the next node
 pub seek_past : (tree : SplitTree) (worth : ℕ → ℕ) (refuted : ℕ → Bool) (target here first next : ℕ) → IsSought tree worth refuted target here first →
     here < target → StepsDown tree here target next → refuted here ≡ true → IsSought tree worth refuted target next next
 seek_past tree worth refuted target here first next s l d own =
@@ -214,6 +219,7 @@ seek_past tree worth refuted target here first next s l d own =
       clear = λ j f m b. let e : j ≡ next = omega arith in rw e refl;
     }
 
+-- at the target it is known what a new mark there covers
 pub seek_end : (tree : SplitTree) (worth : ℕ → ℕ) (refuted : ℕ → Bool) (target here first : ℕ) → IsSought tree worth refuted target here first →
     here ≡ target → CoversFrom tree worth refuted target first
 seek_end tree worth refuted target here first s e = record {

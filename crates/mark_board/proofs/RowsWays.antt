@@ -7,14 +7,17 @@ use Rattle.mark_board.specs.Inner.Rows.{StepsDown}
 
 -- ---- from places to nodes of the whole tree and back
 
+-- a node below another is one of the tree's
 pub target_within : (tree : SplitTree) (node target : ℕ) → IsBelow tree node target → target < size tree
 target_within tree node target b =
     let w : node + size (subtree_at tree node) ≤ size tree = inside tree node b.within in
     let e : target < node + size (subtree_at tree node) = b.before_end in omega arith
 
+-- a row's node number fits
 pub place_fits : (tree : SplitTree) (root target : ℕ) → root < size tree → size tree < 2 ^ 32 → target < size (subtree_at tree root) → root + target < 2 ^ 32
 place_fits tree root target h f l = let w : root + size (subtree_at tree root) ≤ size tree = inside tree root h in omega arith
 
+-- what lies below a node of the part's tree lies below it in the whole tree
 pub whole_below : (tree : SplitTree) (root node target : ℕ) → root < size tree → IsBelow (subtree_at tree root) node target → IsBelow tree (root + node) (root + target)
 whole_below tree root node target h b =
     let w : root + size (subtree_at tree root) ≤ size tree = inside tree root h in
@@ -24,6 +27,7 @@ whole_below tree root node target h b =
     let s : subtree_at tree (root + node) ≡ subtree_at (subtree_at tree root) node = below tree root node h n in
     record { within = omega arith; later = omega arith; before_end = rw s (omega arith) }
 
+-- a step of the whole tree is one of the part's tree
 pub steps_down : (tree : SplitTree) (root node target next : ℕ) → root < size tree → IsBelow (subtree_at tree root) node target →
     StepsToward tree (root + node) (root + target) next → StepsDown (subtree_at tree root) node target (next - root)
 steps_down tree root node target next h b s =

@@ -94,6 +94,7 @@ part_kept tree weights rows marks root n t h e r m =
     rw (r, m) (new_kept (subtree_at tree root) (λ place. worth_of tree (root + place)) (take n (drop root weights)) (part_weighed tree root h)
     (part_rows tree weights root n t h e) (part_worths tree weights root n t h e))
 
+-- a board with nothing posted is sound
 pub part_sound : (formula : List (List Literal)) (path : List Literal) (t : SplitTree) (n : ℕ) (marks : List Mark) → marks ≡ replicate n Open →
     AreRefuted formula (refuted_by marks) path 0 t
 part_sound formula path t n marks e = rw e (sound_first formula path t n)

@@ -102,10 +102,12 @@ at_place cut tree place l =
     rw (zero-add place, zero-add cut) at (at_depth tree (top_node cut tree) 0 cut 0 0 tree (omega (arith, some_node tree)) (subtree-root tree)
     (label-root (λ (a : ℕ) (b : ℕ) (c : Bool). suc a) 0 0 tree) (λ j k. rw (zero-add j) refl) place l)
 
+-- an inner node of the tree above the cut lies at a depth below the cut
 pub own_above : (cut : ℕ) (tree : SplitTree) (node place : ℕ) → IsPlaceOf cut tree node place → IsSplit (subtree_at (top cut tree) place) →
     (depth_at tree node < cut) × IsSplit (subtree_at tree node)
 own_above cut tree node place h s = rw (h.own s) at ((at_place cut tree place h.within).inner s)
 
+-- an inner node at a depth below the cut stands at its place
 pub above_own : (cut : ℕ) (tree : SplitTree) (node place : ℕ) → IsPlaceOf cut tree node place → depth_at tree node < cut → IsSplit (subtree_at tree node) →
     IsSplit (subtree_at (top cut tree) place)
 above_own cut tree node place h d s = elim (splits_or_not (subtree_at (top cut tree) place)) [

@@ -173,12 +173,14 @@ top_kept tree cut nodes rows marks e r m =
 
 -- ---- the way down the top board to the place of a node
 
+-- each node of the tree lies below the root's place
 pub place_root : (tree : SplitTree) (cut x : ℕ) → x < size tree → (0 < size (top cut tree)) × HasBelow tree (top_node cut tree 0) x
 place_root tree cut x l =
     let z : top_node cut tree 0 ≡ 0 = top_first cut 0 tree in
     let s : subtree_at tree 0 ≡ tree = subtree-root tree in
     (omega (arith, some_node (top cut tree)), record { reached = rw z (omega arith); before_end = rw (z, s) (omega arith) })
 
+-- a node before the second branch lies below the first
 pub place_first : (tree : SplitTree) (cut place first second x : ℕ) → place < size (top cut tree) → AreBranches (top cut tree) place first second →
     HasBelow tree (top_node cut tree place) x → (top_node cut tree place ≡ x → ⊥) → x < top_node cut tree second →
     (first < size (top cut tree)) × HasBelow tree (top_node cut tree first) x
@@ -195,6 +197,7 @@ place_first tree cut place first second x l b h ne less =
       record { reached = rw one (omega (arith, ne)); before_end = rw (one, w.positive) (omega (arith, two)) },
     )
 
+-- a node from the second branch on lies below the second
 pub place_second : (tree : SplitTree) (cut place first second x : ℕ) → place < size (top cut tree) → AreBranches (top cut tree) place first second →
     HasBelow tree (top_node cut tree place) x → top_node cut tree second ≤ x →
     (second < size (top cut tree)) × HasBelow tree (top_node cut tree second) x
@@ -207,6 +210,7 @@ place_second tree cut place first second x l b h more =
     let e2 : x < top_node cut tree place + suc (size s.positive + size s.negative) = rw s.is at e in
     (b.within, record { reached = more; before_end = rw (two, w.negative) (omega arith) })
 
+-- where a place's node is the one that is sought, it is its place
 pub place_own : (tree : SplitTree) (cut place x : ℕ) → place < size (top cut tree) → HasBelow tree (top_node cut tree place) x →
     top_node cut tree place ≡ x → IsPlaceOf cut tree x place
 place_own tree cut place x l h e = record { within = l; below = h; own = λ s. e }
@@ -221,9 +225,11 @@ no_cube_above tree cut place k l e =
 
 -- ---- the table of the nodes at the places
 
+-- as many numbers are listed as the tree above the cut has nodes
 pub nodes_long : (tree : SplitTree) (cut : ℕ) (nodes : List ℕ) → nodes ≡ top_nodes cut 0 tree → length nodes ≡ size (top cut tree)
 nodes_long tree cut nodes e = rw e (length-top_nodes cut 0 tree)
 
+-- the number that is read at a place is that of the place's node
 pub nodes_read : (tree : SplitTree) (cut : ℕ) (nodes : List ℕ) (place x : ℕ) → nodes ≡ top_nodes cut 0 tree → place < size (top cut tree) →
     x ≡ get_or nodes place x → x ≡ top_node cut tree place
 nodes_read tree cut nodes place x e l h =

@@ -49,6 +49,7 @@ part_known cut tree roots part e l =
     rw (e, parts_on_top cut tree) (length-mapped (top_node cut tree) (missing_nodes (top cut tree))) in
     omega (arith, k, l)
 
+-- the root that is read for a part is the part's
 pub part_read : (cut : ℕ) (tree : SplitTree) (roots : List ℕ) (part x : ℕ) → roots ≡ part_nodes cut 0 tree → part < part_count cut tree →
     x ≡ get_or roots part x → x ≡ part_root cut tree part
 part_read cut tree roots part x e l h =

@@ -13,10 +13,12 @@ use Rattle.split_tree.specs.Inner.Clash.{IsFitting, ClashesAt, FaultAfter}
 some_literal : Literal
 some_literal = record { variable = 0; positive = true }
 
+-- where the left cube has ended and the right one hasn't, one begins the other
 pub overlap_right : (n : ℕ) (left right : List Literal) → length left ≤ n → n < length right →
     relation_of (drop n left) (drop n right) ≡ Prefix
 overlap_right n left right h k = rw (drop_all n left h, drop_more right n some_literal k) refl
 
+-- where the right cube has ended and the left one hasn't, one begins the other
 pub overlap_left : (n : ℕ) (left right : List Literal) → length right ≤ n → n < length left →
     relation_of (drop n left) (drop n right) ≡ Prefix
 overlap_left n left right h k = rw (drop_all n right h, drop_more left n some_literal k) refl
@@ -90,14 +92,17 @@ fitting_clash cubes n cube f e none =
     let h : n < length cubes = f.within in
     f.clash (below_fit (n + 1) cubes (omega arith) (fit_more cubes n cube h e (fit_below n cubes (omega arith) f.fit) none))
 
+-- the clash of the cube behind the first that fit is the first clash of all
 pub fitting_fault : (cubes : List (List Literal)) (n : ℕ) (cube : List Literal) (fault : TreeFault) → IsFitting cubes n → cube_at cubes n ≡ cube →
     FaultAfter (Some fault) (take n cubes) cube → IsClashFault cubes fault
 fitting_fault cubes n cube fault f e some =
     let h : n < length cubes = f.within in
     fault_from cubes n cube h e (fit_below n cubes (omega arith) f.fit) fault some
 
+-- the first of the cubes, as lists
 pub cubes_of-take : {Z : Type 0} (n : ℕ) (vs : List (Vec Literal Z)) → cube_lists (take n vs) ≡ take n (cube_lists vs)
 cubes_of-take {Z} n vs = sym (take-map (λ (v : Vec Literal Z). v.items) n vs)
 
+-- as many lists as cubes
 pub length-cubes_of : {Z : Type 0} (vs : List (Vec Literal Z)) → length (cube_lists vs) ≡ length vs
 length-cubes_of {Z} vs = length-map vs (λ (v : Vec Literal Z). v.items)

@@ -144,6 +144,7 @@ fit_going sign v (c ∷ cubes) h k = fit_going_one sign v c.number c.literals cu
 
 -- ---- lists that wait
 
+-- what falls in each turn: the waiting lists, and twice their literals
 pub weigh : List (List Numbered) → ℕ
 weigh [] = 0
 weigh (c ∷ waiting) = 1 + 2 * literals_of c + weigh waiting
@@ -166,9 +167,11 @@ pub record Grows (start : List Numbered) (shapes : List Shape) (ws : List (List 
   pub completes : Completes start shapes ws
   pub fit : AreFit start → AllByRecursion AreFit ws
 
+-- at first there are no shapes, and all cubes wait
 pub grows_start : (start : List Numbered) → Grows start [] (start ∷ [])
 grows_start start = record { completes = one_tree start; fit = λ h. (h, tt) }
 
+-- the last waiting list was a leaf's
 pub grows_leaf : (start : List Numbered) (shapes : List Shape) (ws : List (List Numbered)) (c : List Numbered) (s : Shape) →
     Grows start shapes (ws ++ c ∷ []) → IsShapeAt (Some s) c → ((v : ℕ) → s ≡ Split v → ⊥) → Grows start (shapes ++ s ∷ []) ws
 grows_leaf start shapes ws c Missing g h n =
@@ -177,6 +180,7 @@ grows_leaf start shapes ws c (Cube k) g h n =
     record { completes = leaf_step start shapes ws c (cube k) (Cube k) g.completes h refl; fit = λ f. (all_pop AreFit ws c (g.fit f)).0 }
 grows_leaf start shapes ws c (Split v) g h n = absurd (n v refl)
 
+-- the last waiting list was split, and the lists of its two branches wait
 pub grows_split : (start : List Numbered) (shapes : List Shape) (ws : List (List Numbered)) (c : List Numbered) (v : ℕ) →
     Grows start shapes (ws ++ c ∷ []) → IsShapeAt (Some (Split v)) c →
     Grows start (shapes ++ Split v ∷ []) ((ws ++ going false c ∷ []) ++ going true c ∷ [])
@@ -187,17 +191,21 @@ grows_split start shapes ws c v g h = record {
       (all_push AreFit ws (going false c) r.0 (fit_going false v c r.1 h.1)) (fit_going true v c r.1 h.1);
 }
 
+-- where a waiting list has a clash, so have the cubes
 pub grows_clash : (start : List Numbered) (shapes : List Shape) (ws : List (List Numbered)) (c : List Numbered) →
     Grows start shapes (ws ++ c ∷ []) → (AreFit c → ⊥) → AreFit start → ⊥
 grows_clash start shapes ws c g h f = h (all_pop AreFit ws c (g.fit f)).1
 
+-- where no list waits any more, the shapes are those of a tree of the cubes
 pub grows_all : (start : List Numbered) (shapes : List Shape) → Grows start shapes [] →
     (t : SplitTree) × IsTreeOf t start × (preorder t ≡ shapes)
 grows_all start shapes g = let r = g.completes [] tt in (r.0, r.1, r.2 ∙ append-nil shapes)
 
+-- what waits weighs less without a list
 pub lighter_leaf : (ws : List (List Numbered)) (c : List Numbered) → weigh ws < weigh (ws ++ c ∷ [])
 lighter_leaf ws c = let h : weigh (ws ++ c ∷ []) ≡ weigh ws + (1 + 2 * literals_of c) = weigh_push ws c in omega arith
 
+-- what waits weighs less after a split
 pub lighter_split : (ws : List (List Numbered)) (c : List Numbered) (v : ℕ) → IsShapeAt (Some (Split v)) c →
     weigh ((ws ++ going false c ∷ []) ++ going true c ∷ []) < weigh (ws ++ c ∷ [])
 lighter_split ws c v h =
@@ -209,6 +217,7 @@ lighter_split ws c v h =
     let f : 0 < length c = some_length c h.0 in
     omega arith
 
+-- one more list waits
 pub waiting_push : {Z : Type 0} (new old : List (Vec Ahead Z)) (v : Vec Ahead Z) → new ≡ old ++ v ∷ [] →
     waiting new ≡ waiting old ++ cubes_ahead v.items ∷ []
 waiting_push {Z} new old v e = ap (λ (vs : List (Vec Ahead Z)). waiting vs) e ∙ map-append (λ (w : Vec Ahead Z). cubes_ahead w.items) old (v ∷ [])

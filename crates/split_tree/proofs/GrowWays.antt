@@ -35,6 +35,7 @@ nothing_ahead : (literals : List Literal) → None ≡ slice_get literals 0 → 
 nothing_ahead [] h = refl
 nothing_ahead (l ∷ literals) h = cc
 
+-- a cube that has ended, alone
 pub alone : (cubes : List Ahead) (f : Ahead) → Some f ≡ slice_get cubes 0 → None ≡ slice_get f.literals.now 0 →
     length cubes ≡ 1 → cubes_ahead cubes ≡ record { number = f.number; literals = [] } ∷ []
 alone [] f h e l = cc
@@ -44,10 +45,12 @@ alone (c ∷ []) f h e l =
     let j : f.literals.now ≡ [] = nothing_ahead f.literals.now e in
     rw (← i, j) refl
 
+-- with a first cube there are some
 pub some_ahead : (cubes : List Ahead) (f : Ahead) → Some f ≡ slice_get cubes 0 → cubes_ahead cubes ≢ []
 some_ahead [] f h e = cc
 some_ahead (c ∷ cubes) f h e = cc
 
+-- a cube that has ended clashes with others beside it
 pub ended_clash : (cubes : List Ahead) (f : Ahead) → Some f ≡ slice_get cubes 0 → None ≡ slice_get f.literals.now 0 →
     (length cubes ≡ 1 → ⊥) → AreFit (cubes_ahead cubes) → ⊥
 ended_clash [] f h e l a = cc
@@ -66,6 +69,7 @@ split_ahead c (m ∷ literals) l cubes i h a =
     let j : l ≡ m = cc in
     rw (j, i) (refl, all_fit_split m literals cubes (rw i at a))
 
+-- where cubes fit and the first goes on with a literal, all of them split on its variable
 pub all_split : (cubes : List Ahead) (f : Ahead) (l : Literal) → Some f ≡ slice_get cubes 0 → Some l ≡ slice_get f.literals.now 0 →
     AreFit (cubes_ahead cubes) → AllByRecursion (λ c. SplitsOn l.variable c.literals) (cubes_ahead cubes)
 all_split [] f l h e a = cc

@@ -20,6 +20,7 @@ missing_least n (missing ∷ trees) (suc k) h = let a : suc n ≤ get_or (missin
 missing_least n (cube j ∷ trees) k h = let a : suc n ≤ get_or (missing_from (suc n) trees) k 0 = missing_least (suc n) trees k h in omega arith
 missing_least n (split v p q ∷ trees) k h = let a : suc n ≤ get_or (missing_from (suc n) trees) k 0 = missing_least (suc n) trees k h in omega arith
 
+-- missing leaves are listed by rising numbers
 pub missing_rise : (n : ℕ) (trees : List SplitTree) (i j : ℕ) → i ≤ j → j < length (missing_from n trees) →
     get_or (missing_from n trees) i 0 ≤ get_or (missing_from n trees) j 0
 missing_rise n [] i j l h = absurd (omega arith)
@@ -66,6 +67,7 @@ missing_not n (split v p q) rest e = refl
 abbrev pub Listed : SplitTree → ℕ → List ℕ → Type 0
 Listed tree i nodes = nodes ++ missing_from i (drop i (subtrees tree)) ≡ missing_nodes tree
 
+-- a missing leaf is listed behind those before it
 pub listed_more : (tree : SplitTree) (i : ℕ) (nodes : List ℕ) → i < size tree → Missing ≡ root_shape (subtree_at tree i) → Listed tree i nodes →
     Listed tree (i + 1) (nodes ++ i ∷ [])
 listed_more tree i nodes h e k =
@@ -75,6 +77,7 @@ listed_more tree i nodes h e k =
     let old = rw (drop_more (subtrees tree) i missing l, here) at k in
     rw (append_assoc nodes (i ∷ []) (missing_from (i + 1) (drop (i + 1) (subtrees tree)))) (rw (← q) at old)
 
+-- a node that is no missing leaf is passed over
 pub listed_past : (tree : SplitTree) (i : ℕ) (nodes : List ℕ) → i < size tree → (Missing ≡ root_shape (subtree_at tree i) → ⊥) → Listed tree i nodes →
     Listed tree (i + 1) nodes
 listed_past tree i nodes h e k =
@@ -84,6 +87,7 @@ listed_past tree i nodes h e k =
     let old = rw (drop_more (subtrees tree) i missing l, here) at k in
     rw (← q) at old
 
+-- once all nodes were looked at, all missing leaves are listed
 pub listed_all : (tree : SplitTree) (i : ℕ) (nodes : List ℕ) → size tree ≤ i → Listed tree i nodes → nodes ≡ missing_nodes tree
 listed_all tree i nodes h k =
     let l : length (subtrees tree) ≤ i = rw (length-subtrees tree) h in
@@ -104,6 +108,7 @@ subtrees_ahead n (split v p q) rest =
     ap (λ (m : ℕ). length (missing_from m rest)) e in
     rw (append_assoc (subtrees p) (subtrees q) rest) (omega (arith, a, b, f))
 
+-- the leaves are the missing ones and the cubes'
 pub count_leaves : (tree : SplitTree) → length (missing_nodes tree) + cube_count tree ≡ leaf_count tree
 count_leaves tree =
     let a = subtrees_ahead 0 tree [] in
@@ -111,6 +116,7 @@ count_leaves tree =
     let b : length (missing_from 0 (subtrees tree)) + cube_count tree ≡ leaf_count tree + 0 = rw e at a in
     omega arith
 
+-- a tree has no more leaves than nodes
 pub few_leaves : (tree : SplitTree) → leaf_count tree ≤ size tree
 few_leaves missing = omega arith
 few_leaves (cube k) = omega arith
@@ -122,6 +128,7 @@ few_leaves (split v p n) = let a : leaf_count p ≤ size p = few_leaves p in let
 abbrev pub Placed : SplitTree → ℕ → List ℕ → Type 0
 Placed tree i nodes = (j k : ℕ) → j < i → subtree_at tree j ≡ cube k → get_or nodes (k - 1) 0 ≡ j
 
+-- once all nodes were looked at, each cube's node is in the table
 pub placed_all : (tree : SplitTree) (cubes : ℕ) (nodes : List ℕ) → AreCubeLeaves tree cubes → length nodes ≡ cubes →
     Placed tree (size tree) nodes → AreCubeNodes tree nodes
 placed_all tree cubes nodes a long known = record {
@@ -134,12 +141,15 @@ placed_all tree cubes nodes a long known = record {
 
 -- ---- which leaves a tree has, by its tables
 
+-- the tree has the cubes whose numbers are among those of the table
 pub has_cube : (tree : SplitTree) (nodes : List ℕ) (k : ℕ) → AreCubeNodes tree nodes → 1 ≤ k → k ≤ length nodes → HasLeaf tree (Named k)
 has_cube tree nodes k a some l = (get_or nodes (k - 1) 0, (a.within k some l, a.each k some l))
 
+-- the number of a cube that the tree has is among those of the table
 pub cube_has : (tree : SplitTree) (nodes : List ℕ) (k : ℕ) → AreCubeNodes tree nodes → HasLeaf tree (Named k) → (1 ≤ k) × (k ≤ length nodes)
 cube_has tree nodes k a h = a.numbered h.0 k h.1.0 h.1.1
 
+-- the node of a cube is one of the tree's
 pub cube_within : (tree : SplitTree) (nodes : List ℕ) (k x : ℕ) → AreCubeNodes tree nodes → HasLeaf tree (Named k) → x ≡ get_or nodes (k - 1) x → x < size tree
 cube_within tree nodes k x a h e =
     let r = cube_has tree nodes k a h in
@@ -157,6 +167,7 @@ missing_at tree j some h =
     let e : get_or (missing_nodes tree) (j - 1) 0 ≡ r.0 = r.2 ∙ q in
     (omega (arith, r.1), rw e r.3)
 
+-- the node of a missing leaf is one of the tree's
 pub missing_inside : (tree : SplitTree) (nodes : List ℕ) (j x : ℕ) → nodes ≡ missing_nodes tree → HasLeaf tree (Absent j) → x ≡ get_or nodes (j - 1) x → x < size tree
 missing_inside tree nodes j x listed h e =
     let long : length nodes ≡ length (missing_nodes tree) = ap length listed in
@@ -164,6 +175,7 @@ missing_inside tree nodes j x listed h e =
     let r = missing_at tree j h.1.0 h.1.1 in
     rw (get_or_read nodes (j - 1) x l e 0, listed) r.0
 
+-- a tree with the shape of a missing leaf is one
 pub missing_root : (t : SplitTree) → Missing ≡ root_shape t → t ≡ missing
 missing_root missing e = refl
 missing_root (cube j) e = cc

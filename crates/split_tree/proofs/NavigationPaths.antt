@@ -130,11 +130,13 @@ path_ahead tree here i n path h e b f =
     append_cancel_left (take n path) (path_at (subtree_at tree here) (i - here)) (drop n path)
     (rw e at (sym k) ∙ (f ∙ sym (take-append-drop n path)))
 
+-- the way from the root has gone so far along a path, and each node of that path lies below
 pub record Sought (tree : SplitTree) (path : List Literal) (here n : ℕ) : Type 0 where
   pub within : here < size tree
   pub path_is : path_at tree here ≡ take n path
   pub below : (i : ℕ) → i < size tree → path_at tree i ≡ path → HasBelow tree here i
 
+-- at the root no literal of the path was taken
 pub sought_root : (tree : SplitTree) (path : List Literal) → Sought tree path 0 0
 sought_root tree path =
     let root : subtree_at tree 0 ≡ tree = subtree-root tree in
@@ -158,6 +160,7 @@ leaf_ends (cube k) zero l rest a h e = cc
 leaf_ends (cube k) (suc r) l rest a h e = omega arith
 leaf_ends (split v p n) r l rest a h e = a
 
+-- at a leaf that ends before the path does, no node has the path
 pub sought_leaf : (tree : SplitTree) (path : List Literal) (here n : ℕ) (l : Literal) → Sought tree path here n → n < length path → l ≡ get_or path n l →
     IsLeaf (subtree_at tree here) → (i : ℕ) → i < size tree → path_at tree i ≡ path → ⊥
 sought_leaf tree path here n l s h e leaf i w f =
@@ -166,6 +169,7 @@ sought_leaf tree path here n l s h e leaf i w f =
     let end : i < here + size (subtree_at tree here) = b.before_end in
     leaf_ends (subtree_at tree here) (i - here) l (drop (n + 1) path) leaf (omega arith) (ahead tree path here n i l s h e w f)
 
+-- where the path goes on with another variable, no node has it
 pub sought_other : (tree : SplitTree) (path : List Literal) (here n first second : ℕ) (l : Literal) → Sought tree path here n → n < length path →
     l ≡ get_or path n l → AreBranches tree here first second → l.variable ≢ split_variable (subtree_at tree here) →
     (i : ℕ) → i < size tree → path_at tree i ≡ path → ⊥

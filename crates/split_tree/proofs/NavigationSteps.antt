@@ -36,6 +36,7 @@ step_depth tree node target next b w =
       | inr second ↦ rw second (h.negative ∙ omega arith)
     ]
 
+-- before its second branch, a node's first branch leads to the target
 pub steps_positive : (tree : SplitTree) (node target negative : ℕ) → IsBelow tree node target → (s : SplitNode tree node) →
     negative ≡ suc (node + size s.positive) → target < negative → StepsToward tree node target (node + 1)
 steps_positive tree node target negative b s e h =
@@ -51,6 +52,7 @@ steps_positive tree node target negative b s e h =
       negative = λ other. absurd (other refl);
     }
 
+-- from its second branch on, a node's second branch leads to the target
 pub steps_negative : (tree : SplitTree) (node target negative : ℕ) → IsBelow tree node target → (s : SplitNode tree node) →
     negative ≡ suc (node + size s.positive) → negative ≤ target → StepsToward tree node target negative
 steps_negative tree node target negative b s e h =
@@ -77,6 +79,7 @@ steps_negative tree node target negative b s e h =
       negative = λ other. rw (e, s.is) (handed_down branch [] [] tree node s.variable s.positive s.negative b.within s.is).negative;
     }
 
+-- below a node that has others below it, the next node is one
 pub first_inside : (tree : SplitTree) (node target : ℕ) → IsBelow tree node target → node + 1 < size tree
 first_inside tree node target b =
     let s : SplitNode tree node = splits_below tree node target b in
@@ -84,6 +87,7 @@ first_inside tree node target b =
     let p : 1 ≤ size s.positive = some_node s.positive in
     omega arith
 
+-- the second branch stands behind the last node of the first
 pub negative_is : (tree : SplitTree) (ends : List ℕ) (node target x : ℕ) (b : IsBelow tree node target) → AreEnds tree ends → x ≡ get_or ends (node + 1) x →
     x ≡ suc (node + size (splits_below tree node target b).positive)
 negative_is tree ends node target x b e r =
@@ -113,6 +117,7 @@ split_of tree i v missing x h s e f = cc
 split_of tree i v (cube k) x h s e f = cc
 split_of tree i v (split u p n) x h s e f = record { variable = u; positive = p; negative = n; is = s; branches = branches_at tree i u p n h s }
 
+-- a node with the shape of a split is an inner node
 pub splits_at : (tree : SplitTree) (i v : ℕ) (x : Shape) → i < size tree → x ≡ root_shape (subtree_at tree i) → x ≡ Split v → SplitNode tree i
 splits_at tree i v x h e f = split_of tree i v (subtree_at tree i) x h refl e f
 
@@ -141,6 +146,7 @@ branches_of tree i second h s second_is =
       depth_second = rw (second_is, z) (d.negative ∙ omega arith);
     }
 
+-- an inner node's branches are the next node and the one behind that one's last
 pub branches_stored : (tree : SplitTree) (ends : List ℕ) (i y : ℕ) → i < size tree → AreEnds tree ends → (s : SplitNode tree i) →
     y ≡ get_or ends (i + 1) y → AreBranches tree i (i + 1) y
 branches_stored tree ends i y h e s r =
@@ -151,11 +157,13 @@ branches_stored tree ends i y h e s r =
     let first : subtree_at tree (i + 1) ≡ s.positive = rw q s.branches.positive in
     branches_of tree i y h s (get_or_read ends (i + 1) y l r 0 ∙ (e.end (i + 1) (omega arith) ∙ rw first refl))
 
+-- a tree with the shape of a leaf is one
 pub leaf_stored : (t : SplitTree) (x : Shape) → x ≡ root_shape t → ((v : ℕ) → x ≡ Split v → ⊥) → IsLeaf t
 leaf_stored missing x e f = tt
 leaf_stored (cube k) x e f = tt
 leaf_stored (split v p n) x e f = f v e
 
+-- behind an inner node there is one more
 pub split_inside : (tree : SplitTree) (i : ℕ) → SplitNode tree i → i + 1 < size tree
 split_inside tree i s =
     let w : i + suc (size s.positive + size s.negative) ≤ size tree = s.branches.within in
@@ -164,8 +172,10 @@ split_inside tree i s =
 
 -- ---- which nodes split
 
+-- a node with branches is an inner node
 pub split_branches : (tree : SplitTree) (node first second : ℕ) → AreBranches tree node first second → IsSplit (subtree_at tree node)
 split_branches tree node first second b = rw b.is tt
 
+-- a node with others below it is an inner node
 pub split_under : (tree : SplitTree) (node target : ℕ) → IsBelow tree node target → IsSplit (subtree_at tree node)
 split_under tree node target b = let s : SplitNode tree node = splits_below tree node target b in rw s.is tt

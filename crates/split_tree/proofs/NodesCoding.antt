@@ -168,12 +168,15 @@ leaf_at tree shapes i d s h n =
 
 -- ---- what is stored
 
+-- shapes in tree order are those of the tree that they make
 pub stored_nodes : (t : SplitTree) (shapes : List Shape) → preorder t ≡ shapes → shapes ≡ preorder (tree_of shapes)
 stored_nodes t shapes e = sym e ∙ ap preorder (sym (tree_of-preorder t) ∙ ap tree_of e)
 
+-- the tree that its shapes make is the tree itself
 pub stored_tree : (t : SplitTree) (shapes : List Shape) → preorder t ≡ shapes → tree_of shapes ≡ t
 stored_tree t shapes e = ap tree_of (sym e) ∙ tree_of-preorder t
 
+-- numbers leave the count of literals as it is
 pub literals_of-numbered : (k : ℕ) (cubes : List (List Literal)) → literals_of (numbered k cubes) ≡ literal_count cubes
 literals_of-numbered k [] = refl
 literals_of-numbered k (c ∷ cubes) = ap (λ n. length c + n) (literals_of-numbered (k + 1) cubes)
@@ -204,15 +207,18 @@ stored_shape tree shapes i x s h e =
     let l : i < length shapes = omega (arith, length-preorder tree, ap length s) in
     get_or_read shapes i x l e Missing ∙ (ap (λ (l : List Shape). get_or l i Missing) s ∙ shape_at-root tree i Missing h)
 
+-- the variable of a split's shape is the tree's
 pub variable_of_split : (t : SplitTree) (x : Shape) (v : ℕ) → x ≡ root_shape t → x ≡ Split v → v ≡ split_variable t
 variable_of_split missing x v e f = cc
 variable_of_split (cube k) x v e f = cc
 variable_of_split (split u p n) x v e f = cc
 
+-- a tree with the shape of a leaf is no inner node
 pub no_split : (t : SplitTree) (x : Shape) → x ≡ root_shape t → ((v : ℕ) → x ≡ Split v → ⊥) → IsSplit t → ⊥
 no_split missing x e f s = s
 no_split (cube k) x e f s = s
 no_split (split u p n) x e f s = f u e
 
+-- the shapes of a tree are its nodes in tree order
 pub stored_as : (tree : SplitTree) (shapes : List Shape) → shapes ≡ preorder (tree_of shapes) → tree_of shapes ≡ tree → shapes ≡ preorder tree
 stored_as tree shapes e f = e ∙ ap preorder f

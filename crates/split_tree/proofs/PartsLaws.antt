@@ -71,6 +71,7 @@ one_part (suc cut) node (split v p n) x (suc i) e h l = elim (cases_lt i (size p
       ) refl
 ]
 
+-- each leaf lies in exactly one part
 pub leaf_in_one : (cut : ℕ) (tree : SplitTree) (leaf : ℕ) → leaf < size tree → IsLeaf (subtree_at tree leaf) →
     count_by (lies_in leaf) (parts cut 0 tree) ≡ 1
 leaf_in_one cut tree leaf h l = one_part cut 0 tree leaf leaf (omega arith) h l
@@ -82,6 +83,7 @@ one_below : (whole : SplitTree) (node : ℕ) (tree : SplitTree) → node < size 
 one_below whole node tree h e zero d l = (h, sym e)
 one_below whole node tree h e (suc k) d l = absurd (omega arith)
 
+-- a part's tree is the one below the node of its number
 pub parts_below : (whole : SplitTree) (cut node : ℕ) (tree : SplitTree) → node < size whole → subtree_at whole node ≡ tree →
     All (λ (part : Part). (part.node < size whole) × (part.tree ≡ subtree_at whole part.node)) (parts cut node tree)
 parts_below whole zero node tree h e = one_below whole node tree h e
@@ -114,11 +116,13 @@ totals_below whole (suc cut) node (split v p n) h e =
       d.negative,
     ) refl
 
+-- the totals of the parts add up to the tree's
 pub totals_add_up : (cut : ℕ) (tree : SplitTree) → sum_by (λ part. total (depth_at tree part.node) part.tree) (parts cut 0 tree) ≡ total 0 tree
 totals_add_up cut tree =
     let depth : depth_at tree 0 ≡ 0 = label-root (λ (d v : ℕ) (sign : Bool). suc d) 0 0 tree in
     totals_below tree cut 0 tree (some_node tree) (subtree-root tree) ∙ ap (λ (d : ℕ). total d tree) depth
 
+-- there are at most 2 to the power of the cut
 pub parts_bound : (cut node : ℕ) (tree : SplitTree) → length (parts cut node tree) ≤ 2 ^ cut
 parts_bound zero node tree = omega arith
 parts_bound (suc cut) node missing = one_le_power (suc cut)
@@ -138,6 +142,7 @@ power_six (suc (suc (suc (suc (suc zero))))) h = omega arith
 power_six (suc (suc (suc (suc (suc (suc zero)))))) h = omega arith
 power_six (suc (suc (suc (suc (suc (suc (suc cut))))))) h = absurd (omega arith)
 
+-- a cut up to 6 makes at most 64 parts
 pub few_parts : (cut : ℕ) (tree : SplitTree) → cut ≤ 6 → length (part_nodes cut 0 tree) ≤ 64
 few_parts cut tree h =
     let a : length (parts cut 0 tree) ≤ 2 ^ cut = parts_bound cut 0 tree in
@@ -147,6 +152,7 @@ few_parts cut tree h =
 
 -- ---- adding them node by node
 
+-- above the cut, the parts below a node are those below its branches
 pub part_branches : (tree : SplitTree) (node first second cut : ℕ) → AreBranches tree node first second → 0 < cut →
     part_nodes cut node (subtree_at tree node)
     ≡ part_nodes (cut - 1) first (subtree_at tree first) ++ part_nodes (cut - 1) second (subtree_at tree second)
@@ -158,5 +164,6 @@ part_branches tree node first second cut b h =
     ∙ (map-append (λ (part : Part). part.node) (parts (cut - 1) (suc node) b.positive) (parts (cut - 1) (suc (node + size b.positive)) b.negative)
     ∙ rw (f, g) refl))
 
+-- the parts below the first branch stand before those below the second
 pub both_parts : (old one first rest : List ℕ) → one ≡ old ++ first → one ++ rest ≡ old ++ (first ++ rest)
 both_parts old one first rest e = rw e (append_assoc old first rest)

@@ -12,6 +12,7 @@ use Rattle.split_tree.proofs.NodesCoding.{in_positive, in_negative, length-preor
 use Rattle.split_tree.specs.Navigation.{AreBranches}
 use Rattle.split_tree.specs.Parts.{top, top_nodes}
 
+-- above the cut, a node's shape stands before those below its branches
 pub top_shapes : (tree : SplitTree) (node first second cut v : ℕ) → AreBranches tree node first second → 0 < cut → v ≡ split_variable (subtree_at tree node) →
     preorder (top cut (subtree_at tree node))
     ≡ Split v ∷ (preorder (top (cut - 1) (subtree_at tree first)) ++ preorder (top (cut - 1) (subtree_at tree second)))
@@ -20,6 +21,7 @@ top_shapes tree node first second cut v b h e =
     let f : v ≡ b.variable = e ∙ ap split_variable b.is in
     rw (b.at_first, b.at_second, b.is, f) (ap (λ (c : ℕ). preorder (top c (split b.variable b.positive b.negative))) q)
 
+-- above the cut, a node's number stands before those below its branches
 pub top_numbers : (tree : SplitTree) (node first second cut : ℕ) → AreBranches tree node first second → 0 < cut →
     top_nodes cut node (subtree_at tree node)
     ≡ node ∷ (top_nodes (cut - 1) first (subtree_at tree first) ++ top_nodes (cut - 1) second (subtree_at tree second))
@@ -30,6 +32,7 @@ top_numbers tree node first second cut b h =
     rw (b.at_first, b.at_second, b.is) (ap (λ (c : ℕ). top_nodes c node (split b.variable b.positive b.negative)) q
     ∙ rw (f, g) refl)
 
+-- a node, and what stands below its two branches, behind what was there
 pub regroup : {X : Type 0} (old one two first rest : List X) (x : X) → one ≡ old ++ x ∷ [] → two ≡ one ++ first → two ++ rest ≡ old ++ x ∷ (first ++ rest)
 regroup old one two first rest x e f = rw (f, e, append_assoc, append_assoc) refl
 
@@ -39,10 +42,12 @@ top_size (suc cut) missing = omega arith
 top_size (suc cut) (cube k) = omega arith
 top_size (suc cut) (split v p n) = let a = top_size cut p in let b = top_size cut n in omega (arith, a, b)
 
+-- the shapes that were put behind none are those of the tree above the cut
 pub made : (cut : ℕ) (tree : SplitTree) (start shapes : List Shape) → start ≡ [] → shapes ≡ start ++ preorder (top cut (subtree_at tree 0)) →
     preorder (top cut tree) ≡ shapes
 made cut tree start shapes e f = let r : subtree_at tree 0 ≡ tree = subtree-root tree in sym (rw (e, r) at f)
 
+-- the tree above a cut has no more nodes than the whole tree
 pub few_above : (cut : ℕ) (tree : SplitTree) (shapes : List Shape) (n : ℕ) → preorder (top cut tree) ≡ shapes → n ≡ size tree → n < 2 ^ 32 →
     length shapes < 2 ^ 32
 few_above cut tree shapes n e f l =

@@ -138,6 +138,7 @@ splits_bound (split v p n) cubes h =
     let g : 0 < length cubes = some_length cubes h.0 in
     omega arith
 
+-- the total is at most 2 to the power 60 and the number of literals
 pub total_most : (tree : SplitTree) (cubes : List Numbered) → IsTreeOf tree cubes → total 0 tree ≤ 2 ^ 60 + literals_of cubes
 total_most tree cubes h =
     let a : splits tree ≤ literals_of cubes = splits_bound tree cubes h in

@@ -1,8 +1,8 @@
 -- Which node is a branch of which.
-use Rattle.std.proofs.Common.{◌≡◌, ◌⊎◌, ℕ, zero, suc, ◌+◌, ◌-◌, ◌<◌, List, length, get_or, set, refl, sym, ap, ◌∙◌, inl, inr, arith, length-set, get_or-set_same, get_or-set_other}
+use Rattle.std.proofs.Common.{◌≡◌, ◌⊎◌, ℕ, zero, suc, ◌+◌, ◌-◌, ◌<◌, List, length, get_or, refl, ap, ◌∙◌, inl, inr, arith}
 use Rattle.std.proofs.lemmas.Bool.{cases_lt, cases_eq}
-use Rattle.split_tree.specs.SplitTree.{SplitTree, missing, cube, split, size, subtree_at, depth_at, IsLeaf}
-use Rattle.split_tree.specs.Navigation.{AreBranches, IsParent}
+use Rattle.split_tree.specs.SplitTree.{SplitTree, missing, cube, split, size, subtree_at, depth_at}
+use Rattle.split_tree.specs.Navigation.{IsParent}
 use Rattle.split_tree.specs.Inner.Tables.{AreParents}
 use Rattle.split_tree.proofs.NodesCoding.{in_positive, in_negative, SplitNode, branches_at}
 use Rattle.split_tree.proofs.NavigationSteps.{branches_of}
@@ -102,6 +102,7 @@ parent_depth tree p c r =
 abbrev pub Parented : SplitTree → ℕ → List ℕ → Type 0
 Parented tree i parents = (j c : ℕ) → j < i → IsParent tree j c → IsParent tree (get_or parents c 0) c
 
+-- once all nodes were looked at, each parent is in the table
 pub parented_all : (tree : SplitTree) (parents : List ℕ) → length parents ≡ size tree → Parented tree (size tree) parents → AreParents tree parents
 parented_all tree parents long known = record {
   long = long;

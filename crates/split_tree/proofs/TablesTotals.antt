@@ -15,6 +15,7 @@ use Rattle.split_tree.proofs.SplitTreeLabels.{label_positive, label_negative}
 abbrev pub TotalsFrom : SplitTree → ℕ → List ℕ → Type 0
 TotalsFrom tree from weights = (k : ℕ) → from ≤ k → k < size tree → get_or weights k 0 ≡ total (depth_at tree k) (subtree_at tree k)
 
+-- the total of a leaf is its weight
 pub leaf_total : (depth : ℕ) (t : SplitTree) → IsLeaf t → total depth t ≡ weight depth
 leaf_total depth missing h = refl
 leaf_total depth (cube k) h = refl
@@ -65,6 +66,7 @@ total_at tree node h = total_part 0 tree node h
 
 -- ---- the weight one level down
 
+-- one level deeper a leaf weighs half, and at least 1
 pub weight_next : (depth above : ℕ) → above ≡ weight depth → (1 < above → above / 2 ≡ weight (suc depth)) × (above ≤ 1 → 1 ≡ weight (suc depth))
 weight_next depth above e = elim (cases_lt depth 60) [
   | inl less ↦
@@ -98,11 +100,13 @@ total_fits tree h =
 abbrev pub WeightsTo : SplitTree → ℕ → List ℕ → Type 0
 WeightsTo tree i weights = (k : ℕ) → k < i → get_or weights k 0 ≡ weight (depth_at tree k)
 
+-- at the root a leaf weighs 2 to the power 60
 pub weight_root : (tree : SplitTree) (i : ℕ) → i ≡ 0 → 1152921504606846976 ≡ weight (depth_at tree i)
 weight_root tree i e =
     let d : depth_at tree 0 ≡ 0 = label-root (λ (d v : ℕ) (sign : Bool). suc d) 0 0 tree in
     rw (e, d) refl
 
+-- the weight of one more node is in the table
 pub weights_more : (tree : SplitTree) (weights : List ℕ) (i x : ℕ) → length weights ≡ i → WeightsTo tree i weights → x ≡ weight (depth_at tree i) →
     record { long : length (weights ++ x ∷ []) ≡ i + 1; known : WeightsTo tree (i + 1) (weights ++ x ∷ []) }
 weights_more tree weights i x long known e = record {

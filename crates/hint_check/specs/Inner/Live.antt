@@ -6,8 +6,6 @@ use Rattle.std.specs.FinMap as map
 use Rattle.cnf_text.specs.Literal.{Literal}
 use Rattle.hint_check.specs.Literals.{has}
 use Rattle.hint_check.specs.Live.{Live}
-use Rattle.hint_check.specs.declared.live.BaseSource.{BaseSource}
-use Rattle.hint_check.specs.declared.live.BaseSource.TheVariants.{Own, Lent}
 use Rattle.hint_check.specs.Inner.Own.{own_seen}
 use Rattle.hint_check.specs.declared.live.LiveView.{LiveView}
 use Rattle.hint_check.specs.Inner.Dropped.{is_dropped}
@@ -29,10 +27,6 @@ overlay base dropped own =
 abbrev pub base_clause : List (List Literal) → List Bool → ℕ → Option (List Literal)
 base_clause base dropped id =
     cond (is_dropped dropped id) None (map.find nat_cmp id (enumerate_from 1 base))
-
-abbrev pub base_of : BaseSource → List (List Literal)
-base_of (Own base) = base
-base_of (Lent base) = base.now
 
 -- the clauses that a view of live clauses shows: those of the base that aren't dropped, and the own
 -- ones

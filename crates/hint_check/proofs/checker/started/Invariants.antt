@@ -1,11 +1,11 @@
 use Rattle.std.proofs.Common.{◌≡◌, ◌+◌, ◌++◌, take, length}
 use Rattle.cnf_text.specs.Formula.{units}
-use Rattle.hint_check.specs.Inner.Live.{base_of}
+use Rattle.std.specs.Cow.{cow_value}
 use Rattle.hint_check.proofs.LiveStart.{numbered}
 use Rattle.hint_check.proofs.checker.started.Given as goal
 
 abbrev pub invariant-loop-lit : goal.invariant-loop-lit
 invariant-loop-lit l = record {
-  inserted : l.live ≡ numbered (base_of l.fn.base ++ units (take l.lit-index l.path));
-  next : l.id ≡ length (base_of l.fn.base) + l.lit-index + 1;
+  inserted : l.live ≡ numbered (cow_value l.fn.base ++ units (take l.lit-index l.path));
+  next : l.id ≡ length (cow_value l.fn.base) + l.lit-index + 1;
 }

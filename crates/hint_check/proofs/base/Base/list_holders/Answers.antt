@@ -2,7 +2,7 @@ use Rattle.std.proofs.Common.{◌≡◌, ◌==◌, ◌++◌, subst, List, ℕ, t
 use Rattle.std.specs.FinMap as fin
 use Rattle.std.specs.Ordering.{nat_cmp}
 use Rattle.std.specs.List.{enumerate_from, list_any}
-use Rattle.hint_check.specs.Base.{formula_of}
+use Rattle.std.specs.Cow.{cow_value}
 use Rattle.hint_check.specs.Inner.Index.{NamesEntries, AddsHolders}
 use Rattle.hint_check.specs.Inner.Holders.{ids_of, NamesEach}
 use Rattle.hint_check.proofs.LiveOverlay.{OnOk-weaker, IfSome-weaker}
@@ -22,6 +22,6 @@ returns c =
       is.0,
       is.1,
       subst (λ clauses. NamesEntries (enumerate_from 1 clauses) lit is.0) c.self.view_is
-          (λ q. IfSome-weaker (fin.find nat_cmp q (enumerate_from 1 (formula_of inside.formula))) (c.self.invariant.1.1 lit q) (λ clause names holds. is.2 q (names holds))),
+          (λ q. IfSome-weaker (fin.find nat_cmp q (enumerate_from 1 (cow_value inside.formula))) (c.self.invariant.1.1 lit q) (λ clause names holds. is.2 q (names holds))),
     ))
     c.list.ensures

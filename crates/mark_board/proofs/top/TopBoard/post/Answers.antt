@@ -1,4 +1,4 @@
-use Rattle.std.proofs.Common.{◌≡◌, ◌↔◌, ℕ, []}
+use Rattle.std.proofs.Common.{◌≡◌, ℕ, []}
 use Rattle.split_tree.specs.Parts.{top}
 use Rattle.split_tree.specs.Leaves.{IsTargetAt}
 use Rattle.split_tree.proofs.NodesCoding.{subtree-root}
