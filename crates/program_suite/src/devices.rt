@@ -1,5 +1,5 @@
 //! A reader, a writer and files in memory that count their calls, and fail at one of them.
-ghost use Rattle.std.specs.Prelude.{None, Some, ◌≡◌, ◌<◌, ◌+◌, ◌^◌, ◌-◌};
+ghost use Rattle.std.specs.Prelude.{None, Some, ◌≡◌, ◌<◌, ◌+◌, ◌^◌, ◌-◌, IfErr};
 ghost use Rattle.cube_report.specs.Device.{IsReadFault};
 
 use cube_command::{Sink, Source, Store};

@@ -1,5 +1,6 @@
 //! Runs by several workers: that they are at work at once, in which order they take the sections,
 //! and that what they find is what one thread finds.
+ghost use Rattle.std.specs.Prelude.{◌≡◌};
 
 use crate::cases::case;
 use board_hall::Pass;

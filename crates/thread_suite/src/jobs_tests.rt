@@ -1,6 +1,6 @@
 //! The queue of jobs: what its passes claim, one after another and in two threads, and when it is
 //! finished.
-ghost use Rattle.std.specs.Prelude.{All};
+ghost use Rattle.std.specs.Prelude.{◌≡◌, All};
 ghost use Rattle.cube_jobs.specs.Jobs.{IsPassOf};
 
 use crate::cases::case;
