@@ -84,10 +84,6 @@ fn items(rt: HostRuntime) {
 fn short_and_long_clauses(rt: HostRuntime) {
     let text = b"p inccnf\n1 -2 3 -4 5 -6 7 0\n8 7 6 5 -4 3 2 1 0\n-9 0\n";
     let file = read_icnf(rt.alloc(), text).expect(&rt, "a fault");
-    let lists: &[&[i32]] = &[
-        &[1, -2, 3, -4, 5, -6, 7],
-        &[8, 7, 6, 5, -4, 3, 2, 1],
-        &[-9],
-    ];
+    let lists: &[&[i32]] = &[&[1, -2, 3, -4, 5, -6, 7], &[8, 7, 6, 5, -4, 3, 2, 1], &[-9]];
     assert!(rt; are_clauses(file.formula.clauses(), lists));
 }
