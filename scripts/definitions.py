@@ -33,22 +33,24 @@ Where a bundle is refused for its own sake, not for want of memory, a failed dev
       "cube_report/engine.rt run_io fault"]),
     ("Every line of the report is the definition's", """
 The report is one text, fixed by the case that the bundle stands for and by the mark of each node: what its section's
-proof is judged to be from the formula and the node's path, or open where it has no section.""",
+proof is judged to be from the formula and the node's path, or open where it has no section. With `--map` the picture is another text of the same case and marks.""",
      ["cube_command/program.rt command refuted open",
       "cube_report/engine.rt run_one text correct",
       "cube_report/engine.rt run text correct",
       "cube_report/engine.rt run_io written answer correct",
+      "cube_report/engine.rt judge_bundle outcome",
       "cube_report/report.rt report_of -"]),
     ("Streams and status", """
-What the program and `run_io` have written where something fails, which lines go to standard error, and which status comes when.""",
-     ["cube_command/program.rt command status quiet nothing beginning usage unread taken none memory device failed broken",
+What the program and `run_io` have written where something fails, which files they leave as they are, which lines go to standard error, and which status comes when.""",
+     ["cube_command/program.rt command status quiet elsewhere undrawn nothing beginning usage unread taken none memory device failed broken",
       "cube_command/telling.rt own_words ok err",
       "cube_report/engine.rt run_io nothing beginning device"]),
     ("bundle_files: the bundle that is judged", """
 It is the file's or the input's, with the proofs of a folder added for the leaves of its tree, in order and each under its own label.""",
-     ["bundle_files/source.rt read_judged bundle ok err kept",
+     ["bundle_files/source.rt read_judged held bundle ok err kept",
       "bundle_files/folder.rt add_proofs held whole ok err",
-      "bundle_files/store.rt Store::read held found ok err"]),
+      "bundle_files/store.rt Store::read held found ok err",
+      "bundle_files/store.rt Store::write written elsewhere nothing ok err"]),
     ("cnf_text: the iCNF text", """
 The file that is read is what the text stands for, or the fault is the text's first one.""",
      ["cnf_text/icnf.rt read_icnf ok only err"]),
@@ -101,6 +103,9 @@ workers, every cut and every gate.""",
       "cube_jobs/jobs.rt Jobs::claim same place later claimed none",
       "cube_jobs/jobs.rt Jobs::finish exactly once",
       "check_crew/crew.rt conquer case findings"]),
+    ("tree_map: the picture of a tree", """
+The bytes are one picture, fixed by the case and by the mark of each node.""",
+     ["tree_map/picture.rt map_of -"]),
 ]
 
 HEAD = """<!-- written by scripts/definitions.py: change the script, not this file -->
@@ -126,7 +131,8 @@ Not among the definitions are:
   operators and numerals apart;
 - the enums and structs of the code: each claim names those that its definitions name, and src/ has their variants;
 - how a clause sees a value of the code, as a list, a set or a number: a `Vec` as the list of its items, a `Formula` as
-  its clauses, a `Boards` as its case and all nodes' marks. The `impl Model` beside a type says that;
+  its clauses, a `Boards` as its case and all nodes' marks. The `impl Model` beside a type says that. By which function it is told from
+  private fields no caller has to know, since the contracts of the calls say what the values are;
 - what a reader, a writer or a store of files says of itself in a clause, as `R.remaining`, `W.contents` or `D.held`. The traits `Source` and `Sink`
   ([cube_report/device.rt](../crates/cube_report/src/device.rt)), `Store` ([bundle_files/store.rt](../crates/bundle_files/src/store.rt)) and the kit's `Read` and `Write` say that.
 """
@@ -138,7 +144,8 @@ check, already proved, that the definitions mean what they should."""
 REST = """
 A claim stands on a few calls. The other public calls, types and traits have contracts of their own, and so have private
 functions. Here is how many definitions of specs/ each crate has, how many of them a claim or a law above stands on, and
-of the others how many other public contracts reach, how many private contracts alone, and how many none.
+of the others how many other public contracts reach, how many private contracts alone (or by which function a value is
+told from private fields), and how many none.
 
 | Crate | Definitions | Lines | Claims and laws | Other public contracts | Private contracts alone | None |
 |---|---|---|---|---|---|---|"""
@@ -151,7 +158,7 @@ No contract reaches these, so that only proofs can use them:
 BUILT_IN = set("_ : = λ → × ¬ ⊥ | ↦ Type Unit tt absurd record data where pub let in elim as if then else abbrev "
                "unfoldable unfolding Self self result None Some Ok Err usize u8 u16 u32 u64 Prim".split())
 CONSTRUCTORS = set("true false zero suc pos negsuc refl None Some Ok Err".split())
-UNSEEN = set("coded invariant inverse inverse_ok laws by".split())  # ghost members and terms that no caller sees
+UNSEEN = set("view coded invariant inverse inverse_ok laws by".split())  # ghost members and terms that no caller sees
 
 NAME = r"[^\s(){}\[\],;.\"]+"
 TOKEN = re.compile(r"\.?%s(?:\.%s)*" % (NAME, NAME))

@@ -126,12 +126,14 @@ for word in --version -V; do
     count "the word $word" $?
 done
 refuses --no-such-word --no-such-word
-for word in --workers --cut --proofs; do
+for word in --workers --cut --proofs --map; do
     refuses "$word" "$word"
     refuses "$word" "$word" ''
     refuses "$word" "$word="
     refuses "$word" "$word" 1 "$word" 2
 done
+refuses --progress --progress --progress
+refuses --progress --progress=1
 for value in 0 33 x 1.5 257 4294967297 18446744073709551617; do
     refuses --workers --workers "$value"
     refuses --workers --workers="$value"
@@ -145,6 +147,35 @@ for word in --workers --cut; do
     refuses "'-1'" "$word" -1
     refuses "$word" "$word=-1"
 done
+
+# With --progress the report and the status are the same, and standard error has a line at most once a second and one at the end: for
+# the name of a row, and that last line. On a terminal, where `script` makes one, it stands behind a carriage return.
+told="cubeboard: [0-9]* of [0-9]* judged, [0-9]* refuted, [0-9]* rejected, [0-9]*\\.[0-9][0-9][0-9] % open"
+progress() {
+    lay_out "$root/tests/rows/$1"
+    run "$root/tests/rows/$1.in" --progress
+    cmp -s "$here/out" "$root/tests/rows/$1.out" && cmp -s "$here/status" "$root/tests/rows/$1.status" \
+        && [ "$(tail -n 1 "$here/err")" = "$2" ] && [ "$(grep -c -v -x -e "$told" "$here/err")" = 0 ]
+    count "progress on $1" $?
+}
+progress two_cubes_refuted "cubeboard: 2 of 2 judged, 2 refuted, 0 rejected, 0.000 % open"
+progress candidate_without_a_group "cubeboard: 1 of 1 judged, 0 refuted, 1 rejected, 100.000 % open"
+run "$root/tests/rows/two_cubes_refuted.in" --progress no_such_file
+[ "$(cat "$here/status")" = 5 ] && [ "$(cat "$here/err")" = "cubeboard: F13 device" ]
+count "no progress without a bundle" $?
+(cd "$here/run" && timeout 60 "$program" --progress) < "$root/tests/rows/two_cubes_refuted.in" > "$here/out" 2>&-
+echo $? > "$here/status"
+cmp -s "$here/out" "$root/tests/rows/two_cubes_refuted.out" && [ "$(cat "$here/status")" = 0 ]
+count "progress to a closed standard error" $?
+if command -v script > /dev/null; then
+    cp "$root/tests/rows/two_cubes_refuted.in" "$here/run/case.icnf"
+    (cd "$here/run" && timeout 60 script -qec "'$program' --progress case.icnf > report" /dev/null) < /dev/null > "$here/err"
+    echo $? > "$here/status"
+    [ "$(tail -n 1 "$here/err" | tr '\r' '~' | cut -c1-29)" = "~cubeboard: 2 of 2 judged, 2 " ] && cmp -s "$here/run/report" "$root/tests/rows/two_cubes_refuted.out"
+    count "progress on a terminal" $?
+else
+    echo "rows: progress on a terminal is skipped, since there is no script here that makes one"
+fi
 
 # Whether the last run told of a device: its name.
 is_device() {
@@ -162,6 +193,26 @@ rm "$here/run/proofs/2.lrat"
 mkdir "$here/run/proofs/2.lrat"
 run /dev/null --proofs proofs case.icnf
 is_device "a folder in the place of a proof"
+
+# A picture: the report is the same, and the file is made anew. Where it can't be written there is no report, and where there is no report for
+# another cause the file is left as it is.
+lay_out "$root/tests/rows/folder_of_proofs"
+echo "what was there" > "$here/run/tree.svg"
+run "$root/tests/rows/two_cubes_refuted.in" --map tree.svg
+cmp -s "$here/out" "$root/tests/rows/two_cubes_refuted.out" && [ ! -s "$here/err" ] && [ "$(cat "$here/status")" = 0 ] \
+    && [ "$(head -c 5 "$here/run/tree.svg")" = "<svg " ] && [ "$(tail -n 1 "$here/run/tree.svg")" = "</svg>" ] \
+    && [ "$(grep -c '^<rect class="r" x="[0-9]*" y="64" width="1024" height="22"><title>a [12] refuted</title></rect>$' "$here/run/tree.svg")" = 2 ]
+count "a picture" $?
+for path in no_such_folder/tree.svg proofs; do
+    run "$root/tests/rows/two_cubes_refuted.in" --map "$path"
+    is_device "a picture at $path"
+done
+[ -d "$here/run/proofs" ] && [ ! -e "$here/run/no_such_folder" ]
+count "nothing made where a picture can't be" $?
+echo "what was there" > "$here/run/tree.svg"
+run /dev/null --map tree.svg
+[ "$(cat "$here/status")" = 3 ] && [ "$(cat "$here/run/tree.svg")" = "what was there" ]
+count "no picture of a refused input" $?
 
 # What is there and may not be read. Root reads anything, so the program runs as another user then.
 if [ "$(id -u)" -eq 0 ]; then

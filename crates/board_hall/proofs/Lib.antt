@@ -1,13 +1,13 @@
 pub mod PostsLists
-pub mod HallLawful
-pub mod HallMoves
-pub mod PlaysHands
-pub mod HeldPosts
-pub mod PostsHomes
-pub mod ClausesCalls
+mod HallLawful
+mod HallMoves
+mod PlaysHands
+mod HeldPosts
+mod PostsHomes
+mod ClausesCalls
 pub mod PostsOneFinding
-pub mod OpeningHall
-pub mod ClosingBoards
-pub mod LawsOpenLeaves
-pub mod LawsWhole
-pub mod LawsWholeOfLeaves
+mod OpeningHall
+mod ClosingBoards
+mod LawsOpenLeaves
+mod LawsWhole
+mod LawsWholeOfLeaves

@@ -1,12 +1,12 @@
 -- A node's mark by real posts is that of its finding.
-use Rattle.std.proofs.Common.{◌≡◌, ◌≢◌, ◌==◌, ℕ, true, List, Option, None, Some, refl, sym, ap, ◌∙◌, inl, inr, eq-eqb}
+use Rattle.std.proofs.Common.{◌≡◌, ◌≢◌, ◌==◌, ℕ, true, List, refl, sym, ap, ◌∙◌, inl, inr, eq-eqb}
 use Rattle.hint_check.specs.declared.Judged.{Judged}
 use Rattle.split_tree.specs.SplitTree.{path_at}
 use Rattle.split_tree.specs.Leaves.{IsTargetAt}
 use Rattle.split_tree.specs.declared.node.Target.{Target}
-use Rattle.case_core.specs.Case.{CaseOf, proof_for}
 use Rattle.case_core.specs.Finding.{HasSection, IsFinding}
 use Rattle.case_core.proofs.CaseTables.{one_target}
+use Rattle.case_core.proofs.FindingUnique.{one_finding}
 use Rattle.mark_board.specs.declared.mark.Mark.TheVariants.{Open}
 use Rattle.mark_board.specs.Findings.{mark_as}
 use Rattle.mark_board.proofs.BoardsMarks.{own_no_part}
@@ -15,17 +15,6 @@ use Rattle.board_hall.specs.declared.view.Post.{Post}
 use Rattle.board_hall.specs.Posts.{parts_in, mark_in, node_of, AreReal, IsPartPost}
 use Rattle.board_hall.specs.Clauses.{IsHome}
 use Rattle.board_hall.proofs.PostsLists.{marked_among}
-
-some_of : (found : Option (List ℕ)) → found ≢ None → (proof : List ℕ) × (found ≡ Some proof)
-some_of None has = absurd (has refl)
-some_of (Some proof) has = (proof, refl)
-
--- a target is judged in one way
-one_judged : (case : CaseOf) (node : ℕ) (target : Target) (first second : Judged) → IsTargetAt case.tree node target → HasSection case target → IsFinding case target first
-    → IsFinding case target second → first ≡ second
-one_judged case node target first second at has one two =
-    let there = some_of (proof_for case.sections target) has in
-    one (path_at case.tree node) there.0 (node, at, refl) there.1 ∙ sym (two (path_at case.tree node) there.0 (node, at, refl) there.1)
 
 -- where findings of a node are posted, no part's verdict is
 pub no_part_here : (k : CutCase) (node board row part : ℕ) (post : Post) → IsHome k node board row
@@ -44,6 +33,6 @@ one_mark k posts real node board row target judged home at has is marked =
       | inl finding ↦
           let here : node_of k post.board post.row ≡ node = ap (λ (b : ℕ). node_of k b post.row) there.2 ∙ (ap (λ (r : ℕ). node_of k board r) there.3 ∙ home.is_row.here) in
           let same : finding.target ≡ target = one_target k.case.tree node finding.target target (rw here at finding.here) at in
-          one_judged k.case node target post.judged judged at has (rw same at finding.is) is
+          one_finding k.case target (path_at k.case.tree node) post.judged judged (node, at, refl) has (rw same at finding.is) is
       | inr of_part ↦ absurd (no_part_here k node board row of_part.0 post home of_part.1 there.2 there.3)
     ])

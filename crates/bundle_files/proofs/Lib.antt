@@ -1,2 +1,2 @@
 pub mod FilesFormula
-pub mod FilesSections
+mod FilesSections

@@ -23,13 +23,14 @@ pub fn read_judged<D: Store, I: Source>(
 ) -> Result<Vec<u8>, Fault>
     requires store { D.failures store.old < 2 ^ 64 - 1 }
     requires input { I.failures input.old < 2 ^ 64 - 1 }
+    ensures held { D.held store.new ≡ D.held store.old }
     ensures bundle { IfOk result
         (λ bundle. (read : List ℕ) × IsBundleOf (D.held store.old)
         (option_map (λ path. path.now) file.entry)
         (option_map (λ path. path.now) folder.entry) (I.remaining input.old) read bundle.items) }
     ensures ok { OnOk result
-        (D.failures store.new + I.failures input.new
-        ≡ D.failures store.old + I.failures input.old) }
+        ((D.failures store.new ≡ D.failures store.old) ×
+        (I.failures input.new ≡ I.failures input.old)) }
     ensures err { IfErr result
         (IsUnread (D.held store.old) (option_map (λ path. path.now) file.entry)
         (D.failures store.old + I.failures input.old)

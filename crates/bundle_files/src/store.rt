@@ -1,16 +1,17 @@
-//! What can be read by its path.
-ghost use Rattle.std.specs.Prelude.{◌≡◌, ℕ, List, ◌<◌, ◌+◌, ◌^◌, ◌-◌, Option, None, IfOk, IfErr};
+//! What can be read and written by its path.
+ghost use Rattle.std.specs.Prelude.{◌≡◌, ◌≢◌, ℕ, List, Some, ◌<◌, ◌+◌, ◌^◌, ◌-◌, Option, None, IfOk, IfErr};
 ghost use Rattle.std.specs.Prelude.{OnOk};
 ghost use Rattle.cube_report.specs.Device.{IsReadFault};
-ghost use Rattle.bundle_files.specs.Files.{IsFound};
+ghost use Rattle.bundle_files.specs.Files.{Gives, IsFound};
 
-use cube_report::{Counted, Fault, read_to_end};
+use cube_report::{Counted, Fault, read_to_end, write_all};
 use std::fs;
 use std::io::ErrorKind;
 use std::rt::Files;
 
-/// What can be read by its path: FILE and a folder's proofs alike. The proofs' paths, the order of
-/// the leaves and the label lines are made above it, and so stand in the contracts there.
+/// What can be read by its path, FILE and a folder's proofs alike, and what is written by its path.
+/// The proofs' paths, the order of the leaves and the label lines are made above it, and so stand in
+/// the contracts there.
 pub trait Store {
     // What lies at each path, where that is known: no file, or a file with these bytes.
     ghost held: { Self → List ℕ → Option (Option (List ℕ)) };
@@ -29,6 +30,22 @@ pub trait Store {
         ensures held { held self.new ≡ held self.old }
         ensures found { IfOk result
             (λ there. IsFound (held self.old path.now) bytes.old.items bytes.new.items there) }
+        ensures ok { OnOk result (failures self.new ≡ failures self.old) }
+        ensures err { IfErr result
+            (λ fault. IsReadFault (failures self.old) (failures self.new) fault) };
+
+    /// Makes the file at this path anew, with these bytes; no other file changes.
+    ///
+    /// `Device` where it can't be made or written, and then a beginning of the bytes may lie there;
+    /// `Memory` where a growth was refused, and then nothing changes. The count of failed calls,
+    /// which has to be below its greatest value, rises by one exactly with `Device`.
+    fn write(&mut self, path: &str, bytes: &[u8]) -> Result<(), Fault>
+        requires { failures self.old < 2 ^ 64 - 1 }
+        ensures written { OnOk result (Gives (held self.new) path.now (Some bytes.now)) }
+        ensures elsewhere { (other : List ℕ) → other ≢ path.now
+            → held self.new other ≡ held self.old other }
+        ensures nothing { IfErr result
+            (λ fault. fault ≢ Fault.Device → held self.new ≡ held self.old) }
         ensures ok { OnOk result (failures self.new ≡ failures self.old) }
         ensures err { IfErr result
             (λ fault. IsReadFault (failures self.old) (failures self.new) fault) };
@@ -77,6 +94,19 @@ impl<'a, R: Files> Store for FileStore<'a, R> {
             },
             Err(error) => match error.kind() {
                 ErrorKind::NotFound => Ok(false),
+                ErrorKind::OutOfMemory => Err(Fault::Memory),
+                _ => Err(self.broken()),
+            },
+        }
+    }
+
+    fn write(&mut self, path: &str, bytes: &[u8]) -> Result<(), Fault> {
+        match fs::create(self.files, path) {
+            Ok(file) => match write_all(&mut Counted::new(file), bytes) {
+                Ok(()) => Ok(()),
+                Err(_) => Err(self.broken()),
+            },
+            Err(error) => match error.kind() {
                 ErrorKind::OutOfMemory => Err(Fault::Memory),
                 _ => Err(self.broken()),
             },

@@ -1,9 +1,10 @@
 -- A judgement of a proof from a target's path is the finding of the target.
-use Rattle.std.proofs.Common.{◌≡◌, ℕ, List, None, Some, sym, ◌∙◌, ap, subst, Result, Ok, Err}
+use Rattle.std.proofs.Common.{◌≡◌, ◌≢◌, ℕ, List, Option, None, Some, refl, sym, ◌∙◌, ap, subst, Result, Ok, Err}
 use Rattle.std.specs.Prelude.{IfOk}
 use Rattle.cnf_text.specs.Literal.{Literal}
 use Rattle.cnf_text.specs.Formula.{IsRefuted}
-use Rattle.lrat_text.specs.Proof.{proof_of}
+use Rattle.lrat_text.specs.Proof.{Proof, IsProofOf}
+use Rattle.lrat_text.proofs.ProofUnique.{has_proof}
 use Rattle.hint_check.specs.Live.{Live, start}
 use Rattle.hint_check.specs.Judgement.{judged_by, judgement}
 use Rattle.hint_check.specs.declared.Judged.{Judged}
@@ -16,18 +17,18 @@ use Rattle.case_core.specs.Inner.Finding.{IsJudgement}
 use Rattle.case_core.specs.Finding.{IsFinding, IsSound, HasSection}
 
 -- what a checker over the formula and the path answers is the judgement of the proof
-pub is_judged : {E : Type 0} (r : Result Judged E) (case : CaseOf) (target : Target) (proof path : List _) (live : Live)
+pub is_judged : {E : Type 0} (r : Result Judged E) (case : CaseOf) (target : Target) (text path : List _) (live : Live)
     → live ≡ start case.formula path → IsPathOf case.tree target path
-    → IfOk r (λ judged. judged ≡ judged_by live (proof_of proof))
+    → IfOk r (λ judged. (proof : Proof) → IsProofOf text proof → judged ≡ judged_by live proof)
     → IfOk r (λ judged. judged ≡ Refuted → (formula : List (List Literal)) (path : List Literal) → live ≡ start formula path → IsRefuted formula path)
-    → IfOk r (λ judged. IsJudgement case target proof judged)
-is_judged (Ok judged) case target proof path live begun of is sound = record {
+    → IfOk r (λ judged. IsJudgement case target text judged)
+is_judged (Ok judged) case target text path live begun of is sound = record {
   path = path;
   of_target = of;
-  is = is ∙ ap (λ l. judged_by l (proof_of proof)) begun;
+  is = λ proof of_text. is proof of_text ∙ ap (λ l. judged_by l proof) begun;
   refuted = λ refuted. sound refuted case.formula path begun;
 }
-is_judged (Err e) case target proof path live begun of is sound = tt
+is_judged (Err e) case target text path live begun of is sound = tt
 
 -- a target that stands at one place has one path
 pub one_path : (case : CaseOf) (target : Target) (a b : List Literal)
@@ -35,19 +36,19 @@ pub one_path : (case : CaseOf) (target : Target) (a b : List Literal)
     → IsPathOf case.tree target a → IsPathOf case.tree target b → a ≡ b
 one_path case target a b once x y = x.2 ∙ ap (path_at case.tree) (once x.0 y.0 x.1 y.1) ∙ sym y.2
 
-some_proof : (a b : List ℕ) → Some a ≡ Some b → a ≡ b
-some_proof a b e = cc
+some_text : (a b : List ℕ) → Some a ≡ Some b → a ≡ b
+some_text a b e = cc
 
 -- the judgement of a target's section is the target's finding
-pub is_found : (case : CaseOf) (target : Target) (proof : List ℕ) (judged : Judged)
+pub is_found : (case : CaseOf) (target : Target) (text : List ℕ) (judged : Judged)
     → ((i j : ℕ) → IsTargetAt case.tree i target → IsTargetAt case.tree j target → i ≡ j)
-    → proof_for case.sections target ≡ Some proof → IsJudgement case target proof judged
+    → proof_for case.sections target ≡ Some text → IsJudgement case target text judged
     → HasSection case target × IsFinding case target judged × IsSound case target judged
-is_found case target proof judged once found j = (
-  λ none. let clash : Some proof ≡ None = sym found ∙ none in cc,
-  λ path other of is.
-      j.is ∙ ap (λ p. judgement case.formula p (proof_of proof)) (one_path case target j.path path once j.of_target of)
-      ∙ ap (λ p. judgement case.formula path (proof_of p)) (some_proof proof other (sym found ∙ is)),
+is_found case target text judged once found j = (
+  λ none. let clash : Some text ≡ None = sym found ∙ none in cc,
+  λ path other proof of is of_text.
+      j.is proof (subst (λ t. IsProofOf t proof) (sym (some_text text other (sym found ∙ is))) of_text)
+      ∙ ap (λ p. judgement case.formula p proof) (one_path case target j.path path once j.of_target of),
   λ refuted path of. subst (λ (p : List Literal). IsRefuted case.formula p) (one_path case target j.path path once j.of_target of) (j.refuted refuted),
 )
 
@@ -67,3 +68,15 @@ found_of case target other node judged same found here =
 pub only_there : (a b : SplitTree) (target named : Target) (node number : ℕ) → a ≡ b → number ≡ node → named ≡ target →
     ((i : ℕ) → IsTargetAt a i target → i ≡ node) → (i : ℕ) → IsTargetAt b i named → i ≡ number
 only_there a b target named node number e f g only i at = only i (rw (e, ← g) at) ∙ sym f
+
+some_of : (found : Option (List ℕ)) → found ≢ None → (text : List ℕ) × (found ≡ Some text)
+some_of None has = absurd (has refl)
+some_of (Some text) has = (text, refl)
+
+-- a target is judged in one way
+pub one_finding : (case : CaseOf) (target : Target) (path : List Literal) (first second : Judged) → IsPathOf case.tree target path → HasSection case target
+    → IsFinding case target first → IsFinding case target second → first ≡ second
+one_finding case target path first second of has one two =
+    let there = some_of (proof_for case.sections target) has in
+    let proof = has_proof there.0 in
+    one path there.0 proof.0 of there.1 proof.1 ∙ sym (two path there.0 proof.0 of there.1 proof.1)

@@ -1,11 +1,11 @@
 pub mod FindingUnique
-pub mod LabelNames
-pub mod BundleCuts
+mod LabelNames
+mod BundleCuts
 pub mod CaseTables
-pub mod LabelLimits
-pub mod SectionsReading
-pub mod SectionsOneMeaning
+mod LabelLimits
+mod SectionsReading
+mod SectionsOneMeaning
 pub mod SectionsUniqueCase
-pub mod SectionsUniqueFault
-pub mod SectionsTotal
-pub mod BundleLetters
+mod SectionsUniqueFault
+mod SectionsTotal
+mod BundleLetters

@@ -2,7 +2,7 @@
 use Rattle.std.specs.Prelude.{◌≡◌, ◌≢◌, ℕ, List, Option, None, Some}
 use Rattle.cnf_text.specs.Literal.{Literal}
 use Rattle.cnf_text.specs.Formula.{IsRefuted}
-use Rattle.lrat_text.specs.Proof.{proof_of}
+use Rattle.lrat_text.specs.Proof.{Proof, IsProofOf}
 use Rattle.hint_check.specs.Judgement.{judgement}
 use Rattle.hint_check.specs.declared.Judged.{Judged}
 use Rattle.hint_check.specs.declared.Judged.TheVariants.{Refuted}
@@ -20,9 +20,9 @@ target_of None node = Node node
 -- the target's section is judged so: from the formula and the literals of the target's path
 abbrev pub IsFinding : CaseOf → Target → Judged → Type 0
 IsFinding case target judged =
-    (path : List Literal) (proof : List ℕ) → IsPathOf case.tree target path
-    → proof_for case.sections target ≡ Some proof
-    → judged ≡ judgement case.formula path (proof_of proof)
+    (path : List Literal) (text : List ℕ) (proof : Proof) → IsPathOf case.tree target path
+    → proof_for case.sections target ≡ Some text → IsProofOf text proof
+    → judged ≡ judgement case.formula path proof
 
 -- the target has a section
 abbrev pub HasSection : CaseOf → Target → Type 0

@@ -4,7 +4,7 @@ use Rattle.std.proofs.Common.{Some, refl, sym, ap, ◌∙◌, subst, arith, inl,
 use Rattle.std.specs.Prelude.{MatchOption}
 use Rattle.std.proofs.lemmas.Bool.{cases_Bool, eqb-true, eqb-false, eq-eqb, ne_eqb}
 use Rattle.cnf_text.specs.Literal.{Literal}
-use Rattle.lrat_text.specs.Proof.{proof_of}
+use Rattle.lrat_text.specs.Proof.{Proof, IsProofOf}
 use Rattle.hint_check.specs.Judgement.{judgement}
 use Rattle.hint_check.specs.declared.Judged.{Judged}
 use Rattle.split_tree.specs.SplitTree.{size, subtree_at, IsSplit}
@@ -59,13 +59,14 @@ marked_more posts more hold board row marked =
 
 -- the mark of a judgement is that of the target's finding
 finding_mark : (case : CaseOf) (target : Target) (judged : Judged) → HasSection case target → IsFinding case target judged → IsMarkOf case target (mark_as judged)
-finding_mark case target judged has is = of_proof (proof_for case.sections target) has is
+finding_mark case target judged has is = of_section (proof_for case.sections target) has is
   where
-    of_proof : (proof : Option (List ℕ)) → proof ≢ None
-        → ((path : List Literal) (text : List ℕ) → IsPathOf case.tree target path → proof ≡ Some text → judged ≡ judgement case.formula path (proof_of text))
-        → MatchOption proof (mark_as judged ≡ Open) (λ text. (path : List Literal) → IsPathOf case.tree target path → mark_as judged ≡ mark_as (judgement case.formula path (proof_of text)))
-    of_proof None has is = absurd (has refl)
-    of_proof (Some text) has is = λ path of. ap mark_as (is path text of refl)
+    of_section : (section : Option (List ℕ)) → section ≢ None
+        → ((path : List Literal) (text : List ℕ) (proof : Proof) → IsPathOf case.tree target path → section ≡ Some text → IsProofOf text proof → judged ≡ judgement case.formula path proof)
+        → MatchOption section (mark_as judged ≡ Open)
+        (λ text. (path : List Literal) (proof : Proof) → IsPathOf case.tree target path → IsProofOf text proof → mark_as judged ≡ mark_as (judgement case.formula path proof))
+    of_section None has is = absurd (has refl)
+    of_section (Some text) has is = λ path proof of of_text. ap mark_as (is path text proof of refl of_text)
 
 -- a node's mark by posts that are real is that of its target's finding
 pub real_mark : (k : CutCase) (posts : List Post) → AreReal k posts → (node board row : ℕ) (target : Target) → IsHome k node board row → IsTargetAt k.case.tree node target

@@ -5,6 +5,7 @@ use Rattle.split_tree.specs.Leaves.{IsTargetAt}
 use Rattle.split_tree.specs.declared.node.Target.{Target}
 use Rattle.hint_check.specs.declared.Judged.{Judged}
 use Rattle.case_core.specs.Case.{CaseOf, section_at}
+use Rattle.case_core.specs.Finding.{IsFinding}
 use Rattle.mark_board.specs.declared.mark.Mark.TheVariants.{Open}
 use Rattle.mark_board.specs.declared.posted.Posted.{Posted}
 use Rattle.mark_board.specs.declared.posted.Posted.TheVariants.{Marked, RootMarked, TopMarked, Already}
@@ -60,18 +61,24 @@ pub section_seen : (case : CaseOf) (v : View) (place node : ℕ) (target : Targe
     → ((other : ℕ) → IsTargetAt case.tree other target → other ≡ node) → HasSeen v node → HasSeenSection v place
 section_seen case v place node target same is only seen other at = subst (HasSeen v) (sym (only other (rw (same, is) at at))) seen
 
-told_by : (v : View) (node : ℕ) (target : Target) (place : Place) (weight : ℕ) → AreReal v.of v.seen → IsTargetAt v.of.case.tree node target → HasSeen v node
-    → IsPlaceFor v.of.cut v.of.case.tree node place → weight ≡ open_by v.of (board_number v.of place) (mark_in v.seen (board_number v.of place)) → IsTold v target weight
-told_by v node target place weight real here seen at is = record {
-  node = node;
-  here = here;
-  seen = seen;
-  mark = real_mark v.of v.seen real node seen.board seen.row target seen.home here seen.marked;
-  weight_is = is ∙ ap (λ (b : ℕ). open_by v.of b (mark_in v.seen b)) (one_board v.of node (board_number v.of place) at.row seen.board seen.row (place_home v.of node place at) seen.home);
-}
+told_by : (v : View) (case : CaseOf) (node : ℕ) (target : Target) (judged : Judged) (place : Place) (weight : ℕ) → case ≡ v.of.case → AreReal v.of v.seen
+    → IsTargetAt v.of.case.tree node target → IsFinding v.of.case target judged → HasSeen v node
+    → IsPlaceFor v.of.cut v.of.case.tree node place → weight ≡ open_by v.of (board_number v.of place) (mark_in v.seen (board_number v.of place)) → IsTold v case target node judged place weight
+told_by v case node target judged place weight same real here is seen at weight_is =
+    let one = one_board v.of node (board_number v.of place) at.row seen.board seen.row (place_home v.of node place at) seen.home in
+    record {
+      same = same;
+      here = rw same here;
+      is = rw same is;
+      seen = seen;
+      mark = rw same (real_mark v.of v.seen real node seen.board seen.row target seen.home here seen.marked);
+      place_is = one;
+      weight_is = weight_is ∙ ap (λ (b : ℕ). open_by v.of b (mark_in v.seen b)) one;
+    }
 
 -- what a gate is told
-pub told : (k : CutCase) (v : View) (node : ℕ) (target : Target) (place : Place) (weight : ℕ) → v.of ≡ k → AreReal k v.seen → IsTargetAt k.case.tree node target → HasSeen v node
-    → IsPlaceFor k.cut k.case.tree node place → weight ≡ open_by k (board_number k place) (mark_in v.seen (board_number k place)) → IsTold v target weight
-told k v node target place weight same real here seen at is =
-    told_by v node target place weight (rw same real) (rw same here) seen (rw same at) (rw same is)
+pub told : (k : CutCase) (v : View) (case : CaseOf) (node : ℕ) (target : Target) (judged : Judged) (place : Place) (weight : ℕ) → v.of ≡ k → case ≡ k.case → AreReal k v.seen
+    → IsTargetAt k.case.tree node target → IsFinding k.case target judged → HasSeen v node
+    → IsPlaceFor k.cut k.case.tree node place → weight ≡ open_by k (board_number k place) (mark_in v.seen (board_number k place)) → IsTold v case target node judged place weight
+told k v case node target judged place weight same of real here is seen at weight_is =
+    told_by v case node target judged place weight (of ∙ ap (λ (c : CutCase). c.case) (sym same)) (rw same real) (rw same here) (rw same is) seen (rw same at) (rw same weight_is)

@@ -5,13 +5,16 @@ use Rattle.std.specs.Prelude.{◌≡◌, ◌≢◌, ℕ, ◌<◌, List, length}
 use Rattle.std.specs.List.{Contains}
 use Rattle.split_tree.specs.Leaves.{IsTargetAt}
 use Rattle.split_tree.specs.declared.node.Target.{Target}
+use Rattle.hint_check.specs.declared.Judged.{Judged}
 use Rattle.case_core.specs.Case.{CaseOf, section_at}
+use Rattle.case_core.specs.Finding.{IsFinding}
 use Rattle.mark_board.specs.declared.mark.Mark.TheVariants.{Open}
+use Rattle.mark_board.specs.declared.place.Place.{Place}
 use Rattle.mark_board.specs.Findings.{IsMarkOf}
 use Rattle.board_hall.specs.declared.pass.Pass.{Pass}
 use Rattle.board_hall.specs.declared.view.View.{View}
 use Rattle.board_hall.specs.Posts.{mark_in, open_by}
-use Rattle.board_hall.specs.Clauses.{IsHome}
+use Rattle.board_hall.specs.Clauses.{IsHome, board_number}
 use Rattle.board_hall.specs.Halls.{view_of}
 
 -- the finding of a node is among what was seen
@@ -32,11 +35,15 @@ abbrev pub HaveSeenSections : CaseOf → List Pass → Type 0
 HaveSeenSections case passes = (place : ℕ) → place < length case.sections
     → (pass : Pass) × Contains passes pass × HasSeenSection (view_of pass) place
 
--- the posts that were seen hold the target's finding, and by them the board of the target has this
--- open weight
-pub record IsTold (v : View) (target : Target) (weight : ℕ) : Type 0 where
-  pub node : ℕ
-  pub here : IsTargetAt v.of.case.tree node target
+-- What a gate is told of a section. The target stands at this node and is judged so, the posts that
+-- were seen hold this finding, and by them the board at this place, on which it is posted, has this
+-- open weight.
+pub record IsTold (v : View) (case : CaseOf) (target : Target) (node : ℕ) (judged : Judged)
+    (place : Place) (weight : ℕ) : Type 0 where
+  pub same : case ≡ v.of.case
+  pub here : IsTargetAt case.tree node target
+  pub is : IsFinding case target judged
   pub seen : HasSeen v node
-  pub mark : IsMarkOf v.of.case target (mark_in v.seen seen.board seen.row)
+  pub mark : IsMarkOf case target (mark_in v.seen seen.board seen.row)
+  pub place_is : board_number v.of place ≡ seen.board
   pub weight_is : weight ≡ open_by v.of seen.board (mark_in v.seen seen.board)

@@ -25,8 +25,9 @@ type Handle<'a> = PromisedHandle<Shift, Site<'a>>;
 
 /// The boards of `case` at the cut of `settings` with the findings of all its sections, by as many
 /// workers as `settings` says. The calling thread is worker 0, and each other worker has a thread
-/// of its own. Workers take the sections of longer proofs first. Each calls `gate` before it
-/// examines a section, and after what it found was posted.
+/// of its own. Workers take the sections of longer proofs first. `gate` is called before the first
+/// of them starts, by each of them before it examines a section and after what it found was posted,
+/// and when all are joined.
 ///
 /// All workers that were started are joined before it answers. `Thread` where the start of one was
 /// refused, whatever else happened, and otherwise `Memory` where a growth was refused: a worker
@@ -51,7 +52,7 @@ pub fn conquer<'c, R: Threads + Wait + Sync, G: Gate + Sync>(
         jobs: &jobs,
         order: &order,
     };
-    let shifts = run_all(rt, alloc, site, gate, passes, job_passes)?;
+    let shifts = run_beside(rt, alloc, site, settings.cut(), gate, passes, job_passes)?;
     let (passes, job_passes) = hand_in(alloc, site, shifts)?;
     if !jobs.finish(rt, job_passes) {
         unreachable!()
@@ -60,6 +61,43 @@ pub fn conquer<'c, R: Threads + Wait + Sync, G: Gate + Sync>(
         Ok(boards) => Ok(boards),
         Err(_) => unreachable!(),
     }
+}
+
+/// Runs a worker for each pass, between the gate's start and its end.
+fn run_beside<R: Threads + Wait + Sync, G: Gate + Sync>(
+    rt: &R,
+    alloc: Global,
+    site: Site<'_>,
+    cut: u32,
+    gate: &G,
+    passes: Vec<Pass>,
+    job_passes: Vec<JobPass>,
+) -> Result<Vec<Shift>, CrewFault>
+    requires cut { cut ≤ 6 }
+    requires ready { AreReady site.case.now (shared_of site.core.now) site.jobs.now site.order.now }
+    requires count { (0 < vec_len passes) × (vec_len passes ≤ 32) }
+    requires pairs { vec_len job_passes ≡ vec_len passes }
+    requires new { AreNew (shared_of site.core.now) site.jobs.now passes.items job_passes.items }
+    ensures count { IfOk result (λ shifts. vec_len shifts ≡ vec_len passes) }
+    ensures kept { IfOk result (λ shifts. All (IsShiftOf (shared_of site.entry.core.now)
+        site.entry.jobs.now site.entry.order.now) shifts.items) }
+{
+    let Site {
+        case,
+        core,
+        jobs,
+        order,
+    } = site;
+    gate.start(alloc, case, cut)?;
+    let site = Site {
+        case,
+        core,
+        jobs,
+        order,
+    };
+    let shifts = run_all(rt, alloc, site, gate, passes, job_passes);
+    gate.end();
+    shifts
 }
 
 /// Runs a worker for each pass, the last pass's in the calling thread.

@@ -1,21 +1,55 @@
 //! What a caller may do beside each job.
 
+ghost use Rattle.std.specs.Prelude.{◌≤◌};
 ghost use Rattle.board_hall.specs.Halls.{view_of};
 ghost use Rattle.check_crew.specs.Seen.{IsTold};
 
 use board_hall::Pass;
-use case_core::Target;
+use case_core::{Case, Judged, NodeId, Target};
+use mark_board::Place;
+use std::alloc::{AllocError, Global};
 
-/// Called by each worker beside each of its jobs. The workers of a run share one gate.
+/// What a worker found of a section, and what the boards said when it had posted that.
+#[derive(Drop)]
+pub struct Found<'a> {
+    /// The case of the run.
+    pub case: &'a Case,
+    /// The target of the section.
+    pub target: Target,
+    /// The node at which the target stands.
+    pub node: NodeId,
+    /// What is said of the section's proof.
+    pub judged: Judged,
+    /// The place of the board on which findings of this node are posted.
+    pub place: Place,
+    /// The open weight of that board by the posts that the pass has seen.
+    pub weight: u64,
+    /// The worker's own pass. The posts that it has seen hold this finding.
+    pub pass: &'a Pass,
+}
+
+/// Called by a run, and by each worker beside each of its jobs. The workers of a run share one
+/// gate.
 pub trait Gate {
+    /// Once, before the first worker starts: the case of the run, and the depth at which its tree is
+    /// cut, from 0 to 6. Where it answers `AllocError`, the run ends as it does where a growth is
+    /// refused.
+    fn start(&self, _alloc: Global, _case: &Case, _cut: u32) -> Result<(), AllocError>
+        requires { _cut ≤ 6 }
+    {
+        Ok(())
+    }
+
     /// Before the worker of this number, from 0, examines the target's section.
     fn before(&self, worker: u32, target: Target);
 
-    /// After what this worker found of the target, and a part that it then owed, were posted. The
-    /// posts that `pass`, the worker's own, has seen hold the target's finding, and by these posts
-    /// the board of the target has the open weight `weight`.
-    fn after(&self, worker: u32, target: Target, pass: &Pass, weight: u64)
-        requires { IsTold (view_of pass.now) target weight };
+    /// After what this worker found, and a part that it then owed, were posted.
+    fn after(&self, worker: u32, found: &Found<'_>)
+        requires { IsTold (view_of found.now.pass.now) found.now.case.now found.now.target
+            found.now.node found.now.judged found.now.place found.now.weight };
+
+    /// Once, after all workers that were started have been joined.
+    fn end(&self) {}
 }
 
 /// A gate that does nothing.
@@ -25,5 +59,5 @@ pub struct NoGate;
 impl Gate for NoGate {
     fn before(&self, _worker: u32, _target: Target) {}
 
-    fn after(&self, _worker: u32, _target: Target, _pass: &Pass, _weight: u64) {}
+    fn after(&self, _worker: u32, _found: &Found<'_>) {}
 }

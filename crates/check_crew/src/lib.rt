@@ -11,5 +11,5 @@ mod worker;
 
 pub use crew::conquer;
 pub use fault::CrewFault;
-pub use gate::{Gate, NoGate};
+pub use gate::{Found, Gate, NoGate};
 pub use settings::Settings;

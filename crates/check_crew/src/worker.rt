@@ -8,7 +8,7 @@ ghost use Rattle.board_hall.specs.Clauses.{Stays};
 ghost use Rattle.check_crew.specs.Seen.{HasSeen, HasSeenSection};
 ghost use Rattle.check_crew.specs.Inner.Crew.{IsShiftOf, AreReady};
 
-use crate::gate::Gate;
+use crate::gate::{Found, Gate};
 use board_hall::{Core, Pass};
 use case_core::{Case, Finding, Scratch, examine_with};
 use cube_jobs::{JobPass, Jobs};
@@ -72,10 +72,21 @@ fn take_turn<R: Wait, G: Gate>(
     let Some(finding) = examine_with(alloc, scratch, case, asked)? else {
         unreachable!()
     };
-    let board = core.place_of(case, finding.node());
+    let node = finding.node();
+    let judged = finding.judged();
+    let board = core.place_of(case, node);
     post(rt, case, core, pass, finding);
     let weight = core.open_weight(pass, board);
-    gate.after(worker, target, pass, weight);
+    let found = Found {
+        case,
+        target,
+        node,
+        judged,
+        place: board,
+        weight,
+        pass,
+    };
+    gate.after(worker, &found);
     Ok(())
 }
 

@@ -1,45 +1,44 @@
 -- What a run says of the bundle and of what was written, and what its status says.
-use Rattle.std.proofs.Common.{◌≡◌, ◌<◌, ◌⊎◌, ◌∙◌, sym, refl, subst, ℕ, Bool, true, false, List, Option}
+use Rattle.std.proofs.Common.{◌≡◌, ◌<◌, ◌⊎◌, ◌∙◌, sym, refl, ap, subst, ℕ, Bool, true, false, List, [], Option, None, Some}
+use Rattle.std.specs.Prelude.{is_some, option_map, if◌then◌else◌}
 use Rattle.std.proofs.Common.{Result, Ok, Err, IfOk, IfErr, MatchResult, inl, inr, arith}
 use Rattle.std.specs.Io.KnownBytes.{Appends}
-use Rattle.bundle_files.specs.Files.{Held, IsBundleOf, IsRead}
+use Rattle.bundle_files.specs.Files.{Held, Gives, IsBundleOf, IsRead}
 use Rattle.bundle_files.proofs.FilesFormula.{judged_unsatisfiable}
 use Rattle.cube_report.specs.declared.fault.Fault.{Fault}
 use Rattle.cube_report.specs.declared.fault.Fault.TheVariants.{Header, Token, Unfinished, TooLarge, Limit, Memory, Repeats, NotATree, Overlap, BadLabel, NoSuchLeaf, ProofTwice, Device, Thread}
 use Rattle.cube_report.specs.Faults.{IsInputFault}
-use Rattle.cube_report.specs.Correct.{IsCorrect, IsFaultOn, IsUnsatisfiable}
-use Rattle.cube_command.specs.Program.{IsRefused, IsReported, IsLineWritten, fault_line}
+use Rattle.cube_report.specs.Correct.{IsOutcome, IsFaultOn, IsUnsatisfiable}
+use Rattle.tree_map.specs.Picture.{map_text}
+use Rattle.cube_command.specs.Program.{IsDrawn, IsRefused, IsReported, IsLineWritten, fault_line}
 use Rattle.cube_command.specs.Inner.Telling.{IsFaultWritten, status_of, status_of_answer}
 
 -- ---- the run
 
--- the report that was written is the one on the bundle that was asked for
-pub reported : (held : Held) (file folder input old new : Option (List ℕ)) (read whole : List ℕ) (result : Result Bool Fault)
-    → IsBundleOf held file folder input read whole
-    → IfOk result (λ answer. (text : List ℕ) × IsCorrect whole text answer × Appends old new text)
-    → IfOk result (IsReported held file folder input old new)
-reported held file folder input old new read whole (Err fault) bundle is = tt
-reported held file folder input old new read whole (Ok answer) bundle is = record {
-  read = read;
-  whole = whole;
-  bundle = bundle;
-  text = is.0;
-  correct = is.1;
-  written = is.2;
-  sound = λ says. judged_unsatisfiable held folder read whole bundle.is_judged (is.1.sound says);
-}
+-- what was drawn is the picture, where one is asked for
+drawn_there : (after : Held) (map : Option (List ℕ)) (picture drawn : List ℕ) → drawn ≡ (if is_some map then picture else []) → IsDrawn after map drawn → IsDrawn after map picture
+drawn_there after None picture drawn is there = tt
+drawn_there after (Some path) picture drawn is there = subst (Gives after path) (ap (λ (bytes : List ℕ). Some bytes) is) there
 
--- the fault is that of the bundle that was asked for
-pub faulty : (held : Held) (file folder input : Option (List ℕ)) (read whole : List ℕ) (result : Result Bool Fault)
-    → IsBundleOf held file folder input read whole
-    → IfErr result (λ fault. IsInputFault fault → IsFaultOn whole fault)
-    → IfErr result (λ fault. IsInputFault fault → IsRefused held file folder input fault)
-faulty held file folder input read whole (Ok answer) bundle is = tt
-faulty held file folder input read whole (Err fault) bundle is = λ input_is. record {
+-- whether there is a path is whether there is its text
+pub some_mapped : {A B : Type 0} (f : A → B) (path : Option A) (there : Bool) → there ≡ is_some path → there ≡ is_some (option_map f path)
+some_mapped f None there is = is
+some_mapped f (Some path) there is = is
+
+-- the report that was written, and the picture, are those on the bundle that was asked for
+pub reported : (held after : Held) (file folder map input old new : Option (List ℕ)) (read whole text picture : List ℕ) (draws answer : Bool)
+    → IsBundleOf held file folder input read whole → IsOutcome whole draws text picture answer → draws ≡ is_some map
+    → Appends old new text → IsDrawn after map picture → IsReported held after file folder map input old new answer
+reported held after file folder map input old new read whole text picture draws answer bundle outcome asked written there = record {
   read = read;
   whole = whole;
   bundle = bundle;
-  first = is input_is;
+  text = text;
+  correct = outcome.correct;
+  written = written;
+  sound = λ says. judged_unsatisfiable held folder read whole bundle.is_judged (outcome.correct.sound says);
+  drawn = drawn_there after map _ picture
+      (outcome.drawn ∙ ap (λ (b : Bool). if b then map_text outcome.correct.case outcome.correct.marks else []) asked) there;
 }
 
 -- ---- its status
@@ -115,16 +114,16 @@ with_five (NoSuchLeaf line) is = absurd (omega arith)
 with_five (ProofTwice line) is = absurd (omega arith)
 
 -- status 0
-pub sound_run : (held : Held) (asked file folder input out_old out_new : Option (List ℕ)) (run : Result Bool Fault) (status : ℕ) (Same : Type 0) (old new : Option (List ℕ)) (before after : ℕ)
+pub sound_run : (held later : Held) (asked file folder map input out_old out_new : Option (List ℕ)) (run : Result Bool Fault) (status : ℕ) (Same : Type 0) (old new : Option (List ℕ)) (before after : ℕ)
     → file ≡ asked → ToldRun run status Same old new before after
-    → IfOk run (IsReported held file folder input out_old out_new) → status ≡ 0
+    → IfOk run (IsReported held later file folder map input out_old out_new) → status ≡ 0
     → (read : List ℕ) × IsRead held asked input read × IsUnsatisfiable read
-sound_run held asked file folder input out_old out_new (Ok true) status Same old new before after same told report is =
+sound_run held later asked file folder map input out_old out_new (Ok true) status Same old new before after same told report is =
     (report.read, subst (λ (f : Option (List ℕ)). IsRead held f input report.read) same report.bundle.is_read, report.sound refl)
-sound_run held asked file folder input out_old out_new (Ok false) status Same old new before after same told report is = let one : status ≡ 1 = told.0 in absurd (omega arith)
-sound_run held asked file folder input out_old out_new (Err fault) status Same old new before after same (inl told) report is =
+sound_run held later asked file folder map input out_old out_new (Ok false) status Same old new before after same told report is = let one : status ≡ 1 = told.0 in absurd (omega arith)
+sound_run held later asked file folder map input out_old out_new (Err fault) status Same old new before after same (inl told) report is =
     let above : 2 < status_of fault = above_two fault in let has : status ≡ status_of fault = told.0 in absurd (omega arith)
-sound_run held asked file folder input out_old out_new (Err fault) status Same old new before after same (inr told) report is = let four : status ≡ 4 = told.1 in absurd (omega arith)
+sound_run held later asked file folder map input out_old out_new (Err fault) status Same old new before after same (inr told) report is = let four : status ≡ 4 = told.1 in absurd (omega arith)
 
 -- status 3
 pub fault_run : (held : Held) (asked_file asked_folder file folder input : Option (List ℕ)) (run : Result Bool Fault) (status : ℕ) (Same : Type 0) (old new : Option (List ℕ)) (before after : ℕ)

@@ -1,5 +1,5 @@
 -- What the words ask for.
-use Rattle.std.proofs.Common.{◌≡◌, ◌∙◌, ap, refl, ℕ, List, [], ◌∷◌, map, length, codes, true, None}
+use Rattle.std.proofs.Common.{◌≡◌, ◌∙◌, ap, refl, ℕ, Bool, false, Option, Some, List, [], ◌∷◌, map, length, codes, true, None}
 use Rattle.std.proofs.Common.{Result, Ok, Err, IfErr, IsErrAnd, subst, sym, inl, inr}
 use Rattle.clap.specs.declared.builder.command.Command.{Command}
 use Rattle.clap.specs.declared.error.Error.{Error}
@@ -9,7 +9,7 @@ use Rattle.clap.specs.Words.{App, HasMatchesOf, Text, app_of, first_of, fault_of
 use Rattle.clap.proofs.OnLiterals.{clap_on_literals}
 use Rattle.clap.proofs.WalkLemmas.{first_value-rows, one_text-rows}
 use Rattle.cube_command.specs.Words.{AreTaken, asked_for, file_of, folder_of, words_taken}
-use Rattle.cube_command.specs.Inner.Words.{Reads, SaysNumber}
+use Rattle.cube_command.specs.Inner.Words.{Reads, SaysFlag, SaysNumber, flag_text}
 
 -- what the parser's matches hold under a name is what the words ask for
 pub found_asked : (parser : Command) (matches : ArgMatches) (words : List Text) (name : Text)
@@ -81,3 +81,17 @@ pub number_asked : (parser : Command) (matches : ArgMatches) (words : List Text)
     → Reads (one_text (found_of matches) name) number
 number_asked parser matches words name number is has says =
     (says.0, one_text-rows (found_of matches) name ∙ ap (one_of name) ((has (ap is_simple is ∙ refl)).0 ∙ ap (λ (a : App). matches_of a words) is) ∙ says.1, says.2, says.3)
+
+-- the flag that the parser's matches have under a name is the one that the words say
+pub flag_asked : (parser : Command) (matches : ArgMatches) (words : List Text) (name : Text) (given : Bool)
+    → app_of parser ≡ words_taken
+    → HasMatchesOf (app_of parser) words matches → SaysFlag name words given
+    → one_text (found_of matches) name ≡ Some (flag_text given)
+flag_asked parser matches words name given is has says =
+    one_text-rows (found_of matches) name ∙ ap (one_of name) ((has (ap is_simple is ∙ refl)).0 ∙ ap (λ (a : App). matches_of a words) is) ∙ says
+
+-- a flag that is read by its two texts is the one that they say
+pub flag_read : (text : Option Text) (flag given : Bool) → (text ≡ Some (codes "true") → flag ≡ true) → (text ≡ Some (codes "false") → flag ≡ false)
+    → text ≡ Some (flag_text given) → flag ≡ given
+flag_read text flag true on off is = on is
+flag_read text flag false on off is = off is

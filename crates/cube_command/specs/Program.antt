@@ -1,7 +1,8 @@
 -- What the program's status says.
-use Rattle.std.specs.Prelude.{◌≡◌, ◌<◌, ℕ, Bool, List, ◌++◌, true, ◌⊎◌, codes, Option}
+use Rattle.std.specs.Prelude.{◌≡◌, ◌<◌, ℕ, Bool, List, ◌++◌, true, ⊤, ◌⊎◌, codes, Option, None, Some}
 use Rattle.std.specs.Io.KnownBytes.{Appends}
-use Rattle.bundle_files.specs.Files.{Held, IsBundleOf}
+use Rattle.bundle_files.specs.Files.{Held, Gives, IsBundleOf}
+use Rattle.tree_map.specs.Picture.{map_text}
 use Rattle.cube_report.specs.declared.fault.Fault.{Fault}
 use Rattle.cube_report.specs.Faults.{fault_text}
 use Rattle.cube_report.specs.Device.{AppendsBeginning}
@@ -12,11 +13,16 @@ abbrev pub IsStatus : ℕ → Type 0
 IsStatus status =
     (status ≡ 0) ⊎ (status ≡ 1) ⊎ (status ≡ 2) ⊎ (status ≡ 3) ⊎ (status ≡ 4) ⊎ (status ≡ 5)
 
+-- the picture lies at the path that is asked for, as far as is known
+abbrev pub IsDrawn : Held → Option (List ℕ) → List ℕ → Type 0
+IsDrawn held None picture = ⊤
+IsDrawn held (Some path) picture = Gives held path (Some picture)
+
 -- The report on the bundle that the words ask for was written, and nothing more; its last line
 -- gives this answer, and where it says refuted, the formula of the bundle that was read has no
--- model.
-pub record IsReported (held : Held) (file folder input old new : Option (List ℕ)) (answer : Bool)
-    : Type 0 where
+-- model. Where a picture is asked for, that of the same case by the same marks was written.
+pub record IsReported (held after : Held) (file folder map input old new : Option (List ℕ))
+    (answer : Bool) : Type 0 where
   pub read : List ℕ
   pub whole : List ℕ
   pub bundle : IsBundleOf held file folder input read whole
@@ -24,6 +30,7 @@ pub record IsReported (held : Held) (file folder input old new : Option (List �
   pub correct : IsCorrect whole text answer
   pub written : Appends old new text
   pub sound : answer ≡ true → IsUnsatisfiable read
+  pub drawn : IsDrawn after map (map_text correct.case correct.marks)
 
 -- the bundle that the words ask for has this fault, its first
 pub record IsRefused (held : Held) (file folder input : Option (List ℕ)) (fault : Fault)

@@ -1,33 +1,39 @@
 -- Which words the program takes, and what they ask for.
 use Rattle.std.specs.Prelude.{◌≡◌, List, [], ◌∷◌, codes, pos, true, Option, Some}
 use Rattle.clap.specs.Words.{App, Rule, Text, fault_of, first_of, matches_of, new_app, new_rule, with_rule}
+use Rattle.clap.specs.declared.builder.action.ArgAction.TheVariants.{SetTrue}
 use Rattle.clap.specs.declared.builder.value_parser.ValueParser.TheVariants.{Signed, NonEmptyString}
+
+-- a word of this name with one value
+abbrev pub valued : Text → Rule
+valued name = record (new_rule name) { long = Some name; value_names = 1 }
 
 -- `--workers` with a number from 1 to 32, and 4 where there is none
 abbrev pub workers_word : Rule
-workers_word = record (new_rule (codes "workers")) {
-  long = Some (codes "workers");
-  value_names = 1;
+workers_word = record (valued (codes "workers")) {
   parser = Some (Signed (pos 1) (pos 32));
   defaults = codes "4" ∷ [];
 }
 
 -- `--cut` with a number from 0 to 6, and 3 where there is none
 abbrev pub cut_word : Rule
-cut_word = record (new_rule (codes "cut")) {
-  long = Some (codes "cut");
-  value_names = 1;
+cut_word = record (valued (codes "cut")) {
   parser = Some (Signed (pos 0) (pos 6));
   defaults = codes "3" ∷ [];
 }
 
 -- `--proofs` with a text that isn't empty
 abbrev pub proofs_word : Rule
-proofs_word = record (new_rule (codes "proofs")) {
-  long = Some (codes "proofs");
-  value_names = 1;
-  parser = Some NonEmptyString;
-}
+proofs_word = record (valued (codes "proofs")) { parser = Some NonEmptyString }
+
+-- `--progress`, without a value
+abbrev pub progress_word : Rule
+progress_word =
+    record (new_rule (codes "progress")) { long = Some (codes "progress"); action = Some SetTrue }
+
+-- `--map` with a text that isn't empty
+abbrev pub map_word : Rule
+map_word = record (valued (codes "map")) { parser = Some NonEmptyString }
 
 -- one text without a name
 abbrev pub file_word : Rule
@@ -40,9 +46,9 @@ with_version parser =
 
 abbrev pub words_taken : App
 words_taken =
-    with_rule (with_rule
+    with_rule (with_rule (with_rule (with_rule
     (with_rule (with_rule (with_version (new_app (codes "cubeboard"))) workers_word) cut_word)
-    proofs_word) file_word
+    proofs_word) progress_word) map_word) file_word
 
 -- these words fit that: `clap` finds no fault in them, and they ask for neither help nor the version
 abbrev pub AreTaken : List Text → Type 0
@@ -58,3 +64,7 @@ file_of words = first_of (codes "file") (matches_of words_taken words)
 
 abbrev pub folder_of : List Text → Option Text
 folder_of words = first_of (codes "proofs") (matches_of words_taken words)
+
+-- the file for the picture
+abbrev pub map_of : List Text → Option Text
+map_of words = first_of (codes "map") (matches_of words_taken words)

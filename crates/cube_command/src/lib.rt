@@ -3,11 +3,13 @@
 
 // `command` stands here: a module can't have the name of an item beside it.
 mod program;
+mod progress;
 mod telling;
 mod words;
 
 pub use bundle_files::{FileStore, Store};
-pub use check_crew::{Gate, NoGate};
+pub use check_crew::{Found, Gate, NoGate};
 pub use cube_report::{Counted, Sink, Source};
 pub use program::command;
+pub use progress::Progress;
 pub use telling::own_words;

@@ -1,42 +1,47 @@
 //! The program: from its words and its streams to its status.
 
-ghost use Rattle.std.specs.Prelude.{◌≡◌, ◌≢◌, ◌⊎◌, ◌<◌, ◌+◌, ◌^◌, ◌-◌, List, ℕ, length, map, option_map, true, false, None, IfOk, IfErr, OnErr, IsErrOf};
-ghost use Rattle.std.specs.Io.KnownBytes.{Keeps};
+ghost use Rattle.std.specs.Prelude.{◌≡◌, ◌≢◌, ◌⊎◌, ◌<◌, ◌+◌, ◌^◌, ◌-◌, List, ℕ, length, map, option_map, true, false, None, Some, IfOk, IfErr, OnOk, OnErr, IsErrOf};
+ghost use Rattle.std.specs.Io.KnownBytes.{Appends, Keeps};
+ghost use Rattle.cube_report.specs.Device.{AppendsBeginning, IsReadFault};
 ghost use Rattle.clap.specs.Words.{kind_of};
 ghost use Rattle.bundle_files.specs.Files.{IsAbsent, IsRead};
 ghost use Rattle.cube_report.specs.Correct.{IsUnsatisfiable};
 ghost use Rattle.cube_report.specs.Faults.{IsInputFault};
-ghost use Rattle.cube_command.specs.Words.{AreTaken, file_of, folder_of};
-ghost use Rattle.cube_command.specs.Program.{IsStatus, IsReported, IsRefused, IsBegun, IsLineWritten, fault_line};
+ghost use Rattle.cube_command.specs.Words.{AreTaken, file_of, folder_of, map_of};
+ghost use Rattle.cube_command.specs.Program.{IsStatus, IsDrawn, IsReported, IsRefused, IsBegun, IsLineWritten, fault_line};
 
+use crate::progress::Watched;
 use crate::telling::{tell_fault, tell_run};
 use crate::words::{Request, request_of};
 use bundle_files::{Store, read_judged};
 use check_crew::Gate;
 use clap::Error as WordsError;
 use clap::error::ErrorKind as WordsFault;
-use cube_report::{Fault, Sink, Source, write_all, write_report};
+use cube_report::{Fault, Outcome, Sink, Source, judge_bundle, write_all};
 use std::alloc::Global;
 use std::convert::AsStr;
 use std::sync::Wait;
 use std::thread::Threads;
 
 /// The program on these words, which are those after its name: `[--workers N] [--cut D] [--proofs
-/// DIR] [FILE]`. It reads a bundle from FILE, or from `input` where there is none, and writes the
+/// DIR] [--progress] [--map
+/// SVG] [FILE]`. It reads a bundle from FILE, or from `input` where there is none, and writes the
 /// report to `output` or, where there is no report, one line to `errors`. Files are found by
 /// `store`. Both writers have to write at once, without a buffer of their own.
 ///
 /// With `--proofs DIR` the proofs of that folder are added to the bundle: for each cube K and after
 /// that for each missing leaf J, in order, the file `DIR/K.lrat` or `DIR/mJ.lrat`, where it is
 /// there, as the section of its leaf. N workers check the proofs, with boards cut at the depth D;
-/// `gate` is called beside each section.
+/// `gate` is called beside each section, and with `--progress` also `watch`, which may tell a person
+/// how far the run is, on a device that it is lent: what it does there is not `errors`. With
+/// `--map SVG` a picture of the tree is written to that file, which is made anew, before the report.
 ///
 /// Answers the status: 0 for a report that says refuted, 1 for one that says open, 2 where the
 /// words can't be taken or ask for help or the version, after the parser's text on `errors`, 3
 /// where the input is refused, 4 where memory or the start of a thread is refused, 5 where a device
 /// failed: also where FILE can't be opened, and where a file of DIR is there and can't be read. A
 /// failed write to `errors` doesn't change it.
-pub fn command<R, D, S, I, O, E, G>(
+pub fn command<R, D, S, I, O, E, G, W>(
     rt: &R,
     store: &mut D,
     words: &[S],
@@ -44,6 +49,7 @@ pub fn command<R, D, S, I, O, E, G>(
     output: &mut O,
     errors: &mut E,
     gate: &G,
+    watch: &W,
 ) -> u8
 where
     R: AllocGlobal + Threads + Wait + Sync,
@@ -53,6 +59,7 @@ where
     O: Sink,
     E: Sink,
     G: Gate + Sync,
+    W: Gate + Sync,
     requires store { D.failures store.old < 2 ^ 64 - 1 }
     requires input { I.failures input.old < 2 ^ 64 - 1 }
     requires output { O.failures output.old < 2 ^ 64 - 1 }
@@ -65,14 +72,19 @@ where
         × IsUnsatisfiable read }
     // And exactly the report was written, on that bundle with the proofs of DIR: it says refuted.
     // Status 1: it says open.
-    ensures refuted { result ≡ 0 → IsReported (D.held store.old) (file_of (map S.text words.now))
-        (folder_of (map S.text words.now))
-        (I.remaining input.old) (O.contents output.old) (O.contents output.new) true }
-    ensures open { result ≡ 1 → IsReported (D.held store.old) (file_of (map S.text words.now))
-        (folder_of (map S.text words.now))
-        (I.remaining input.old) (O.contents output.old) (O.contents output.new) false }
+    ensures refuted { result ≡ 0 → IsReported (D.held store.old) (D.held store.new)
+        (file_of (map S.text words.now)) (folder_of (map S.text words.now))
+        (map_of (map S.text words.now)) (I.remaining input.old) (O.contents output.old) (O.contents output.new) true }
+    ensures open { result ≡ 1 → IsReported (D.held store.old) (D.held store.new)
+        (file_of (map S.text words.now)) (folder_of (map S.text words.now))
+        (map_of (map S.text words.now)) (I.remaining input.old) (O.contents output.old) (O.contents output.new) false }
     // Then nothing is written to `errors`.
     ensures quiet { result < 2 → errors.new ≡ errors.old }
+
+    // No file changes but the one for the picture, and that one only with a report, or with 5.
+    ensures elsewhere { (path : List ℕ) → map_of (map S.text words.now) ≢ Some path
+        → D.held store.new path ≡ D.held store.old path }
+    ensures undrawn { 1 < result → result < 5 → D.held store.new ≡ D.held store.old }
 
     // With every other status but 5 nothing is written to `output`; with 5 nothing is, or a
     // beginning of the report where a write failed.
@@ -117,7 +129,12 @@ where
 {
     match request_of(rt.alloc(), words) {
         Ok(request) => {
-            let run = run_request(rt, store, &request, input, output, gate);
+            let gates = Watched {
+                gate,
+                watch,
+                is_asked: request.progress,
+            };
+            let run = run_request(rt, store, &request, input, output, &gates);
             tell_run(rt.alloc(), errors, run)
         }
         Err(error) => refused(rt.alloc(), errors, &error),
@@ -144,9 +161,15 @@ where
     requires input { I.failures input.old < 2 ^ 64 - 1 }
     requires output { O.failures output.old < 2 ^ 64 - 1 }
     ensures report { IfOk result
-        (IsReported (D.held store.old) (option_map (λ text. text.now) request.now.file)
-        (option_map (λ text. text.now) request.now.proofs) (I.remaining input.old)
+        (IsReported (D.held store.old) (D.held store.new)
+        (option_map (λ text. text.now) request.now.file)
+        (option_map (λ text. text.now) request.now.proofs)
+        (option_map (λ text. text.now) request.now.map) (I.remaining input.old)
         (O.contents output.old) (O.contents output.new)) }
+    ensures elsewhere { (path : List ℕ) → option_map (λ text. text.now) request.now.map ≢ Some path
+        → D.held store.new path ≡ D.held store.old path }
+    ensures undrawn { IfErr result
+        (λ fault. fault ≢ Fault.Device → D.held store.new ≡ D.held store.old) }
     ensures fault { IfErr result
         (λ fault. IsInputFault fault → IsRefused (D.held store.old)
         (option_map (λ text. text.now) request.now.file)
@@ -167,7 +190,45 @@ where
         ⊎ IsAbsent (D.held store.old) (option_map (λ text. text.now) request.now.file) }
 {
     let bundle = read_judged(rt.alloc(), store, input, request.file, request.proofs)?;
-    write_report(rt, rt.alloc(), bundle, output, request.settings, gate)
+    let draws = request.map.is_some();
+    let outcome = judge_bundle(rt, rt.alloc(), bundle, request.settings, gate, draws)?;
+    write_outcome(store, output, request.map, &outcome)?;
+    Ok(outcome.refuted)
+}
+
+/// Writes the picture, where a file for it is asked for, and then the report.
+fn write_outcome<D: Store, O: Sink>(
+    store: &mut D,
+    output: &mut O,
+    map: Option<&str>,
+    outcome: &Outcome,
+) -> Result<(), Fault>
+    requires store { D.failures store.old < 2 ^ 64 - 1 }
+    requires output { O.failures output.old < 2 ^ 64 - 1 }
+    ensures drawn { OnOk result (IsDrawn (D.held store.new) (option_map (λ path. path.now) map.entry)
+        outcome.now.map.items) }
+    ensures elsewhere { (path : List ℕ) → option_map (λ path. path.now) map.entry ≢ Some path
+        → D.held store.new path ≡ D.held store.old path }
+    ensures undrawn { IfErr result
+        (λ fault. fault ≢ Fault.Device → D.held store.new ≡ D.held store.old) }
+    ensures written { OnOk result (Appends (O.contents output.old) (O.contents output.new)
+        outcome.now.text.items) }
+    ensures ok { OnOk result ((D.failures store.new ≡ D.failures store.old)
+        × (O.failures output.new ≡ O.failures output.old)) }
+    ensures nothing { IfErr result
+        (λ fault. fault ≢ Fault.Device → Keeps (O.contents output.old) (O.contents output.new)) }
+    ensures beginning { OnErr result (Keeps (O.contents output.old) (O.contents output.new)
+        ⊎ ((O.failures output.old < O.failures output.new)
+        × AppendsBeginning (O.contents output.old) (O.contents output.new)
+        outcome.now.text.items)) }
+    ensures err { IfErr result (λ fault. IsReadFault
+        (D.failures store.old + O.failures output.old)
+        (D.failures store.new + O.failures output.new) fault) }
+{
+    if let Some(path) = map {
+        store.write(path, &outcome.map)?;
+    }
+    write_all(output, &outcome.text)
 }
 
 /// The status of words that make no request, after the parser's text, or the line that memory was

@@ -1,14 +1,14 @@
 //! The words of the program: what they ask for, and the help.
 
-ghost use Rattle.std.specs.Prelude.{◌≡◌, ◌<◌, ◌≤◌, ℕ, Some, false, map, option_map, codes, IfOk, IfErr};
+ghost use Rattle.std.specs.Prelude.{◌≡◌, ◌<◌, ◌≤◌, ℕ, Bool, Some, false, map, option_map, codes, IfOk, IfErr};
 ghost use Rattle.clap.specs.Words.{app_of, found_of, kind_of, new_app, one_text, rule_of};
-ghost use Rattle.cube_command.specs.Words.{AreTaken, asked_for, cut_word, file_word, proofs_word, with_version, words_taken, workers_word};
-ghost use Rattle.cube_command.specs.Inner.Words.{with_numbers, Reads, SaysNumber};
+ghost use Rattle.cube_command.specs.Words.{AreTaken, asked_for, cut_word, file_word, map_word, progress_word, proofs_word, with_version, words_taken, workers_word};
+ghost use Rattle.cube_command.specs.Inner.Words.{with_numbers, Reads, SaysFlag, SaysNumber};
 
 use check_crew::Settings;
 use clap::builder::ValueParser;
 use clap::error::ErrorKind;
-use clap::{Arg, ArgMatches, Command, Error, value_parser};
+use clap::{Arg, ArgAction, ArgMatches, Command, Error, value_parser};
 use std::alloc::{AllocError, Global};
 use std::convert::AsStr;
 
@@ -21,6 +21,10 @@ pub struct Request<'a> {
     pub proofs: Option<&'a str>,
     /// The file with the bundle, or `None` for the program's input.
     pub file: Option<&'a str>,
+    /// Whether it is told how far the run is.
+    pub progress: bool,
+    /// The file for the picture of the tree, where one is asked for.
+    pub map: Option<&'a str>,
 }
 
 /// The version, and the identity of the kit that proved it, as `rt version` prints it.
@@ -61,10 +65,15 @@ pub fn request_of<'a, S: AsStr>(alloc: Global, words: &'a [S]) -> Result<Request
     ensures file { IfOk result
         (λ request. option_map (λ text. text.now) request.file ≡ asked_for (codes "file")
         (map S.text words.now)) }
+    ensures map { IfOk result
+        (λ request. option_map (λ text. text.now) request.map ≡ asked_for (codes "map")
+        (map S.text words.now)) }
     ensures settings { IfOk result (λ request. (workers cut : ℕ)
         → SaysNumber (codes "workers") (map S.text words.now) workers → 0 < workers → workers ≤ 32
         → SaysNumber (codes "cut") (map S.text words.now) cut → cut ≤ 6
         → (request.settings.workers ≡ workers) × (request.settings.cut ≡ cut)) }
+    ensures progress { IfOk result (λ request. (asked : Bool)
+        → SaysFlag (codes "progress") (map S.text words.now) asked → request.progress ≡ asked) }
     // Only words that are taken make a request, and they are refused only for want of memory.
     ensures taken { IfOk result (λ _. AreTaken (map S.text words.now)) }
     ensures refused { IfErr result
@@ -75,16 +84,23 @@ pub fn request_of<'a, S: AsStr>(alloc: Global, words: &'a [S]) -> Result<Request
         settings: settings_in(&matches),
         proofs: matches.get_str("proofs"),
         file: matches.get_str("file"),
+        progress: matches.get_flag("progress"),
+        map: matches.get_str("map"),
     })
 }
 
 /// How the run is set up, by the numbers that were matched.
 fn settings_in(matches: &ArgMatches<'_>) -> Settings
-    ensures { (workers cut : ℕ)
+    ensures workers { (workers cut : ℕ)
         → Reads (one_text (found_of matches.now) (codes "workers")) workers → 0 < workers
         → workers ≤ 32
         → Reads (one_text (found_of matches.now) (codes "cut")) cut → cut ≤ 6
-        → (result.workers ≡ workers) × (result.cut ≡ cut) }
+        → result.workers ≡ workers }
+    ensures cut { (workers cut : ℕ)
+        → Reads (one_text (found_of matches.now) (codes "workers")) workers → 0 < workers
+        → workers ≤ 32
+        → Reads (one_text (found_of matches.now) (codes "cut")) cut → cut ≤ 6
+        → result.cut ≡ cut }
 {
     let workers = matches.get_one::<u32>("workers");
     let cut = matches.get_one::<u32>("cut");
@@ -108,6 +124,8 @@ fn parser<'a>(alloc: Global) -> Result<Command<'a>, AllocError>
 {
     numbers(alloc)?
         .arg(proofs_word(alloc))?
+        .arg(progress_word(alloc))?
+        .arg(map_word(alloc))?
         .arg(file_word(alloc))
 }
 
@@ -165,6 +183,29 @@ fn proofs_word<'a>(alloc: Global) -> Arg<'a>
         .value_name("DIR")
         .value_parser(ValueParser::NonEmptyString)
         .help("A folder with the proofs of leaves")
+}
+
+/// Whether it is told how far the run is.
+fn progress_word<'a>(alloc: Global) -> Arg<'a>
+    ensures rule { rule_of result ≡ progress_word }
+    ensures own { result.global ≡ false }
+{
+    Arg::new(alloc, "progress")
+        .long("progress")
+        .action(ArgAction::SetTrue)
+        .help("Tells on standard error how far the run is, once a second")
+}
+
+/// The file for the picture.
+fn map_word<'a>(alloc: Global) -> Arg<'a>
+    ensures rule { rule_of result ≡ map_word }
+    ensures own { result.global ≡ false }
+{
+    Arg::new(alloc, "map")
+        .long("map")
+        .value_name("SVG")
+        .value_parser(ValueParser::NonEmptyString)
+        .help("A file for a picture of the tree, which is made anew")
 }
 
 /// The bundle's file.

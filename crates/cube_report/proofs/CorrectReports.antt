@@ -13,9 +13,10 @@ use Rattle.mark_board.specs.Marking.{refuted_by, marked, open_weight, open_branc
 use Rattle.mark_board.specs.TopPlaces.{worth_of}
 use Rattle.cube_report.specs.declared.fault.Fault.{Fault}
 use Rattle.cube_report.specs.Faults.{IsInputFault}
-use Rattle.cube_report.specs.Report.{answer_line, total_line, cube_lines, missing_lines, node_lines, open_lines, weight_line}
+use Rattle.tree_map.specs.Fields.{answer_line}
+use Rattle.cube_report.specs.Report.{total_line, cube_lines, missing_lines, node_lines, open_lines, weight_line}
 use Rattle.cube_report.specs.Stated.{IsStated}
-use Rattle.cube_report.specs.Correct.{IsCorrect, SaysRefuted, IsUnsatisfiable, IsFaultOn}
+use Rattle.cube_report.specs.Correct.{IsCorrect, IsOutcome, SaysRefuted, IsUnsatisfiable, IsFaultOn}
 
 no_nil : (ys : List ℕ) (b : ℕ) → [] ≡ ys ++ b ∷ [] → ⊥
 no_nil [] b e = cc
@@ -88,14 +89,22 @@ unsatisfiable bundle case is refuted items text =
     rw same (rw append-nil at refuted)
 
 -- what is said of the case that a bundle stands for is what a run on the bundle promises
-pub correct : (bundle : List ℕ) (case : CaseOf) (report : List ℕ) (answer : Bool) → IsCaseOf bundle case → IsStated case report answer → IsCorrect bundle report answer
-correct bundle case report answer is stated = record {
+pub correct : (bundle : List ℕ) (case : CaseOf) (draws : Bool) (report map : List ℕ) (answer : Bool) → IsCaseOf bundle case → IsStated case draws report map answer → IsCorrect bundle report answer
+correct bundle case draws report map answer is stated = record {
   case = case;
   marks = stated.marks;
   judged = record { case_is = is; findings = stated.findings };
   text = stated.text;
   refuted = stated.refuted;
   sound = λ says. unsatisfiable bundle case is (stated.sound says);
+}
+
+-- and the picture is by the same marks
+pub outcome : (bundle : List ℕ) (case : CaseOf) (draws : Bool) (report map : List ℕ) (answer : Bool) → IsCaseOf bundle case → IsStated case draws report map answer → IsOutcome bundle draws report map answer
+unfolding correct
+outcome bundle case draws report map answer is stated = record {
+  correct = correct bundle case draws report map answer is stated;
+  drawn = stated.drawn;
 }
 
 -- what a run answers for bytes is what it answers for the bytes that were read

@@ -3,7 +3,8 @@ use Rattle.std.proofs.Common.{◌≡◌, ℕ, ◌+◌, ◌<◌, List, refl, sym,
 use Rattle.std.specs.Prelude.{MatchOption, get_or}
 use Rattle.std.proofs.lemmas.List.{ext_get_or}
 use Rattle.cnf_text.specs.Literal.{Literal}
-use Rattle.lrat_text.specs.Proof.{proof_of}
+use Rattle.lrat_text.specs.Proof.{Proof, IsProofOf}
+use Rattle.lrat_text.proofs.ProofUnique.{has_proof}
 use Rattle.hint_check.specs.Judgement.{judgement}
 use Rattle.split_tree.specs.SplitTree.{SplitTree, missing, cube, split, size, subtrees, subtree_at, path_at}
 use Rattle.split_tree.specs.Leaves.{missing_nodes, IsTargetAt, IsPathOf}
@@ -42,13 +43,15 @@ target_at tree node (split v p n) l is = (Node node, (refl, l, rw is tt))
 
 -- the mark of a target with this section, or with none
 abbrev IsMarkBy : CaseOf → Target → Option (List ℕ) → Mark → Type 0
-IsMarkBy case target section mark = MatchOption section (mark ≡ Open) (λ proof. (path : List Literal) →
-    IsPathOf case.tree target path → mark ≡ mark_as (judgement case.formula path (proof_of proof)))
+IsMarkBy case target section mark = MatchOption section (mark ≡ Open) (λ text. (path : List Literal) (proof : Proof) →
+    IsPathOf case.tree target path → IsProofOf text proof → mark ≡ mark_as (judgement case.formula path proof))
 
 one_of_section : (case : CaseOf) (target : Target) (path : List Literal) (section : Option (List ℕ)) (a b : Mark) →
     IsPathOf case.tree target path → IsMarkBy case target section a → IsMarkBy case target section b → a ≡ b
 one_of_section case target path None a b of x y = x ∙ sym y
-one_of_section case target path (Some proof) a b of x y = x path of ∙ sym (y path of)
+one_of_section case target path (Some text) a b of x y =
+    let proof = has_proof text in
+    x path proof.0 of proof.1 ∙ sym (y path proof.0 of proof.1)
 
 one_mark : (case : CaseOf) (target : Target) (path : List Literal) (a b : Mark) → IsPathOf case.tree target path →
     IsMarkOf case target a → IsMarkOf case target b → a ≡ b

@@ -11,7 +11,8 @@ use Rattle.cnf_text.specs.Numbers.{digits_value, decimal, number_of}
 use Rattle.cnf_text.specs.Tokens.{Token, is_blank, is_comment, words, line_tokens, token_lines}
 use Rattle.cnf_text.specs.Icnf.{Item, ClauseItem, spelled, symbols_of, Within, StandsFor, after_header}
 use Rattle.lrat_text.specs.Grammar.{Add}
-use Rattle.lrat_text.specs.Proof.{Proof, proof_of, proof_in}
+use Rattle.lrat_text.specs.Proof.{Proof, IsProofOf}
+use Rattle.lrat_text.proofs.ProofUnique.{one_proof, worked_out}
 use Rattle.hint_check.specs.Literals.{has, is_tautology, with_literals, with_literal}
 use Rattle.hint_check.specs.Live.{Live, start}
 use Rattle.hint_check.specs.Propagation.{Conflict, chain, unfalsified, effect_of}
@@ -142,9 +143,9 @@ proof = record {
   blank = true;
 }
 
-proof_is : proof_of proof_text ≡ proof
-unfolding proof_in token_lines line_tokens is_comment is_blank words number_of decimal digits_value
-proof_is = refl
+proof_is : (other : Proof) → IsProofOf proof_text other → other ≡ proof
+unfolding token_lines line_tokens is_comment is_blank words number_of decimal digits_value
+proof_is other is = one_proof _ other proof is (worked_out _ proof refl)
 
 abbrev live : Live
 live = start clauses []
@@ -161,9 +162,9 @@ good : addition_fault live (record { id = 3; literals = []; hints = 1 ∷ 2 ∷ 
 unfolding is_tautology resolution_fault
 good = addition_is live _ Conflict (at_live 3) refl outcome
 
-judged : judgement clauses [] (proof_of proof_text) ≡ judged_refuted
-judged =
-    ap (judged_by live) proof_is
+judged : (other : Proof) → IsProofOf proof_text other → judgement clauses [] other ≡ judged_refuted
+judged other is =
+    ap (judged_by live) (proof_is other is)
     ∙ judged_from-good live (start-holds_empty_clause clauses []) 1 _ true _ good
     ∙ judged_from-refuted _ 2 [] true (insert-empty live 3 [] refl)
 
@@ -172,8 +173,8 @@ judged =
 abbrev marks : List Mark
 marks = Refuted ∷ []
 
-judged_on : (path : List Literal) → path ≡ [] → Refuted ≡ mark_as (judgement clauses path (proof_of proof_text))
-judged_on path is = rw is (ap mark_as (sym judged))
+judged_on : (path : List Literal) (other : Proof) → path ≡ [] → IsProofOf proof_text other → Refuted ≡ mark_as (judgement clauses path other)
+judged_on path other is of_text = rw is (ap mark_as (sym (judged other of_text)))
 
 no_node_below : (n : ℕ) (target : Target) → IsTargetAt missing (suc n) target → ⊥
 no_node_below n (Leaf (Cube k)) at = let l = at.0 in omega arith
@@ -190,7 +191,7 @@ mark_is : (node : ℕ) (target : Target) → IsTargetAt missing node target → 
 mark_is (suc n) target at = absurd (no_node_below n target at)
 mark_is zero (Leaf (Cube k)) at = absurd (cc)
 mark_is zero (Leaf (Missing zero)) at = let l = at.0 in absurd (omega arith)
-mark_is zero (Leaf (Missing (suc zero))) at = λ path is. judged_on path (path_is path is)
+mark_is zero (Leaf (Missing (suc zero))) at = λ path other is of_text. judged_on path other (path_is path is) of_text
 mark_is zero (Leaf (Missing (suc (suc j)))) at = let l = at.1 in absurd (omega arith)
 mark_is zero (Node inner) at = absurd at.2
 

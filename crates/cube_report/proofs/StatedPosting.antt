@@ -7,7 +7,7 @@ use Rattle.std.proofs.lemmas.Bool.{cases_Bool, cases_eq}
 use Rattle.std.proofs.lemmas.List.{take-append-drop, drop_more, take_more}
 use Rattle.std.specs.Prelude.{MatchOption}
 use Rattle.cnf_text.specs.Literal.{Literal}
-use Rattle.lrat_text.specs.Proof.{proof_of}
+use Rattle.lrat_text.specs.Proof.{Proof, IsProofOf}
 use Rattle.hint_check.specs.Judgement.{judgement}
 use Rattle.hint_check.specs.declared.Judged.{Judged}
 use Rattle.split_tree.specs.SplitTree.{SplitTree, size}
@@ -28,7 +28,8 @@ use Rattle.mark_board.specs.Boards.{marks_with}
 
 -- the mark of a proof's judgement from the target's path
 abbrev pub IsMark : CaseOf → Target → Mark → List ℕ → Type 0
-IsMark case target mark proof = (path : List Literal) → IsPathOf case.tree target path → mark ≡ mark_as (judgement case.formula path (proof_of proof))
+IsMark case target mark text =
+    (path : List Literal) (proof : Proof) → IsPathOf case.tree target path → IsProofOf text proof → mark ≡ mark_as (judgement case.formula path proof)
 
 -- the findings of these sections are posted
 pub record ArePostedOf (case : CaseOf) (done : List SectionOf) (marks : List Mark) : Type 0 where
@@ -78,8 +79,8 @@ one_more_posted case front s rest old new node judged posted whole none p here o
             let target_is : target ≡ s.target = one_target case.tree node target s.target (rw same at at) here in
             let mark_is : mark_at new i ≡ mark_as judged = ap (λ (xs : List Mark). mark_at xs i) set_there
             ∙ (ap (mark_at (set old node (mark_as judged))) same ∙ get_or-set_same old node (mark_as judged) Open (omega (arith, p.long))) in
-            let proof : proof_for case.sections s.target ≡ Some s.proof = rw whole (its_proof front s rest none) in
-            rw (target_is, proof_added front s none) (λ path of. mark_is ∙ ap mark_as (is path s.proof of proof))
+            let found : proof_for case.sections s.target ≡ Some s.proof = rw whole (its_proof front s rest none) in
+            rw (target_is, proof_added front s none) (λ path proof of of_text. mark_is ∙ ap mark_as (is path s.proof proof of found of_text))
         | inr other ↦
             let apart : same_target s.target target ≡ false = elim (cases_Bool (same_target s.target target)) [
               | inl same ↦ absurd (other (only i (rw (same_target-true s.target target same) at)))

@@ -1,5 +1,5 @@
 -- The main statements: what a run says of the bytes of a bundle.
-use Rattle.std.specs.Prelude.{◌≡◌, ℕ, Bool, List, ◌++◌, true, codes}
+use Rattle.std.specs.Prelude.{◌≡◌, ℕ, Bool, List, [], ◌++◌, true, codes, if◌then◌else◌}
 use Rattle.cnf_text.specs.Literal.{Literal}
 use Rattle.cnf_text.specs.Formula.{HasNoModel}
 use Rattle.cnf_text.specs.Icnf.{Item, IsTextOf, clauses_of}
@@ -12,6 +12,7 @@ use Rattle.mark_board.specs.Marking.{marked, refuted_by}
 use Rattle.mark_board.specs.Findings.{AreFindings}
 use Rattle.cube_report.specs.declared.fault.Fault.{Fault}
 use Rattle.cube_report.specs.Faults.{fault_of_case}
+use Rattle.tree_map.specs.Picture.{map_text}
 use Rattle.cube_report.specs.Report.{report_text}
 
 -- the formula of a bundle: all clauses of its iCNF text, however many and long
@@ -56,6 +57,16 @@ pub record IsCorrect (bundle report : List ℕ) (answer : Bool) : Type 0 where
   pub text : report ≡ report_text case marks
   pub refuted : answer ≡ marked (refuted_by marks) 0 case.tree
   pub sound : answer ≡ true → IsUnsatisfiable bundle
+
+-- the picture by these marks where one is drawn, and otherwise nothing
+abbrev pub map_if : Bool → CaseOf → List Mark → List ℕ
+map_if draws case marks = if draws then map_text case marks else []
+
+-- the same promise, with the picture by the same marks where one is drawn
+pub record IsOutcome (bundle : List ℕ) (draws : Bool) (report map : List ℕ) (answer : Bool)
+    : Type 0 where
+  pub correct : IsCorrect bundle report answer
+  pub drawn : map ≡ map_if draws correct.case correct.marks
 
 -- the first fault of the bundle
 abbrev pub IsFaultOn : List ℕ → Fault → Type 0

@@ -1,6 +1,6 @@
 //! From the bytes that come in to the bytes that go out.
 
-ghost use Rattle.std.specs.Prelude.{Bool, List, replicate, ◌≡◌, ◌≢◌, ◌↔◌, ◌⊎◌, ℕ, ◌<◌, ◌^◌, ◌-◌, ◌+◌, true, IfOk, IfErr, OnOk, OnErr, IfSome, IsErrOf};
+ghost use Rattle.std.specs.Prelude.{Bool, false, List, replicate, ◌≡◌, ◌≢◌, ◌↔◌, ◌⊎◌, ℕ, ◌<◌, ◌^◌, ◌-◌, ◌+◌, true, IfOk, IfErr, OnOk, OnErr, IfSome, IsErrOf};
 ghost use Rattle.std.specs.Io.{StartsWith};
 ghost use Rattle.std.specs.Io.KnownBytes.{Keeps, Appends};
 ghost use Rattle.split_tree.specs.SplitTree.{size};
@@ -9,7 +9,7 @@ ghost use Rattle.cube_report.specs.Faults.{IsInputFault};
 ghost use Rattle.cube_report.specs.Device.{AppendsBeginning, IsReadFault, IsReadOf};
 ghost use Rattle.cube_report.specs.Stated.{IsStated};
 ghost use Rattle.mark_board.specs.Findings.{AreFindings};
-ghost use Rattle.cube_report.specs.Correct.{IsReportOn, IsAnswerOn, IsCorrect, IsFaultOn, IsUnsatisfiable, SaysRefuted};
+ghost use Rattle.cube_report.specs.Correct.{IsReportOn, IsAnswerOn, IsCorrect, IsOutcome, IsFaultOn, IsUnsatisfiable, SaysRefuted, map_if};
 
 use crate::device::{Sink, Source};
 use crate::fault::Fault;
@@ -20,12 +20,17 @@ use mark_board::Boards;
 use std::alloc::{AllocError, Global};
 use std::sync::Wait;
 use std::thread::Threads;
+use tree_map::map_of;
 
-/// A report, and whether the root is marked.
+/// What a run says of a bundle.
 #[derive(Drop)]
-struct Outcome {
-    text: Vec<u8>,
-    refuted: bool,
+pub struct Outcome {
+    /// The report.
+    pub text: Vec<u8>,
+    /// The picture of the tree, as SVG, or nothing where none is drawn.
+    pub map: Vec<u8>,
+    /// Whether the report says refuted.
+    pub refuted: bool,
 }
 
 /// Posts the finding of each section of the case to its boards, on which nothing is posted yet.
@@ -63,56 +68,79 @@ fn conquer_alone(alloc: Global, case: &Case) -> Result<Boards<'_>, AllocError>
     Ok(boards)
 }
 
-/// The report by the boards' own marks, which are those of the findings, and whether it says
-/// refuted.
-fn outcome_by(alloc: Global, boards: &Boards<'_>) -> Result<Outcome, AllocError>
+/// The picture by the boards' own marks where one is drawn, and otherwise nothing.
+fn picture_by(alloc: Global, boards: &Boards<'_>, draws: bool) -> Result<Vec<u8>, AllocError>
+    ensures { IfOk result (λ map. map.items ≡ map_if draws boards.now.case boards.now.marks) }
+{
+    if draws {
+        return map_of(alloc, boards);
+    }
+    Ok(Vec::new(alloc))
+}
+
+/// The report by the boards' own marks, which are those of the findings, whether it says refuted,
+/// and the picture where one is drawn.
+fn outcome_by(alloc: Global, boards: &Boards<'_>, draws: bool) -> Result<Outcome, AllocError>
     requires { AreFindings boards.now.case boards.now.marks }
-    ensures { IfOk result (λ outcome. IsStated boards.now.case outcome.text.items outcome.refuted) }
+    ensures { IfOk result (λ outcome. IsStated boards.now.case draws
+        outcome.text.items outcome.map.items outcome.refuted) }
 {
     let text = report_of(alloc, boards)?;
+    let map = picture_by(alloc, boards, draws)?;
     Ok(Outcome {
         text,
+        map,
         refuted: boards.root_marked(),
     })
 }
 
 /// The report on a case, and whether it says refuted, by this thread.
 fn outcome_on(alloc: Global, case: &Case) -> Result<Outcome, AllocError>
-    ensures { IfOk result (λ outcome. IsStated case.now outcome.text.items outcome.refuted) }
+    ensures { IfOk result (λ outcome. IsStated case.now false
+        outcome.text.items outcome.map.items outcome.refuted) }
 {
     let boards = conquer_alone(alloc, case)?;
-    outcome_by(alloc, &boards)
+    outcome_by(alloc, &boards, false)
 }
 
-/// The report on a case, and whether it says refuted, by workers.
+/// The report on a case, whether it says refuted, and the picture where one is drawn, by workers.
 fn outcome_with<T: Threads + Wait + Sync, G: Gate + Sync>(
     rt: &T,
     alloc: Global,
     case: &Case,
     settings: Settings,
     gate: &G,
+    draws: bool,
 ) -> Result<Outcome, CrewFault>
-    ensures { IfOk result (λ outcome. IsStated case.now outcome.text.items outcome.refuted) }
+    ensures { IfOk result (λ outcome. IsStated case.now draws
+        outcome.text.items outcome.map.items outcome.refuted) }
 {
     let boards = conquer(rt, alloc, case, settings, gate)?;
-    Ok(outcome_by(alloc, &boards)?)
+    Ok(outcome_by(alloc, &boards, draws)?)
 }
 
-/// The report on a bundle, and whether it says refuted, by workers.
-fn outcome_of_crew<T: Threads + Wait + Sync, G: Gate + Sync>(
+/// What a run says of a bundle that is handed over, by as many workers and at the cut that the
+/// settings say, with a picture of the tree where `draws` asks for one; or the bundle's first
+/// fault, where `Memory` or `Thread` may stand in the place of any other answer. The gate is called
+/// as `conquer` says. The bundle's bytes are kept where they are while it is judged.
+pub fn judge_bundle<T: Threads + Wait + Sync, G: Gate + Sync>(
     rt: &T,
     alloc: Global,
     bundle: Vec<u8>,
     settings: Settings,
     gate: &G,
+    draws: bool,
 ) -> Result<Outcome, Fault>
-    ensures outcome { IfOk result
-        (λ outcome. IsCorrect bundle.items outcome.text.items outcome.refuted) }
+    // The report and the picture are those of one case by the same marks, and the answer is true
+    // only where the formula has no model.
+    ensures outcome { IfOk result (λ outcome. IsOutcome bundle.items draws
+        outcome.text.items outcome.map.items outcome.refuted) }
+    // A fault of the input is one that the bundle has, and no device is at fault.
     ensures fault { IfErr result (λ fault. IsInputFault fault → IsFaultOn bundle.items fault) }
     ensures device { IfErr result (λ fault. fault ≢ Fault.Device) }
 {
     let case = take_bundle(alloc, bundle)?;
-    Ok(outcome_with(rt, alloc, &case, settings, gate)?)
+    Ok(outcome_with(rt, alloc, &case, settings, gate, draws)?)
 }
 
 /// The report on a bundle, and whether it says refuted, by this thread.
@@ -167,7 +195,7 @@ pub fn run<T: Threads + Wait + Sync, G: Gate + Sync>(
     ensures fault { IfErr result
         (λ fault. fault ≢ Fault.Memory → fault ≢ Fault.Thread → IsFaultOn bundle.now fault) }
 {
-    let outcome = outcome_of_crew(rt, alloc, bundle.to_vec(alloc)?, settings, gate)?;
+    let outcome = judge_bundle(rt, alloc, bundle.to_vec(alloc)?, settings, gate, false)?;
     Ok(outcome.text)
 }
 
@@ -264,7 +292,7 @@ pub fn write_report<T: Threads + Wait + Sync, W: Sink, G: Gate + Sync>(
         (λ fault. fault ≢ Fault.Device → W.failures writer.new ≡ W.failures writer.old) }
     ensures ok { OnOk result (W.failures writer.new ≡ W.failures writer.old) }
 {
-    let outcome = outcome_of_crew(rt, alloc, bundle, settings, gate)?;
+    let outcome = judge_bundle(rt, alloc, bundle, settings, gate, false)?;
     write_all(writer, &outcome.text)?;
     Ok(outcome.refuted)
 }

@@ -8,7 +8,9 @@ mod laws;
 mod report;
 
 pub use device::{Counted, Sink, Source};
-pub use engine::{read_to_end, run, run_io, run_one, write_all, write_report};
+pub use engine::{
+    Outcome, judge_bundle, read_to_end, run, run_io, run_one, write_all, write_report,
+};
 pub use fault::Fault;
 pub use laws::{a_short_report, one_answer, one_report};
 pub use report::report_of;

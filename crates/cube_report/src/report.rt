@@ -1,17 +1,17 @@
 //! The text of a report.
 
 ghost use Rattle.std.specs.Prelude.{◌≡◌, ◌++◌, length, OnOk, IfOk};
-ghost use Rattle.std.specs.List.{flat_map};
 ghost use Rattle.split_tree.specs.SplitTree.{subtrees, total};
 ghost use Rattle.split_tree.specs.Leaves.{cube_count, missing_nodes, IsTargetAt};
 ghost use Rattle.split_tree.specs.declared.node.Target.TheVariants.{Node};
 ghost use Rattle.mark_board.specs.Marking.{open_branches, refuted_by};
-ghost use Rattle.cube_report.specs.Report.{number_field, literal_field, reason_field, status_fields, total_line, cube_line, missing_line, node_line, open_line, weight_line, answer_line, cube_lines, missing_lines, node_lines, open_lines, section_line, report_text};
+ghost use Rattle.tree_map.specs.Fields.{answer_line};
+ghost use Rattle.cube_report.specs.Report.{total_line, cube_line, missing_line, node_line, open_line, weight_line, cube_lines, missing_lines, node_lines, open_lines, section_line, report_text};
 
-use case_core::{Leaf, Lit, NodeId, Reason, Target};
-use itoa::Buffer;
+use case_core::{Leaf, Lit, NodeId, Target};
 use mark_board::{Boards, Mark};
 use std::alloc::{AllocError, Global};
+use tree_map::{answer, write_number, write_path, write_status};
 
 /// The report by the boards' own marks: the totals, each cube, each missing leaf, each inner node
 /// with a section, each open branch, the open weight, and the answer. `AllocError` where a growth
@@ -191,54 +191,6 @@ fn write_open(text: &mut Vec<u8>, path: &[Lit]) -> Result<(), AllocError>
     Ok(())
 }
 
-fn write_path(text: &mut Vec<u8>, path: &[Lit]) -> Result<(), AllocError>
-    ensures { OnOk result (text.new.items ≡ text.old.items ++ flat_map literal_field path.now) }
-{
-    for lit in path {
-        write_literal(text, *lit)?;
-    }
-    Ok(())
-}
-
-fn write_literal(text: &mut Vec<u8>, lit: Lit) -> Result<(), AllocError>
-    ensures { OnOk result (text.new.items ≡ text.old.items ++ literal_field lit) }
-{
-    let sign: &[u8] = if lit.positive() { b" " } else { b" -" };
-    text.extend_from_slice(sign)?;
-    text.extend_from_slice(Buffer::new().format(lit.variable()).as_bytes())?;
-    Ok(())
-}
-
-fn write_status(text: &mut Vec<u8>, mark: Mark) -> Result<(), AllocError>
-    ensures { OnOk result (text.new.items ≡ text.old.items ++ status_fields mark) }
-{
-    match mark {
-        Mark::Open => text.extend_from_slice(b" open")?,
-        Mark::Refuted => text.extend_from_slice(b" refuted")?,
-        Mark::Rejected { step, reason } => {
-            text.extend_from_slice(b" rejected")?;
-            write_number(text, step)?;
-            text.extend_from_slice(reason_name(reason))?;
-        }
-    }
-    Ok(())
-}
-
-fn reason_name(reason: Reason) -> &'static [u8]
-    ensures { result.now ≡ reason_field reason }
-{
-    match reason {
-        Reason::Unreadable => b" unreadable",
-        Reason::Id => b" id",
-        Reason::Hint => b" hint",
-        Reason::Unit => b" unit",
-        Reason::Empty => b" empty",
-        Reason::Group => b" group",
-        Reason::Candidate => b" candidate",
-        Reason::End => b" end",
-    }
-}
-
 /// The lines of the open weight and of the answer.
 #[tactic(auto, unfolding(crate::specs::Report::weight_line))]
 fn write_closing(text: &mut Vec<u8>, open_weight: u64, refuted: bool) -> Result<(), AllocError>
@@ -249,20 +201,5 @@ fn write_closing(text: &mut Vec<u8>, open_weight: u64, refuted: bool) -> Result<
     write_number(text, open_weight)?;
     text.extend_from_slice(b"\n")?;
     text.extend_from_slice(answer(refuted))?;
-    Ok(())
-}
-
-fn answer(refuted: bool) -> &'static [u8]
-    ensures { result.now ≡ answer_line refuted }
-{
-    if refuted { b"s REFUTED\n" } else { b"s OPEN\n" }
-}
-
-/// A space and a number.
-fn write_number(text: &mut Vec<u8>, number: u64) -> Result<(), AllocError>
-    ensures { OnOk result (text.new.items ≡ text.old.items ++ number_field number) }
-{
-    text.extend_from_slice(b" ")?;
-    text.extend_from_slice(Buffer::new().format(number).as_bytes())?;
     Ok(())
 }

@@ -1,7 +1,8 @@
 //! `cubeboard` checks refutations made by cube-and-conquer and prints a report.
 #![tactic(auto)]
 
-use cube_command::{Counted, FileStore, NoGate, command, own_words};
+use cube_command::{Counted, FileStore, NoGate, Progress, command, own_words};
+use std::io::IsTerminal;
 use std::process::ExitCode;
 
 fn main(rt: HostRuntime) -> ExitCode {
@@ -15,6 +16,7 @@ fn main(rt: HostRuntime) -> ExitCode {
             &mut Counted::new(rt.stdout()),
             &mut errors,
             &NoGate,
+            &Progress::new(&rt, rt.stderr().is_terminal()),
         ),
         Err(status) => status,
     };

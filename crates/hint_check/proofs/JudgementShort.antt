@@ -9,7 +9,8 @@ use Rattle.cnf_text.specs.Literal.{Literal}
 use Rattle.cnf_text.specs.Numbers.{digits_value, decimal, number_of}
 use Rattle.cnf_text.specs.Tokens.{is_blank, is_comment, words, line_tokens, token_lines}
 use Rattle.lrat_text.specs.Grammar.{Addition, Add, Delete}
-use Rattle.lrat_text.specs.Proof.{Proof, proof_of, proof_in}
+use Rattle.lrat_text.specs.Proof.{Proof, IsProofOf}
+use Rattle.lrat_text.proofs.ProofUnique.{one_proof, worked_out}
 use Rattle.hint_check.specs.Literals.{Literals, has, is_tautology, with_literals, with_literal, meets, negations}
 use Rattle.hint_check.specs.Live.{Live, start, holds_empty_clause, without}
 use Rattle.hint_check.specs.Propagation.{Outcome, Reached, Conflict, chain, unfalsified, effect_of}
@@ -69,9 +70,9 @@ refuting = record {
   blank = true;
 }
 
-refuting_text : proof_of (codes "5 1 0 1 2 0\n6 0 5 3 4 0\n") ≡ refuting
-unfolding proof_in token_lines line_tokens is_comment is_blank words number_of decimal digits_value
-refuting_text = refl
+refuting_text : (proof : Proof) → IsProofOf (codes "5 1 0 1 2 0\n6 0 5 3 4 0\n") proof → proof ≡ refuting
+unfolding token_lines line_tokens is_comment is_blank words number_of decimal digits_value
+refuting_text proof is = one_proof _ proof refuting is (worked_out _ refuting refl)
 
 abbrev five : Live
 five = fin.insert four 5 (literal 1 true ∷ [])
@@ -98,9 +99,9 @@ unfolding is_tautology resolution_fault
 second_good =
     addition_is five _ Conflict (fin.get-insert nat_cmp_total four 5 (literal 1 true ∷ []) 6 ∙ at_four 6) refl second_outcome
 
-pub refuted : judgement four_clauses [] (proof_of (codes "5 1 0 1 2 0\n6 0 5 3 4 0\n")) ≡ Refuted
-refuted =
-    ap (judged_by four) refuting_text
+pub refuted : (proof : Proof) → IsProofOf (codes "5 1 0 1 2 0\n6 0 5 3 4 0\n") proof → judgement four_clauses [] proof ≡ Refuted
+refuted proof is =
+    ap (judged_by four) (refuting_text proof is)
     ∙ judged_from-good four four-full 1 _ true _ first_good
     ∙ judged_from-good five (insert-holds_empty_clause four 5 _ four-full refl) 2 _ true _ second_good
     ∙ judged_from-refuted _ 3 [] true (insert-empty five 6 [] refl)
@@ -113,9 +114,9 @@ lacking = record {
   blank = true;
 }
 
-lacking_text : proof_of (codes "5 1 0 1 0\n") ≡ lacking
-unfolding proof_in token_lines line_tokens is_comment is_blank words number_of decimal digits_value
-lacking_text = refl
+lacking_text : (proof : Proof) → IsProofOf (codes "5 1 0 1 0\n") proof → proof ≡ lacking
+unfolding token_lines line_tokens is_comment is_blank words number_of decimal digits_value
+lacking_text proof is = one_proof _ proof lacking is (worked_out _ lacking refl)
 
 abbrev reached : Literals
 reached = with_literal (with_literals no_literals (negations (literal 1 true ∷ []))) (literal 2 true)
@@ -133,8 +134,8 @@ lacking_bad : addition_fault four (record { id = 5; literals = literal 1 true �
 unfolding is_tautology has resolution_fault pivot_fault groups_fault
 lacking_bad = addition_is four _ (Reached reached) (at_four 5) refl lacking_outcome ∙ rw covered refl
 
-pub candidate : judgement four_clauses [] (proof_of (codes "5 1 0 1 0\n")) ≡ Rejected 1 Candidate
-candidate = ap (judged_by four) lacking_text ∙ judged_from-bad four four-full 1 _ true _ Candidate lacking_bad
+pub candidate : (proof : Proof) → IsProofOf (codes "5 1 0 1 0\n") proof → judgement four_clauses [] proof ≡ Rejected 1 Candidate
+candidate proof is = ap (judged_by four) (lacking_text proof is) ∙ judged_from-bad four four-full 1 _ true _ Candidate lacking_bad
 
 -- ---- a literal of the path
 
@@ -144,9 +145,9 @@ on_path = record {
   blank = true;
 }
 
-path_text : proof_of (codes "6 0 5 1 3 0\n") ≡ on_path
-unfolding proof_in token_lines line_tokens is_comment is_blank words number_of decimal digits_value
-path_text = refl
+path_text : (proof : Proof) → IsProofOf (codes "6 0 5 1 3 0\n") proof → proof ≡ on_path
+unfolding token_lines line_tokens is_comment is_blank words number_of decimal digits_value
+path_text proof is = one_proof _ proof on_path is (worked_out _ on_path refl)
 
 abbrev path_start : Live
 path_start = start four_clauses (literal 2 false ∷ [])
@@ -165,9 +166,9 @@ path_good : addition_fault path_start (record { id = 6; literals = []; hints = 5
 unfolding is_tautology resolution_fault
 path_good = addition_is path_start _ Conflict (at_path 6) refl path_outcome
 
-pub path : judgement four_clauses (literal 2 false ∷ []) (proof_of (codes "6 0 5 1 3 0\n")) ≡ Refuted
-path =
-    ap (judged_by path_start) path_text
+pub path : (proof : Proof) → IsProofOf (codes "6 0 5 1 3 0\n") proof → judgement four_clauses (literal 2 false ∷ []) proof ≡ Refuted
+path proof is =
+    ap (judged_by path_start) (path_text proof is)
     ∙ judged_from-good path_start (start-holds_empty_clause four_clauses (literal 2 false ∷ [])) 1 _ true _ path_good
     ∙ judged_from-refuted _ 2 [] true (insert-empty path_start 6 [] refl)
 
@@ -179,9 +180,9 @@ early = record {
   blank = true;
 }
 
-early_text : proof_of (codes "5 3 0 0\n5 d 1 0\n") ≡ early
-unfolding proof_in token_lines line_tokens is_comment is_blank words number_of decimal digits_value
-early_text = refl
+early_text : (proof : Proof) → IsProofOf (codes "5 3 0 0\n5 d 1 0\n") proof → proof ≡ early
+unfolding token_lines line_tokens is_comment is_blank words number_of decimal digits_value
+early_text proof is = one_proof _ proof early is (worked_out _ early refl)
 
 abbrev early_reached : Literals
 early_reached = with_literals no_literals (negations (literal 3 true ∷ []))
@@ -204,9 +205,9 @@ six = fin.insert four 5 (literal 3 true ∷ [])
 six-full : holds_empty_clause six ≡ false
 six-full = insert-holds_empty_clause four 5 (literal 3 true ∷ []) four-full refl
 
-pub end : judgement four_clauses [] (proof_of (codes "5 3 0 0\n5 d 1 0\n")) ≡ Rejected 3 End
-end =
-    ap (judged_by four) early_text
+pub end : (proof : Proof) → IsProofOf (codes "5 3 0 0\n5 d 1 0\n") proof → judgement four_clauses [] proof ≡ Rejected 3 End
+end proof is =
+    ap (judged_by four) (early_text proof is)
     ∙ judged_from-good four four-full 1 _ true _ early_good
     ∙ judged_from-delete six six-full 2 [] true (1 ∷ [])
     ∙ judged_from-end (without six (1 ∷ [])) 3 true (without-holds_empty_clause six (1 ∷ []) six-full)

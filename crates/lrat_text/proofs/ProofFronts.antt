@@ -7,8 +7,7 @@ use Rattle.std.proofs.lemmas.Bool.Decides.{nat_tests}
 use Rattle.std.proofs.lemmas.List.{append-nil}
 use Rattle.cnf_text.specs.Literal.{Literal, IsVariable}
 use Rattle.lrat_text.specs.Grammar.{StepSymbol, Numeral, DeleteMark, Stray, positive, negative, signed, end_mark, IsId, HintGroup, IsGroup, hint_symbols, ProofStep, Add, Delete, BeginsWith}
-use Rattle.lrat_text.specs.Inner.Steps.{NoStep}
-use Rattle.lrat_text.specs.Proof.{if_so, is_id, is_variable, id_of, candidate_of, literal_in, front_of, is_end, Front, run_onto, run, Hints, hints_onto, hints_in, after_end, addition_of, addition_in, deletion_in, step_after, first_step}
+use Rattle.lrat_text.specs.Inner.Steps.{NoStep, if_so, is_id, is_variable, id_of, candidate_of, literal_in, front_of, is_end, Front, run_onto, run, Hints, hints_onto, hints_in, after_end, addition_of, addition_in, deletion_in, step_after, first_step}
 use Rattle.lrat_text.proofs.GrammarDecoding.{addition_parts, addition_begins, deletion_begins}
 
 some_inside : {A : Type 0} (x y : A) → Some x ≡ Some y → x ≡ y

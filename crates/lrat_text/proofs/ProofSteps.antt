@@ -1,11 +1,11 @@
--- The proof that symbols stand for is the longest list of whole steps with which they begin.
+-- The decoding gives the longest list of whole steps with which symbols begin.
 use Rattle.std.proofs.Common.{◌≡◌, ℕ, zero, suc, ◌≤◌, ◌<◌, Bool, true, false, Some, None, List, [], ◌∷◌, ◌++◌, length, map, refl, sym, ◌∙◌, ap, subst, arith}
 use Rattle.std.proofs.lemmas.List.{length-append, length-map}
 use Rattle.std.proofs.lemmas.Simd.{map-map}
 use Rattle.cnf_text.specs.Tokens.{Token, tokens_of}
 use Rattle.lrat_text.specs.Grammar.{StepSymbol, step_symbol_of, step_symbols_of, ProofStep, Add, Delete, BeginsWith, BeginsWithAll, Longest}
-use Rattle.lrat_text.specs.Inner.Steps.{NoStep}
-use Rattle.lrat_text.specs.Proof.{Proof, first_step, is_none_left, step_onto, steps_in, proof_in, proof_of, Unread, unread, symbols}
+use Rattle.lrat_text.specs.Inner.Steps.{NoStep, first_step, is_none_left, step_onto, steps_in, proof_in, symbols}
+use Rattle.lrat_text.specs.Proof.{Proof, Unread, unread}
 use Rattle.lrat_text.proofs.ProofFronts.{first_step-sound, first_step-complete, first_step-none, none-no_step}
 use Rattle.lrat_text.proofs.GrammarUnique.{one_step, longest_at_no_step}
 
@@ -117,12 +117,11 @@ only_longest symbols steps left given =
     let blank = own.2 ∙ ap is_none_left same.left in
     λ i. record { steps = same.steps i; blank = blank i }
 
--- the steps of a text are no more than its bytes
-pub bounded : (text : List ℕ) → length (map (λ (token : Token). token.bytes) (tokens_of text)) ≤ length text → length (proof_of text).steps ≤ length text
-bounded text few =
-    let less = proof_in-length (step_symbols_of (tokens_of text)) in
-    let same : length (step_symbols_of (tokens_of text)) ≡ length (tokens_of text) = length-map (tokens_of text) (λ (token : Token). step_symbol_of token.bytes) in
-    let words : length (map (λ (token : Token). token.bytes) (tokens_of text)) ≡ length (tokens_of text) = length-map (tokens_of text) (λ (token : Token). token.bytes) in
+-- the steps that words begin with are no more than the words
+pub bounded : (found : List (List ℕ)) (n : ℕ) → length found ≤ n → length (proof_in (symbols found)).steps ≤ n
+bounded found n few =
+    let less = proof_in-length (symbols found) in
+    let same = length-map found step_symbol_of in
     omega arith
 
 -- ---- what a call of the reader says
@@ -131,7 +130,7 @@ abbrev reader_at : Proof → Bool → Unread
 reader_at proof failed = record { steps = proof.steps; blank = proof.blank; failed = failed }
 
 -- a reader of a text's words, before its first step
-pub read-new : (text : List ℕ) (found : List (List ℕ)) → found ≡ map (λ (token : Token). token.bytes) (tokens_of text) → reader_at (proof_in (symbols found)) false ≡ unread (proof_of text)
+pub read-new : (text : List ℕ) (found : List (List ℕ)) → found ≡ map (λ (token : Token). token.bytes) (tokens_of text) → reader_at (proof_in (symbols found)) false ≡ unread (proof_in (step_symbols_of (tokens_of text)))
 read-new text found is = ap (λ seen. reader_at (proof_in seen) false) (ap symbols is ∙ map-map step_symbol_of (λ (token : Token). token.bytes) (tokens_of text))
 
 -- a reader of no symbols has no step left, and only blanks

@@ -1,20 +1,20 @@
 pub mod MarkingLaws
-pub mod RowsWays
-pub mod RowsSeeking
-pub mod RowsPosts
-pub mod BoardNumbers
-pub mod MarkingSound
-pub mod RowsWorths
+mod RowsWays
+mod RowsSeeking
+mod RowsPosts
+mod BoardNumbers
+mod MarkingSound
+mod RowsWorths
 pub mod TopPlacesNodes
 pub mod TopPlacesParts
-pub mod TopPlacesDepths
-pub mod TopPlacesApart
+mod TopPlacesDepths
+mod TopPlacesApart
 pub mod BoardsMarks
 pub mod MarkingWalk
 pub mod BoardRows
 pub mod BoardsTogether
 pub mod BoardsGathered
-pub mod BoardsPosts
-pub mod BoardsWeights
+mod BoardsPosts
+mod BoardsWeights
 pub mod MarkingWalkKept
-pub mod MarkingOpenBranches
+mod MarkingOpenBranches

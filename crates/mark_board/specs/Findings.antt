@@ -7,7 +7,7 @@ use Rattle.hint_check.specs.declared.Judged.TheVariants.{Refuted as judged_refut
 use Rattle.mark_board.specs.declared.mark.Mark.{Mark}
 use Rattle.mark_board.specs.declared.mark.Mark.TheVariants.{Refuted, Rejected, Open}
 use Rattle.cnf_text.specs.Literal.{Literal}
-use Rattle.lrat_text.specs.Proof.{proof_of}
+use Rattle.lrat_text.specs.Proof.{Proof, IsProofOf}
 use Rattle.hint_check.specs.Judgement.{judgement}
 use Rattle.split_tree.specs.declared.node.Target.{Target}
 use Rattle.case_core.specs.Case.{CaseOf, proof_for}
@@ -22,8 +22,8 @@ mark_as (judged_rejected step reason) = Rejected step reason
 -- judged from the formula and the target's path
 abbrev pub IsMarkOf : CaseOf → Target → Mark → Type 0
 IsMarkOf case target mark = MatchOption (proof_for case.sections target) (mark ≡ Open)
-    (λ proof. (path : List Literal) → IsPathOf case.tree target path →
-    mark ≡ mark_as (judgement case.formula path (proof_of proof)))
+    (λ text. (path : List Literal) (proof : Proof) → IsPathOf case.tree target path
+    → IsProofOf text proof → mark ≡ mark_as (judgement case.formula path proof))
 
 -- each node has the mark of its finding
 pub record AreFindings (case : CaseOf) (marks : List Mark) : Type 0 where

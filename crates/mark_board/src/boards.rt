@@ -15,20 +15,9 @@ use crate::board::Board;
 use crate::mark::Mark;
 use crate::place::Place;
 use crate::posted::Posted;
-use case_core::{Case, Finding, NodeId, Target, Tree};
+use case_core::{Case, Finding, NodeId, Target};
 use std::alloc::{AllocError, Global};
 use std::marker::Model;
-
-/// The target that stands at a node: the leaf there, or the inner node.
-fn target_at(tree: &Tree, node: NodeId) -> Target
-    requires { node < size tree.now }
-    ensures { IsTargetAt tree.now node result }
-{
-    match tree.leaf_at(node) {
-        Some(leaf) => Target::Leaf(leaf),
-        None => Target::Node(node),
-    }
-}
 
 /// The boards of all parts of a cut of a case, with nothing marked.
 fn new_parts(alloc: Global, case: &Case, cut: u32) -> Result<Vec<Board<'_>>, AllocError>
@@ -177,9 +166,9 @@ impl<'c> Boards<'c> {
         self.open_under(self.case().tree().root())
     }
 
-    /// The weight of the leaves under a node that lie under no marked node from there on. It calls
-    /// itself no deeper than the cut.
-    fn open_under(&self, node: NodeId) -> u64
+    /// The weight of the leaves under a node that lie under no marked node from there on. It asks
+    /// for a node of the tree, and calls itself no deeper than the cut.
+    pub fn open_under(&self, node: NodeId) -> u64
         requires { node < size self.now.case.tree }
         ensures { result
             ≡ open_weight (worth_of self.now.case.tree) (refuted_by self.now.marks) node
@@ -215,7 +204,7 @@ impl<'c> Boards<'c> {
             number = if weight == 0 {
                 tree.end_of(node)
             } else if weight == whole {
-                targets.push(target_at(tree, node))?;
+                targets.push(tree.target_at(node))?;
                 tree.end_of(node)
             } else {
                 number + 1

@@ -1,1 +1,1 @@
-pub mod Halves
+mod Halves

@@ -1,6 +1,6 @@
 //! From the bytes of a bundle to its report.
 
-ghost use Rattle.std.specs.Prelude.{◌≡◌, ◌≢◌, true, IfOk, IfErr};
+ghost use Rattle.std.specs.Prelude.{◌≡◌, ◌≢◌, true, false, [], IfOk, IfErr};
 ghost use Rattle.cube_report.specs.Correct.{IsCorrect, IsFaultOn, IsUnsatisfiable};
 ghost use Rattle.cube_report.specs.Faults.{IsInputFault};
 ghost use Rattle.cube_report.specs.Stated.{IsStated};
@@ -44,13 +44,14 @@ pub fn outcome_of<R: Threads + Wait + Sync>(
 }
 
 /// The report on a case, and whether it says refuted. The boards' marks are those of the findings,
-/// so what is read off them is what the definitions say of the case.
+/// so what is read off them is what the definitions say of the case. No picture is drawn.
 fn outcome_on<R: Threads + Wait + Sync>(
     rt: &R,
     alloc: Global,
     case: &Case,
 ) -> Result<Outcome, CrewFault>
-    ensures { IfOk result (λ outcome. IsStated case.now outcome.text.items outcome.refuted) }
+    ensures { IfOk result (λ outcome. IsStated case.now false
+        outcome.text.items [] outcome.refuted) }
 {
     let boards = boards_of(rt, alloc, case, CUT)?;
     let text = report_of(alloc, &boards)?;

@@ -1,9 +1,8 @@
 //! The program's words for its workers and its cut, by what a gate sees of them.
 
-use board_hall::Pass;
 use case_core::Target;
 use crossbeam_utils::Backoff;
-use cube_command::{Counted, FileStore, Gate, command};
+use cube_command::{Counted, FileStore, Found, Gate, NoGate, command};
 use fixtures::bundles::TURNS;
 use fixtures::four;
 use std::process::Abort;
@@ -40,6 +39,7 @@ fn status_beside<R: Files + AllocGlobal + Abort + Threads + Wait + Sync, G: Gate
         &mut Counted::new(&mut output),
         &mut Counted::new(&mut errors),
         gate,
+        &NoGate,
     )
 }
 
@@ -84,7 +84,7 @@ impl Gate for Gathering {
         self.given_up.store(1, Ordering::SeqCst);
     }
 
-    fn after(&self, _worker: u32, _target: Target, _pass: &Pass, _weight: u64) {}
+    fn after(&self, _worker: u32, _found: &Found<'_>) {}
 }
 
 // As many workers as the words say are at work at once, with the numbers from 0 on, and no more;
@@ -118,8 +118,8 @@ struct Weighing {
 impl Gate for Weighing {
     fn before(&self, _worker: u32, _target: Target) {}
 
-    fn after(&self, _worker: u32, _target: Target, _pass: &Pass, weight: u64) {
-        self.weight.store(weight, Ordering::SeqCst);
+    fn after(&self, _worker: u32, found: &Found<'_>) {
+        self.weight.store(found.weight, Ordering::SeqCst);
     }
 }
 

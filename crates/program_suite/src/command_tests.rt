@@ -125,6 +125,7 @@ fn ends_with<R: AllocGlobal + Abort + Threads + Wait + Sync, D: Store>(
         &mut Counted::new(&mut output),
         &mut Counted::new(&mut errors),
         &NoGate,
+        &NoGate,
     );
     assert!(rt; answer == status, "{answer} on {words:?}");
     assert!(rt;
@@ -317,6 +318,7 @@ fn leaves_input<R: AllocGlobal + Abort + Threads + Wait + Sync>(
         &mut Counted::new(&mut output),
         &mut Counted::new(&mut errors),
         &NoGate,
+        &NoGate,
     );
     assert!(rt; answer == status, "{answer} on {words:?}");
     assert!(rt;
@@ -387,6 +389,7 @@ fn the_input_fails(rt: HostRuntime) -> Result<(), Fail> {
             &mut Counted::new(&mut output),
             &mut Counted::new(&mut errors),
             &NoGate,
+            &NoGate,
         );
         assert!(rt; answer == 5 && output.is_empty(), "at {fails_at}");
         assert!(rt; errors.as_slice() == DEVICE, "at {fails_at}");
@@ -412,6 +415,7 @@ fn output_fails_at<R: AllocGlobal + Abort + Threads + Wait + Sync>(
         &mut Counted::new(REFUTED),
         &mut output,
         &mut Counted::new(&mut errors),
+        &NoGate,
         &NoGate,
     );
     assert!(rt; answer == 5, "{answer} at {fails_at}");
@@ -446,6 +450,7 @@ fn errors_fail_at<R: AllocGlobal + Abort + Threads + Wait + Sync>(
         &mut Counted::new(input),
         &mut Counted::new(&mut output),
         &mut errors,
+        &NoGate,
         &NoGate,
     );
     assert!(rt; answer == status, "{answer} at {fails_at}");
@@ -482,6 +487,7 @@ fn is_refused<R: AllocGlobal + Abort + Threads + Wait + Sync>(rt: &R, words: &[&
         &mut input,
         &mut Counted::new(&mut output),
         &mut Counted::new(&mut errors),
+        &NoGate,
         &NoGate,
     );
     assert!(rt;

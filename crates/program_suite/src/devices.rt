@@ -112,6 +112,8 @@ pub struct Shelf<'t> {
     files: &'t [File<'t>],
     /// Each path that was asked for, in order, and a line end behind it.
     pub asked: Vec<u8>,
+    /// Each path that was written to, in order, and a line end and the bytes behind it.
+    pub written: Vec<u8>,
     calls: u64,
     fails_at: u64,
     fault: Fault,
@@ -133,6 +135,7 @@ impl<'t> Shelf<'t> {
         Shelf {
             files,
             asked: Vec::new(alloc),
+            written: Vec::new(alloc),
             calls: 0,
             fails_at,
             fault,
@@ -173,5 +176,16 @@ impl<'t> Store for Shelf<'t> {
             }
             None => Ok(false),
         }
+    }
+
+    fn write(&mut self, path: &str, bytes: &[u8]) -> Result<(), Fault> {
+        self.calls = self.calls.wrapping_add(1);
+        if self.calls == self.fails_at {
+            return Err(self.fail());
+        }
+        self.written.extend_from_slice(path.as_bytes())?;
+        self.written.push(b'\n')?;
+        self.written.extend_from_slice(bytes)?;
+        Ok(())
     }
 }

@@ -8,4 +8,8 @@ mod command_tests;
 #[cfg(test)]
 mod devices;
 #[cfg(test)]
+mod map_tests;
+#[cfg(test)]
+mod progress_tests;
+#[cfg(test)]
 mod report_tests;

@@ -1,19 +1,19 @@
 pub mod SplitTreeUnique
-pub mod ClashRelations
+mod ClashRelations
 pub mod ClashTotal
-pub mod GrowWays
-pub mod GrowLoop
+mod GrowWays
+mod GrowLoop
 pub mod ClashFits
 pub mod NodesCoding
-pub mod NodesEnds
+mod NodesEnds
 pub mod SplitTreeLabels
 pub mod NavigationSteps
-pub mod LeavesPaths
+mod LeavesPaths
 pub mod TablesTotals
 pub mod PartsTop
 pub mod TablesParents
 pub mod LeavesNodes
 pub mod NavigationPaths
-pub mod PartsLaws
+mod PartsLaws
 pub mod SplitTreeExists
 pub mod LawsRefuting

@@ -84,6 +84,18 @@ impl Tree {
         }
     }
 
+    /// The target that stands at a node: the leaf there, or the inner node. It asks for a node of the
+    /// tree.
+    pub fn target_at(&self, node: NodeId) -> Target
+        requires { node < size self.now }
+        ensures { IsTargetAt self.now node result }
+    {
+        match self.leaf_at(node) {
+            Some(leaf) => Target::Leaf(leaf),
+            None => Target::Node(node),
+        }
+    }
+
     /// The node at which a leaf stands. It asks for a leaf of the tree.
     pub fn node_of_leaf(&self, leaf: Leaf) -> NodeId
         // The tree has the leaf.

@@ -18,6 +18,8 @@ mod literals;
 #[cfg(test)]
 mod lrat_text_tests;
 #[cfg(test)]
+mod map_tests;
+#[cfg(test)]
 mod plain;
 #[cfg(test)]
 mod random_tests;

@@ -3,9 +3,8 @@
 ghost use Rattle.std.specs.Prelude.{◌≡◌};
 
 use crate::cases::case;
-use board_hall::Pass;
 use case_core::{Leaf, Target};
-use check_crew::{Gate, NoGate, Settings, conquer};
+use check_crew::{Found, Gate, NoGate, Settings, conquer};
 use crossbeam_utils::Backoff;
 use cube_report::{run, run_one};
 use fixtures::bundles::{
@@ -169,11 +168,11 @@ impl Gate for Crossing {
         }
     }
 
-    fn after(&self, _worker: u32, target: Target, _pass: &Pass, weight: u64) {
-        if cube_number(target) == 1 {
-            self.first_weight.store(weight, Ordering::SeqCst);
+    fn after(&self, _worker: u32, found: &Found<'_>) {
+        if cube_number(found.target) == 1 {
+            self.first_weight.store(found.weight, Ordering::SeqCst);
         } else {
-            self.second_weight.store(weight, Ordering::SeqCst);
+            self.second_weight.store(found.weight, Ordering::SeqCst);
             self.second_posted.store(1, Ordering::SeqCst);
         }
     }
@@ -243,7 +242,7 @@ impl Gate for Meeting {
         }
     }
 
-    fn after(&self, _worker: u32, _target: Target, _pass: &Pass, _weight: u64) {}
+    fn after(&self, _worker: u32, _found: &Found<'_>) {}
 }
 
 impl Meeting {
@@ -319,9 +318,9 @@ impl Gate for Rooted {
         }
     }
 
-    fn after(&self, _worker: u32, target: Target, _pass: &Pass, weight: u64) {
-        if cube_number(target) == 0 {
-            self.root_weight.store(weight, Ordering::SeqCst);
+    fn after(&self, _worker: u32, found: &Found<'_>) {
+        if cube_number(found.target) == 0 {
+            self.root_weight.store(found.weight, Ordering::SeqCst);
             self.root_posted.store(1, Ordering::SeqCst);
         }
     }
@@ -369,8 +368,8 @@ impl Gate for Listing {
         self.workers.fetch_add(u64::from(worker), Ordering::SeqCst);
     }
 
-    fn after(&self, worker: u32, target: Target, _pass: &Pass, _weight: u64) {
-        put_digit(&self.after, cube_number(target));
+    fn after(&self, worker: u32, found: &Found<'_>) {
+        put_digit(&self.after, cube_number(found.target));
         self.workers.fetch_add(u64::from(worker), Ordering::SeqCst);
     }
 }

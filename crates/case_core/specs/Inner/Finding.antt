@@ -3,7 +3,7 @@ use Rattle.std.specs.Prelude.{◌≡◌, ℕ, List}
 use Rattle.std.specs.Coded.{×_prop, Unit-prop, le_prop, Coded-set, coded_ℕ}
 use Rattle.cnf_text.specs.Literal.{Literal}
 use Rattle.cnf_text.specs.Formula.{IsRefuted}
-use Rattle.lrat_text.specs.Proof.{proof_of}
+use Rattle.lrat_text.specs.Proof.{Proof, IsProofOf}
 use Rattle.hint_check.specs.Judgement.{judgement}
 use Rattle.hint_check.specs.declared.Judged.{Judged}
 use Rattle.hint_check.specs.declared.Judged.TheVariants.{Refuted}
@@ -15,12 +15,12 @@ use Rattle.split_tree.specs.declared.node.Target.{Target}
 use Rattle.split_tree.specs.declared.node.Target.TheVariants.{Leaf as Named, Node}
 use Rattle.case_core.specs.Case.{CaseOf}
 
--- a proof is judged so, from the formula and the target's path
-pub record IsJudgement (case : CaseOf) (target : Target) (proof : List ℕ)
+-- a proof's text is judged so, from the formula and the target's path
+pub record IsJudgement (case : CaseOf) (target : Target) (text : List ℕ)
     (judged : Judged) : Type 0 where
   pub path : List Literal
   pub of_target : IsPathOf case.tree target path
-  pub is : judged ≡ judgement case.formula path (proof_of proof)
+  pub is : (proof : Proof) → IsProofOf text proof → judged ≡ judgement case.formula path proof
   pub refuted : judged ≡ Refuted → IsRefuted case.formula path
 
 -- a node and a target stand at one place in at most one way

@@ -1,5 +1,5 @@
--- The program's words without texts, and a number among them.
-use Rattle.std.specs.Prelude.{◌≡◌, ℕ, List, Option, Some, codes}
+-- The program's words without texts, and a number or a flag among them.
+use Rattle.std.specs.Prelude.{◌≡◌, ℕ, Bool, true, false, List, Option, Some, codes}
 use Rattle.std.specs.Str.Parse.{IsNumeral, digits_value, without_leading_plus}
 use Rattle.clap.specs.Words.{App, Text, matches_of, new_app, one_of, with_rule}
 use Rattle.cube_command.specs.Words.{words_taken, with_version, workers_word, cut_word}
@@ -18,3 +18,12 @@ Reads found number =
 -- the words say this number under a name, or its default does where they say none
 abbrev pub SaysNumber : Text → List Text → ℕ → Type 0
 SaysNumber name words number = Reads (one_of name (matches_of words_taken words)) number
+
+-- `clap` finds this text for a flag that is given, or that isn't
+abbrev pub flag_text : Bool → Text
+flag_text true = codes "true"
+flag_text false = codes "false"
+
+-- the words give a flag, or they don't
+abbrev pub SaysFlag : Text → List Text → Bool → Type 0
+SaysFlag name words given = one_of name (matches_of words_taken words) ≡ Some (flag_text given)

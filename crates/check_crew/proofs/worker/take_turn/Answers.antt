@@ -18,16 +18,18 @@ unreachable-requires g c =
 pub place_of-board-requires-clause-node : goal.place_of-board-requires-clause-node
 place_of-board-requires-clause-node g c =
     let same : c.in-Some.finding.case.now ≡ c.args.site.case.now = (rw c.in-Some.is at c.in_ok-finding.ensures).1 in
-    target_inside c.args.site.case.now.tree c.node.result _ (rw same at c.node.ensures.here)
+    target_inside c.args.site.case.now.tree c.node-node.result _ (rw same at c.node-node.ensures.here)
 
 pub after-requires : goal.after-requires
 after-requires g c =
     let found = rw c.in-Some.is at c.in_ok-finding.ensures in
     let same : c.in-Some.finding.case.now ≡ (core_of c.args.site.core.now).case = found.1 ∙ c.requires.case in
     let own = c.open_weight-weight.ensures.own in
-    told (core_of c.args.site.core.now) (view_of c.open_weight-weight.new.pass) c.in-Some.finding.node _ c.place_of-board.result c.open_weight-weight.result own.1 own.2
-    (rw (same, found.2) at c.in-Some.finding.here) (seen_stays _ _ c.open_weight-weight.ensures.stays c.in-Some.finding.node c.post.ensures.seen)
-    (rw (c.requires.case, c.node.ensures.value) at c.place_of-board.ensures) c.open_weight-weight.ensures.weight
+    rw (c.node-node.ensures.value, c.judged-judged.ensures.value)
+    (told (core_of c.args.site.core.now) (view_of c.open_weight-weight.new.pass) c.args.site.case.now c.in-Some.finding.node _ c.in-Some.finding.judged c.place_of-board.result
+    c.open_weight-weight.result own.1 c.requires.case own.2 (rw (same, found.2) at c.in-Some.finding.here) (rw (sym c.requires.case) found.3)
+    (seen_stays _ _ c.open_weight-weight.ensures.stays c.in-Some.finding.node c.post.ensures.seen)
+    (rw (c.requires.case, c.node-node.ensures.value) at c.place_of-board.ensures) c.open_weight-weight.ensures.weight)
 
 pub returns-clause-seen : goal.returns-clause-seen
 returns-clause-seen g c =

@@ -5,7 +5,7 @@ use Rattle.cube_command.proofs.program.command.Goals as goal
 
 pub returns-in-Ok-clause-sound : goal.returns-in-Ok-clause-sound
 returns-in-Ok-clause-sound g c = λ zero.
-    sound_run (g.D.Store.held c.args.store.now) _ _ _ _ (g.O.Sink.contents c.args.output.now) (g.O.Sink.contents c.run_request-run.new.output) c.run_request-run.result c.tell_run.result _
+    sound_run (g.D.Store.held c.args.store.now) _ _ _ _ _ _ (g.O.Sink.contents c.args.output.now) (g.O.Sink.contents c.run_request-run.new.output) c.run_request-run.result c.tell_run.result _
     (g.E.Sink.contents c.args.errors.now) (g.E.Sink.contents c.tell_run.new.errors) (g.E.Sink.failures c.args.errors.now) (g.E.Sink.failures c.tell_run.new.errors)
     c.in-Ok.ensures.file c.tell_run.ensures.told c.run_request-run.ensures.report zero
 

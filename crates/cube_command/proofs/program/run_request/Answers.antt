@@ -1,13 +1,29 @@
-use Rattle.cube_command.proofs.ProgramRuns.{faulty, reported}
+use Rattle.std.proofs.Common.{List, ℕ, option_map, Bor}
+use Rattle.bundle_files.specs.Files.{IsBundleOf}
+use Rattle.cube_report.specs.Faults.{IsInputFault}
+use Rattle.cube_command.specs.Program.{IsRefused}
+use Rattle.cube_command.proofs.ProgramRuns.{reported, some_mapped}
+use Rattle.cube_command.proofs.WordsRequests.{handed_on}
 use Rattle.cube_command.proofs.program.run_request.Goals as goal
+
+pub returns-in_err-outcome-clause-fault : goal.returns-in_err-outcome-clause-fault
+returns-in_err-outcome-clause-fault g c =
+    let bundle = c.in_ok-bundle.ensures.bundle in
+    handed_on c.from_residual-in_err-outcome.result
+    (λ fault. IsInputFault fault → IsRefused (g.D.Store.held c.args.store.now)
+    (option_map {T = Bor (List ℕ)} {U = List ℕ} (λ text. text.now) c.args.request.now.file)
+    (option_map {T = Bor (List ℕ)} {U = List ℕ} (λ text. text.now) c.args.request.now.proofs) (g.I.Source.remaining c.args.input.now) fault)
+    c.in_err-outcome.field-0.0
+    (λ input. record { read = bundle.0; whole = c.in_ok-bundle.bundle.items; bundle = bundle.1; first = c.in_err-outcome.ensures.fault input })
+    c.from_residual-in_err-outcome.ensures.1
+
+pub write_outcome-requires-clause-store : goal.write_outcome-requires-clause-store
+write_outcome-requires-clause-store g c = rw c.in_ok-bundle.ensures.ok.0 c.requires.store
 
 pub returns-clause-report : goal.returns-clause-report
 returns-clause-report g c =
-    reported (g.D.Store.held c.args.store.now) _ _ _ (g.O.Sink.contents c.args.output.now)
-    (g.O.Sink.contents c.write_report.new.writer) _ _ c.write_report.result
-    c.in_ok-bundle.ensures.bundle.1 c.write_report.ensures.correct
-
-pub returns-clause-fault : goal.returns-clause-fault
-returns-clause-fault g c =
-    faulty (g.D.Store.held c.args.store.now) _ _ _ _ _ c.write_report.result
-    c.in_ok-bundle.ensures.bundle.1 c.write_report.ensures.fault
+    reported (g.D.Store.held c.args.store.now) (g.D.Store.held c.write_outcome.new.store) _ _ _ _ (g.O.Sink.contents c.args.output.now)
+    (g.O.Sink.contents c.write_outcome.new.output) _ c.in_ok-bundle.bundle.items c.in_ok-outcome.outcome.text.items c.in_ok-outcome.outcome.map.items c.is_some-draws.result
+    c.in_ok-outcome.outcome.refuted c.in_ok-bundle.ensures.bundle.1 c.in_ok-outcome.ensures.outcome
+    (some_mapped (λ (text : Bor (List ℕ)). text.now) c.args.request.now.map c.is_some-draws.result c.is_some-draws.ensures)
+    c.in_ok-write_outcome.ensures.written c.in_ok-write_outcome.ensures.drawn

@@ -15,4 +15,4 @@ returns-in_err-outcome_on-clause-fault c =
     told c.from_residual-in_err-outcome_on.result (λ fault. fault ≢ Memory → IsFaultOn c.args.bundle.now fault) Memory c.from_residual-in_err-outcome_on.ensures.1 (λ some. absurd (some refl))
 
 pub returns-clause-outcome : goal.returns-clause-outcome
-returns-clause-outcome c = correct c.args.bundle.now c.in_ok-case.case _ _ c.in_ok-case.ensures.ok c.in_ok-outcome_on.ensures
+returns-clause-outcome c = correct c.args.bundle.now c.in_ok-case.case _ _ _ _ c.in_ok-case.ensures.ok c.in_ok-outcome_on.ensures

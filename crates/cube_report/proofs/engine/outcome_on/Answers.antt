@@ -1,4 +1,4 @@
-use Rattle.std.proofs.Common.{subst, sym, IfOk}
+use Rattle.std.proofs.Common.{false, subst, sym, IfOk}
 use Rattle.case_core.specs.Case.{CaseOf}
 use Rattle.mark_board.specs.Findings.{AreFindings}
 use Rattle.cube_report.specs.Stated.{IsStated}
@@ -10,4 +10,4 @@ outcome_by-requires c =
 
 pub returns : goal.returns
 returns c =
-    subst (λ (case : CaseOf). IfOk c.outcome_by.result (λ outcome. IsStated case outcome.text.items outcome.refuted)) c.in_ok-boards.ensures.case c.outcome_by.ensures
+    subst (λ (case : CaseOf). IfOk c.outcome_by.result (λ outcome. IsStated case false outcome.text.items outcome.map.items outcome.refuted)) c.in_ok-boards.ensures.case c.outcome_by.ensures

@@ -10,4 +10,4 @@ outcome_by-requires g c =
 
 pub returns : goal.returns
 returns g c =
-    subst (λ (case : CaseOf). IsStated case c.in_ok-outcome_by.field-0.text.items c.in_ok-outcome_by.field-0.refuted) c.in_ok-boards.ensures.case.0 c.in_ok-outcome_by.ensures
+    subst (λ (case : CaseOf). IsStated case c.args.draws c.in_ok-outcome_by.field-0.text.items c.in_ok-outcome_by.field-0.map.items c.in_ok-outcome_by.field-0.refuted) c.in_ok-boards.ensures.case.0 c.in_ok-outcome_by.ensures

@@ -19,8 +19,8 @@ returns-in_err-outcome_on-clause-fault g c =
 
 pub returns-clause-correct : goal.returns-clause-correct
 returns-clause-correct g c =
-    correct c.args.bundle.now c.in_ok-case.case _ _ c.in_ok-case.ensures.ok c.in_ok-outcome_on.ensures
+    correct c.args.bundle.now c.in_ok-case.case _ _ _ _ c.in_ok-case.ensures.ok c.in_ok-outcome_on.ensures
 
 pub returns-clause-sound : goal.returns-clause-sound
 returns-clause-sound g c =
-    (correct c.args.bundle.now c.in_ok-case.case _ _ c.in_ok-case.ensures.ok c.in_ok-outcome_on.ensures).sound
+    (correct c.args.bundle.now c.in_ok-case.case _ _ _ _ c.in_ok-case.ensures.ok c.in_ok-outcome_on.ensures).sound

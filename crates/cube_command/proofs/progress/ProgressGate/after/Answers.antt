@@ -1,0 +1,5 @@
+use Rattle.mark_board.proofs.BoardsGathered.{target_inside}
+use Rattle.cube_command.proofs.progress.ProgressGate.after.Goals as goal
+
+pub keep_open-requires : goal.keep_open-requires
+keep_open-requires g c = target_inside _ _ _ c.requires.here

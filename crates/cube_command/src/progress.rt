@@ -1,0 +1,274 @@
+//! How far a run is, told while its workers judge.
+
+ghost use Rattle.std.specs.Prelude.{◌≡◌, ◌<◌, ◌≤◌, length};
+ghost use Rattle.board_hall.specs.Halls.{view_of};
+ghost use Rattle.check_crew.specs.Seen.{IsTold};
+ghost use Rattle.split_tree.specs.SplitTree.{size};
+ghost use Rattle.split_tree.specs.Parts.{part_nodes};
+
+use case_core::{Case, Judged, NodeId, Target, Tree};
+use check_crew::{Found, Gate};
+use mark_board::Place;
+use std::alloc::{AllocError, Global};
+use std::array;
+use std::io::Eprint;
+use std::sync::atomic::{AtomicU64, Ordering};
+use std::time::Clock;
+
+/// The most parts of a cut.
+const MOST_PARTS: usize = 64;
+
+/// The least time between two lines, in milliseconds.
+const PAUSE: u64 = 1000;
+
+/// What of the weight is told: hundred thousandth parts.
+const SHARES: u64 = 100_000;
+
+/// A part of the cut: the number of its root, and the weight that is open under it.
+#[derive(Drop)]
+struct Part {
+    root: AtomicU64,
+    open: AtomicU64,
+}
+
+/// A gate that tells how far the run is on a terminal or in lines: how many sections are judged, of
+/// how many, how many of these are refuted and rejected, and how much of the tree's weight is still
+/// open. It tells that at most once a second while the workers are at work, and once when they have
+/// ended. What it can't write is left out.
+#[derive(Drop)]
+pub struct Progress<'a, R> {
+    device: &'a R,
+    /// Whether a line is written over the one before.
+    on_terminal: bool,
+    sections: AtomicU64,
+    refuted: AtomicU64,
+    rejected: AtomicU64,
+    /// The tree's weight.
+    total: AtomicU64,
+    /// The parts of the cut, in tree order, as many as it has; the others weigh nothing.
+    parts: [Part; MOST_PARTS],
+    /// When the last line was written, or the run began, in milliseconds.
+    told_at: AtomicU64,
+}
+
+impl<'a, R> Progress<'a, R> {
+    /// A gate that writes to the standard error of this device, and takes the time of its clock.
+    /// `on_terminal` says that its lines are written over one another.
+    pub fn new(device: &'a R, on_terminal: bool) -> Progress<'a, R> {
+        Progress {
+            device,
+            on_terminal,
+            sections: AtomicU64::new(0),
+            refuted: AtomicU64::new(0),
+            rejected: AtomicU64::new(0),
+            total: AtomicU64::new(0),
+            parts: array::from_fn(|_| Part {
+                root: AtomicU64::new(0),
+                open: AtomicU64::new(0),
+            }),
+            told_at: AtomicU64::new(0),
+        }
+    }
+
+    /// How much of the tree's weight is open.
+    fn open_weight(&self) -> u64 {
+        let mut sum = 0u64;
+        for part in &self.parts {
+            sum = sum.saturating_add(part.open.load(Ordering::SeqCst));
+        }
+        sum
+    }
+
+    /// Counts what is said of a proof.
+    fn count(&self, judged: Judged) {
+        let counter = match judged {
+            Judged::Refuted => &self.refuted,
+            Judged::Rejected { .. } => &self.rejected,
+        };
+        counter.fetch_add(1, Ordering::SeqCst);
+    }
+
+    /// Keeps what stays open after a finding was posted: where it is a part's, by the open weight
+    /// that the part's board then had, and above the parts by whether the node's own proof refutes
+    /// it.
+    fn keep_open(&self, found: &Found<'_>)
+        requires { found.now.node < size found.now.case.now.tree }
+    {
+        match (found.place, found.judged) {
+            (Place::Part(number), _) => {
+                if let Some(part) = self.parts.get(number as usize) {
+                    lower(&part.open, found.weight);
+                }
+            }
+            (Place::Top, Judged::Refuted) => close_parts(
+                &self.parts,
+                found.case.tree(),
+                found.node,
+            ),
+            (Place::Top, Judged::Rejected { .. }) => {}
+        }
+    }
+}
+
+/// Sets the parts of the cut, by their roots, to their whole weights.
+fn begin_parts(parts: &[Part; MOST_PARTS], tree: &Tree, cut: u32, roots: &[NodeId])
+    requires cut { cut ≤ 6 }
+    requires few { length roots.now ≤ 64 }
+    requires roots { roots.now ≡ part_nodes cut 0 tree.now }
+{
+    for number in 0..roots.len() {
+        let root = roots[number];
+        let weight = tree.weight_under(root);
+        parts[number]
+            .root
+            .store(u64::from(root.number()), Ordering::SeqCst);
+        parts[number].open.store(weight, Ordering::SeqCst);
+    }
+}
+
+/// Closes the parts whose roots are this node or below it.
+fn close_parts(parts: &[Part; MOST_PARTS], tree: &Tree, node: NodeId)
+    requires { node < size tree.now }
+{
+    let first = u64::from(node.number());
+    let end = u64::from(tree.end_of(node));
+    for part in parts {
+        let root = part.root.load(Ordering::SeqCst);
+        if first <= root && root < end {
+            part.open.store(0, Ordering::SeqCst);
+        }
+    }
+}
+
+/// Makes a weight no greater than this one. A try that fails was forestalled by a lesser weight of
+/// another worker's.
+fn lower(open: &AtomicU64, weight: u64) {
+    for _ in 0..u64::MAX {
+        let before = open.load(Ordering::SeqCst);
+        if before <= weight {
+            return;
+        }
+        if open
+            .compare_exchange(before, weight, Ordering::SeqCst, Ordering::SeqCst)
+            .is_ok()
+        {
+            return;
+        }
+    }
+}
+
+impl<'a, R: Clock> Progress<'a, R> {
+    /// The time of the clock, in milliseconds; 0 where it can't be read.
+    fn now(&self) -> u64 {
+        match self.device.monotonic() {
+            Ok(time) => u64::try_from(time.as_millis()).unwrap_or(u64::MAX),
+            Err(_) => 0,
+        }
+    }
+
+    /// Whether the pause since the last line is over. Of several workers that ask at once, one is
+    /// told so.
+    fn is_due(&self) -> bool {
+        let before = self.told_at.load(Ordering::SeqCst);
+        let now = self.now();
+        now.saturating_sub(before) >= PAUSE
+            && self
+                .told_at
+                .compare_exchange(before, now, Ordering::SeqCst, Ordering::SeqCst)
+                .is_ok()
+    }
+}
+
+impl<'a, R: Eprint> Progress<'a, R> {
+    /// Writes how far the run is; the last line is ended also on a terminal.
+    fn tell(&self, is_last: bool) {
+        let sections = self.sections.load(Ordering::SeqCst);
+        let refuted = self.refuted.load(Ordering::SeqCst);
+        let rejected = self.rejected.load(Ordering::SeqCst);
+        let judged = refuted.saturating_add(rejected);
+        let share = share_of(self.open_weight(), self.total.load(Ordering::SeqCst));
+        let (percent, rest) = (share / 1000, share % 1000);
+        let (front, back) = match (self.on_terminal, is_last) {
+            (true, true) => ("\r", "\x1b[K\n"),
+            (true, false) => ("\r", "\x1b[K"),
+            (false, _) => ("", "\n"),
+        };
+        let _ = eprint!(self.device;
+            "{front}cubeboard: {judged} of {sections} judged, {refuted} refuted, \
+             {rejected} rejected, {percent}.{rest:03} % open{back}"
+        );
+    }
+}
+
+/// How many hundred thousandths of the total are open, rounded up: 0 exactly where nothing is.
+fn share_of(open: u64, total: u64) -> u64 {
+    let shares = (u128::from(open) * u128::from(SHARES)).div_ceil(u128::from(total.max(1)));
+    shares.min(u128::from(SHARES)) as u64
+}
+
+impl<'a, R: Clock + Eprint> Gate for Progress<'a, R> {
+    fn start(&self, alloc: Global, case: &Case, cut: u32) -> Result<(), AllocError> {
+        let tree = case.tree();
+        let roots = tree.parts(alloc, cut)?;
+        begin_parts(&self.parts, tree, cut, &roots);
+        self.total.store(tree.total(), Ordering::SeqCst);
+        self.sections
+            .store(case.sections().len() as u64, Ordering::SeqCst);
+        self.told_at.store(self.now(), Ordering::SeqCst);
+        Ok(())
+    }
+
+    fn before(&self, _worker: u32, _target: Target) {}
+
+    fn after(&self, _worker: u32, found: &Found<'_>) {
+        self.count(found.judged);
+        self.keep_open(found);
+        if self.is_due() {
+            self.tell(false);
+        }
+    }
+
+    fn end(&self) {
+        self.tell(true);
+    }
+}
+
+/// The gate that a caller gives, and one that watches the run where that is asked for.
+#[derive(Clone, Copy)]
+pub(crate) struct Watched<'a, G, W> {
+    pub(crate) gate: &'a G,
+    pub(crate) watch: &'a W,
+    pub(crate) is_asked: bool,
+}
+
+impl<'a, G: Gate, W: Gate> Gate for Watched<'a, G, W> {
+    fn start(&self, alloc: Global, case: &Case, cut: u32) -> Result<(), AllocError> {
+        self.gate.start(alloc, case, cut)?;
+        if self.is_asked {
+            return self.watch.start(alloc, case, cut);
+        }
+        Ok(())
+    }
+
+    fn before(&self, worker: u32, target: Target) {
+        let again = target;
+        self.gate.before(worker, target);
+        if self.is_asked {
+            self.watch.before(worker, again);
+        }
+    }
+
+    fn after(&self, worker: u32, found: &Found<'_>) {
+        self.gate.after(worker, found);
+        if self.is_asked {
+            self.watch.after(worker, found);
+        }
+    }
+
+    fn end(&self) {
+        self.gate.end();
+        if self.is_asked {
+            self.watch.end();
+        }
+    }
+}

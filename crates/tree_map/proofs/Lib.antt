@@ -1,0 +1,3 @@
+mod PictureTexts
+mod PictureNodes
+mod PicturePending

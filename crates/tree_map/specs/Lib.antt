@@ -1,0 +1,3 @@
+pub mod Fields
+pub mod Picture
+pub mod Inner

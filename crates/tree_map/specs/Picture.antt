@@ -1,0 +1,150 @@
+-- The picture of a tree by the marks of its nodes, as SVG, as bytes. The root's cell is 2048 wide, a
+-- branch's cell half as wide as its node's, in the row below it. A cell's level is how many rows
+-- there are below its own: 11 at the root. At level 0 one cell stands for all nodes of its subtree.
+-- No byte of a cell needs an escape in XML: the texts have letters, digits, spaces and minus signs.
+use Rattle.std.specs.Prelude.{ℕ, zero, suc, ◌+◌, ◌-◌, ◌*◌, ◌^◌, ◌||◌, Bool, true, false, List, [], ◌++◌, codes, decimal, is_some, if◌then◌else◌}
+use Rattle.std.specs.List.{flat_map}
+use Rattle.split_tree.specs.SplitTree.{SplitTree, missing, cube, split, size, total, path_at}
+use Rattle.split_tree.specs.declared.node.Target.TheVariants.{Node}
+use Rattle.case_core.specs.Case.{CaseOf, proof_for}
+use Rattle.mark_board.specs.declared.mark.Mark.{Mark}
+use Rattle.mark_board.specs.declared.mark.Mark.TheVariants.{Open, Refuted, Rejected}
+use Rattle.mark_board.specs.Marking.{marked, open_weight, wholly_open, mark_at, refuted_by}
+use Rattle.mark_board.specs.TopPlaces.{worth_of}
+use Rattle.tree_map.specs.Fields.{number_field, literal_field, status_fields, answer_line}
+
+-- an attribute: its name with what opens it, its number, and what closes it
+unfoldable pub attribute : List ℕ → ℕ → List ℕ
+attribute name number = name ++ decimal number ++ codes "\""
+
+-- where a rectangle lies: its left edge, its upper edge and its width
+unfoldable pub edges : ℕ → ℕ → ℕ → List ℕ
+edges left top width =
+    attribute (codes " x=\"") left ++ attribute (codes " y=\"") top
+    ++ attribute (codes " width=\"") width ++ codes " height=\"22\">"
+
+-- a rectangle of a class and the one behind it, which has to be closed
+unfoldable pub rectangle : List ℕ → List ℕ → ℕ → ℕ → ℕ → List ℕ
+rectangle class second left top width =
+    codes "<rect class=\"" ++ class ++ second ++ codes "\"" ++ edges left top width
+
+-- ---- the cell of a node
+
+abbrev pub is_rejected : Mark → Bool
+is_rejected Open = false
+is_rejected Refuted = false
+is_rejected (Rejected step reason) = true
+
+-- the proof of one of so many nodes, from this one on, is rejected
+abbrev pub one_rejected : List Mark → ℕ → ℕ → Bool
+one_rejected marks node zero = false
+one_rejected marks node (suc count) =
+    is_rejected (mark_at marks node) || one_rejected marks (suc node) count
+
+-- for how many nodes a cell of this level stands
+abbrev pub shown : ℕ → SplitTree → ℕ
+shown zero tree = size tree
+shown (suc level) tree = 1
+
+-- the class of a cell by its colour: marked, under a marked node, rejected, wholly open, or open in
+-- part
+abbrev pub colour : List Mark → ℕ → ℕ → Bool → SplitTree → List ℕ
+colour marks level node covered tree =
+    if marked (refuted_by marks) node tree then codes "r"
+    else (if covered then codes "c"
+    else (if one_rejected marks node (shown level tree) then codes "x"
+    else (if wholly_open (refuted_by marks) node tree then codes "o" else codes "p")))
+
+-- and another class for an inner node that has a section of its own
+abbrev pub frame : CaseOf → ℕ → SplitTree → List ℕ
+frame case node missing = []
+frame case node (cube k) = []
+frame case node (split v positive negative) =
+    if is_some (proof_for case.sections (Node node)) then codes " n" else []
+
+abbrev pub path_fields : SplitTree → ℕ → List ℕ
+path_fields tree node = flat_map literal_field (path_at tree node) ++ codes " 0"
+
+-- the status of an inner node by a proof of its own, if it has been judged
+abbrev pub own_status : Mark → List ℕ
+own_status Open = []
+own_status Refuted = status_fields Refuted
+own_status (Rejected step reason) = status_fields (Rejected step reason)
+
+-- what is told of a node: its name, its status and, of an inner node, the open weight under it
+abbrev pub told : CaseOf → List Mark → ℕ → SplitTree → List ℕ
+told case marks node missing =
+    codes "m" ++ path_fields case.tree node ++ status_fields (mark_at marks node)
+told case marks node (cube k) =
+    codes "a" ++ number_field k ++ status_fields (mark_at marks node)
+told case marks node (split v positive negative) =
+    codes "n" ++ path_fields case.tree node ++ own_status (mark_at marks node) ++ codes " w"
+    ++ number_field
+    (open_weight (worth_of case.tree) (refuted_by marks) node (split v positive negative))
+
+unfoldable pub cell : CaseOf → List Mark → ℕ → ℕ → ℕ → Bool → SplitTree → List ℕ
+cell case marks level left node covered tree =
+    rectangle (colour marks level node covered tree) (frame case node tree) left
+    (40 + 24 * (11 - level)) (2 ^ level)
+    ++ codes "<title>" ++ told case marks node tree ++ codes "</title></rect>\n"
+
+-- the cells of a node and of those below it, down to level 0
+abbrev pub cells : CaseOf → List Mark → ℕ → ℕ → ℕ → Bool → SplitTree → List ℕ
+cells case marks zero left node covered tree = cell case marks zero left node covered tree
+cells case marks (suc level) left node covered missing =
+    cell case marks (suc level) left node covered missing
+cells case marks (suc level) left node covered (cube k) =
+    cell case marks (suc level) left node covered (cube k)
+cells case marks (suc level) left node covered (split v positive negative) =
+    cell case marks (suc level) left node covered (split v positive negative)
+    ++ cells case marks level left (suc node)
+    (covered || marked (refuted_by marks) node (split v positive negative)) positive
+    ++ cells case marks level (left + 2 ^ level) (suc (node + size positive))
+    (covered || marked (refuted_by marks) node (split v positive negative)) negative
+
+-- ---- the whole picture
+
+-- its size and its colours
+unfoldable pub head : List ℕ
+head =
+    codes "<svg xmlns=\"http://www.w3.org/2000/svg\" viewBox=\"0 0 2048 330\" "
+    ++ codes "width=\"2048\" height=\"330\">\n<style>text{font:18px sans-serif}"
+    ++ codes "rect{fill:#FFFFFF;stroke:#FFFFFF;stroke-width:0.2}.c{fill:#BBBBBB}.r{fill:#0072B2}"
+    ++ codes ".x{fill:#D55E00}.o{fill:#F0E442}.p{fill:#56B4E9}.n{stroke:#000000;stroke-width:2}"
+    ++ codes "</style>\n"
+
+-- a word of the first line
+unfoldable pub word_at : ℕ → List ℕ → List ℕ
+word_at left word =
+    codes "<text" ++ attribute (codes " x=\"") left ++ codes " y=\"26\">" ++ word
+    ++ codes "</text>\n"
+
+-- an entry of the legend: a rectangle of this class, and the word behind it
+unfoldable pub key : List ℕ → ℕ → List ℕ → List ℕ
+key class left word =
+    rectangle class [] left 8 22 ++ codes "</rect>" ++ word_at (left + 30) word
+
+unfoldable pub legend : List ℕ
+legend =
+    key (codes "r") 760 (codes "refuted") ++ key (codes "x") 900 (codes "rejected")
+    ++ key (codes "o") 1050 (codes "open") ++ key (codes "p") 1170 (codes "partly open")
+    ++ key (codes "c") 1350 (codes "under a refuted node") ++ key (codes "n") 1620 (codes "own proof")
+
+-- how much of the whole weight is open
+unfoldable pub weights : ℕ → ℕ → List ℕ
+weights open_under whole =
+    codes "w" ++ number_field open_under ++ codes " of" ++ number_field whole
+
+-- the answer and the weights
+unfoldable pub title : Bool → ℕ → ℕ → List ℕ
+title refuted open_under whole =
+    codes "<text x=\"8\" y=\"26\">" ++ answer_line refuted ++ weights open_under whole
+    ++ codes "</text>\n"
+
+-- the picture of a case whose nodes have these marks
+abbrev pub map_text : CaseOf → List Mark → List ℕ
+map_text case marks =
+    head ++ legend
+    ++ title (marked (refuted_by marks) 0 case.tree)
+    (open_weight (worth_of case.tree) (refuted_by marks) 0 case.tree) (total 0 case.tree)
+    ++ cells case marks 11 0 0 false case.tree ++ codes "</svg>\n"

@@ -1,0 +1,196 @@
+//! The picture of a tree by the marks of its nodes.
+
+ghost use Rattle.std.specs.Prelude.{◌≡◌, ◌≤◌, ◌++◌, false, OnOk, IfOk};
+ghost use Rattle.split_tree.specs.SplitTree.{size, subtree_at};
+ghost use Rattle.tree_map.specs.Picture.{map_text, head, legend, key, word_at, weights, title, cells};
+ghost use Rattle.tree_map.specs.Inner.Picture.{IsPending, cell_of, below, next_cells};
+
+use crate::cell::{Cell, width, write_attribute, write_cell, write_rectangle};
+use crate::fields::{answer, write_number};
+use case_core::Tree;
+use mark_board::Boards;
+use std::alloc::{AllocError, Global};
+
+/// The picture of the boards' tree by their marks, as SVG: the root at the top, and each node as
+/// wide as its weight, down to the twelfth row, where a cell stands for all nodes under its own.
+/// What is told of a node, a viewer shows over its cell. `AllocError` where a growth was refused.
+pub fn map_of(alloc: Global, boards: &Boards<'_>) -> Result<Vec<u8>, AllocError>
+    ensures { IfOk result (λ text. text.items ≡ map_text boards.now.case boards.now.marks) }
+{
+    let mut text = Vec::new(alloc);
+    text.extend_from_slice(head())?;
+    write_legend(&mut text)?;
+    let whole = boards.case().tree().total();
+    write_title(&mut text, boards.root_marked(), boards.open_weight(), whole)?;
+    write_cells(alloc, &mut text, boards)?;
+    text.extend_from_slice(b"</svg>\n")?;
+    Ok(text)
+}
+
+/// The picture's size and its colours.
+#[tactic(auto, unfolding(crate::specs::Picture::head))]
+fn head() -> &'static [u8]
+    ensures { result.now ≡ head }
+{
+    b"<svg xmlns=\"http://www.w3.org/2000/svg\" viewBox=\"0 0 2048 330\" \
+width=\"2048\" height=\"330\">\n<style>text{font:18px sans-serif}\
+rect{fill:#FFFFFF;stroke:#FFFFFF;stroke-width:0.2}.c{fill:#BBBBBB}.r{fill:#0072B2}\
+.x{fill:#D55E00}.o{fill:#F0E442}.p{fill:#56B4E9}.n{stroke:#000000;stroke-width:2}\
+</style>\n"
+}
+
+/// What each colour means.
+#[tactic(auto, unfolding(crate::specs::Picture::legend))]
+fn write_legend(text: &mut Vec<u8>) -> Result<(), AllocError>
+    ensures { OnOk result (text.new.items ≡ text.old.items ++ legend) }
+{
+    write_key(text, b"r", 760, b"refuted")?;
+    write_key(text, b"x", 900, b"rejected")?;
+    write_key(text, b"o", 1050, b"open")?;
+    write_key(text, b"p", 1170, b"partly open")?;
+    write_key(text, b"c", 1350, b"under a refuted node")?;
+    write_key(text, b"n", 1620, b"own proof")?;
+    Ok(())
+}
+
+/// An entry of the legend: a rectangle of this class, and the word behind it.
+#[tactic(auto, unfolding(crate::specs::Picture::key))]
+fn write_key(text: &mut Vec<u8>, class: &[u8], left: u32, word: &[u8]) -> Result<(), AllocError>
+    requires { left ≤ 2048 }
+    ensures { OnOk result (text.new.items ≡ text.old.items ++ key class.now left word.now) }
+{
+    write_rectangle(text, class, b"", left, 8, 22)?;
+    text.extend_from_slice(b"</rect>")?;
+    write_word(text, left + 30, word)?;
+    Ok(())
+}
+
+/// A word of the first line.
+#[tactic(auto, unfolding(crate::specs::Picture::word_at))]
+fn write_word(text: &mut Vec<u8>, left: u32, word: &[u8]) -> Result<(), AllocError>
+    ensures { OnOk result (text.new.items ≡ text.old.items ++ word_at left word.now) }
+{
+    text.extend_from_slice(b"<text")?;
+    write_attribute(text, b" x=\"", left)?;
+    text.extend_from_slice(b" y=\"26\">")?;
+    text.extend_from_slice(word)?;
+    text.extend_from_slice(b"</text>\n")?;
+    Ok(())
+}
+
+/// The answer, and how much of the whole weight is open.
+#[tactic(auto, unfolding(crate::specs::Picture::title))]
+fn write_title(
+    text: &mut Vec<u8>,
+    refuted: bool,
+    open_under: u64,
+    whole: u64,
+) -> Result<(), AllocError>
+    ensures { OnOk result (text.new.items ≡ text.old.items ++ title refuted open_under whole) }
+{
+    text.extend_from_slice(b"<text x=\"8\" y=\"26\">")?;
+    text.extend_from_slice(answer(refuted))?;
+    write_weights(text, open_under, whole)?;
+    text.extend_from_slice(b"</text>\n")?;
+    Ok(())
+}
+
+/// How much of the whole weight is open.
+#[tactic(auto, unfolding(crate::specs::Picture::weights))]
+fn write_weights(text: &mut Vec<u8>, open_under: u64, whole: u64) -> Result<(), AllocError>
+    ensures { OnOk result (text.new.items ≡ text.old.items ++ weights open_under whole) }
+{
+    text.extend_from_slice(b"w")?;
+    write_number(text, open_under)?;
+    text.extend_from_slice(b" of")?;
+    write_number(text, whole)?;
+    Ok(())
+}
+
+/// The cells of all nodes that have one, each node's before those of its branches.
+fn write_cells(alloc: Global, text: &mut Vec<u8>, boards: &Boards<'_>) -> Result<(), AllocError>
+    ensures { OnOk result (text.new.items ≡ text.old.items
+        ++ cells boards.now.case boards.now.marks 11 0 0 false boards.now.case.tree) }
+{
+    let mut pending = Vec::new(alloc);
+    pending.push(Cell {
+        level: 11,
+        left: 0,
+        node: boards.case().tree().root(),
+        covered: false,
+    })?;
+    while let Some(cell) = pending.pop() {
+        write_next(alloc, text, boards, &mut pending, cell)?;
+    }
+    Ok(())
+}
+
+/// The cell, while those of its branches become the next ones.
+fn write_next(
+    alloc: Global,
+    text: &mut Vec<u8>,
+    boards: &Boards<'_>,
+    pending: &mut Vec<Cell>,
+    cell: Cell,
+) -> Result<(), AllocError>
+    requires { IsPending boards.now.case.tree cell }
+    ensures text { OnOk result
+        (text.new.items ≡ text.old.items ++ cell_of boards.now.case boards.now.marks cell) }
+    ensures pending { OnOk result (pending.new.items ≡ pending.old.items
+        ++ next_cells boards.now.case boards.now.marks cell) }
+{
+    let Cell {
+        level,
+        left,
+        node,
+        covered,
+    } = cell;
+    let open_under = boards.open_under(node);
+    write_cell(alloc, text, boards, cell, open_under)?;
+    let covered = covered || open_under == 0;
+    push_below(
+        pending,
+        boards.case().tree(),
+        Cell {
+            level,
+            left,
+            node,
+            covered,
+        },
+    )?;
+    Ok(())
+}
+
+/// Adds the cells of a cell's branches, the second one first, unless its row is the last.
+fn push_below(pending: &mut Vec<Cell>, tree: &Tree, cell: Cell) -> Result<(), AllocError>
+    requires { IsPending tree.now cell }
+    ensures { OnOk result (pending.new.items ≡ pending.old.items
+        ++ below cell.level cell.left cell.node cell.covered (subtree_at tree.now cell.node)) }
+{
+    let Cell {
+        level,
+        left,
+        node,
+        covered,
+    } = cell;
+    if level == 0 {
+        return Ok(());
+    }
+    if let Some((first, second)) = tree.branches(node) {
+        let level = level - 1;
+        let middle = left + width(level);
+        pending.push(Cell {
+            level,
+            left: middle,
+            node: second,
+            covered,
+        })?;
+        pending.push(Cell {
+            level,
+            left,
+            node: first,
+            covered,
+        })?;
+    }
+    Ok(())
+}
