@@ -36,11 +36,11 @@ def label_of(process):
     return crate, "tests" if b"--test" in words else "proof"
 
 
-def look(labels, used):
-    """Notes how much each process of the prover has used so far."""
+def look(labels, used, session):
+    """Notes how much each process of the prover in a session has used so far."""
     for process in filter(str.isdigit, os.listdir("/proc")):
         fields = read(f"/proc/{process}/stat").rpartition(b")")[2].split()
-        if len(fields) < 20:
+        if len(fields) < 20 or int(fields[3]) != session:
             continue
         key = process, fields[19]
         if not labels.get(key):
@@ -52,9 +52,9 @@ def look(labels, used):
 def run(folder):
     """Runs ./check: its status, the wall seconds, the processor seconds, and those of each crate's parts."""
     labels, used, begun = {}, {}, time.monotonic()
-    started = subprocess.Popen(["./check"], cwd=folder, stdin=subprocess.DEVNULL)
+    started = subprocess.Popen(["./check"], cwd=folder, stdin=subprocess.DEVNULL, start_new_session=True)
     while started.poll() is None:
-        look(labels, used)
+        look(labels, used, started.pid)
         time.sleep(0.2)
     spent = resource.getrusage(resource.RUSAGE_CHILDREN)
     parts = {}

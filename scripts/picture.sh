@@ -1,26 +1,39 @@
 #!/bin/sh
-# Draws pictures by the built program: of a tree whose nodes have each of the colours, which a headless Chromium shows, and a few pixels of which
-# have to have the colours that docs/FORMATS.md says; and of trees of 100,000 cubes, which have to be less than 2 MB of XML. Where there is no
-# Chromium, the script says so and leaves the pixels out. The last line counts.
+# Draws pictures by the built program: of the examples and of random trees, which have to be those that scripts/draw.py draws of the same
+# cubes and the same report; of a tree whose nodes have each of the colours, which a headless Chromium shows, and a few pixels of which
+# have to have the colours that docs/FORMATS.md says; and of trees of 100,000 cubes and of great depth, which have to be less than 2 MB of XML. Where
+# there is no Chromium, or none that shows a page, the script says so and leaves the pixels out. The last line counts.
 root=$(CDPATH= cd -- "$(dirname -- "$0")/.." && pwd) || exit 1
-here=$(mktemp -d) || exit 1
-trap 'rm -rf "$here"' EXIT
-passed=0
-failed=0
+. "$root/scripts/runs.sh"
+build_program
 
-# Counts one claim: its name, and whether it holds.
-count() {
-    if [ "$2" -eq 0 ]; then
-        passed=$((passed + 1))
-    else
-        failed=$((failed + 1))
-        echo "picture: $1: this isn't so"
-    fi
+# Draws a bundle's picture by the program, and looks whether scripts/draw.py draws the same by the program's report: the bundle, and further words.
+# The picture is left in $here/drawn.
+same() {
+    bundle=$1
+    shift
+    rm -f "$here/drawn"
+    timeout 60 "$program" --map "$here/drawn" "$@" "$bundle" > "$here/report"
+    [ $? -le 1 ] && python3 "$root/scripts/draw.py" "$bundle" "$here/report" | cmp -s - "$here/drawn"
 }
 
-# The launcher first, which builds the program where that is needed; all other runs are of the program itself.
-"$root/cubeboard" < /dev/null > /dev/null 2>&1
-program=$root/crates/cubeboard/out/cubeboard
+# The examples, as bundles and as folders.
+for picture in "$root"/examples/*.svg; do
+    example=${picture%.svg}
+    if [ -f "$example.icnf" ]; then
+        same "$example.icnf" && cmp -s "$picture" "$here/drawn"
+        count "the picture of $(basename "$example").icnf" $?
+    fi
+    if [ -d "$example" ]; then
+        same "$example/case.icnf" --proofs "$example/proofs" && cmp -s "$picture" "$here/drawn"
+        count "the picture of $(basename "$example")/proofs" $?
+    fi
+done
+
+for seed in $(seq 40); do
+    python3 "$root/scripts/random_bundle.py" "$seed" > "$here/random.icnf" && same "$here/random.icnf"
+    count "the picture of the random tree $seed" $?
+done
 
 # The four cubes of two variables, with proofs for the node `1` and the first leaf, and one that names no live clause for the third leaf.
 printf '%s\n' 'p inccnf' '1 2 0' '1 -2 0' '-1 2 0' '-1 -2 0' 'a 1 2 0' 'a 1 -2 0' 'a -1 2 0' 'a -1 -2 0' \
@@ -32,12 +45,14 @@ browser=$(command -v chromium || command -v chromium-browser || command -v googl
 if [ -n "$browser" ]; then
     timeout 60 "$browser" --headless --no-sandbox --disable-gpu --hide-scrollbars --user-data-dir="$here/browser" \
         --window-size=2048,330 --screenshot="$here/colours.png" "file://$here/colours.svg" > "$here/log" 2>&1
+fi
+if [ -s "$here/colours.png" ]; then
     # The root, the nodes `1` and `-1`, and the four leaves.
     python3 "$root/scripts/picture.py" "$here/colours.png" 1024,51,56B4E9 512,75,0072B2 1536,75,F0E442 \
         256,99,0072B2 768,99,BBBBBB 1280,99,D55E00 1792,99,F0E442
     count "the colours of seven cells" $?
 else
-    echo "picture: the pixels are skipped, since there is no Chromium here"
+    echo "picture: the pixels are skipped, since there is no Chromium here that shows a page"
 fi
 
 # A tree of 131,072 cubes that is 17 deep, and one of 2,000 cubes along a path, which is 1,999 deep.
@@ -60,5 +75,4 @@ for tree in wide deep; do
         && python3 -c 'import sys, xml.etree.ElementTree as tree; tree.parse(sys.argv[1])' "$here/$tree.svg"
     count "a picture of a $tree tree" $?
 done
-echo "picture: $passed passed, $failed failed"
-[ "$failed" -eq 0 ]
+finish

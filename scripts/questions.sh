@@ -3,23 +3,10 @@
 # what they print with the file `answers` there, where a line `--` stands between two of them; then on the reports of the examples, and
 # looks whether their answers fit together. The report and the answers were written from the formats. The last line counts.
 root=$(CDPATH= cd -- "$(dirname -- "$0")/.." && pwd) || exit 1
-here=$(mktemp -d) || exit 1
-trap 'rm -rf "$here"' EXIT
-passed=0
-failed=0
-
-# Counts one claim: its name, and whether it holds.
-count() {
-    if [ "$2" -eq 0 ]; then
-        passed=$((passed + 1))
-    else
-        failed=$((failed + 1))
-        echo "questions: $1: this isn't so"
-    fi
-}
+. "$root/scripts/runs.sh"
 
 # The questions' blocks, each in a file of its own under its number.
-mkdir "$here/page" "$here/run"
+mkdir "$here/page"
 awk -v page="$here/page" '
     /^## / { inside = 0; here = $0 == "## Questions to a report" }
     here && /^    / { if (!inside) blocks++; inside = 1; print substr($0, 5) > (page "/" blocks); next }
@@ -65,5 +52,4 @@ for report in "$root"/examples/*.report; do
         [ "$(lines_of 5)" -eq "$open" ] && [ "$(lines_of 7)" -eq "$open" ]
     count "$(basename "$example"): the answers fit together" $?
 done
-echo "questions: $passed passed, $failed failed"
-[ "$failed" -eq 0 ]
+finish

@@ -5,41 +5,23 @@
 # makes none of. So it has with little room for addresses, and with few threads for the user: there one worker has to give the
 # report where four can't start a thread. Each read that is interrupted, of whatever is read, gives `cubeboard: F13 device`. A
 # test of the reader of proof steps is run with its requests refused, too. It needs a C compiler; where there is none, it says
-# so and tries nothing. A run that hasn't ended after 20 seconds is ended, and fails. The last line counts.
+# so and tries nothing. A run that hasn't ended after a minute is ended, and fails. The last line counts.
 root=$(CDPATH= cd -- "$(dirname -- "$0")/.." && pwd) || exit 1
-compiler=
-for word in cc gcc clang; do
-    if command -v "$word" > /dev/null 2>&1; then compiler=$word; break; fi
-done
+. "$root/scripts/runs.sh"
+compiler=$(c_compiler)
 if [ -z "$compiler" ]; then
     echo "refused: skipped, since there is no C compiler"
     exit 0
 fi
-here=$(mktemp -d) || exit 1
-trap 'rm -rf "$here"' EXIT
 if ! "$compiler" -O1 -shared -fPIC -o "$here/refuse.so" "$root/scripts/refuse.c" -ldl > "$here/log" 2>&1; then
     cat "$here/log"
-    echo "refused: 0 passed, 1 failed"
-    exit 1
+    failed=1
+    finish
 fi
-# The launcher builds the program where that is needed; the runs below call the program itself.
-"$root/cubeboard" < /dev/null > /dev/null 2>&1
-program=$root/crates/cubeboard/out/cubeboard
-passed=0
-failed=0
-as_other=
-mkdir "$here/run"
+build_program
 echo "cubeboard: F6 memory" > "$here/memory"
 echo "cubeboard: F14 thread" > "$here/thread"
 limit=10000
-
-# Runs a command in $here/run, and notes what it writes and its status: the input, then the command.
-note() {
-    input=$1
-    shift
-    (cd "$here/run" && timeout 20 "$@") < "$input" > "$here/out" 2> "$here/err"
-    echo $? > "$here/status"
-}
 
 # Whether the last run, by so many workers, said that memory or the start of a thread was refused, and nothing else.
 says_refused() {
@@ -54,41 +36,20 @@ says_thread() {
 
 # Whether the last run is the row's own: its files without the ending.
 is_exact() {
-    cmp -s "$here/out" "$1.out" && cmp -s "$here/err" "$1.err" && cmp -s "$here/status" "$1.status"
-}
-
-# Counts the last run: what it was, and whether it is as it has to be.
-count() {
-    if [ "$2" -eq 0 ]; then
-        passed=$((passed + 1))
-    else
-        failed=$((failed + 1))
-        echo "refused: $1: status $(cat "$here/status"), $(head -n 1 "$here/err" | head -c 200)"
-    fi
-}
-
-# Makes $here/run anew with a row's files: their path without the ending.
-lay_out() {
-    rm -rf "$here/run"
-    mkdir "$here/run"
-    [ -f "$1.icnf" ] && cp "$1.icnf" "$here/run/case.icnf"
-    [ -d "$1.proofs" ] && cp -r "$1.proofs" "$here/run/proofs"
+    has_given "$1.out" "$1.err" "$1.status"
 }
 
 # All requests of one row, by so many workers.
-row() {
+requests() {
     base=$root/tests/rows/$1
     workers=$2
     lay_out "$base"
-    set -- --workers "$workers"
-    if [ -f "$base.args" ]; then
-        while IFS= read -r word; do set -- "$@" "$word"; done < "$base.args"
-    fi
     request=1
     refused=0
     while [ "$request" -le "$limit" ]; do
         rm -f "$here/mark"
-        note "$base.in" env REFUSE="$request" REFUSED_MARK="$here/mark" LD_PRELOAD="$here/refuse.so" "$program" "$@"
+        with_words "$base" note "$base.in" env REFUSE="$request" REFUSED_MARK="$here/mark" LD_PRELOAD="$here/refuse.so" \
+            "$program" --workers "$workers"
         is_exact "$base" || { [ -f "$here/mark" ] && says_refused "$workers"; }
         count "$(basename "$base") by $workers workers, request $request" $?
         [ -f "$here/mark" ] || break
@@ -105,14 +66,10 @@ row() {
 reads() {
     base=$root/tests/rows/$1
     lay_out "$base"
-    set --
-    if [ -f "$base.args" ]; then
-        while IFS= read -r word; do set -- "$@" "$word"; done < "$base.args"
-    fi
     request=1
     while [ "$request" -le "$limit" ]; do
         rm -f "$here/mark"
-        note "$base.in" env INTERRUPT="$request" REFUSED_MARK="$here/mark" LD_PRELOAD="$here/refuse.so" "$program" "$@"
+        with_words "$base" note "$base.in" env INTERRUPT="$request" REFUSED_MARK="$here/mark" LD_PRELOAD="$here/refuse.so" "$program"
         [ -f "$here/mark" ] || break
         [ "$(cat "$here/status")" = 5 ] && [ ! -s "$here/out" ] && [ "$(cat "$here/err")" = "cubeboard: F13 device" ]
         count "$(basename "$base"), read $request interrupted" $?
@@ -154,12 +111,7 @@ little_room() {
 few_threads() {
     base=$root/tests/rows/$1
     few='{ ulimit -u "$1" 2> /dev/null || ulimit -p "$1"; }'
-    if [ "$(id -u)" -eq 0 ]; then
-        as_other="setpriv --reuid=65534 --regid=65534 --clear-groups"
-        chmod 711 "$here"
-        cp "$program" "$here/program"
-        program=$here/program
-    fi
+    as_another_user
     # timeout can't start what it is to run where the limit is kept.
     if ! $as_other test -x "$program" 2> /dev/null; then
         echo "refused: few threads for the user are skipped, since no other user can run the program"
@@ -178,14 +130,13 @@ few_threads() {
             done
         done
     fi
-    as_other=
-    program=$root/crates/cubeboard/out/cubeboard
+    as_this_user
 }
 
 for name in two_cubes_refuted missing_leaf_open proof_for_an_inner_node folder_of_proofs folder_with_missing_leaves \
     second_section_of_a_cube; do
     for workers in 1 2 4; do
-        row "$name" "$workers"
+        requests "$name" "$workers"
     done
 done
 reads two_cubes_refuted
@@ -219,5 +170,4 @@ if [ -x "$tests" ]; then
 else
     echo "refused: the test of the next step is skipped, since rt ci hasn't built it"
 fi
-echo "refused: $passed passed, $failed failed"
-[ "$failed" -eq 0 ]
+finish

@@ -8,75 +8,9 @@
 # line; it runs in a folder of its own, where NAME.icnf lies as case.icnf and NAME.proofs as proofs. A row without a word for the
 # workers or the cut runs three times: as it is, with `--workers 1`, and with `--workers 4 --cut 3`.
 root=$(CDPATH= cd -- "$(dirname -- "$0")/.." && pwd) || exit 1
-here=$(mktemp -d) || exit 1
-trap 'rm -rf "$here"' EXIT
-passed=0
-failed=0
-as_other=
+. "$root/scripts/runs.sh"
+build_program
 
-# Counts one claim: its name, and whether it holds.
-count() {
-    if [ "$2" -eq 0 ]; then
-        passed=$((passed + 1))
-    else
-        failed=$((failed + 1))
-        echo "rows: $1 differs: status $(cat "$here/status"), $(head -n 1 "$here/err" | head -c 200)"
-    fi
-}
-
-# Runs the program in $here/run: the input, then the words.
-run() {
-    input=$1
-    shift
-    (cd "$here/run" && timeout 60 $as_other "$program" "$@") < "$input" > "$here/out" 2> "$here/err"
-    echo $? > "$here/status"
-}
-
-# Compares the last run: its name, and the wanted output, error and status.
-compare() {
-    cmp -s "$here/out" "$2" && cmp -s "$here/err" "$3" && cmp -s "$here/status" "$4"
-    count "$1" $?
-}
-
-# Makes $here/run anew.
-clear_folder() {
-    rm -rf "$here/run"
-    mkdir "$here/run"
-}
-
-# Makes $here/run anew with a row's files: their path without the ending.
-lay_out() {
-    clear_folder
-    [ -f "$1.icnf" ] && cp "$1.icnf" "$here/run/case.icnf"
-    [ -d "$1.proofs" ] && cp -r "$1.proofs" "$here/run/proofs"
-}
-
-# One row: the path of its files without the ending, and the words that are put before its own.
-row() {
-    base=$1
-    shift
-    name=$(basename "$base")${1:+" with $*"}
-    lay_out "$base"
-    if [ -f "$base.args" ]; then
-        while IFS= read -r word; do set -- "$@" "$word"; done < "$base.args"
-    fi
-    run "$base.in" "$@"
-    compare "$name" "$base.out" "$base.err" "$base.status"
-}
-
-# Whether a row has a word for the workers or the cut: the path of its files without the ending.
-has_settings() {
-    [ -f "$1.args" ] && grep -q -e '^--workers' -e '^--cut' "$1.args"
-}
-
-# The launcher first, which builds the program where that is needed; all other runs are of the program itself.
-"$root/cubeboard" < /dev/null > "$here/out" 2> "$here/err"
-if [ $? -ne 3 ]; then
-    cat "$here/err"
-    echo "rows: 0 passed, 1 failed"
-    exit 1
-fi
-program=$root/crates/cubeboard/out/cubeboard
 for input in "$root"/tests/rows/*.in; do
     path=${input%.in}
     row "$path"
@@ -86,19 +20,9 @@ for input in "$root"/tests/rows/*.in; do
     fi
 done
 
-# Each beginning of a bundle: `answers` has the least and the greatest length, and the name of what is wanted.
-prefixes=$root/tests/prefixes
-while read -r length last name; do
-    while [ "$length" -le "$last" ]; do
-        head -c "$length" "$prefixes/bundle.in" > "$here/in"
-        run "$here/in"
-        compare "the first $length bytes" "$prefixes/$name.out" "$prefixes/$name.err" "$prefixes/$name.status"
-        length=$((length + 1))
-    done
-done < "$prefixes/answers"
+beginnings
 
 # A large bundle: 300,000 clauses that hold of every assignment, and then two units that don't hold together.
-clear_folder
 awk 'BEGIN {
     print "p inccnf"
     for (i = 1; i <= 300000; i++) print i, -i, 0
@@ -215,12 +139,7 @@ run /dev/null --map tree.svg
 count "no picture of a refused input" $?
 
 # What is there and may not be read. Root reads anything, so the program runs as another user then.
-if [ "$(id -u)" -eq 0 ]; then
-    as_other="setpriv --reuid=65534 --regid=65534 --clear-groups"
-    chmod 711 "$here"
-    cp "$program" "$here/program"
-    program=$here/program
-fi
+as_another_user
 for path in proofs/2.lrat proofs case.icnf; do
     lay_out "$root/tests/rows/folder_of_proofs"
     chmod -R a+rX "$here/run"
@@ -235,8 +154,7 @@ for path in proofs/2.lrat proofs case.icnf; do
     fi
     chmod 755 "$here/run/$path"
 done
-as_other=
-program=$root/crates/cubeboard/out/cubeboard
+as_this_user
 
 # A report that can't be written, and an error that can't be written.
 if [ -w /dev/full ]; then
@@ -251,14 +169,12 @@ if [ -w /dev/full ]; then
 fi
 
 # The examples, as bundles and as folders; the status is the one that goes with the report's last line.
-: > "$here/none"
 for report in "$root"/examples/*.report; do
     example=${report%.report}
     case $(tail -n 1 "$report") in
         "s REFUTED") echo 0 > "$here/wanted" ;;
         *) echo 1 > "$here/wanted" ;;
     esac
-    clear_folder
     if [ -f "$example.icnf" ]; then
         run "$example.icnf"
         compare "$(basename "$example").icnf" "$report" "$here/none" "$here/wanted"
@@ -268,5 +184,4 @@ for report in "$root"/examples/*.report; do
         compare "$(basename "$example")/proofs" "$report" "$here/none" "$here/wanted"
     fi
 done
-echo "rows: $passed passed, $failed failed"
-[ "$failed" -eq 0 ]
+finish

@@ -11,24 +11,14 @@
 root=$(CDPATH= cd -- "$(dirname -- "$0")/.." && pwd) || exit 1
 runs=${1:-10000}
 seed=${2:-$(($(date +%s) % 1000000 * 1000 + $$ % 1000))}
-here=$(mktemp -d) || exit 1
-trap 'rm -rf "$here"' EXIT
+. "$root/scripts/runs.sh"
 kept=${TMPDIR:-/tmp}/cubeboard-soak-$seed
-passed=0
-failed=0
 refuted=0
 open=0
 refused=0
 echo "soak: seed $seed"
 
-# The launcher first, which builds the program where that is needed; all other runs are of the program itself.
-"$root/cubeboard" < /dev/null > "$here/out" 2> "$here/err"
-if [ $? -ne 3 ]; then
-    cat "$here/err"
-    echo "soak: 0 passed, 1 failed"
-    exit 1
-fi
-program=$root/crates/cubeboard/out/cubeboard
+build_program
 
 # Keeps a bundle by its number, and says what was run.
 keep() {
@@ -38,7 +28,7 @@ keep() {
 }
 
 # Compares the runs of one bundle: its number, and the words of the second one.
-compare() {
+both() {
     number=$1
     shift
     words=$*
@@ -67,10 +57,9 @@ while [ "$first" -le "$runs" ]; do
     [ "$count" -le 500 ] || count=500
     LC_ALL=C awk -v seed="$seed" -v first="$first" -v count="$count" -v folder="$here" -f "$root/scripts/soak.awk" > "$here/list" || exit 1
     while read -r number settings; do
-        compare "$number" $settings
+        both "$number" $settings
     done < "$here/list"
     first=$((first + count))
 done
 echo "soak: by one worker: $refuted refuted, $open open, $refused with a fault"
-echo "soak: $passed passed, $failed failed"
-[ "$failed" -eq 0 ]
+finish

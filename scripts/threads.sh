@@ -12,90 +12,22 @@
 # A run that hasn't ended after a minute is ended, and fails. The writes that fail need a C compiler; where there is none, the script
 # says so and leaves them out. The last line counts.
 root=$(CDPATH= cd -- "$(dirname -- "$0")/.." && pwd) || exit 1
-here=$(mktemp -d) || exit 1
-trap 'rm -rf "$here"' EXIT
-passed=0
-failed=0
+. "$root/scripts/runs.sh"
 printf '0\n' > "$here/zero"
 printf '1\n' > "$here/one"
-: > "$here/none"
 echo "cubeboard: F13 device" > "$here/device"
-
-# Counts one claim: its name, and whether it holds.
-count() {
-    if [ "$2" -eq 0 ]; then
-        passed=$((passed + 1))
-    else
-        failed=$((failed + 1))
-        echo "threads: $1: this isn't so: status $(cat "$here/status"), $(head -n 1 "$here/err" | head -c 200)"
-    fi
-}
-
-# Runs the program in $here/run: the input, then the words.
-run() {
-    input=$1
-    shift
-    (cd "$here/run" && timeout 60 "$program" "$@") < "$input" > "$here/out" 2> "$here/err"
-    echo $? > "$here/status"
-}
-
-# Compares the last run: its name, and the wanted output, error and status.
-compare() {
-    cmp -s "$here/out" "$2" && cmp -s "$here/err" "$3" && cmp -s "$here/status" "$4"
-    count "$1" $?
-}
-
-# Makes $here/run anew with a row's files: their path without the ending.
-lay_out() {
-    rm -rf "$here/run"
-    mkdir "$here/run"
-    [ -f "$1.icnf" ] && cp "$1.icnf" "$here/run/case.icnf"
-    [ -d "$1.proofs" ] && cp -r "$1.proofs" "$here/run/proofs"
-}
-
-# One row: the path of its files without the ending, and the words that are put before its own.
-row() {
-    base=$1
-    shift
-    name="$(basename "$base") with $*"
-    lay_out "$base"
-    if [ -f "$base.args" ]; then
-        while IFS= read -r word; do set -- "$@" "$word"; done < "$base.args"
-    fi
-    run "$base.in" "$@"
-    compare "$name" "$base.out" "$base.err" "$base.status"
-}
-
-# The launcher first, which builds the program where that is needed; all other runs are of the program itself.
-"$root/cubeboard" < /dev/null > "$here/out" 2> "$here/err"
-if [ $? -ne 3 ]; then
-    cat "$here/err"
-    echo "threads: 0 passed, 1 failed"
-    exit 1
-fi
-program=$root/crates/cubeboard/out/cubeboard
+build_program
 
 # The rows, which rows.sh runs with one worker, and with four and the cut 3.
 for input in "$root"/tests/rows/*.in; do
     path=${input%.in}
-    if ! { [ -f "$path.args" ] && grep -q -e '^--workers' -e '^--cut' "$path.args"; }; then
+    if ! has_settings "$path"; then
         row "$path" --workers 32 --cut 6
     fi
 done
 
-# Each beginning of a bundle: `answers` has the least and the greatest length, and the name of what is wanted.
-prefixes=$root/tests/prefixes
-while read -r length last name; do
-    while [ "$length" -le "$last" ]; do
-        head -c "$length" "$prefixes/bundle.in" > "$here/in"
-        for words in "--workers 4 --cut 3" "--workers 32 --cut 6"; do
-            run "$here/in" $words
-            compare "the first $length bytes with $words" \
-                "$prefixes/$name.out" "$prefixes/$name.err" "$prefixes/$name.status"
-        done
-        length=$((length + 1))
-    done
-done < "$prefixes/answers"
+beginnings --workers 4 --cut 3
+beginnings --workers 32 --cut 6
 
 # What the bundles below are made with. Their trees split on variable v at depth v - 1, and nodes of one depth are numbered from 0 in
 # tree order. In `whole`, the formula has the negation of leaf i's path as its clause i + 1, so that leaf i, and no other, is refuted
@@ -159,7 +91,6 @@ try() {
     done
 }
 
-mkdir -p "$here/run"
 make 'whole(3)
     for (i = 1; i <= 8; i++) say("a " i " open")
     say("o 0"); end("1152921504606846976")'
@@ -363,10 +294,7 @@ each_write_of_the_error_fails() {
     count "the whole line by $((n - 1)) writes of $1 bytes" $?
 }
 
-compiler=
-for word in cc gcc clang; do
-    if command -v "$word" > /dev/null 2>&1; then compiler=$word; break; fi
-done
+compiler=$(c_compiler)
 if [ -z "$compiler" ]; then
     echo "threads: the writes that fail are skipped, since there is no C compiler"
 elif ! "$compiler" -O1 -shared -fPIC -o "$here/device.so" "$root/scripts/device.c" -ldl > "$here/err" 2>&1; then
@@ -471,5 +399,4 @@ for signal in "as it is" ignored; do
         count "a reader of $taken bytes of a long report, the signal $signal" $?
     done
 done
-echo "threads: $passed passed, $failed failed"
-[ "$failed" -eq 0 ]
+finish

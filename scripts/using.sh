@@ -5,10 +5,7 @@
 # compiler for bench/tools/drat2lrat.rs, or drat-trim; `cryptominisat5` and that compiler. For each way that isn't tried, the script says so.
 # The last line counts.
 root=$(CDPATH= cd -- "$(dirname -- "$0")/.." && pwd) || exit 1
-here=$(mktemp -d) || exit 1
-trap 'rm -rf "$here"' EXIT
-passed=0
-failed=0
+. "$root/scripts/runs.sh"
 
 # Says why nothing is tried, and ends.
 skip() {
@@ -23,20 +20,11 @@ takes_lrat() {
     [ $? -eq 20 ] && [ -s "$here/units.lrat" ]
 }
 
-# Counts one claim: its name, and whether it holds.
-count() {
-    if [ "$2" -eq 0 ]; then
-        passed=$((passed + 1))
-    else
-        failed=$((failed + 1))
-        echo "using: $1: this isn't so: $(tail -n 1 "$here/out") $(head -n 1 "$here/err" | head -c 200)"
-    fi
-}
-
 # Runs one of the page's blocks in this shell and in the folder that it is in: the number of its part, and which one of that part.
 block() {
     . "$here/page/$1" > "$here/out" 2> "$here/err"
     status=$?
+    echo "$status" > "$here/status"
 }
 
 # From the bundle to the check, with the formula, its numbers and the cubes there: whose they are, and how many cubes.
@@ -89,6 +77,10 @@ try() {
     block 5.3
     [ "$status" -eq 0 ] && grep -q '^n 16 17 0 refuted$' "$here/out" && [ ! -s "$here/err" ]
     count "$2: the example: a proof for an inner node is accepted" $?
+    block 5.4
+    [ "$status" -eq 0 ] && [ "$(tail -n 1 "$here/out")" = "s REFUTED" ] && python3 "$root/scripts/draw.py" case.icnf "$here/out" | cmp -s - tree.svg \
+        && [ "$(tail -n 1 "$here/err")" = "cubeboard: 16 of 16 judged, 16 refuted, 0 rejected, 0.000 % open" ]
+    count "$2: the example: the last line of progress, and the picture" $?
     block 8.1
     [ "$(grep -c '^s OPEN$' "$here/out")" -eq 4 ] && [ "$(cat ./*.report | grep -c ' refuted$')" -eq 16 ] && [ ! -s "$here/err" ]
     count "$2: the example: four runs refute each cube once, and each leaves the others open" $?
@@ -115,13 +107,7 @@ try() {
 }
 
 has cadical || has cryptominisat5 || skip "there is neither cadical nor cryptominisat5"
-# The launcher builds the program where that is needed.
-"$root/cubeboard" < /dev/null > "$here/out" 2> "$here/err"
-if [ $? -ne 3 ]; then
-    cat "$here/err"
-    echo "using: 0 passed, 1 failed"
-    exit 1
-fi
+build_program
 
 # The page's blocks, each in a file of its own under the number of its part, a full stop, and which one of that part it is.
 mkdir "$here/page"
@@ -131,10 +117,10 @@ awk -v page="$here/page" '
     /[^ ]/ { inside = 0 }
 ' "$root/docs/USING.md"
 blocks=$(ls "$here/page" | tr '\n' ' ')
-if [ "$blocks" != "1.1 2.1 3.1 4.1 4.2 4.3 4.4 4.5 4.6 4.7 5.1 5.2 5.3 8.1 8.2 8.3 " ]; then
+if [ "$blocks" != "1.1 2.1 3.1 4.1 4.2 4.3 4.4 4.5 4.6 4.7 5.1 5.2 5.3 5.4 8.1 8.2 8.3 " ]; then
     echo "using: the page has the blocks $blocks, which this script doesn't know"
-    echo "using: 0 passed, 1 failed"
-    exit 1
+    failed=1
+    finish
 fi
 
 # The command of docs/FORMATS.md for the labels of open branches, the last one under "Questions to a report".
@@ -165,5 +151,4 @@ if has cryptominisat5 && has rustc; then
 else
     echo "using: there isn't cryptominisat5 and a Rust compiler, so that way isn't tried"
 fi
-echo "using: $passed passed, $failed failed"
-[ "$failed" -eq 0 ]
+finish

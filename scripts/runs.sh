@@ -1,0 +1,139 @@
+# What the scripts share that run the built program. A script that reads this file has set `root`, the repository's folder. Then `$here` is a folder that
+# goes at the script's end, `$here/run` the one that the program runs in, and `$here/out`, `$here/err` and `$here/status` are what the last run left.
+script=$(basename -- "$0" .sh)
+here=$(mktemp -d) || exit 1
+trap 'rm -rf "$here"' EXIT
+passed=0
+failed=0
+as_other=
+: > "$here/none"
+mkdir "$here/run"
+
+# Counts one claim: its name, and whether it holds.
+count() {
+    if [ "$2" -eq 0 ]; then
+        passed=$((passed + 1))
+    else
+        failed=$((failed + 1))
+        echo "$script: $1: this isn't so$(last_run)"
+    fi
+}
+
+# What the last run left, if there was one, in short.
+last_run() {
+    [ ! -f "$here/status" ] || echo ": status $(cat "$here/status"), $(tail -n 1 "$here/out" | head -c 200), $(head -n 1 "$here/err" | head -c 200)"
+}
+
+# The last line, which counts; the status is 0 where all claims hold.
+finish() {
+    echo "$script: $passed passed, $failed failed"
+    [ "$failed" -eq 0 ]
+    exit $?
+}
+
+# The launcher first, which builds the program where that is needed; all other runs are of the program itself.
+build_program() {
+    "$root/cubeboard" < /dev/null > "$here/out" 2> "$here/err"
+    if [ $? -ne 3 ]; then
+        cat "$here/err"
+        failed=1
+        finish
+    fi
+    program=$root/crates/cubeboard/out/cubeboard
+}
+
+# Runs a command in $here/run, for a minute at most: the input, then the command.
+note() {
+    input=$1
+    shift
+    (cd "$here/run" && timeout 60 "$@") < "$input" > "$here/out" 2> "$here/err"
+    echo $? > "$here/status"
+}
+
+# Runs the program so: the input, then the words.
+run() {
+    input=$1
+    shift
+    note "$input" $as_other "$program" "$@"
+}
+
+# Whether the last run left these: output, error and status, as files.
+has_given() {
+    cmp -s "$here/out" "$1" && cmp -s "$here/err" "$2" && cmp -s "$here/status" "$3"
+}
+
+# Counts the last run: its name, and the wanted output, error and status.
+compare() {
+    has_given "$2" "$3" "$4"
+    count "$1" $?
+}
+
+# Makes $here/run anew with a row's files: their path without the ending.
+lay_out() {
+    rm -rf "$here/run"
+    mkdir "$here/run"
+    [ ! -f "$1.icnf" ] || cp "$1.icnf" "$here/run/case.icnf"
+    [ ! -d "$1.proofs" ] || cp -r "$1.proofs" "$here/run/proofs"
+}
+
+# Calls a command with a row's words behind its own: the path of the row's files without the ending, then the command.
+with_words() {
+    list=$1.args
+    shift
+    if [ -f "$list" ]; then
+        while IFS= read -r word; do set -- "$@" "$word"; done < "$list"
+    fi
+    "$@"
+}
+
+# One row: the path of its files without the ending, and the words that are put before its own.
+row() {
+    base=$1
+    shift
+    lay_out "$base"
+    with_words "$base" run "$base.in" "$@"
+    compare "$(basename "$base")${1:+" with $*"}" "$base.out" "$base.err" "$base.status"
+}
+
+# Whether a row has a word for the workers or the cut: the path of its files without the ending.
+has_settings() {
+    [ -f "$1.args" ] && grep -q -e '^--workers' -e '^--cut' "$1.args"
+}
+
+# Each beginning of the bundle of tests/prefixes, with these words: `answers` there has the least and the greatest length, and the name of what
+# is wanted.
+beginnings() {
+    prefixes=$root/tests/prefixes
+    while read -r length last name; do
+        while [ "$length" -le "$last" ]; do
+            head -c "$length" "$prefixes/bundle.in" > "$here/in"
+            run "$here/in" "$@"
+            compare "the first $length bytes${1:+" with $*"}" "$prefixes/$name.out" "$prefixes/$name.err" "$prefixes/$name.status"
+            length=$((length + 1))
+        done
+    done < "$prefixes/answers"
+}
+
+# Lets the program run as another user where this one is root, who is bound by few limits; and as this one again.
+as_another_user() {
+    if [ "$(id -u)" -eq 0 ]; then
+        as_other="setpriv --reuid=65534 --regid=65534 --clear-groups"
+        chmod 711 "$here"
+        cp "$program" "$here/program"
+        program=$here/program
+    fi
+}
+as_this_user() {
+    as_other=
+    program=$root/crates/cubeboard/out/cubeboard
+}
+
+# The name of a C compiler, if one is here.
+c_compiler() {
+    for word in cc gcc clang; do
+        if command -v "$word" > /dev/null 2>&1; then
+            echo "$word"
+            return
+        fi
+    done
+}
