@@ -1,5 +1,6 @@
 -- What a pass has posted and seen after a call.
-use Rattle.std.proofs.Common.{◌≡◌, ◌≢◌, ℕ, true, false, [], ◌∷◌, ◌++◌, Option, Some, None, if◌then◌else◌, ⊎_elim, refl, sym, ap, ◌∙◌, eq-eqb, ne_eqb}
+use Rattle.std.proofs.Common.{◌≡◌, ◌≢◌, ℕ, true, false, [], ◌∷◌, ◌++◌, Option, Some, None}
+use Rattle.std.proofs.Common.{if◌then◌else◌, ⊎_elim, refl, sym, ap, ◌∙◌, eq-eqb, ne_eqb}
 use mathlib.Core.Logic.{dite}
 use native.Mathlib.Decide.{ℕ_discrete}
 use Rattle.mark_board.specs.declared.mark.Mark.TheVariants.{Open}
@@ -27,7 +28,8 @@ pub record Keeps (me after : Hand) : Type 0 where
   pub parts : after.0.parts ≡ me.0.parts
   pub out : after.1 ≡ me.1
 
-noted_keeps : (x : Post) (owes : Option ℕ) (me after : Hand) → IsNoted x owes me after → Keeps me after
+noted_keeps : (x : Post) (owes : Option ℕ) (me after : Hand) → IsNoted x owes me after →
+    Keeps me after
 noted_keeps x owes me after n = record {
   of_same = ap (λ (m : Hand). m.0.of) n.after_is;
   seen = ap (λ (m : Hand). m.0.seen) n.after_is;
@@ -37,7 +39,8 @@ noted_keeps x owes me after n = record {
 }
 
 -- a pass stays one of its hall and forgets nothing by a post
-pub keeps : (k : CutCase) (x : Post) (r : Posted) (me after : Hand) → Recorded k x r me after → Keeps me after
+pub keeps : (k : CutCase) (x : Post) (r : Posted) (me after : Hand) → Recorded k x r me after →
+    Keeps me after
 keeps k x posted.Marked me after e = noted_keeps x None me after e.0
 keeps k x (posted.RootMarked verdict) me after e = noted_keeps x (Some x.board) me after e.0
 keeps k x posted.TopMarked me after e = noted_keeps x None me after e.0
@@ -50,50 +53,69 @@ keeps k x (posted.Already f) me after e = record {
 }
 
 -- a pass stays one of its hall and forgets nothing by a part's post
-pub part_keeps : (k : CutCase) (x : Post) (r : PartPosted) (me after : Hand) → PartRecorded k x r me after → Keeps me after
+pub part_keeps : (k : CutCase) (x : Post) (r : PartPosted) (me after : Hand) →
+    PartRecorded k x r me after → Keeps me after
 part_keeps k x part_posted.Marked me after e = noted_keeps x None me after e.0
 part_keeps k x part_posted.RootMarked me after e = noted_keeps x None me after e.0
 part_keeps k x (part_posted.Already verdict) me after e = absurd e
 
 -- what a pass has seen after it gave a board back
-pub saw : (k : CutCase) (b : ℕ) (v : View) (me mid after : Hand) → me.0.of ≡ k → me.0.seen ≡ v.seen → Keeps me mid → HasGiven mid b after → AreReal k v.seen → (after.0.of ≡ k) × AreReal k after.0.seen × SeesOwn after.0 b
+pub saw : (k : CutCase) (b : ℕ) (v : View) (me mid after : Hand) → me.0.of ≡ k →
+    me.0.seen ≡ v.seen → Keeps me mid → HasGiven mid b after → AreReal k v.seen →
+    (after.0.of ≡ k) × AreReal k after.0.seen × SeesOwn after.0 b
 saw k b v me mid after of_k seen kept given real =
-    let m = seen_more k v mid.0 after.0 given.posts b (ap (λ (m : Hand). m.0.posts) given.after_is) (ap (λ (m : Hand). m.0.seen) given.after_is) (kept.seen ∙ seen) (kept.of_same ∙ of_k) real given.real given.gave.own in
+    let m =
+    seen_more k v mid.0 after.0 given.posts b (ap (λ (m : Hand). m.0.posts) given.after_is)
+    (ap (λ (m : Hand). m.0.seen) given.after_is) (kept.seen ∙ seen) (kept.of_same ∙ of_k) real
+    given.real given.gave.own in
     (ap (λ (m : Hand). m.0.of) given.after_is ∙ (kept.of_same ∙ of_k), m.0, m.1)
 
-module _ (k : CutCase) (x : Post) (b : ℕ) (v : View) (me mid after : Hand) (is_b : x.board ≡ b) (posts : me.0.posts ≡ v.posts) (owes : me.0.owes ≡ v.owes) (given : HasGiven mid b after) where
+module _ (k : CutCase) (x : Post) (b : ℕ) (v : View) (me mid after : Hand) (is_b : x.board ≡ b)
+    (posts : me.0.posts ≡ v.posts) (owes : me.0.owes ≡ v.owes) (given : HasGiven mid b after) where
   -- the marks of the board are what the seat knew when it gave the board back
   seen_is : (row : ℕ) → mark_in after.0.seen x.board row ≡ mark_in mid.0.known x.board row
-  seen_is row = (λ i. mark_in (ap (λ (m : Hand). m.0.seen) given.after_is i) (is_b i) row) ∙ (given.gave.marks row ∙ (λ i. mark_in mid.0.known (sym is_b i) row))
+  seen_is row =
+      (λ i. mark_in (ap (λ (m : Hand). m.0.seen) given.after_is i) (is_b i) row)
+      ∙ (given.gave.marks row ∙ (λ i. mark_in mid.0.known (sym is_b i) row))
 
   module _ (due : Option ℕ) (n : IsNoted x due me mid) where
     known_is : (row : ℕ) → mark_in after.0.seen x.board row ≡ mark_in (x ∷ me.0.known) x.board row
-    known_is row = seen_is row ∙ (λ i. mark_in (ap (λ (m : Hand). m.0.known) n.after_is i) x.board row)
+    known_is row =
+        seen_is row ∙ (λ i. mark_in (ap (λ (m : Hand). m.0.known) n.after_is i) x.board row)
 
-    other : (row : ℕ) → row ≢ x.row → mark_in (x ∷ me.0.known) x.board row ≡ mark_in me.0.known x.board row
+    other : (row : ℕ) → row ≢ x.row →
+        mark_in (x ∷ me.0.known) x.board row ≡ mark_in me.0.known x.board row
     other row apart = ⊎_elim
-        (λ (h : (x.board ≡ x.board) × (x.row ≡ row) × (is_at x x.board row ≡ true)). absurd (apart (sym h.1)))
+        (λ (h : (x.board ≡ x.board) × (x.row ≡ row) × (is_at x x.board row ≡ true)). absurd
+        (apart (sym h.1)))
         (λ (h : is_at x x.board row ≡ false). λ i. mark_by (h i) x (mark_in me.0.known x.board row))
         (of_cases x x.board row)
 
-    without_is : (row : ℕ) → without x.row (mark_in after.0.seen x.board) row ≡ mark_in me.0.known x.board row
+    without_is : (row : ℕ) →
+        without x.row (mark_in after.0.seen x.board) row ≡ mark_in me.0.known x.board row
     without_is row = dite (ℕ_discrete row x.row)
-        (λ here. ap (λ c. if c then Open else mark_in after.0.seen x.board row) (eq-eqb row x.row here) ∙ (sym n.new ∙ (λ i. mark_in me.0.known x.board (sym here i))))
-        (λ apart. ap (λ c. if c then Open else mark_in after.0.seen x.board row) (ne_eqb row x.row apart) ∙ (known_is row ∙ other row apart))
+        (λ here. ap (λ c. if c then Open else mark_in after.0.seen x.board row)
+        (eq-eqb row x.row here) ∙ (sym n.new ∙ (λ i. mark_in me.0.known x.board (sym here i))))
+        (λ apart. ap (λ c. if c then Open else mark_in after.0.seen x.board row)
+        (ne_eqb row x.row apart) ∙ (known_is row ∙ other row apart))
 
     has_posted : HasPosted x v after.0
     has_posted = record {
-      posts = ap (λ (m : Hand). m.0.posts) given.after_is ∙ (ap (λ (m : Hand). m.0.posts) n.after_is ∙ ap (λ l. l ++ x ∷ []) posts);
+      posts =
+          ap (λ (m : Hand). m.0.posts) given.after_is
+          ∙ (ap (λ (m : Hand). m.0.posts) n.after_is ∙ ap (λ l. l ++ x ∷ []) posts);
       mark = known_is x.row ∙ (λ i. mark_by (is_itself x i) x (mark_in me.0.known x.board x.row));
     }
 
     owes_is : after.0.owes ≡ due
     owes_is = ap (λ (m : Hand). m.0.owes) given.after_is ∙ ap (λ (m : Hand). m.0.owes) n.after_is
 
-    was_root : root_by k x.board (without x.row (mark_in after.0.seen x.board)) ≡ root_by k x.board (mark_in me.0.known x.board)
+    was_root : root_by k x.board (without x.row (mark_in after.0.seen x.board))
+        ≡ root_by k x.board (mark_in me.0.known x.board)
     was_root = λ i. marked (λ row. is_refuted (without_is row i)) 0 (tree_at k x.board)
 
-    is_root : root_by k x.board (mark_in after.0.seen x.board) ≡ root_by k x.board (mark_in (x ∷ me.0.known) x.board)
+    is_root : root_by k x.board (mark_in after.0.seen x.board)
+        ≡ root_by k x.board (mark_in (x ∷ me.0.known) x.board)
     is_root = λ i. marked (λ row. is_refuted (known_is row i)) 0 (tree_at k x.board)
 
     marks_root : MakesRoot k x me.0.known → MarksRootOf k x (mark_in after.0.seen x.board)
@@ -103,22 +125,36 @@ module _ (k : CutCase) (x : Post) (b : ℕ) (v : View) (me mid after : Hand) (is
     makes_root m = record { was = sym was_root ∙ m.was; is = sym is_root ∙ m.is }
 
   -- what a post on a held board recorded is what the clause of `post` says
-  pub becomes : (mark_in after.0.seen x.board x.row ≢ Open → mark_in after.0.seen x.board x.row ≡ mark_as x.judged) → (r : Posted) → Recorded k x r me mid → Becomes k x r v after.0
-  becomes settles posted.Marked e = (has_posted None e.0, owes_is None e.0, (λ m. e.1 (makes_root None e.0 m)))
-  becomes settles (posted.RootMarked verdict) e = (has_posted (Some x.board) e.0, owes_is (Some x.board) e.0, marks_root (Some x.board) e.0 e.1, e.2)
-  becomes settles posted.TopMarked e = (has_posted None e.0, owes_is None e.0, marks_root None e.0 e.1, e.2)
+  pub becomes : (mark_in after.0.seen x.board x.row ≢ Open →
+      mark_in after.0.seen x.board x.row ≡ mark_as x.judged) → (r : Posted) →
+      Recorded k x r me mid → Becomes k x r v after.0
+  becomes settles posted.Marked e =
+      (has_posted None e.0, owes_is None e.0, (λ m. e.1 (makes_root None e.0 m)))
+  becomes settles (posted.RootMarked verdict) e = (
+    has_posted (Some x.board) e.0,
+    owes_is (Some x.board) e.0,
+    marks_root (Some x.board) e.0 e.1,
+    e.2,
+  )
+  becomes settles posted.TopMarked e =
+      (has_posted None e.0, owes_is None e.0, marks_root None e.0 e.1, e.2)
   becomes settles (posted.Already f) e = (
     record {
-      posts = ap (λ (m : Hand). m.0.posts) given.after_is ∙ (ap (λ (m : Hand). m.0.posts) e.0 ∙ posts);
+      posts =
+          ap (λ (m : Hand). m.0.posts) given.after_is ∙ (ap (λ (m : Hand). m.0.posts) e.0 ∙ posts);
       owes = ap (λ (m : Hand). m.0.owes) given.after_is ∙ (ap (λ (m : Hand). m.0.owes) e.0 ∙ owes);
     },
-    settles (λ o. e.1 (sym (seen_is x.row ∙ (λ i. mark_in (ap (λ (m : Hand). m.0.known) e.0 i) x.board x.row)) ∙ o)),
+    settles (λ o.
+        e.1 (sym (seen_is x.row ∙ (λ i. mark_in (ap (λ (m : Hand). m.0.known) e.0 i) x.board x.row))
+        ∙ o)),
   )
 
   -- what a part's post recorded is what the clause of `post_part` says
   pub part_becomes : (r : PartPosted) → PartRecorded k x r me mid → PartBecomes k x r v after.0
-  part_becomes part_posted.Marked e = (has_posted None e.0, owes_is None e.0, (λ m. e.1 (makes_root None e.0 m)))
-  part_becomes part_posted.RootMarked e = (has_posted None e.0, owes_is None e.0, marks_root None e.0 e.1)
+  part_becomes part_posted.Marked e =
+      (has_posted None e.0, owes_is None e.0, (λ m. e.1 (makes_root None e.0 m)))
+  part_becomes part_posted.RootMarked e =
+      (has_posted None e.0, owes_is None e.0, marks_root None e.0 e.1)
   part_becomes (part_posted.Already verdict) e = absurd e
 
 -- a call that posts nothing keeps all

@@ -1,7 +1,10 @@
 -- What a free board is where the case's sections name leaves alone.
-use Rattle.std.proofs.Common.{◌≡◌, ◌⊎◌, ◌+◌, ◌-◌, ◌<◌, ◌==◌, ℕ, zero, suc, Bool, true, false, List, get_or, refl, sym, ap, ◌∙◌, subst, inl, inr, ⊎_elim, arith, add-zero, eq-eqb}
+use Rattle.std.proofs.Common.{◌≡◌, ◌⊎◌, ◌+◌, ◌-◌, ◌<◌, ◌==◌, ℕ, zero, suc, Bool, true, false, List}
+use Rattle.std.proofs.Common.{get_or, refl, sym, ap, ◌∙◌, subst, inl, inr, ⊎_elim, arith, add-zero}
+use Rattle.std.proofs.Common.{eq-eqb}
 use Rattle.std.proofs.lemmas.Bool.{cases_Bool, cases_lt, eqb-false}
-use Rattle.split_tree.specs.SplitTree.{SplitTree, missing, cube, split, size, subtree_at, IsSplit, IsLeaf}
+use Rattle.split_tree.specs.SplitTree.{SplitTree, missing, cube, split, size, subtree_at, IsSplit}
+use Rattle.split_tree.specs.SplitTree.{IsLeaf}
 use Rattle.split_tree.specs.Navigation.{HasBelow}
 use Rattle.split_tree.specs.Parts.{top}
 use Rattle.split_tree.specs.declared.node.Target.TheVariants.{Node}
@@ -23,50 +26,65 @@ use Rattle.board_hall.specs.Laws.{IsRefutedBy, IsWholeOfLeaves, NamesNoNode}
 use Rattle.board_hall.proofs.HallLawful.{reached_lawful, all_real}
 use Rattle.board_hall.proofs.LawsWhole.{whole, either_of, not_both, false_of, posted_refuted}
 
-split_of : (t : SplitTree) → IsSplit t → (v : ℕ) × (p : SplitTree) × (n : SplitTree) × (t ≡ split v p n)
+split_of : (t : SplitTree) → IsSplit t →
+    (v : ℕ) × (p : SplitTree) × (n : SplitTree) × (t ≡ split v p n)
 split_of missing is = absurd is
 split_of (cube k) is = absurd is
 split_of (split v p n) is = (v, p, n, refl)
 
 -- an inner node of a board is one of the case's tree
-split_there : (k : CutCase) (b row : ℕ) → b < board_count k → row < size (tree_at k b) → IsSplit (subtree_at (tree_at k b) row)
+split_there : (k : CutCase) (b row : ℕ) → b < board_count k → row < size (tree_at k b) →
+    IsSplit (subtree_at (tree_at k b) row)
     → (node_of k b row < size k.case.tree) × IsSplit (subtree_at k.case.tree (node_of k b row))
 split_there k b row few within is = elim (cases_Bool (b == parts_in k)) [
   | inl on_top ↦
-      let l : row < size (top k.cut k.case.tree) = rw on_top at within in let j : IsSplit (subtree_at (top k.cut k.case.tree) row) = rw on_top at is in
+      let l : row < size (top k.cut k.case.tree) = rw on_top at within in
+      let j : IsSplit (subtree_at (top k.cut k.case.tree) row) = rw on_top at is in
       let s = split_of (subtree_at (top k.cut k.case.tree) row) j in
       let there = split_at_top k.case.tree k.cut row s.0 s.1 s.2 l s.3 in
       rw on_top (there.within, rw there.is tt)
   | inr in_part ↦
-      let other = eqb-false b (parts_in k) in_part in let part : b < parts_in k = omega (arith, few, other) in
-      let root : ℕ = part_root k.cut k.case.tree b in let deep = part_within k.cut k.case.tree b part in
-      let l : row < size (subtree_at k.case.tree root) = rw in_part at within in let j : IsSplit (subtree_at (subtree_at k.case.tree root) row) = rw in_part at is in
+      let other = eqb-false b (parts_in k) in_part in
+      let part : b < parts_in k = omega (arith, few, other) in
+      let root : ℕ = part_root k.cut k.case.tree b in
+      let deep = part_within k.cut k.case.tree b part in
+      let l : row < size (subtree_at k.case.tree root) = rw in_part at within in
+      let j : IsSplit (subtree_at (subtree_at k.case.tree root) row) = rw in_part at is in
       let e = below k.case.tree root row deep l in let w = inside k.case.tree root deep in
       rw in_part (omega (arith, w, l), rw e j)
 ]
 
 -- no refutation of an inner node was posted
-none_inner : (k : CutCase) (posts : List Post) → NamesNoNode k → AreReal k posts → (b row : ℕ) → b < board_count k → row < size (tree_at k b) → IsSplit (subtree_at (tree_at k b) row)
+none_inner : (k : CutCase) (posts : List Post) → NamesNoNode k → AreReal k posts → (b row : ℕ) →
+    b < board_count k → row < size (tree_at k b) → IsSplit (subtree_at (tree_at k b) row)
     → IsRefutedBy posts b row → ⊥
 none_inner k posts names real b row few within is p =
     let x : Post = p.0 in
-    let within' : x.row < size (tree_at k x.board) = rw (p.2, p.3) within in let is' : IsSplit (subtree_at (tree_at k x.board) x.row) = rw (p.2, p.3) is in
+    let within' : x.row < size (tree_at k x.board) = rw (p.2, p.3) within in
+    let is' : IsSplit (subtree_at (tree_at k x.board) x.row) = rw (p.2, p.3) is in
     let few' : x.board < board_count k = rw p.2 few in
     elim (real x p.1) [
       | inl f ↦
-          let there = split_there k x.board x.row few' within' is' in let node : ℕ = node_of k x.board x.row in
-          let same : f.target ≡ Node node = one_target k.case.tree node f.target (Node node) f.here (refl, there.0, there.1) in
+          let there = split_there k x.board x.row few' within' is' in
+          let node : ℕ = node_of k x.board x.row in
+          let same : f.target ≡ Node node =
+          one_target k.case.tree node f.target (Node node) f.here (refl, there.0, there.1) in
           names node (subst (HasSection k.case) same f.has_section)
       | inr of_part ↦
-          let on_top : (x.board == parts_in k) ≡ true = eq-eqb x.board (parts_in k) of_part.1.on_top in
-          own_no_part k.cut k.case.tree x.row of_part.0 (rw on_top at is') of_part.1.within of_part.1.here
+          let on_top : (x.board == parts_in k) ≡ true =
+          eq-eqb x.board (parts_in k) of_part.1.on_top in
+          own_no_part k.cut k.case.tree x.row of_part.0 (rw on_top at is') of_part.1.within
+          of_part.1.here
     ]
 
-both_of : (a b c : Bool) → a ≡ false → ((a ≡ true) ⊎ ((b ≡ true) × (c ≡ true))) → (b ≡ true) × (c ≡ true)
+both_of : (a b c : Bool) → a ≡ false → ((a ≡ true) ⊎ ((b ≡ true) × (c ≡ true))) →
+    (b ≡ true) × (c ≡ true)
 both_of a b c no_ either = ⊎_elim (λ own. absurd (not_both a no_ own)) (λ both. both) either
 
 -- where no inner node is refuted, a marked node has marked leaves alone under it
-covered : (refuted : ℕ → Bool) (node : ℕ) (t : SplitTree) → ((r : ℕ) → r < size t → IsSplit (subtree_at t r) → refuted (node + r) ≡ false) → marked refuted node t ≡ true
+covered : (refuted : ℕ → Bool) (node : ℕ) (t : SplitTree) →
+    ((r : ℕ) → r < size t → IsSplit (subtree_at t r) → refuted (node + r) ≡ false) →
+    marked refuted node t ≡ true
     → (r : ℕ) → r < size t → IsLeaf (subtree_at t r) → refuted (node + r) ≡ true
 covered refuted node missing none m zero l leaf = rw (add-zero node) m
 covered refuted node missing none m (suc r) l leaf = absurd (omega arith)
@@ -75,64 +93,109 @@ covered refuted node (cube k) none m (suc r) l leaf = absurd (omega arith)
 covered refuted node (split v p n) none m zero l leaf = absurd leaf
 covered refuted node (split v p n) none m (suc r) l leaf =
     let own : refuted node ≡ false = rw (add-zero node) at (none 0 (omega arith) tt) in
-    let both = both_of (refuted node) (marked refuted (suc node) p) (marked refuted (suc (node + size p)) n) own
-    (either_of (refuted node) (marked refuted (suc node) p) (marked refuted (suc (node + size p)) n) m) in
+    let both =
+    both_of (refuted node) (marked refuted (suc node) p) (marked refuted (suc (node + size p)) n)
+    own
+    (either_of (refuted node) (marked refuted (suc node) p) (marked refuted (suc (node + size p)) n)
+    m) in
     elim (cases_lt r (size p)) [
       | inl near ↦
           let e : node + suc r ≡ suc node + r = omega arith in
-          let first : (q : ℕ) → q < size p → IsSplit (subtree_at p q) → refuted (suc node + q) ≡ false = λ q w is.
-          let f : node + suc q ≡ suc node + q = omega arith in rw f at (none (suc q) (omega (arith, w)) (rw (in_positive v p n q w) is)) in
-          rw e (covered refuted (suc node) p first both.0 r near (rw (in_positive v p n r near) at leaf))
+          let first : (q : ℕ) → q < size p → IsSplit (subtree_at p q) →
+          refuted (suc node + q) ≡ false = λ q w is.
+          let f : node + suc q ≡ suc node + q = omega arith in
+          rw f at (none (suc q) (omega (arith, w)) (rw (in_positive v p n q w) is)) in
+          rw e (covered refuted (suc node) p first both.0 r near
+          (rw (in_positive v p n r near) at leaf))
       | inr far ↦
           let c : ℕ = r - size p in let s : r ≡ size p + c = omega (arith, far) in
           let e : node + suc r ≡ suc (node + size p) + c = omega (arith, s) in
-          let second : (q : ℕ) → q < size n → IsSplit (subtree_at n q) → refuted (suc (node + size p) + q) ≡ false = λ q w is.
+          let second : (q : ℕ) → q < size n → IsSplit (subtree_at n q) →
+          refuted (suc (node + size p) + q) ≡ false = λ q w is.
           let f : node + suc (size p + q) ≡ suc (node + size p) + q = omega arith in
-          rw f at (none (suc (size p + q)) (omega (arith, w)) (rw (in_negative v p n (size p + q) q refl) is)) in
-          rw e (covered refuted (suc (node + size p)) n second both.1 c (omega (arith, s, l)) (rw (in_negative v p n r c s) at leaf))
+          rw f at (none (suc (size p + q)) (omega (arith, w))
+          (rw (in_negative v p n (size p + q) q refl) is)) in
+          rw e (covered refuted (suc (node + size p)) n second both.1 c (omega (arith, s, l))
+          (rw (in_negative v p n r c s) at leaf))
     ]
 
-leaf_marks : (refuted : ℕ → Bool) (row : ℕ) (t : SplitTree) → IsLeaf t → refuted row ≡ true → marked refuted row t ≡ true
+leaf_marks : (refuted : ℕ → Bool) (row : ℕ) (t : SplitTree) → IsLeaf t → refuted row ≡ true →
+    marked refuted row t ≡ true
 leaf_marks refuted row missing leaf e = e
 leaf_marks refuted row (cube k) leaf e = e
 leaf_marks refuted row (split v p n) leaf e = absurd leaf
 
 -- the same of a node of a tree
-under_marked : (refuted : ℕ → Bool) (tree : SplitTree) → ((r : ℕ) → r < size tree → IsSplit (subtree_at tree r) → refuted r ≡ false) → (above row : ℕ) → row < size tree
-    → HasBelow tree above row → IsLeaf (subtree_at tree row) → marked refuted above (subtree_at tree above) ≡ true → marked refuted row (subtree_at tree row) ≡ true
+under_marked : (refuted : ℕ → Bool) (tree : SplitTree) →
+    ((r : ℕ) → r < size tree → IsSplit (subtree_at tree r) → refuted r ≡ false) → (above row : ℕ) →
+    row < size tree
+    → HasBelow tree above row → IsLeaf (subtree_at tree row) →
+    marked refuted above (subtree_at tree above) ≡ true →
+    marked refuted row (subtree_at tree row) ≡ true
 under_marked refuted tree none above row within under leaf m =
-    let u = under.reached in let w = under.before_end in let high : above < size tree = omega (arith, u, within) in
-    let c : ℕ = row - above in let e : above + c ≡ row = omega (arith, u) in let near : c < size (subtree_at tree above) = omega (arith, u, w) in
+    let u = under.reached in let w = under.before_end in
+    let high : above < size tree = omega (arith, u, within) in
+    let c : ℕ = row - above in let e : above + c ≡ row = omega (arith, u) in
+    let near : c < size (subtree_at tree above) = omega (arith, u, w) in
     let most = inside tree above high in
-    let at : subtree_at tree row ≡ subtree_at (subtree_at tree above) c = ap (subtree_at tree) (sym e) ∙ below tree above c high near in
-    let none' : (r : ℕ) → r < size (subtree_at tree above) → IsSplit (subtree_at (subtree_at tree above) r) → refuted (above + r) ≡ false = λ r l is.
+    let at : subtree_at tree row ≡ subtree_at (subtree_at tree above) c =
+    ap (subtree_at tree) (sym e) ∙ below tree above c high near in
+    let none' : (r : ℕ) → r < size (subtree_at tree above) →
+    IsSplit (subtree_at (subtree_at tree above) r) → refuted (above + r) ≡ false = λ r l is.
     none (above + r) (omega (arith, l, most)) (rw (below tree above r high l) is) in
-    leaf_marks refuted row (subtree_at tree row) leaf (ap refuted (sym e) ∙ covered refuted above (subtree_at tree above) none' m c near (rw at at leaf))
+    leaf_marks refuted row (subtree_at tree row) leaf
+    (ap refuted (sym e)
+    ∙ covered refuted above (subtree_at tree above) none' m c near (rw at at leaf))
 
 itself_below : (tree : SplitTree) (row : ℕ) → HasBelow tree row row
-itself_below tree row = let s = some_node (subtree_at tree row) in record { reached = omega arith; before_end = omega (arith, s) }
+itself_below tree row =
+    let s = some_node (subtree_at tree row) in
+    record { reached = omega arith; before_end = omega (arith, s) }
 
 -- where sections name leaves alone, a free board is that of its leaves' posts
-pub whole_of_leaves : (k : CutCase) (passes : ℕ) (s : HallState) → NamesNoNode k → Reached k passes s → (b : ℕ) → b < board_count k → get_or s.words (lock_word b) 0 ≡ 0 → IsWholeOfLeaves k b s
+pub whole_of_leaves : (k : CutCase) (passes : ℕ) (s : HallState) → NamesNoNode k →
+    Reached k passes s → (b : ℕ) → b < board_count k → get_or s.words (lock_word b) 0 ≡ 0 →
+    IsWholeOfLeaves k b s
 whole_of_leaves k passes s names g b within free =
-    let w = whole k passes s g b within free in let tree : SplitTree = tree_at k b in let real = all_real k s (reached_lawful k passes s g) in let posts : List Post = posts_of s.views in
+    let w = whole k passes s g b within free in let tree : SplitTree = tree_at k b in
+    let real = all_real k s (reached_lawful k passes s g) in
+    let posts : List Post = posts_of s.views in
     let refuted : ℕ → Bool = refuted_by (stored_board k.case w.stored).marks in
-    let none : (r : ℕ) → r < size tree → IsSplit (subtree_at tree r) → refuted r ≡ false = λ r l is. false_of (refuted r) (λ e.
-    none_inner k posts names real b r within l is (posted_refuted posts b r (sym (ap is_refuted (w.is_board.is_board.marks r)) ∙ e))) in record {
+    let none : (r : ℕ) → r < size tree → IsSplit (subtree_at tree r) → refuted r ≡ false =
+    λ r l is. false_of (refuted r) (λ e.
+    none_inner k posts names real b r within l is
+    (posted_refuted posts b r (sym (ap is_refuted (w.is_board.is_board.marks r)) ∙ e))) in record {
       stored = w.stored;
       at_home = w.at_home;
       is_board = w.is_board;
       sound = λ row inside_ leaf m. w.sound row inside_ m;
       inner = λ row first second br.
-          let i = w.inner row first second br in let split_ : IsSplit (subtree_at tree row) = rw br.is tt in
-          let in_tree : row < size tree = (let a = br.first_is in let c = br.second_is in let d = br.within in omega (arith, a, c, d)) in
-          ((λ m. ⊎_elim (λ p. absurd (none_inner k posts names real b row within in_tree split_ p)) (λ both. both) (i.0 m)), (λ both. i.1 (inr both)));
+          let i = w.inner row first second br in
+          let split_ : IsSplit (subtree_at tree row) = rw br.is tt in
+          let in_tree : row < size tree =
+          (let a = br.first_is in let c = br.second_is in let d = br.within in
+          omega (arith, a, c, d)) in (
+            (λ m. ⊎_elim (λ p. absurd (none_inner k posts names real b row within in_tree split_ p))
+                (λ both. both) (i.0 m)),
+            (λ both. i.1 (inr both)),
+          );
       open_is = record {
         rows = w.open_is.rows;
         once = w.open_is.once;
         all = λ row. (
-          (λ c. let o = (w.open_is.all row).0 c in record { within = o.within; leaf = o.leaf; unmarked = o.under_none row (itself_below tree row) }),
-          (λ o. (w.open_is.all row).1 record { within = o.within; leaf = o.leaf; under_none = λ above under m. o.unmarked (under_marked refuted tree none above row o.within under o.leaf m) }),
+          (λ c. let o = (w.open_is.all row).0 c in
+              record {
+                within = o.within;
+                leaf = o.leaf;
+                unmarked = o.under_none row (itself_below tree row);
+              }),
+          (λ o. (w.open_is.all row).1 record {
+            within = o.within;
+            leaf = o.leaf;
+            under_none =
+                λ above under m.
+                o.unmarked (under_marked refuted tree none above row o.within under o.leaf m);
+          }),
         );
         sum_is = w.open_is.sum_is;
       };

@@ -1,10 +1,12 @@
 -- What the clauses of a hall's calls say.
-use Rattle.std.specs.Prelude.{◌≡◌, ◌<◌, ℕ, List, ◌∷◌, ◌++◌, Some, ◌⊎◌, ◌==◌, if◌then◌else◌, All, true, false, length, [], None}
+use Rattle.std.specs.Prelude.{◌≡◌, ◌<◌, ℕ, List, ◌∷◌, ◌++◌, Some, ◌⊎◌, ◌==◌, if◌then◌else◌, All}
+use Rattle.std.specs.Prelude.{true, false, length, [], None}
 use Rattle.mark_board.specs.declared.mark.Mark.TheVariants.{Open}
 use Rattle.board_hall.specs.declared.view.View.{View}
 use Rattle.board_hall.specs.declared.view.CutCase.{CutCase}
 use Rattle.board_hall.specs.declared.view.Post.{Post}
-use Rattle.board_hall.specs.Posts.{parts_in, mark_in, Among, AreReal, board_count, place_of, posts_of, root_by, IsPartPost}
+use Rattle.board_hall.specs.Posts.{parts_in, mark_in, Among, AreReal, board_count, place_of}
+use Rattle.board_hall.specs.Posts.{posts_of, root_by, IsPartPost}
 use Rattle.board_hall.specs.Hall.{HallState, Reached}
 use Rattle.hint_check.specs.declared.Judged.{Judged}
 use Rattle.split_tree.specs.SplitTree.{size}

@@ -1,5 +1,6 @@
 -- What a free board is.
-use Rattle.std.specs.Prelude.{◌≡◌, ◌⊎◌, ◌↔◌, ℕ, suc, ◌<◌, ◌≤◌, true, List, [], ◌∷◌, Some, slice_index}
+use Rattle.std.specs.Prelude.{◌≡◌, ◌⊎◌, ◌↔◌, ℕ, suc, ◌<◌, ◌≤◌, true, List, [], ◌∷◌, Some}
+use Rattle.std.specs.Prelude.{slice_index}
 use Rattle.std.specs.List.{Contains, sum_by}
 use mathlib.Core.Option.{some}
 use lib.ListN.{get_elem?}

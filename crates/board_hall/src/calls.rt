@@ -10,7 +10,8 @@ ghost use Rattle.mark_board.specs.Boards.{IsPlaceFor};
 ghost use Rattle.case_core.specs.FindingOf.{finding_of};
 ghost use Rattle.board_hall.specs.Posts.{open_by, mark_in};
 ghost use Rattle.board_hall.specs.Halls.{core_of, shared_of, view_of, IsPassOf};
-ghost use Rattle.board_hall.specs.Clauses.{board_number, IsHome, IsVerdictOf, Stays, SeesOwn, PostsNothing, IsPosted, IsPartPosted, IsMarkSeen};
+ghost use Rattle.board_hall.specs.Clauses.{board_number, IsHome, IsVerdictOf, Stays, SeesOwn};
+ghost use Rattle.board_hall.specs.Clauses.{PostsNothing, IsPosted, IsPartPosted, IsMarkSeen};
 
 use crate::held::owed_by;
 use crate::pass::Pass;

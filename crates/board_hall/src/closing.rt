@@ -1,6 +1,7 @@
 //! How a hall is closed.
 
-ghost use Rattle.std.specs.Prelude.{List, ◌+◌, ◌≡◌, ◌<◌, ◌≤◌, ◌↔◌, [], Some, None, IfOk, IfErr, IsTrue, All, MatchResult, vec_len, vec_capacity};
+ghost use Rattle.std.specs.Prelude.{List, ◌+◌, ◌≡◌, ◌<◌, ◌≤◌, ◌↔◌, [], Some, None, IfOk, IfErr};
+ghost use Rattle.std.specs.Prelude.{IsTrue, All, MatchResult, vec_len, vec_capacity};
 ghost use Rattle.std.specs.Mem.Slots.{slots_items, slots_len, IsFull};
 ghost use Rattle.board_hall.specs.Hall.{meeting};
 ghost use Rattle.mark_board.specs.BoardData.{stored_board, IsDataOf};

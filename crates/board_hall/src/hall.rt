@@ -31,7 +31,8 @@ impl<'c> Hall<'c> {
     ghost use Rattle.mark_board.specs.VerdictOf.{verdict_of};
     ghost use Rattle.board_hall.specs.Posts.{open_by, mark_in};
     ghost use Rattle.board_hall.specs.Halls.{shared_of, hall_of, view_of, IsPassOf};
-    ghost use Rattle.board_hall.specs.Clauses.{board_number, IsVerdictOf, Stays, SeesOwn, PostsNothing, IsPosted, IsPartPosted, IsMarkSeen};
+    ghost use Rattle.board_hall.specs.Clauses.{board_number, IsVerdictOf, Stays, SeesOwn};
+    ghost use Rattle.board_hall.specs.Clauses.{PostsNothing, IsPosted, IsPartPosted, IsMarkSeen};
 
     /// Its case.
     pub fn case(&self) -> &'c Case

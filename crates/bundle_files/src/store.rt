@@ -1,5 +1,6 @@
 //! What can be read and written by its path.
-ghost use Rattle.std.specs.Prelude.{◌≡◌, ◌≢◌, ℕ, List, Some, ◌<◌, ◌+◌, ◌^◌, ◌-◌, Option, None, IfOk, IfErr};
+ghost use Rattle.std.specs.Prelude.{◌≡◌, ◌≢◌, ℕ, List, Some, ◌<◌, ◌+◌, ◌^◌, ◌-◌, Option, None};
+ghost use Rattle.std.specs.Prelude.{IfOk, IfErr};
 ghost use Rattle.std.specs.Prelude.{OnOk};
 ghost use Rattle.cube_report.specs.Device.{IsReadFault};
 ghost use Rattle.bundle_files.specs.Files.{Gives, IsFound};
@@ -10,8 +11,8 @@ use std::io::ErrorKind;
 use std::rt::Files;
 
 /// What can be read by its path, FILE and a folder's proofs alike, and what is written by its path.
-/// The proofs' paths, the order of the leaves and the label lines are made above it, and so stand in
-/// the contracts there.
+/// The proofs' paths, the order of the leaves and the label lines are made above it, so they stand
+/// in the contracts there.
 pub trait Store {
     // What lies at each path, where that is known: no file, or a file with these bytes.
     ghost held: { Self → List ℕ → Option (Option (List ℕ)) };

@@ -1,5 +1,6 @@
 -- A judgement of a proof from a target's path is the finding of the target.
-use Rattle.std.proofs.Common.{◌≡◌, ◌≢◌, ℕ, List, Option, None, Some, refl, sym, ◌∙◌, ap, subst, Result, Ok, Err}
+use Rattle.std.proofs.Common.{◌≡◌, ◌≢◌, ℕ, List, Option, None, Some, refl, sym, ◌∙◌, ap, subst}
+use Rattle.std.proofs.Common.{Result, Ok, Err}
 use Rattle.std.specs.Prelude.{IfOk}
 use Rattle.cnf_text.specs.Literal.{Literal}
 use Rattle.cnf_text.specs.Formula.{IsRefuted}
@@ -17,10 +18,13 @@ use Rattle.case_core.specs.Inner.Finding.{IsJudgement}
 use Rattle.case_core.specs.Finding.{IsFinding, IsSound, HasSection}
 
 -- what a checker over the formula and the path answers is the judgement of the proof
-pub is_judged : {E : Type 0} (r : Result Judged E) (case : CaseOf) (target : Target) (text path : List _) (live : Live)
+pub is_judged : {E : Type 0} (r : Result Judged E) (case : CaseOf) (target : Target)
+    (text path : List _) (live : Live)
     → live ≡ start case.formula path → IsPathOf case.tree target path
     → IfOk r (λ judged. (proof : Proof) → IsProofOf text proof → judged ≡ judged_by live proof)
-    → IfOk r (λ judged. judged ≡ Refuted → (formula : List (List Literal)) (path : List Literal) → live ≡ start formula path → IsRefuted formula path)
+    →
+    IfOk r (λ judged. judged ≡ Refuted → (formula : List (List Literal)) (path : List Literal) →
+    live ≡ start formula path → IsRefuted formula path)
     → IfOk r (λ judged. IsJudgement case target text judged)
 is_judged (Ok judged) case target text path live begun of is sound = record {
   path = path;
@@ -47,25 +51,36 @@ pub is_found : (case : CaseOf) (target : Target) (text : List ℕ) (judged : Jud
 is_found case target text judged once found j = (
   λ none. let clash : Some text ≡ None = sym found ∙ none in cc,
   λ path other proof of is of_text.
-      j.is proof (subst (λ t. IsProofOf t proof) (sym (some_text text other (sym found ∙ is))) of_text)
-      ∙ ap (λ p. judgement case.formula p proof) (one_path case target j.path path once j.of_target of),
-  λ refuted path of. subst (λ (p : List Literal). IsRefuted case.formula p) (one_path case target j.path path once j.of_target of) (j.refuted refuted),
+      j.is proof (subst (λ t. IsProofOf t proof) (sym (some_text text other (sym found ∙ is)))
+      of_text)
+      ∙ ap (λ p. judgement case.formula p proof)
+      (one_path case target j.path path once j.of_target of),
+  λ refuted path of.
+      subst (λ (p : List Literal). IsRefuted case.formula p)
+      (one_path case target j.path path once j.of_target of) (j.refuted refuted),
 )
 
 -- where a target stands, the node's number given twice
-pub stands_there : (a b : SplitTree) (node number : ℕ) (target : Target) → a ≡ b → number ≡ node → IsTargetAt a node target → IsTargetAt b number target
-stands_there a b node number target tree is here = subst (λ (t : SplitTree). IsTargetAt t number target) tree (rw is here)
+pub stands_there : (a b : SplitTree) (node number : ℕ) (target : Target) → a ≡ b → number ≡ node →
+    IsTargetAt a node target → IsTargetAt b number target
+stands_there a b node number target tree is here =
+    subst (λ (t : SplitTree). IsTargetAt t number target) tree (rw is here)
 
 -- what is found of a target, of the same target otherwise named
 pub found_of : (case : CaseOf) (target other : Target) (node : ℕ) (judged : Judged) → other ≡ target
-    → HasSection case target × IsFinding case target judged × IsSound case target judged → IsTargetAt case.tree node target
-    → IsTargetAt case.tree node other × HasSection case other × IsFinding case other judged × IsSound case other judged
+    → HasSection case target × IsFinding case target judged × IsSound case target judged →
+    IsTargetAt case.tree node target
+    →
+    IsTargetAt case.tree node other × HasSection case other × IsFinding case other judged
+    × IsSound case other judged
 found_of case target other node judged same found here =
-    subst (λ (t : Target). IsTargetAt case.tree node t × HasSection case t × IsFinding case t judged × IsSound case t judged) (sym same)
+    subst (λ (t : Target). IsTargetAt case.tree node t × HasSection case t × IsFinding case t judged
+    × IsSound case t judged) (sym same)
     (here, found.0, found.1, found.2)
 
 -- a target that stands at one node of one tree does so under its other name and in the same tree
-pub only_there : (a b : SplitTree) (target named : Target) (node number : ℕ) → a ≡ b → number ≡ node → named ≡ target →
+pub only_there : (a b : SplitTree) (target named : Target) (node number : ℕ) → a ≡ b →
+    number ≡ node → named ≡ target →
     ((i : ℕ) → IsTargetAt a i target → i ≡ node) → (i : ℕ) → IsTargetAt b i named → i ≡ number
 only_there a b target named node number e f g only i at = only i (rw (e, ← g) at) ∙ sym f
 
@@ -74,7 +89,8 @@ some_of None has = absurd (has refl)
 some_of (Some text) has = (text, refl)
 
 -- a target is judged in one way
-pub one_finding : (case : CaseOf) (target : Target) (path : List Literal) (first second : Judged) → IsPathOf case.tree target path → HasSection case target
+pub one_finding : (case : CaseOf) (target : Target) (path : List Literal) (first second : Judged) →
+    IsPathOf case.tree target path → HasSection case target
     → IsFinding case target first → IsFinding case target second → first ≡ second
 one_finding case target path first second of has one two =
     let there = some_of (proof_for case.sections target) has in

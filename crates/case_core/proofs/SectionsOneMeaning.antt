@@ -2,7 +2,8 @@
 use Rattle.std.proofs.Common.{◌≡◌, ◌+◌, ◌≤◌, ◌^◌, List, [], ◌∷◌, subst, arith, Vec}
 use Rattle.std.specs.List.{AllByRecursion}
 use Rattle.cnf_text.specs.Literal.{Literal}
-use Rattle.cnf_text.specs.Icnf.{Item, ClauseItem, CubeItem, literals_of, clauses_of, cubes_of, Within, StandsFor, IsTextFault}
+use Rattle.cnf_text.specs.Icnf.{Item, ClauseItem, CubeItem, literals_of, clauses_of, cubes_of}
+use Rattle.cnf_text.specs.Icnf.{Within, StandsFor, IsTextFault}
 use Rattle.cnf_text.specs.Icnf as icnf
 use Rattle.split_tree.specs.Clash as clash
 use Rattle.split_tree.specs.SplitTree.{SplitTree, numbered, IsTreeOf, total}
@@ -10,17 +11,23 @@ use Rattle.case_core.specs.Inner.Label.{IsPathInRange}
 use Rattle.case_core.specs.Inner.Sections.{HasTree}
 use Rattle.case_core.proofs.LabelLimits.{limited}
 
-cubes_in_range : (items : List Item) → icnf.InRange items → AllByRecursion IsPathInRange (cubes_of items)
+cubes_in_range : (items : List Item) → icnf.InRange items →
+    AllByRecursion IsPathInRange (cubes_of items)
 cubes_in_range [] h = tt
 cubes_in_range (ClauseItem literals ∷ items) h = cubes_in_range items h.1
 cubes_in_range (CubeItem literals ∷ items) h = (h.0, cubes_in_range items h.1)
 
 -- a tree of the cubes that were read is one of the text's cubes
-pub has_tree : {Z : Type 0} (tree : SplitTree) (items : List Item) (cubes : List (Vec Literal Z)) → Within items → clash.cube_lists cubes ≡ cubes_of items → IsTreeOf tree (numbered 1 (clash.cube_lists cubes))
+pub has_tree : {Z : Type 0} (tree : SplitTree) (items : List Item) (cubes : List (Vec Literal Z)) →
+    Within items → clash.cube_lists cubes ≡ cubes_of items →
+    IsTreeOf tree (numbered 1 (clash.cube_lists cubes))
     → total 0 tree ≤ 2 ^ 60 + 2 ^ 24 → HasTree tree items
 has_tree tree items cubes within e is total_is =
-    let same : IsTreeOf tree (numbered 1 (cubes_of items)) = subst (λ (cs : List (List Literal)). IsTreeOf tree (numbered 1 cs)) e is in record {
+    let same : IsTreeOf tree (numbered 1 (cubes_of items)) =
+    subst (λ (cs : List (List Literal)). IsTreeOf tree (numbered 1 cs)) e is in record {
       is = same;
-      limited = limited tree (cubes_of items) same (omega (arith, within.cubes)) (cubes_in_range items within.variables);
+      limited =
+          limited tree (cubes_of items) same (omega (arith, within.cubes))
+          (cubes_in_range items within.variables);
       total = total_is;
     }

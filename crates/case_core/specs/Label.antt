@@ -1,5 +1,6 @@
 -- What a label line names: a leaf by its number, or an inner node by its path.
-use Rattle.std.specs.Prelude.{◌≡◌, ℕ, if◌then◌else◌, codes, slice_index, drop, ◌==◌, List, [], ◌∷◌, map, Option, None, Some, option_map}
+use Rattle.std.specs.Prelude.{◌≡◌, ℕ, if◌then◌else◌, codes, slice_index, drop, ◌==◌, List, [], ◌∷◌}
+use Rattle.std.specs.Prelude.{map, Option, None, Some, option_map}
 use Rattle.std.specs.Str.{bytes_eq}
 use Rattle.cnf_text.specs.Literal.{Literal}
 use Rattle.cnf_text.specs.Numbers.{decimal}

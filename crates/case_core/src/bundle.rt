@@ -1,10 +1,13 @@
 //! The reader of bundles: an iCNF text, and behind it sections, each below a label line.
 
-ghost use Rattle.std.specs.Prelude.{◌≡◌, List, MatchResult, ◌≤◌, ◌+◌, length, take, map, ◌<◌, ◌≢◌, OnOk, IfOk, IfErr, IfSome, MatchOption, count_by};
+ghost use Rattle.std.specs.Prelude.{◌≡◌, List, MatchResult, ◌≤◌, ◌+◌, length, take, map, ◌<◌, ◌≢◌};
+ghost use Rattle.std.specs.Prelude.{OnOk, IfOk, IfErr, IfSome, MatchOption, count_by};
 ghost use Rattle.cnf_text.specs.Tokens.{is_line_end};
 ghost use Rattle.cnf_text.specs.Icnf.{Item, Within, IsFileOf};
 ghost use Rattle.case_core.specs.Bundle.{lines_of, is_label, text_before, labels_of};
-ghost use Rattle.case_core.specs.Inner.Bundle.{HasNoLabel, HasNoLetter, AfterPlainLines, FirstLabel, EndsWith, BeginsWithLabel, OneLabel, NextLabel};
+ghost use Rattle.case_core.specs.Inner.Bundle.{HasNoLabel, HasNoLetter, AfterPlainLines};
+ghost use Rattle.case_core.specs.Inner.Bundle.{FirstLabel, EndsWith, BeginsWithLabel, OneLabel};
+ghost use Rattle.case_core.specs.Inner.Bundle.{NextLabel};
 ghost use Rattle.case_core.specs.Case.{section_in, part_in, CaseOf};
 ghost use Rattle.case_core.specs.Inner.Case.{IsCaseKept};
 ghost use Rattle.case_core.specs.Inner.Label.{IsLimited};

@@ -53,7 +53,8 @@ impl Model for Case {
 }
 
 impl Case {
-    ghost use Rattle.std.specs.Prelude.{◌≡◌, ℕ, ◌<◌, ◌≤◌, ◌^◌, ◌+◌, length, map, MatchOption, None, Some};
+    ghost use Rattle.std.specs.Prelude.{◌≡◌, ℕ, ◌<◌, ◌≤◌, ◌^◌, ◌+◌, length, map, MatchOption, None};
+    ghost use Rattle.std.specs.Prelude.{Some};
     ghost use Rattle.split_tree.specs.SplitTree.{total};
     ghost use Rattle.split_tree.specs.Leaves.{HasTarget, IsTargetAt};
     ghost use Rattle.case_core.specs.Case.{targets_of, section_at, AreSections, proof_for};

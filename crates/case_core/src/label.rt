@@ -5,7 +5,8 @@ ghost use Rattle.std.specs.Option.{option_map};
 ghost use Rattle.cnf_text.specs.Tokens.{words};
 ghost use Rattle.cnf_text.specs.Icnf.{symbol_of};
 ghost use Rattle.cnf_text.specs.Numbers.{decimal};
-ghost use Rattle.case_core.specs.Label.{CubeName, MissingName, PathName, IsTargetOf, leaf_name, label_name, path_of_symbols};
+ghost use Rattle.case_core.specs.Label.{CubeName, MissingName, PathName, IsTargetOf, leaf_name};
+ghost use Rattle.case_core.specs.Label.{label_name, path_of_symbols};
 ghost use Rattle.case_core.specs.Inner.Label.{IsLimited, NamesNone, IsPathRead, NoPathRead};
 
 use crate::fault::CaseFault;

@@ -19,10 +19,18 @@ place_there sections place below = (
 )
 
 -- the places of all sections after a sort
-pub sorted_order : (sections : ℕ) (places order : List ℕ) → places ≡ range_with_len 0 sections → IsPermutation places order → IsOrder sections order
+pub sorted_order : (sections : ℕ) (places order : List ℕ) → places ≡ range_with_len 0 sections →
+    IsPermutation places order → IsOrder sections order
 sorted_order sections places order are moved =
     let moved : IsPermutation (range_with_len 0 sections) order = rw are at moved in record {
-      long = length_permutation (range_with_len 0 sections) order moved ∙ length-range_with_len 0 sections;
-      within = All-permutation (λ place. place < sections) (range_with_len 0 sections) order moved (places_below sections);
-      each = λ place below. Contains-permutation (range_with_len 0 sections) order place moved (place_there sections place below);
+      long =
+          length_permutation (range_with_len 0 sections) order moved
+          ∙ length-range_with_len 0 sections;
+      within =
+          All-permutation (λ place. place < sections) (range_with_len 0 sections) order moved
+          (places_below sections);
+      each =
+          λ place below.
+          Contains-permutation (range_with_len 0 sections) order place moved
+          (place_there sections place below);
     }

@@ -1,13 +1,18 @@
--- Once each section was claimed, its finding is seen by some worker; and where the finding of each section was seen by
+-- Once each section was claimed, its finding is seen by some worker; and where the finding of each
+-- section was seen by
 -- some pass, it stands on the boards.
-use Rattle.std.proofs.Common.{◌≡◌, ◌≢◌, ℕ, suc, ◌<◌, ◌==◌, ◌&&◌, cond, Bool, true, List, [], ◌∷◌, ◌++◌, Option, None, Some, All, length, flat_map, refl, sym, ap, ◌∙◌, subst, arith, inl, inr, ◌⊎◌, append-nil}
+use Rattle.std.proofs.Common.{◌≡◌, ◌≢◌, ℕ, suc, ◌<◌, ◌==◌, ◌&&◌, cond, Bool, true, List, [], ◌∷◌}
+use Rattle.std.proofs.Common.{◌++◌, Option, None, Some, All, length, flat_map, refl, sym, ap, ◌∙◌}
+use Rattle.std.proofs.Common.{subst, arith, inl, inr, ◌⊎◌, append-nil}
 use mathlib.Core.Logic.{dite}
 use native.Mathlib.Decide.{ℕ_discrete}
 use Rattle.std.specs.List.{Contains, list_any, slice_index}
 use Rattle.std.proofs.lemmas.Bool.{cases_Bool}
 use Rattle.std.proofs.lemmas.Bool.Decides.{nat_tests}
 use Rattle.std.proofs.lemmas.List.Concat.{flat_map-append}
-use Rattle.std.proofs.lemmas.List.Elements.{All-contains, Contains-append_left, Contains-append_right, Contains-append_cases, Contains-push}
+use Rattle.std.proofs.lemmas.List.Elements.{All-contains, Contains-append_left}
+use Rattle.std.proofs.lemmas.List.Elements.{Contains-append_right, Contains-append_cases}
+use Rattle.std.proofs.lemmas.List.Elements.{Contains-push}
 use Rattle.std.proofs.lemmas.List.Sums.{sum_by-cons}
 use Rattle.std.proofs.lemmas.Grind.{get_or_default_zero}
 use Rattle.split_tree.specs.Leaves.{IsTargetAt}
@@ -35,44 +40,66 @@ contains_from_times : (place : ℕ) (xs : List ℕ) → 0 < times place xs → C
 contains_from_times place [] some_times = absurd (omega arith)
 contains_from_times place (x ∷ xs) some_times =
     dite (ℕ_discrete x place)
-    (λ (e : x ≡ place). Contains-append_left (x ∷ []) xs place (subst (Contains (x ∷ [])) e (Contains-push [] x)))
+    (λ (e : x ≡ place).
+    Contains-append_left (x ∷ []) xs place (subst (Contains (x ∷ [])) e (Contains-push [] x)))
     (λ (ne : x ≢ place). let none : cond {A = ℕ} (x == place) 1 0 ≡ 0 = grind (arith, nat_tests) in
-    Contains-append_right (x ∷ []) xs place (contains_from_times place xs (omega (arith, sum_by-cons (λ (p : ℕ). cond {A = ℕ} (p == place) 1 0) x xs, none))))
+    Contains-append_right (x ∷ []) xs place
+    (contains_from_times place xs
+    (omega (arith, sum_by-cons (λ (p : ℕ). cond {A = ℕ} (p == place) 1 0) x xs, none))))
 
 -- each section is claimed by some pass
-claimed : (sections place : ℕ) (claims : List ℕ) → EachOnce sections claims → place < sections → Contains claims place
-claimed sections place claims once below = let one = once place in contains_from_times place claims (grind (arith, nat_tests))
+claimed : (sections place : ℕ) (claims : List ℕ) → EachOnce sections claims → place < sections →
+    Contains claims place
+claimed sections place claims once below =
+    let one = once place in contains_from_times place claims (grind (arith, nat_tests))
 
 -- the section from which a target has its proof
 record IsSectionAt (sections : List SectionOf) (target : Target) (place : ℕ) : Type 0 where
   within : place < length sections
   target_is : (section_at sections place).target ≡ target
 
-section_of_proof : (sections : List SectionOf) (target : Target) (proof : List ℕ) → proof_for sections target ≡ Some proof → (place : ℕ) × IsSectionAt sections target place
+section_of_proof : (sections : List SectionOf) (target : Target) (proof : List ℕ) →
+    proof_for sections target ≡ Some proof → (place : ℕ) × IsSectionAt sections target place
 section_of_proof [] target proof is = absurd (cc)
-section_of_proof (section ∷ sections) target proof is = elim (cases_Bool (same_target section.target target)) [
-  | inl same ↦ (0, record { within = omega arith; target_is = same_target-true section.target target same })
-  | inr other ↦ let later = section_of_proof sections target proof (rw other at is) in
-      (suc later.0, record { within = omega (arith, later.1.within); target_is = later.1.target_is })
-]
+section_of_proof (section ∷ sections) target proof is =
+    elim (cases_Bool (same_target section.target target)) [
+      | inl same ↦ (
+        0,
+        record { within = omega arith; target_is = same_target-true section.target target same },
+      )
+      | inr other ↦ let later = section_of_proof sections target proof (rw other at is) in (
+        suc later.0,
+        record { within = omega (arith, later.1.within); target_is = later.1.target_is },
+      )
+    ]
 
-module _ (hall : HallOf) (passes : List Pass) (boards : BoardsOf) (gathered : Gathers hall passes boards) where
+module _ (hall : HallOf) (passes : List Pass) (boards : BoardsOf)
+    (gathered : Gathers hall passes boards) where
   -- what one of the passes has seen is marked on the boards
-  seen_marked : All (IsPassOf hall) passes → (pass : Pass) → Contains passes pass → (node : ℕ) → HasSeen (view_of pass) node → mark_at boards.marks node ≢ Open
+  seen_marked : All (IsPassOf hall) passes → (pass : Pass) → Contains passes pass → (node : ℕ) →
+      HasSeen (view_of pass) node → mark_at boards.marks node ≢ Open
   seen_marked own pass one node seen =
-      let of_hall : (view_of pass).of ≡ hall.of = (All-contains (IsPassOf hall) passes pass own one).1 in
+      let of_hall : (view_of pass).of ≡ hall.of =
+      (All-contains (IsPassOf hall) passes pass own one).1 in
       let posts : List Post = posts_of gathered.state.views in
-      let hold = All-contains (λ p. (post : Post) → Among post (view_of p).posts ⊎ Among post (view_of p).seen → Among post posts) passes pass gathered.includes one in
-      let there : mark_in posts seen.board seen.row ≢ Open = marked_more (view_of pass).seen posts (λ post among. hold post (inr among)) seen.board seen.row seen.marked in
+      let hold =
+      All-contains
+      (λ p. (post : Post) → Among post (view_of p).posts ⊎ Among post (view_of p).seen →
+      Among post posts) passes pass gathered.includes one in
+      let there : mark_in posts seen.board seen.row ≢ Open =
+      marked_more (view_of pass).seen posts (λ post among. hold post (inr among)) seen.board
+      seen.row seen.marked in
       rw (gathered.hold.marks node seen.board seen.row (rw of_hall at seen.home)) there
 
   -- the mark of a section's target is not open
   section_marked : All (IsPassOf hall) passes → HaveSeenSections hall.of.case passes
-      → (node place : ℕ) (target : Target) → IsTargetAt hall.of.case.tree node target → IsSectionAt hall.of.case.sections target place → mark_at boards.marks node ≢ Open
+      → (node place : ℕ) (target : Target) → IsTargetAt hall.of.case.tree node target →
+      IsSectionAt hall.of.case.sections target place → mark_at boards.marks node ≢ Open
   section_marked own seen node place target at section =
       let some = seen place section.within in
       let pass : Pass = some.0 in
-      let of_hall : (view_of pass).of ≡ hall.of = (All-contains (IsPassOf hall) passes pass own some.1).1 in
+      let of_hall : (view_of pass).of ≡ hall.of =
+      (All-contains (IsPassOf hall) passes pass own some.1).1 in
       seen_marked own pass some.1 node (some.2 node (rw (of_hall, section.target_is) at))
 
   -- where the finding of each section was seen, each node has the mark of its finding
@@ -83,48 +110,69 @@ module _ (hall : HallOf) (passes : List Pass) (boards : BoardsOf) (gathered : Ga
     each = λ node target at. is_mark node target at (proof_for hall.of.case.sections target) refl;
   }
     where
-      is_mark : (node : ℕ) (target : Target) → IsTargetAt hall.of.case.tree node target → (proof : Option (List ℕ)) → proof_for hall.of.case.sections target ≡ proof → IsMarkOf hall.of.case target (mark_at boards.marks node)
+      is_mark : (node : ℕ) (target : Target) → IsTargetAt hall.of.case.tree node target →
+          (proof : Option (List ℕ)) → proof_for hall.of.case.sections target ≡ proof →
+          IsMarkOf hall.of.case target (mark_at boards.marks node)
       is_mark node target at proof e =
           let posts : List Post = posts_of gathered.state.views in
           let home = home_of hall.of node (target_inside hall.of.case.tree node target at) in
-          let mark : mark_at boards.marks node ≡ mark_in posts home.0 home.1 = gathered.hold.marks node home.0 home.1 home.2 in
+          let mark : mark_at boards.marks node ≡ mark_in posts home.0 home.1 =
+          gathered.hold.marks node home.0 home.1 home.2 in
           elim (open_or_not (mark_in posts home.0 home.1)) [
             | inl none ↦ open_mark node target at proof e (mark ∙ none)
-            | inr some ↦ rw mark (real_mark hall.of posts gathered.real node home.0 home.1 target home.2 at some)
+            | inr some ↦ rw mark
+                (real_mark hall.of posts gathered.real node home.0 home.1 target home.2 at some)
           ]
         where
-          open_mark : (node : ℕ) (target : Target) → IsTargetAt hall.of.case.tree node target → (proof : Option (List ℕ)) → proof_for hall.of.case.sections target ≡ proof
-              → mark_at boards.marks node ≡ Open → IsMarkOf hall.of.case target (mark_at boards.marks node)
+          open_mark : (node : ℕ) (target : Target) → IsTargetAt hall.of.case.tree node target →
+              (proof : Option (List ℕ)) → proof_for hall.of.case.sections target ≡ proof
+              → mark_at boards.marks node ≡ Open →
+              IsMarkOf hall.of.case target (mark_at boards.marks node)
           open_mark node target at None e none = rw e none
           open_mark node target at (Some proof) e none =
               let section = section_of_proof hall.of.case.sections target proof e in
               absurd (section_marked own seen node section.0 target at section.1 none)
 
 -- where each turn was claimed by some pass, the finding of each section was seen
-pub sections_seen : (case : CaseOf) (order : List ℕ) (passes : List Pass) (job_passes : List JobPassOf)
+pub sections_seen : (case : CaseOf) (order : List ℕ) (passes : List Pass)
+    (job_passes : List JobPassOf)
     → IsOrder (length case.sections) order → HaveSeenClaims order passes job_passes
     → EachOnce (length order) (flat_map claims_of job_passes) → HaveSeenSections case passes
 sections_seen case order passes job_passes in_order seen once place within =
     let there = in_order.each place within in
-    let some = seen there.0 (claimed (length order) there.0 (flat_map claims_of job_passes) once there.1) in
-    let is : slice_index order there.0 ≡ place = sym (get_or_default_zero order there.0 place there.1) ∙ there.2 in
+    let some =
+    seen there.0 (claimed (length order) there.0 (flat_map claims_of job_passes) once there.1) in
+    let is : slice_index order there.0 ≡ place =
+    sym (get_or_default_zero order there.0 place there.1) ∙ there.2 in
     (some.0, some.1, rw is at some.2)
 
 -- one worker more has handed in its passes
-pub claims_more : (order : List ℕ) (passes : List Pass) (job_passes : List JobPassOf) (pass : Pass) (job_pass : JobPassOf) → HaveSeenClaims order passes job_passes
-    → All (HasSeenTurn order (view_of pass)) job_pass.claims → HaveSeenClaims order (passes ++ pass ∷ []) (job_passes ++ job_pass ∷ [])
+pub claims_more : (order : List ℕ) (passes : List Pass) (job_passes : List JobPassOf) (pass : Pass)
+    (job_pass : JobPassOf) → HaveSeenClaims order passes job_passes
+    → All (HasSeenTurn order (view_of pass)) job_pass.claims →
+    HaveSeenClaims order (passes ++ pass ∷ []) (job_passes ++ job_pass ∷ [])
 claims_more order passes job_passes pass job_pass were are place claim =
-    let joined : flat_map claims_of (job_passes ++ job_pass ∷ []) ≡ flat_map claims_of job_passes ++ job_pass.claims =
-    flat_map-append claims_of job_passes (job_pass ∷ []) ∙ ap (λ (xs : List ℕ). flat_map claims_of job_passes ++ xs) (append-nil job_pass.claims) in
-    elim (Contains-append_cases (flat_map claims_of job_passes) job_pass.claims place (rw joined at claim)) [
-      | inl early ↦ let some = were place early in (some.0, Contains-append_left passes (pass ∷ []) some.0 some.1, some.2)
-      | inr late ↦ (pass, Contains-push passes pass, All-contains (HasSeenTurn order (view_of pass)) job_pass.claims place are late)
+    let joined : flat_map claims_of (job_passes ++ job_pass ∷ [])
+    ≡ flat_map claims_of job_passes ++ job_pass.claims =
+    flat_map-append claims_of job_passes (job_pass ∷ [])
+    ∙ ap (λ (xs : List ℕ). flat_map claims_of job_passes ++ xs) (append-nil job_pass.claims) in
+    elim (Contains-append_cases (flat_map claims_of job_passes) job_pass.claims place
+    (rw joined at claim)) [
+      | inl early ↦ let some = were place early in
+          (some.0, Contains-append_left passes (pass ∷ []) some.0 some.1, some.2)
+      | inr late ↦ (
+        pass,
+        Contains-push passes pass,
+        All-contains (HasSeenTurn order (view_of pass)) job_pass.claims place are late,
+      )
     ]
 
 -- one of the passes has found the queue empty
-pub some_found_empty : (passes : List JobPassOf) → 0 < length passes → All (λ p. p.found_empty ≡ true) passes → list_any has_found_empty passes ≡ true
+pub some_found_empty : (passes : List JobPassOf) → 0 < length passes →
+    All (λ p. p.found_empty ≡ true) passes → list_any has_found_empty passes ≡ true
 some_found_empty [] some_pass all = absurd (omega arith)
-some_found_empty (p ∷ ps) some_pass all = let h : p.found_empty ≡ true = all 0 p (omega arith) in rw h refl
+some_found_empty (p ∷ ps) some_pass all =
+    let h : p.found_empty ≡ true = all 0 p (omega arith) in rw h refl
 
 -- both tests hold
 pub both_true : (m n : ℕ) (b : Bool) → m ≡ n → b ≡ true → ((m == n) && b) ≡ true

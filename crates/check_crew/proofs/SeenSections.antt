@@ -1,5 +1,6 @@
 -- The section at a place of a case.
-use Rattle.std.proofs.Common.{◌≡◌, ◌≢◌, ℕ, zero, suc, ◌<◌, List, [], ◌∷◌, None, Some, length, map, get_or, sym, ap, ◌∙◌, arith, inl, inr}
+use Rattle.std.proofs.Common.{◌≡◌, ◌≢◌, ℕ, zero, suc, ◌<◌, List, [], ◌∷◌, None, Some, length, map}
+use Rattle.std.proofs.Common.{get_or, sym, ap, ◌∙◌, arith, inl, inr}
 use Rattle.std.proofs.lemmas.Bool.{cases_Bool}
 use Rattle.std.proofs.lemmas.List.{get_or-map, length-map}
 use Rattle.split_tree.specs.Leaves.{HasTarget}
@@ -7,17 +8,21 @@ use Rattle.split_tree.specs.declared.node.Leaf.TheVariants.{Cube}
 use Rattle.split_tree.specs.declared.node.Target.{Target}
 use Rattle.split_tree.specs.declared.node.Target.TheVariants.{Leaf}
 use Rattle.case_core.specs.declared.case.Section.{Section}
-use Rattle.case_core.specs.Case.{CaseOf, SectionOf, section_at, targets_of, same_target, proof_for, AreSections}
+use Rattle.case_core.specs.Case.{CaseOf, SectionOf, section_at, targets_of, same_target, proof_for}
+use Rattle.case_core.specs.Case.{AreSections}
 use Rattle.case_core.proofs.CaseTables.{same_target-self}
 
 -- the target of the section at this place has a proof
-pub has_proof : (sections : List SectionOf) (place : ℕ) → place < length sections → proof_for sections (section_at sections place).target ≢ None
+pub has_proof : (sections : List SectionOf) (place : ℕ) → place < length sections →
+    proof_for sections (section_at sections place).target ≢ None
 has_proof [] place below none = absurd (omega arith)
-has_proof (section ∷ sections) zero below none = let clash : Some section.proof ≡ None = rw (same_target-self section.target) at none in cc
-has_proof (section ∷ sections) (suc place) below none = elim (cases_Bool (same_target section.target (section_at sections place).target)) [
-  | inl same ↦ let clash : Some section.proof ≡ None = rw same at none in cc
-  | inr other ↦ has_proof sections place (omega arith) (rw other at none)
-]
+has_proof (section ∷ sections) zero below none =
+    let clash : Some section.proof ≡ None = rw (same_target-self section.target) at none in cc
+has_proof (section ∷ sections) (suc place) below none =
+    elim (cases_Bool (same_target section.target (section_at sections place).target)) [
+      | inl same ↦ let clash : Some section.proof ≡ None = rw same at none in cc
+      | inr other ↦ has_proof sections place (omega arith) (rw other at none)
+    ]
 
 -- the place is one of the sections that the case gives, and this is the section there
 pub record IsSectionHere (case : CaseOf) (place : ℕ) (target : Target) : Type 0 where
@@ -41,7 +46,8 @@ as_many case sections are =
 
 -- a section that stands at a place is the one that is found there
 pub section_here : (case : CaseOf) (sections : List Section) (place : ℕ) (other : Section)
-    → map (λ section. section.target) sections ≡ targets_of case.sections → AreSections case.tree case.sections
+    → map (λ section. section.target) sections ≡ targets_of case.sections →
+    AreSections case.tree case.sections
     → place < length case.sections → IsSectionHere case place (get_or sections place other).target
 section_here case sections place other are apart within =
     let below : place < length sections =

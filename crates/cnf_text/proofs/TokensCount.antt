@@ -1,10 +1,12 @@
 -- A text has no more tokens than bytes.
-use Rattle.std.proofs.Common.{◌≡◌, ℕ, ◌+◌, ◌≤◌, Bool, true, false, cond, List, [], ◌∷◌, length, arith, inl, inr}
+use Rattle.std.proofs.Common.{◌≡◌, ℕ, ◌+◌, ◌≤◌, Bool, true, false, cond, List, [], ◌∷◌, length}
+use Rattle.std.proofs.Common.{arith, inl, inr}
 use Rattle.std.specs.List.{slice_split, onto_first, filter}
 use Rattle.std.proofs.lemmas.Bool.{cases_Bool}
 use Rattle.std.proofs.lemmas.List.{length-append, length-map}
 use Rattle.std.proofs.lemmas.List.Splits.{slice_split-cons_yes, slice_split-cons_no}
-use Rattle.cnf_text.specs.Tokens.{is_line_end, is_blank, is_comment, is_some_text, words, tokens_at, line_tokens, lines_from, token_lines, joined}
+use Rattle.cnf_text.specs.Tokens.{is_line_end, is_blank, is_comment, is_some_text, words, tokens_at}
+use Rattle.cnf_text.specs.Tokens.{line_tokens, lines_from, token_lines, joined}
 
 -- how many bytes parts have together
 size : List (List ℕ) → ℕ
@@ -23,7 +25,8 @@ size-slice_split p (b ∷ bytes) =
     let less = size-slice_split p bytes in
     elim (cases_Bool (p b)) [
       | inl ends ↦ rw (slice_split-cons_yes p b bytes ends) (omega arith)
-      | inr other ↦ rw (slice_split-cons_no p b bytes other) (let more = size-onto_first b (slice_split p bytes) in omega arith)
+      | inr other ↦ rw (slice_split-cons_no p b bytes other)
+          (let more = size-onto_first b (slice_split p bytes) in omega arith)
     ]
 
 count-filter : (parts : List (List ℕ)) → length (filter is_some_text parts) ≤ size parts
@@ -42,15 +45,18 @@ count-words line =
 count-line : (number : ℕ) (line : List ℕ) → length (line_tokens number line) ≤ length line
 unfolding line_tokens
 count-line number line =
-    elim (is_comment line) as (λ b. length (cond b [] (tokens_at number (words line))) ≤ length line) [
+    elim (is_comment line) as
+    (λ b. length (cond b [] (tokens_at number (words line))) ≤ length line) [
       | true ↦ omega arith
       | false ↦
           let few = count-words line in
-          let same : length (tokens_at number (words line)) ≡ length (words line) = length-map (words line) (λ word. record { line = number; bytes = word }) in
+          let same : length (tokens_at number (words line)) ≡ length (words line) =
+          length-map (words line) (λ word. record { line = number; bytes = word }) in
           omega arith
     ]
 
-count-lines : (number : ℕ) (lines : List (List ℕ)) → length (joined (lines_from number lines)) ≤ size lines
+count-lines : (number : ℕ) (lines : List (List ℕ)) →
+    length (joined (lines_from number lines)) ≤ size lines
 unfolding size
 count-lines number [] = omega arith
 count-lines number (line ∷ lines) =
@@ -60,7 +66,8 @@ count-lines number (line ∷ lines) =
     omega arith
 
 -- a text has no more tokens than bytes
-pub count-tokens : (number : ℕ) (text : List ℕ) → length (joined (token_lines number text)) ≤ length text
+pub count-tokens : (number : ℕ) (text : List ℕ) →
+    length (joined (token_lines number text)) ≤ length text
 unfolding token_lines
 count-tokens number text =
     let few = count-lines number (slice_split is_line_end text) in

@@ -1,6 +1,7 @@
 //! The words of a text that are left, one at a time and without their lines.
 
-ghost use Rattle.std.specs.Prelude.{◌≡◌, ◌∷◌, [], ◌≤◌, ◌<◌, ◌^◌, ℕ, List, length, map, slice_index, true, false, Some, IsSome, IfSome, MatchOption};
+ghost use Rattle.std.specs.Prelude.{◌≡◌, ◌∷◌, [], ◌≤◌, ◌<◌, ◌^◌, ℕ, List, length, map, slice_index};
+ghost use Rattle.std.specs.Prelude.{true, false, Some, IsSome, IfSome, MatchOption};
 ghost use Rattle.std.specs.List.{slice_split};
 ghost use Rattle.cnf_text.specs.Tokens.{tokens_of, is_line_end, is_blank};
 ghost use Rattle.cnf_text.specs.Numbers.{decimal};

@@ -1,12 +1,16 @@
 -- What a run says of the bundle and of what was written, and what its status says.
-use Rattle.std.proofs.Common.{◌≡◌, ◌<◌, ◌⊎◌, ◌∙◌, sym, refl, ap, subst, ℕ, Bool, true, false, List, [], Option, None, Some}
+use Rattle.std.proofs.Common.{◌≡◌, ◌<◌, ◌⊎◌, ◌∙◌, sym, refl, ap, subst, ℕ, Bool, true, false, List}
+use Rattle.std.proofs.Common.{[], Option, None, Some}
 use Rattle.std.specs.Prelude.{is_some, option_map, if◌then◌else◌}
 use Rattle.std.proofs.Common.{Result, Ok, Err, IfOk, IfErr, MatchResult, inl, inr, arith}
 use Rattle.std.specs.Io.KnownBytes.{Appends}
 use Rattle.bundle_files.specs.Files.{Held, Gives, IsBundleOf, IsRead}
 use Rattle.bundle_files.proofs.FilesFormula.{judged_unsatisfiable}
 use Rattle.cube_report.specs.declared.fault.Fault.{Fault}
-use Rattle.cube_report.specs.declared.fault.Fault.TheVariants.{Header, Token, Unfinished, TooLarge, Limit, Memory, Repeats, NotATree, Overlap, BadLabel, NoSuchLeaf, ProofTwice, Device, Thread}
+use Rattle.cube_report.specs.declared.fault.Fault.TheVariants.{Header, Token, Unfinished, TooLarge}
+use Rattle.cube_report.specs.declared.fault.Fault.TheVariants.{Limit, Memory, Repeats, NotATree}
+use Rattle.cube_report.specs.declared.fault.Fault.TheVariants.{Overlap, BadLabel, NoSuchLeaf}
+use Rattle.cube_report.specs.declared.fault.Fault.TheVariants.{ProofTwice, Device, Thread}
 use Rattle.cube_report.specs.Faults.{IsInputFault}
 use Rattle.cube_report.specs.Correct.{IsOutcome, IsFaultOn, IsUnsatisfiable}
 use Rattle.tree_map.specs.Picture.{map_text}
@@ -16,37 +20,51 @@ use Rattle.cube_command.specs.Inner.Telling.{IsFaultWritten, status_of, status_o
 -- ---- the run
 
 -- what was drawn is the picture, where one is asked for
-drawn_there : (after : Held) (map : Option (List ℕ)) (picture drawn : List ℕ) → drawn ≡ (if is_some map then picture else []) → IsDrawn after map drawn → IsDrawn after map picture
+drawn_there : (after : Held) (map : Option (List ℕ)) (picture drawn : List ℕ) →
+    drawn ≡ (if is_some map then picture else []) → IsDrawn after map drawn →
+    IsDrawn after map picture
 drawn_there after None picture drawn is there = tt
-drawn_there after (Some path) picture drawn is there = subst (Gives after path) (ap (λ (bytes : List ℕ). Some bytes) is) there
+drawn_there after (Some path) picture drawn is there =
+    subst (Gives after path) (ap (λ (bytes : List ℕ). Some bytes) is) there
 
 -- whether there is a path is whether there is its text
-pub some_mapped : {A B : Type 0} (f : A → B) (path : Option A) (there : Bool) → there ≡ is_some path → there ≡ is_some (option_map f path)
+pub some_mapped : {A B : Type 0} (f : A → B) (path : Option A) (there : Bool) →
+    there ≡ is_some path → there ≡ is_some (option_map f path)
 some_mapped f None there is = is
 some_mapped f (Some path) there is = is
 
 -- the report that was written, and the picture, are those on the bundle that was asked for
-pub reported : (held after : Held) (file folder map input old new : Option (List ℕ)) (read whole text picture : List ℕ) (draws answer : Bool)
-    → IsBundleOf held file folder input read whole → IsOutcome whole draws text picture answer → draws ≡ is_some map
-    → Appends old new text → IsDrawn after map picture → IsReported held after file folder map input old new answer
-reported held after file folder map input old new read whole text picture draws answer bundle outcome asked written there = record {
-  read = read;
-  whole = whole;
-  bundle = bundle;
-  text = text;
-  correct = outcome.correct;
-  written = written;
-  sound = λ says. judged_unsatisfiable held folder read whole bundle.is_judged (outcome.correct.sound says);
-  drawn = drawn_there after map _ picture
-      (outcome.drawn ∙ ap (λ (b : Bool). if b then map_text outcome.correct.case outcome.correct.marks else []) asked) there;
-}
+pub reported : (held after : Held) (file folder map input old new : Option (List ℕ))
+    (read whole text picture : List ℕ) (draws answer : Bool)
+    → IsBundleOf held file folder input read whole → IsOutcome whole draws text picture answer →
+    draws ≡ is_some map
+    → Appends old new text → IsDrawn after map picture →
+    IsReported held after file folder map input old new answer
+reported held after file folder map input old new read whole text picture draws answer bundle
+    outcome asked written there = record {
+      read = read;
+      whole = whole;
+      bundle = bundle;
+      text = text;
+      correct = outcome.correct;
+      written = written;
+      sound =
+          λ says. judged_unsatisfiable held folder read whole bundle.is_judged
+          (outcome.correct.sound says);
+      drawn = drawn_there after map _ picture
+          (outcome.drawn
+          ∙ ap (λ (b : Bool). if b then map_text outcome.correct.case outcome.correct.marks else [])
+          asked) there;
+    }
 
 -- ---- its status
 
 -- how a run was told, where `Same` says that nothing was written
-abbrev pub ToldRun : Result Bool Fault → ℕ → Type 0 → Option (List ℕ) → Option (List ℕ) → ℕ → ℕ → Type 0
+abbrev pub ToldRun : Result Bool Fault → ℕ → Type 0 → Option (List ℕ) → Option (List ℕ) → ℕ → ℕ →
+    Type 0
 ToldRun run status Same old new before after =
-    MatchResult run (λ answer. (status ≡ status_of_answer answer) × Same) (λ fault. IsFaultWritten fault status old new before after)
+    MatchResult run (λ answer. (status ≡ status_of_answer answer) × Same)
+    (λ fault. IsFaultWritten fault status old new before after)
 
 above_two : (fault : Fault) → 2 < status_of fault
 above_two Header = omega arith
@@ -114,49 +132,83 @@ with_five (NoSuchLeaf line) is = absurd (omega arith)
 with_five (ProofTwice line) is = absurd (omega arith)
 
 -- status 0
-pub sound_run : (held later : Held) (asked file folder map input out_old out_new : Option (List ℕ)) (run : Result Bool Fault) (status : ℕ) (Same : Type 0) (old new : Option (List ℕ)) (before after : ℕ)
+pub sound_run : (held later : Held) (asked file folder map input out_old out_new : Option (List ℕ))
+    (run : Result Bool Fault) (status : ℕ) (Same : Type 0) (old new : Option (List ℕ))
+    (before after : ℕ)
     → file ≡ asked → ToldRun run status Same old new before after
     → IfOk run (IsReported held later file folder map input out_old out_new) → status ≡ 0
     → (read : List ℕ) × IsRead held asked input read × IsUnsatisfiable read
-sound_run held later asked file folder map input out_old out_new (Ok true) status Same old new before after same told report is =
-    (report.read, subst (λ (f : Option (List ℕ)). IsRead held f input report.read) same report.bundle.is_read, report.sound refl)
-sound_run held later asked file folder map input out_old out_new (Ok false) status Same old new before after same told report is = let one : status ≡ 1 = told.0 in absurd (omega arith)
-sound_run held later asked file folder map input out_old out_new (Err fault) status Same old new before after same (inl told) report is =
-    let above : 2 < status_of fault = above_two fault in let has : status ≡ status_of fault = told.0 in absurd (omega arith)
-sound_run held later asked file folder map input out_old out_new (Err fault) status Same old new before after same (inr told) report is = let four : status ≡ 4 = told.1 in absurd (omega arith)
+sound_run held later asked file folder map input out_old out_new (Ok true) status Same old new
+    before after same told report is = (
+      report.read,
+      subst (λ (f : Option (List ℕ)). IsRead held f input report.read) same report.bundle.is_read,
+      report.sound refl,
+    )
+sound_run held later asked file folder map input out_old out_new (Ok false) status Same old new
+    before after same told report is = let one : status ≡ 1 = told.0 in absurd (omega arith)
+sound_run held later asked file folder map input out_old out_new (Err fault) status Same old new
+    before after same (inl told) report is =
+    let above : 2 < status_of fault = above_two fault in
+    let has : status ≡ status_of fault = told.0 in absurd (omega arith)
+sound_run held later asked file folder map input out_old out_new (Err fault) status Same old new
+    before after same (inr told) report is = let four : status ≡ 4 = told.1 in absurd (omega arith)
 
 -- status 3
-pub fault_run : (held : Held) (asked_file asked_folder file folder input : Option (List ℕ)) (run : Result Bool Fault) (status : ℕ) (Same : Type 0) (old new : Option (List ℕ)) (before after : ℕ)
+pub fault_run : (held : Held) (asked_file asked_folder file folder input : Option (List ℕ))
+    (run : Result Bool Fault) (status : ℕ) (Same : Type 0) (old new : Option (List ℕ))
+    (before after : ℕ)
     → file ≡ asked_file → folder ≡ asked_folder → ToldRun run status Same old new before after
     → IfErr run (λ fault. IsInputFault fault → IsRefused held file folder input fault) → status ≡ 3
-    → (fault : Fault) × IsInputFault fault × IsRefused held asked_file asked_folder input fault × IsLineWritten old new before after (fault_line fault)
-fault_run held asked_file asked_folder file folder input (Ok true) status Same old new before after same same_too told refused is = let none : status ≡ 0 = told.0 in absurd (omega arith)
-fault_run held asked_file asked_folder file folder input (Ok false) status Same old new before after same same_too told refused is = let one : status ≡ 1 = told.0 in absurd (omega arith)
-fault_run held asked_file asked_folder file folder input (Err fault) status Same old new before after same same_too (inl told) refused is =
+    →
+    (fault : Fault) × IsInputFault fault × IsRefused held asked_file asked_folder input fault
+    × IsLineWritten old new before after (fault_line fault)
+fault_run held asked_file asked_folder file folder input (Ok true) status Same old new before after
+    same same_too told refused is = let none : status ≡ 0 = told.0 in absurd (omega arith)
+fault_run held asked_file asked_folder file folder input (Ok false) status Same old new before after
+    same same_too told refused is = let one : status ≡ 1 = told.0 in absurd (omega arith)
+fault_run held asked_file asked_folder file folder input (Err fault) status Same old new before
+    after same same_too (inl told) refused is =
     let input_is : IsInputFault fault = input_of_three fault (sym told.0 ∙ is) in (
       fault,
       input_is,
-      subst (λ (f : Option (List ℕ)). IsRefused held f asked_folder input fault) same (subst (λ (f : Option (List ℕ)). IsRefused held file f input fault) same_too (refused input_is)),
+      subst (λ (f : Option (List ℕ)). IsRefused held f asked_folder input fault) same
+          (subst (λ (f : Option (List ℕ)). IsRefused held file f input fault) same_too
+          (refused input_is)),
       told.1,
     )
-fault_run held asked_file asked_folder file folder input (Err fault) status Same old new before after same same_too (inr told) refused is = let four : status ≡ 4 = told.1 in absurd (omega arith)
+fault_run held asked_file asked_folder file folder input (Err fault) status Same old new before
+    after same same_too (inr told) refused is = let four : status ≡ 4 = told.1 in
+    absurd (omega arith)
 
 -- status 4
-pub memory_run : (run : Result Bool Fault) (status : ℕ) (Same : Type 0) (old new : Option (List ℕ)) (before after : ℕ) → ToldRun run status Same old new before after → status ≡ 4
-    → IsLineWritten old new before after (fault_line Memory) ⊎ IsLineWritten old new before after (fault_line Thread)
-memory_run (Ok true) status Same old new before after told is = let none : status ≡ 0 = told.0 in absurd (omega arith)
-memory_run (Ok false) status Same old new before after told is = let one : status ≡ 1 = told.0 in absurd (omega arith)
+pub memory_run : (run : Result Bool Fault) (status : ℕ) (Same : Type 0) (old new : Option (List ℕ))
+    (before after : ℕ) → ToldRun run status Same old new before after → status ≡ 4
+    →
+    IsLineWritten old new before after (fault_line Memory)
+    ⊎ IsLineWritten old new before after (fault_line Thread)
+memory_run (Ok true) status Same old new before after told is =
+    let none : status ≡ 0 = told.0 in absurd (omega arith)
+memory_run (Ok false) status Same old new before after told is =
+    let one : status ≡ 1 = told.0 in absurd (omega arith)
 memory_run (Err fault) status Same old new before after (inr told) is = inl told.2
-memory_run (Err fault) status Same old new before after (inl told) is = elim (with_four fault (sym told.0 ∙ is)) [
-  | inl memory ↦ inl (subst (λ (f : Fault). IsLineWritten old new before after (fault_line f)) memory told.1)
-  | inr thread ↦ inr (subst (λ (f : Fault). IsLineWritten old new before after (fault_line f)) thread told.1)
-]
+memory_run (Err fault) status Same old new before after (inl told) is =
+    elim (with_four fault (sym told.0 ∙ is)) [
+      | inl memory ↦ inl
+          (subst (λ (f : Fault). IsLineWritten old new before after (fault_line f)) memory told.1)
+      | inr thread ↦ inr
+          (subst (λ (f : Fault). IsLineWritten old new before after (fault_line f)) thread told.1)
+    ]
 
 -- status 5
-pub device_run : (run : Result Bool Fault) (status : ℕ) (Same : Type 0) (old new : Option (List ℕ)) (before after : ℕ) → ToldRun run status Same old new before after → status ≡ 5
+pub device_run : (run : Result Bool Fault) (status : ℕ) (Same : Type 0) (old new : Option (List ℕ))
+    (before after : ℕ) → ToldRun run status Same old new before after → status ≡ 5
     → IsLineWritten old new before after (fault_line Device)
-device_run (Ok true) status Same old new before after told is = let none : status ≡ 0 = told.0 in absurd (omega arith)
-device_run (Ok false) status Same old new before after told is = let one : status ≡ 1 = told.0 in absurd (omega arith)
-device_run (Err fault) status Same old new before after (inr told) is = let four : status ≡ 4 = told.1 in absurd (omega arith)
+device_run (Ok true) status Same old new before after told is =
+    let none : status ≡ 0 = told.0 in absurd (omega arith)
+device_run (Ok false) status Same old new before after told is =
+    let one : status ≡ 1 = told.0 in absurd (omega arith)
+device_run (Err fault) status Same old new before after (inr told) is =
+    let four : status ≡ 4 = told.1 in absurd (omega arith)
 device_run (Err fault) status Same old new before after (inl told) is =
-    subst (λ (f : Fault). IsLineWritten old new before after (fault_line f)) (with_five fault (sym told.0 ∙ is)) told.1
+    subst (λ (f : Fault). IsLineWritten old new before after (fault_line f))
+    (with_five fault (sym told.0 ∙ is)) told.1

@@ -1,11 +1,14 @@
 -- What the words ask for.
-use Rattle.std.proofs.Common.{◌≡◌, ◌∙◌, ap, refl, ℕ, Bool, false, Option, Some, List, [], ◌∷◌, map, length, codes, true, None}
+use Rattle.std.proofs.Common.{◌≡◌, ◌∙◌, ap, refl, ℕ, Bool, false, Option, Some, List, [], ◌∷◌, map}
+use Rattle.std.proofs.Common.{length, codes, true, None}
 use Rattle.std.proofs.Common.{Result, Ok, Err, IfErr, IsErrAnd, subst, sym, inl, inr}
 use Rattle.clap.specs.declared.builder.command.Command.{Command}
 use Rattle.clap.specs.declared.error.Error.{Error}
 use Rattle.clap.specs.declared.error.kind.ErrorKind.TheVariants.{OutOfMemory}
 use Rattle.clap.specs.declared.parser.matches.ArgMatches.{ArgMatches}
-use Rattle.clap.specs.Words.{App, HasMatchesOf, Text, app_of, first_of, fault_of, first_value, found_of, is_simple, is_simple_and_free, kind_of, matches_of, one_of, one_text, HasKind, Kinds}
+use Rattle.clap.specs.Words.{App, HasMatchesOf, Text, app_of, first_of, fault_of, first_value}
+use Rattle.clap.specs.Words.{found_of, is_simple, is_simple_and_free, kind_of, matches_of, one_of}
+use Rattle.clap.specs.Words.{one_text, HasKind, Kinds}
 use Rattle.clap.proofs.OnLiterals.{clap_on_literals}
 use Rattle.clap.proofs.WalkLemmas.{first_value-rows, one_text-rows}
 use Rattle.cube_command.specs.Words.{AreTaken, asked_for, file_of, folder_of, words_taken}
@@ -14,9 +17,12 @@ use Rattle.cube_command.specs.Inner.Words.{Reads, SaysFlag, SaysNumber, flag_tex
 -- what the parser's matches hold under a name is what the words ask for
 pub found_asked : (parser : Command) (matches : ArgMatches) (words : List Text) (name : Text)
     → app_of parser ≡ words_taken
-    → HasMatchesOf (app_of parser) words matches → first_value (found_of matches) name ≡ asked_for name words
+    → HasMatchesOf (app_of parser) words matches →
+    first_value (found_of matches) name ≡ asked_for name words
 found_asked parser matches words name is has =
-    first_value-rows (found_of matches) name ∙ ap (first_of name) ((has (ap is_simple is ∙ refl)).0 ∙ ap (λ (a : App). matches_of a words) is)
+    first_value-rows (found_of matches) name
+    ∙ ap (first_of name)
+    ((has (ap is_simple is ∙ refl)).0 ∙ ap (λ (a : App). matches_of a words) is)
 
 -- what holds of an error holds of the result that hands it on
 pub handed_on : {T E : Type 0} (result : Result T E) (P : E → Type 0) (error : E) → P error
@@ -28,25 +34,31 @@ are_simple : is_simple_and_free words_taken ≡ true
 unfolding clap_on_literals
 are_simple = refl
 
-parser_simple : (parser : Command) → app_of parser ≡ words_taken → is_simple_and_free (app_of parser) ≡ true
+parser_simple : (parser : Command) → app_of parser ≡ words_taken →
+    is_simple_and_free (app_of parser) ≡ true
 parser_simple parser is = ap is_simple_and_free is ∙ are_simple
 
-among_none : (error : Error) (kinds : Kinds) → kinds ≡ [] → HasKind kinds error → kind_of error ≡ OutOfMemory
+among_none : (error : Error) (kinds : Kinds) → kinds ≡ [] → HasKind kinds error →
+    kind_of error ≡ OutOfMemory
 among_none error [] none (inl memory) = memory
 among_none error [] none (inr none_is) = elim none_is [ ]
 among_none error (kind ∷ kinds) none has = absurd (cc)
 
 -- an error on words that are taken is want of memory
-pub taken_fails : (parser : Command) (words : List Text) (error : Error) → app_of parser ≡ words_taken
+pub taken_fails : (parser : Command) (words : List Text) (error : Error) →
+    app_of parser ≡ words_taken
     → (is_simple_and_free (app_of parser) ≡ true → HasKind (fault_of (app_of parser) words) error)
     → AreTaken words → kind_of error ≡ OutOfMemory
 taken_fails parser words error is fails taken =
-    among_none error (fault_of (app_of parser) words) (ap (λ (a : App). fault_of a words) is ∙ taken) (fails (parser_simple parser is))
+    among_none error (fault_of (app_of parser) words)
+    (ap (λ (a : App). fault_of a words) is ∙ taken) (fails (parser_simple parser is))
 
 -- words that were parsed are taken
 pub parsed_taken : (parser : Command) (words : List Text) → app_of parser ≡ words_taken
-    → (is_simple_and_free (app_of parser) ≡ true → fault_of (app_of parser) words ≡ []) → AreTaken words
-parsed_taken parser words is parsed = sym (ap (λ (a : App). fault_of a words) is) ∙ parsed (parser_simple parser is)
+    → (is_simple_and_free (app_of parser) ≡ true → fault_of (app_of parser) words ≡ []) →
+    AreTaken words
+parsed_taken parser words is parsed =
+    sym (ap (λ (a : App). fault_of a words) is) ∙ parsed (parser_simple parser is)
 
 no_words_taken : AreTaken []
 unfolding clap_on_literals
@@ -67,31 +79,47 @@ no_words f (word ∷ words) none = absurd (cc)
 -- no words are taken, and ask for neither proofs nor a file
 pub nothing_taken : {A : Type 0} (text : A → Text) (words : List A) → length words ≡ 0
     → AreTaken (map text words)
-nothing_taken text words none = ap (fault_of words_taken) (no_words text words none) ∙ no_words_taken
+nothing_taken text words none =
+    ap (fault_of words_taken) (no_words text words none) ∙ no_words_taken
 
 -- no words ask for nothing
 pub nothing_asked : {A : Type 0} (text : A → Text) (words : List A) → length words ≡ 0
     → (file_of (map text words) ≡ None) × (folder_of (map text words) ≡ None)
-nothing_asked text words none = (ap file_of (no_words text words none) ∙ no_file, ap folder_of (no_words text words none) ∙ no_proofs)
+nothing_asked text words none = (
+  ap file_of (no_words text words none) ∙ no_file,
+  ap folder_of (no_words text words none)
+      ∙ no_proofs,
+)
 
 -- what the parser's matches read as a number under a name is what the words say
-pub number_asked : (parser : Command) (matches : ArgMatches) (words : List Text) (name : Text) (number : ℕ)
+pub number_asked : (parser : Command) (matches : ArgMatches) (words : List Text) (name : Text)
+    (number : ℕ)
     → app_of parser ≡ words_taken
     → HasMatchesOf (app_of parser) words matches → SaysNumber name words number
     → Reads (one_text (found_of matches) name) number
-number_asked parser matches words name number is has says =
-    (says.0, one_text-rows (found_of matches) name ∙ ap (one_of name) ((has (ap is_simple is ∙ refl)).0 ∙ ap (λ (a : App). matches_of a words) is) ∙ says.1, says.2, says.3)
+number_asked parser matches words name number is has says = (
+  says.0,
+  one_text-rows (found_of matches) name
+      ∙ ap (one_of name)
+      ((has (ap is_simple is ∙ refl)).0 ∙ ap (λ (a : App). matches_of a words) is) ∙ says.1,
+  says.2,
+  says.3,
+)
 
 -- the flag that the parser's matches have under a name is the one that the words say
-pub flag_asked : (parser : Command) (matches : ArgMatches) (words : List Text) (name : Text) (given : Bool)
+pub flag_asked : (parser : Command) (matches : ArgMatches) (words : List Text) (name : Text)
+    (given : Bool)
     → app_of parser ≡ words_taken
     → HasMatchesOf (app_of parser) words matches → SaysFlag name words given
     → one_text (found_of matches) name ≡ Some (flag_text given)
 flag_asked parser matches words name given is has says =
-    one_text-rows (found_of matches) name ∙ ap (one_of name) ((has (ap is_simple is ∙ refl)).0 ∙ ap (λ (a : App). matches_of a words) is) ∙ says
+    one_text-rows (found_of matches) name
+    ∙ ap (one_of name) ((has (ap is_simple is ∙ refl)).0 ∙ ap (λ (a : App). matches_of a words) is)
+    ∙ says
 
 -- a flag that is read by its two texts is the one that they say
-pub flag_read : (text : Option Text) (flag given : Bool) → (text ≡ Some (codes "true") → flag ≡ true) → (text ≡ Some (codes "false") → flag ≡ false)
+pub flag_read : (text : Option Text) (flag given : Bool) →
+    (text ≡ Some (codes "true") → flag ≡ true) → (text ≡ Some (codes "false") → flag ≡ false)
     → text ≡ Some (flag_text given) → flag ≡ given
 flag_read text flag true on off is = on is
 flag_read text flag false on off is = off is

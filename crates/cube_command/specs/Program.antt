@@ -1,5 +1,6 @@
 -- What the program's status says.
-use Rattle.std.specs.Prelude.{◌≡◌, ◌<◌, ℕ, Bool, List, ◌++◌, true, ⊤, ◌⊎◌, codes, Option, None, Some}
+use Rattle.std.specs.Prelude.{◌≡◌, ◌<◌, ℕ, Bool, List, ◌++◌, true, ⊤, ◌⊎◌, codes, Option, None}
+use Rattle.std.specs.Prelude.{Some}
 use Rattle.std.specs.Io.KnownBytes.{Appends}
 use Rattle.bundle_files.specs.Files.{Held, Gives, IsBundleOf}
 use Rattle.tree_map.specs.Picture.{map_text}

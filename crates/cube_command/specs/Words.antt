@@ -1,6 +1,7 @@
 -- Which words the program takes, and what they ask for.
 use Rattle.std.specs.Prelude.{◌≡◌, List, [], ◌∷◌, codes, pos, true, Option, Some}
-use Rattle.clap.specs.Words.{App, Rule, Text, fault_of, first_of, matches_of, new_app, new_rule, with_rule}
+use Rattle.clap.specs.Words.{App, Rule, Text, fault_of, first_of, matches_of, new_app, new_rule}
+use Rattle.clap.specs.Words.{with_rule}
 use Rattle.clap.specs.declared.builder.action.ArgAction.TheVariants.{SetTrue}
 use Rattle.clap.specs.declared.builder.value_parser.ValueParser.TheVariants.{Signed, NonEmptyString}
 
@@ -50,7 +51,8 @@ words_taken =
     (with_rule (with_rule (with_version (new_app (codes "cubeboard"))) workers_word) cut_word)
     proofs_word) progress_word) map_word) file_word
 
--- these words fit that: `clap` finds no fault in them, and they ask for neither help nor the version
+-- these words fit that: `clap` finds no fault in them, and they ask for neither help nor the
+-- version
 abbrev pub AreTaken : List Text → Type 0
 AreTaken words = fault_of words_taken words ≡ []
 

@@ -1,6 +1,8 @@
 //! The program: from its words and its streams to its status.
 
-ghost use Rattle.std.specs.Prelude.{◌≡◌, ◌≢◌, ◌⊎◌, ◌<◌, ◌+◌, ◌^◌, ◌-◌, List, ℕ, length, map, option_map, true, false, None, Some, IfOk, IfErr, OnOk, OnErr, IsErrOf};
+ghost use Rattle.std.specs.Prelude.{◌≡◌, ◌≢◌, ◌⊎◌, ◌<◌, ◌+◌, ◌^◌, ◌-◌, List, ℕ, length, map};
+ghost use Rattle.std.specs.Prelude.{option_map, true, false, None, Some, IfOk, IfErr, OnOk, OnErr};
+ghost use Rattle.std.specs.Prelude.{IsErrOf};
 ghost use Rattle.std.specs.Io.KnownBytes.{Appends, Keeps};
 ghost use Rattle.cube_report.specs.Device.{AppendsBeginning, IsReadFault};
 ghost use Rattle.clap.specs.Words.{kind_of};
@@ -8,7 +10,8 @@ ghost use Rattle.bundle_files.specs.Files.{IsAbsent, IsRead};
 ghost use Rattle.cube_report.specs.Correct.{IsUnsatisfiable};
 ghost use Rattle.cube_report.specs.Faults.{IsInputFault};
 ghost use Rattle.cube_command.specs.Words.{AreTaken, file_of, folder_of, map_of};
-ghost use Rattle.cube_command.specs.Program.{IsStatus, IsDrawn, IsReported, IsRefused, IsBegun, IsLineWritten, fault_line};
+ghost use Rattle.cube_command.specs.Program.{IsStatus, IsDrawn, IsReported, IsRefused, IsBegun};
+ghost use Rattle.cube_command.specs.Program.{IsLineWritten, fault_line};
 
 use crate::progress::Watched;
 use crate::telling::{tell_fault, tell_run};
@@ -24,17 +27,16 @@ use std::sync::Wait;
 use std::thread::Threads;
 
 /// The program on these words, which are those after its name: `[--workers N] [--cut D] [--proofs
-/// DIR] [--progress] [--map
-/// SVG] [FILE]`. It reads a bundle from FILE, or from `input` where there is none, and writes the
-/// report to `output` or, where there is no report, one line to `errors`. Files are found by
-/// `store`. Both writers have to write at once, without a buffer of their own.
+/// DIR] [--progress] [--map SVG] [FILE]`. It reads a bundle from FILE, or from `input` where there
+/// is none, and writes the report to `output` or, where there is no report, one line to `errors`.
+/// Files are found by `store`. Both writers have to write at once, without a buffer of their own.
 ///
 /// With `--proofs DIR` the proofs of that folder are added to the bundle: for each cube K and after
 /// that for each missing leaf J, in order, the file `DIR/K.lrat` or `DIR/mJ.lrat`, where it is
 /// there, as the section of its leaf. N workers check the proofs, with boards cut at the depth D;
-/// `gate` is called beside each section, and with `--progress` also `watch`, which may tell a person
-/// how far the run is, on a device that it is lent: what it does there is not `errors`. With
-/// `--map SVG` a picture of the tree is written to that file, which is made anew, before the report.
+/// `gate` is called beside each section, and with `--progress` also `watch`, which may tell a
+/// person how far the run is, on a device that it is lent: what it does there is not `errors`. With
+/// `--map SVG` a picture of the tree is written to that file, made anew, before the report.
 ///
 /// Answers the status: 0 for a report that says refuted, 1 for one that says open, 2 where the
 /// words can't be taken or ask for help or the version, after the parser's text on `errors`, 3
@@ -74,10 +76,12 @@ where
     // Status 1: it says open.
     ensures refuted { result ≡ 0 → IsReported (D.held store.old) (D.held store.new)
         (file_of (map S.text words.now)) (folder_of (map S.text words.now))
-        (map_of (map S.text words.now)) (I.remaining input.old) (O.contents output.old) (O.contents output.new) true }
+        (map_of (map S.text words.now)) (I.remaining input.old)
+        (O.contents output.old) (O.contents output.new) true }
     ensures open { result ≡ 1 → IsReported (D.held store.old) (D.held store.new)
         (file_of (map S.text words.now)) (folder_of (map S.text words.now))
-        (map_of (map S.text words.now)) (I.remaining input.old) (O.contents output.old) (O.contents output.new) false }
+        (map_of (map S.text words.now)) (I.remaining input.old)
+        (O.contents output.old) (O.contents output.new) false }
     // Then nothing is written to `errors`.
     ensures quiet { result < 2 → errors.new ≡ errors.old }
 
@@ -205,8 +209,8 @@ fn write_outcome<D: Store, O: Sink>(
 ) -> Result<(), Fault>
     requires store { D.failures store.old < 2 ^ 64 - 1 }
     requires output { O.failures output.old < 2 ^ 64 - 1 }
-    ensures drawn { OnOk result (IsDrawn (D.held store.new) (option_map (λ path. path.now) map.entry)
-        outcome.now.map.items) }
+    ensures drawn { OnOk result
+        (IsDrawn (D.held store.new) (option_map (λ path. path.now) map.entry) outcome.now.map.items) }
     ensures elsewhere { (path : List ℕ) → option_map (λ path. path.now) map.entry ≢ Some path
         → D.held store.new path ≡ D.held store.old path }
     ensures undrawn { IfErr result

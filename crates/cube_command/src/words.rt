@@ -1,8 +1,11 @@
 //! The words of the program: what they ask for, and the help.
 
-ghost use Rattle.std.specs.Prelude.{◌≡◌, ◌<◌, ◌≤◌, ℕ, Bool, Some, false, map, option_map, codes, IfOk, IfErr};
+ghost use Rattle.std.specs.Prelude.{◌≡◌, ◌<◌, ◌≤◌, ℕ, Bool, Some, false, map, option_map, codes};
+ghost use Rattle.std.specs.Prelude.{IfOk, IfErr};
 ghost use Rattle.clap.specs.Words.{app_of, found_of, kind_of, new_app, one_text, rule_of};
-ghost use Rattle.cube_command.specs.Words.{AreTaken, asked_for, cut_word, file_word, map_word, progress_word, proofs_word, with_version, words_taken, workers_word};
+ghost use Rattle.cube_command.specs.Words.{AreTaken, asked_for, cut_word, file_word, map_word};
+ghost use Rattle.cube_command.specs.Words.{progress_word, proofs_word, with_version, words_taken};
+ghost use Rattle.cube_command.specs.Words.{workers_word};
 ghost use Rattle.cube_command.specs.Inner.Words.{with_numbers, Reads, SaysFlag, SaysNumber};
 
 use check_crew::Settings;

@@ -1,5 +1,7 @@
 -- What a report says of the formula.
-use Rattle.std.proofs.Common.{◌≡◌, ℕ, Bool, true, false, List, [], ◌∷◌, ◌++◌, length, append-nil, append_assoc, arith, refl, sym, ap, ◌∙◌, subst, Option, None, Some, IfSome, Result, Ok, Err, IfOk, IfErr, IsErrAnd, OnErr}
+use Rattle.std.proofs.Common.{◌≡◌, ℕ, Bool, true, false, List, [], ◌∷◌, ◌++◌, length, append-nil}
+use Rattle.std.proofs.Common.{append_assoc, arith, refl, sym, ap, ◌∙◌, subst, Option, None, Some}
+use Rattle.std.proofs.Common.{IfSome, Result, Ok, Err, IfOk, IfErr, IsErrAnd, OnErr}
 use Rattle.std.specs.Prelude.{codes}
 use Rattle.cnf_text.specs.Formula.{IsRefuted}
 use Rattle.cnf_text.specs.Icnf.{clauses_of}
@@ -14,7 +16,8 @@ use Rattle.mark_board.specs.TopPlaces.{worth_of}
 use Rattle.cube_report.specs.declared.fault.Fault.{Fault}
 use Rattle.cube_report.specs.Faults.{IsInputFault}
 use Rattle.tree_map.specs.Fields.{answer_line}
-use Rattle.cube_report.specs.Report.{total_line, cube_lines, missing_lines, node_lines, open_lines, weight_line}
+use Rattle.cube_report.specs.Report.{total_line, cube_lines, missing_lines, node_lines, open_lines}
+use Rattle.cube_report.specs.Report.{weight_line}
 use Rattle.cube_report.specs.Stated.{IsStated}
 use Rattle.cube_report.specs.Correct.{IsCorrect, IsOutcome, SaysRefuted, IsUnsatisfiable, IsFaultOn}
 
@@ -44,52 +47,69 @@ no_way a b p q e = omega arith
 
 open_is_not_refuted : (xs ys : List ℕ) → xs ++ codes "s OPEN\n" ≡ ys ++ codes "s REFUTED\n" → ⊥
 open_is_not_refuted xs ys e =
-    let outer : ((xs ++ open_front) ++ 78 ∷ []) ++ 10 ∷ [] ≡ ((ys ++ refuted_front) ++ 68 ∷ []) ++ 10 ∷ [] =
+    let outer : ((xs ++ open_front) ++ 78 ∷ []) ++ 10 ∷ []
+    ≡ ((ys ++ refuted_front) ++ 68 ∷ []) ++ 10 ∷ [] =
     simp append_assoc e in
-    let inner = last_same ((xs ++ open_front) ++ 78 ∷ []) ((ys ++ refuted_front) ++ 68 ∷ []) 10 10 outer in
+    let inner =
+    last_same ((xs ++ open_front) ++ 78 ∷ []) ((ys ++ refuted_front) ++ 68 ∷ []) 10 10 outer in
     let ends = last_same (xs ++ open_front) (ys ++ refuted_front) 78 68 inner.0 in
     no_way 78 68 refl refl ends.1
 
 -- a text that ends with the answer's line says refuted only where the answer is so
-answer_says : (text : List ℕ) (refuted : Bool) → SaysRefuted (text ++ answer_line refuted) → refuted ≡ true
+answer_says : (text : List ℕ) (refuted : Bool) → SaysRefuted (text ++ answer_line refuted) →
+    refuted ≡ true
 answer_says text true says = refl
 answer_says text false says = absurd (open_is_not_refuted text says.0 says.1)
 
 -- the text before its last part
-last_part : (a b c d e f g : List ℕ) → (front : List ℕ) × (a ++ b ++ c ++ d ++ e ++ f ++ g ≡ front ++ g)
+last_part : (a b c d e f g : List ℕ) →
+    (front : List ℕ) × (a ++ b ++ c ++ d ++ e ++ f ++ g ≡ front ++ g)
 last_part a b c d e f g = (a ++ b ++ c ++ d ++ e ++ f, sym (simp append_assoc refl))
 
 -- what holds of the bytes that were read holds of those that there were
-pub of_known : (P : List ℕ → Type 0) (known : Option (List ℕ)) (read : List ℕ) → IfSome known (λ left. read ≡ left) → P read → IfSome known P
+pub of_known : (P : List ℕ → Type 0) (known : Option (List ℕ)) (read : List ℕ) →
+    IfSome known (λ left. read ≡ left) → P read → IfSome known P
 of_known P None read same holds = tt
 of_known P (Some left) read same holds = subst P same holds
 
 -- a report that says refuted has the answer true
-pub outcome_says : (bundle text : List ℕ) (answer : Bool) → IsCorrect bundle text answer → SaysRefuted text → answer ≡ true
+pub outcome_says : (bundle text : List ℕ) (answer : Bool) → IsCorrect bundle text answer →
+    SaysRefuted text → answer ≡ true
 outcome_says bundle text answer outcome says =
-    let ends = last_part (total_line (cube_count outcome.case.tree) (length (missing_nodes outcome.case.tree)) (total 0 outcome.case.tree))
+    let ends =
+    last_part (total_line (cube_count outcome.case.tree) (length (missing_nodes outcome.case.tree))
+    (total 0 outcome.case.tree))
     (cube_lines outcome.case.tree outcome.marks 1 (cube_count outcome.case.tree))
     (missing_lines outcome.case.tree outcome.marks 1 (missing_nodes outcome.case.tree))
     (node_lines outcome.case outcome.marks 0 (subtrees outcome.case.tree))
     (open_lines outcome.case.tree (open_branches (refuted_by outcome.marks) 0 outcome.case.tree))
-    (weight_line (open_weight (worth_of outcome.case.tree) (refuted_by outcome.marks) 0 outcome.case.tree))
+    (weight_line
+    (open_weight (worth_of outcome.case.tree) (refuted_by outcome.marks) 0 outcome.case.tree))
     (answer_line (marked (refuted_by outcome.marks) 0 outcome.case.tree)) in
-    outcome.refuted ∙ answer_says ends.0 (marked (refuted_by outcome.marks) 0 outcome.case.tree) (says.0, sym ends.1 ∙ (sym outcome.text ∙ says.1))
+    outcome.refuted
+    ∙ answer_says ends.0 (marked (refuted_by outcome.marks) 0 outcome.case.tree)
+    (says.0, sym ends.1 ∙ (sym outcome.text ∙ says.1))
 
 -- a fault that is told is this one
-pub told : {X : Type 0} (r : Result X Fault) (P : Fault → Type 0) (fault : Fault) → IsErrAnd r (λ e. e ≡ fault) → P fault → IfErr r P
+pub told : {X : Type 0} (r : Result X Fault) (P : Fault → Type 0) (fault : Fault) →
+    IsErrAnd r (λ e. e ≡ fault) → P fault → IfErr r P
 told (Ok x) P fault h p = tt
 told (Err e) P fault h p = subst P (sym h) p
 
 -- the formula of a case that is refuted without any literal has no model, and it is the bundle's
-pub unsatisfiable : (bundle : List ℕ) (case : CaseOf) → IsCaseOf bundle case → IsRefuted case.formula [] → IsUnsatisfiable bundle
+pub unsatisfiable : (bundle : List ℕ) (case : CaseOf) → IsCaseOf bundle case →
+    IsRefuted case.formula [] → IsUnsatisfiable bundle
 unsatisfiable bundle case is refuted items text =
-    let one : items ≡ is.items = one_text_of (icnf_text bundle) items is.items text (text_of (icnf_text bundle) is.items is.text) in
+    let one : items ≡ is.items =
+    one_text_of (icnf_text bundle) items is.items text
+    (text_of (icnf_text bundle) is.items is.text) in
     let same : clauses_of items ≡ case.formula = ap clauses_of one ∙ sym is.formula in
     rw same (rw append-nil at refuted)
 
 -- what is said of the case that a bundle stands for is what a run on the bundle promises
-pub correct : (bundle : List ℕ) (case : CaseOf) (draws : Bool) (report map : List ℕ) (answer : Bool) → IsCaseOf bundle case → IsStated case draws report map answer → IsCorrect bundle report answer
+pub correct : (bundle : List ℕ) (case : CaseOf) (draws : Bool) (report map : List ℕ)
+    (answer : Bool) → IsCaseOf bundle case → IsStated case draws report map answer →
+    IsCorrect bundle report answer
 correct bundle case draws report map answer is stated = record {
   case = case;
   marks = stated.marks;
@@ -100,7 +120,9 @@ correct bundle case draws report map answer is stated = record {
 }
 
 -- and the picture is by the same marks
-pub outcome : (bundle : List ℕ) (case : CaseOf) (draws : Bool) (report map : List ℕ) (answer : Bool) → IsCaseOf bundle case → IsStated case draws report map answer → IsOutcome bundle draws report map answer
+pub outcome : (bundle : List ℕ) (case : CaseOf) (draws : Bool) (report map : List ℕ)
+    (answer : Bool) → IsCaseOf bundle case → IsStated case draws report map answer →
+    IsOutcome bundle draws report map answer
 unfolding correct
 outcome bundle case draws report map answer is stated = record {
   correct = correct bundle case draws report map answer is stated;
@@ -121,10 +143,12 @@ pub fault_of : (known : Option (List ℕ)) (read : List ℕ) (result : Result Bo
     → IfErr result (λ fault. IsInputFault fault → IsFaultOn read fault)
     → IfErr result (λ fault. IsInputFault fault → IfSome known (λ input. IsFaultOn input fault))
 fault_of known read (Ok answer) is h = tt
-fault_of known read (Err fault) is h = λ input. of_known (λ b. IsFaultOn b fault) known read is (h input)
+fault_of known read (Err fault) is h =
+    λ input. of_known (λ b. IsFaultOn b fault) known read is (h input)
 
 -- what was begun for bytes was begun for the bytes that were read
-pub begun_of : (Failed : Type 0) (P : List ℕ → Type 0) (known : Option (List ℕ)) (read : List ℕ) (result : Result Bool Fault)
+pub begun_of : (Failed : Type 0) (P : List ℕ → Type 0) (known : Option (List ℕ)) (read : List ℕ)
+    (result : Result Bool Fault)
     → IfSome known (λ left. read ≡ left) → OnErr result (Failed → P read)
     → OnErr result (IfSome known (λ input. Failed → P input))
 begun_of Failed P known read (Ok answer) is h = tt

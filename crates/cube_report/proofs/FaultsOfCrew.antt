@@ -6,7 +6,8 @@ use Rattle.cube_report.specs.declared.fault.Fault.TheVariants.{Memory, Device, T
 use Rattle.cube_report.specs.Faults.{fault_of_crew}
 
 -- a crew's fault is want of memory or of a thread
-pub crew_fault : (fault : CrewFault) → fault_of_crew fault ≢ Memory → fault_of_crew fault ≢ Thread → ⊥
+pub crew_fault : (fault : CrewFault) → fault_of_crew fault ≢ Memory → fault_of_crew fault ≢ Thread →
+    ⊥
 crew_fault crew.Memory memory thread = memory refl
 crew_fault crew.Thread memory thread = thread refl
 

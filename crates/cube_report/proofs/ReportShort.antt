@@ -1,5 +1,6 @@
 -- The report on a short bundle, worked out part by part.
-use Rattle.std.proofs.Common.{◌≡◌, ℕ, zero, suc, true, false, Some, None, List, [], ◌∷◌, refl, sym, ap, subst, ◌∙◌, arith}
+use Rattle.std.proofs.Common.{◌≡◌, ℕ, zero, suc, true, false, Some, None, List, [], ◌∷◌, refl, sym}
+use Rattle.std.proofs.Common.{ap, subst, ◌∙◌, arith}
 use Rattle.std.specs.Prelude.{codes}
 use Rattle.std.specs.Fmt.{digits}
 use Rattle.std.specs.List.{enumerate_from}
@@ -9,7 +10,8 @@ use Rattle.std.specs.FinMap as fin
 use Rattle.cnf_text.specs.Literal.{Literal}
 use Rattle.cnf_text.specs.Numbers.{digits_value, decimal, number_of}
 use Rattle.cnf_text.specs.Tokens.{Token, is_blank, is_comment, words, line_tokens, token_lines}
-use Rattle.cnf_text.specs.Icnf.{Item, ClauseItem, spelled, symbols_of, Within, StandsFor, after_header}
+use Rattle.cnf_text.specs.Icnf.{Item, ClauseItem, spelled, symbols_of, Within, StandsFor}
+use Rattle.cnf_text.specs.Icnf.{after_header}
 use Rattle.lrat_text.specs.Grammar.{Add}
 use Rattle.lrat_text.specs.Proof.{Proof, IsProofOf}
 use Rattle.lrat_text.proofs.ProofUnique.{one_proof, worked_out}
@@ -102,7 +104,12 @@ within = record {
 }
 
 stands : StandsFor (icnf_text bundle) items
-stands = (tokens, ap (λ text. after_header (token_lines 1 text)) first_part ∙ tokens_are, (symbols_are, within))
+stands = (
+  tokens,
+  ap (λ text. after_header (token_lines 1 text)) first_part
+      ∙ tokens_are,
+  (symbols_are, within),
+)
 
 -- ---- the section
 
@@ -122,7 +129,17 @@ apart (suc i) l = absurd (omega arith)
 
 one_section : AreSectionsOf missing (label ∷ []) (section ∷ [])
 one_section = record {
-  labelled = (record { target = record { value = MissingName 1; is = named; named = (refl, (0, (omega arith, omega arith, refl))) }; proof = refl }, tt);
+  labelled = (
+    record {
+      target = record {
+        value = MissingName 1;
+        is = named;
+        named = (refl, (0, (omega arith, omega arith, refl)));
+      };
+      proof = refl;
+    },
+    tt,
+  );
   apart = apart;
 }
 
@@ -132,7 +149,9 @@ is_case = record {
   text = stands;
   formula = refl;
   tree = refl;
-  sections = subst (λ (labels : List Labelled). AreSectionsOf missing labels (section ∷ [])) (sym second_part) one_section;
+  sections =
+      subst (λ (labels : List Labelled). AreSectionsOf missing labels (section ∷ []))
+      (sym second_part) one_section;
 }
 
 -- ---- its judgement
@@ -156,9 +175,11 @@ at_live q = fin.get-from_entries nat_cmp_total (enumerate_from 1 clauses) q
 outcome : chain live (with_literals no_literals []) (1 ∷ 2 ∷ []) ≡ Conflict
 unfolding unfalsified effect_of with_literals with_literal has
 outcome =
-    chain-forces live _ 1 (2 ∷ []) (yes ∷ []) yes (at_live 1) refl ∙ chain-falsified live _ 2 [] (no ∷ []) (at_live 2) refl
+    chain-forces live _ 1 (2 ∷ []) (yes ∷ []) yes (at_live 1) refl
+    ∙ chain-falsified live _ 2 [] (no ∷ []) (at_live 2) refl
 
-good : addition_fault live (record { id = 3; literals = []; hints = 1 ∷ 2 ∷ []; groups = [] }) ≡ None
+good : addition_fault live (record { id = 3; literals = []; hints = 1 ∷ 2 ∷ []; groups = [] })
+    ≡ None
 unfolding is_tautology resolution_fault
 good = addition_is live _ Conflict (at_live 3) refl outcome
 
@@ -173,7 +194,8 @@ judged other is =
 abbrev marks : List Mark
 marks = Refuted ∷ []
 
-judged_on : (path : List Literal) (other : Proof) → path ≡ [] → IsProofOf proof_text other → Refuted ≡ mark_as (judgement clauses path other)
+judged_on : (path : List Literal) (other : Proof) → path ≡ [] → IsProofOf proof_text other →
+    Refuted ≡ mark_as (judgement clauses path other)
 judged_on path other is of_text = rw is (ap mark_as (sym (judged other of_text)))
 
 no_node_below : (n : ℕ) (target : Target) → IsTargetAt missing (suc n) target → ⊥
@@ -187,11 +209,13 @@ path_is : (path : List Literal) → IsPathOf missing (Leaf (Missing 1)) path →
 path_is path (zero, at, is) = is
 path_is path (suc n, at, is) = absurd (no_node_below n (Leaf (Missing 1)) at)
 
-mark_is : (node : ℕ) (target : Target) → IsTargetAt missing node target → IsMarkOf case_of_bundle target (mark_at marks node)
+mark_is : (node : ℕ) (target : Target) → IsTargetAt missing node target →
+    IsMarkOf case_of_bundle target (mark_at marks node)
 mark_is (suc n) target at = absurd (no_node_below n target at)
 mark_is zero (Leaf (Cube k)) at = absurd (cc)
 mark_is zero (Leaf (Missing zero)) at = let l = at.0 in absurd (omega arith)
-mark_is zero (Leaf (Missing (suc zero))) at = λ path other is of_text. judged_on path other (path_is path is) of_text
+mark_is zero (Leaf (Missing (suc zero))) at =
+    λ path other is of_text. judged_on path other (path_is path is) of_text
 mark_is zero (Leaf (Missing (suc (suc j)))) at = let l = at.1 in absurd (omega arith)
 mark_is zero (Node inner) at = absurd at.2
 
@@ -205,5 +229,6 @@ unfolding total_line missing_line weight_line digits
 text_is = refl
 
 -- the report of one short bundle
-pub a_short_report : IsReportOn (codes "p inccnf\n1 0\n-1 0\nl m1\n3 0 1 2 0\n") (codes "t 0 1 1152921504606846976\nm 1 0 refuted\nw 0\ns REFUTED\n")
+pub a_short_report : IsReportOn (codes "p inccnf\n1 0\n-1 0\nl m1\n3 0 1 2 0\n")
+    (codes "t 0 1 1152921504606846976\nm 1 0 refuted\nw 0\ns REFUTED\n")
 a_short_report = (case_of_bundle, marks, record { case_is = is_case; findings = findings }, text_is)

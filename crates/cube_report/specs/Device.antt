@@ -1,5 +1,6 @@
 -- What a run does to its reader and its writer.
-use Rattle.std.specs.Prelude.{◌≡◌, ℕ, ◌+◌, ◌≤◌, List, ◌⊎◌, ◌++◌, IfSome, take, length, Result, Option, MatchResult}
+use Rattle.std.specs.Prelude.{◌≡◌, ℕ, ◌+◌, ◌≤◌, List, ◌⊎◌, ◌++◌, IfSome, take, length, Result}
+use Rattle.std.specs.Prelude.{Option, MatchResult}
 use Rattle.std.specs.Io.KnownBytes.{Appends}
 use Rattle.cube_report.specs.declared.fault.Fault.{Fault}
 use Rattle.cube_report.specs.declared.fault.Fault.TheVariants.{Memory, Device as FaultDevice}

@@ -1,6 +1,7 @@
 //! From the bytes that come in to the bytes that go out.
 
-ghost use Rattle.std.specs.Prelude.{Bool, false, List, replicate, ◌≡◌, ◌≢◌, ◌↔◌, ◌⊎◌, ℕ, ◌<◌, ◌^◌, ◌-◌, ◌+◌, true, IfOk, IfErr, OnOk, OnErr, IfSome, IsErrOf};
+ghost use Rattle.std.specs.Prelude.{Bool, false, List, replicate, ◌≡◌, ◌≢◌, ◌↔◌, ◌⊎◌, ℕ, ◌<◌, ◌^◌};
+ghost use Rattle.std.specs.Prelude.{◌-◌, ◌+◌, true, IfOk, IfErr, OnOk, OnErr, IfSome, IsErrOf};
 ghost use Rattle.std.specs.Io.{StartsWith};
 ghost use Rattle.std.specs.Io.KnownBytes.{Keeps, Appends};
 ghost use Rattle.split_tree.specs.SplitTree.{size};
@@ -9,7 +10,8 @@ ghost use Rattle.cube_report.specs.Faults.{IsInputFault};
 ghost use Rattle.cube_report.specs.Device.{AppendsBeginning, IsReadFault, IsReadOf};
 ghost use Rattle.cube_report.specs.Stated.{IsStated};
 ghost use Rattle.mark_board.specs.Findings.{AreFindings};
-ghost use Rattle.cube_report.specs.Correct.{IsReportOn, IsAnswerOn, IsCorrect, IsOutcome, IsFaultOn, IsUnsatisfiable, SaysRefuted, map_if};
+ghost use Rattle.cube_report.specs.Correct.{IsReportOn, IsAnswerOn, IsCorrect, IsOutcome};
+ghost use Rattle.cube_report.specs.Correct.{IsFaultOn, IsUnsatisfiable, SaysRefuted, map_if};
 
 use crate::device::{Sink, Source};
 use crate::fault::Fault;

@@ -6,7 +6,9 @@ ghost use Rattle.split_tree.specs.Leaves.{cube_count, missing_nodes, IsTargetAt}
 ghost use Rattle.split_tree.specs.declared.node.Target.TheVariants.{Node};
 ghost use Rattle.mark_board.specs.Marking.{open_branches, refuted_by};
 ghost use Rattle.tree_map.specs.Fields.{answer_line};
-ghost use Rattle.cube_report.specs.Report.{total_line, cube_line, missing_line, node_line, open_line, weight_line, cube_lines, missing_lines, node_lines, open_lines, section_line, report_text};
+ghost use Rattle.cube_report.specs.Report.{total_line, cube_line, missing_line, node_line};
+ghost use Rattle.cube_report.specs.Report.{open_line, weight_line, cube_lines, missing_lines};
+ghost use Rattle.cube_report.specs.Report.{node_lines, open_lines, section_line, report_text};
 
 use case_core::{Leaf, Lit, NodeId, Target};
 use mark_board::{Boards, Mark};

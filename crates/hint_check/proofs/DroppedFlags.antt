@@ -1,7 +1,9 @@
 -- Flags, and the places of those that are set.
-use Rattle.std.proofs.Common.{◌≡◌, ℕ, Bool, true, false, get_or, List, [], ◌∷◌, ◌++◌, sym, ◌∙◌, inl, inr, subst}
+use Rattle.std.proofs.Common.{◌≡◌, ℕ, Bool, true, false, get_or, List, [], ◌∷◌, ◌++◌, sym, ◌∙◌, inl}
+use Rattle.std.proofs.Common.{inr, subst}
 use Rattle.std.specs.Prelude.{slice_set}
-use Rattle.std.proofs.lemmas.Bool.{cases_Bool, cases_eq, both_ways, false≢true, cond-true, cond-false}
+use Rattle.std.proofs.lemmas.Bool.{cases_Bool, cases_eq, both_ways, false≢true, cond-true}
+use Rattle.std.proofs.lemmas.Bool.{cond-false}
 use Rattle.std.proofs.lemmas.List.{get_or-set_other}
 use Rattle.hint_check.specs.Inner.Dropped.{NamesDropped}
 use Rattle.hint_check.specs.Inner.Resets.{is_named, Resets}
@@ -33,7 +35,8 @@ unfolding NamesDropped
 NamesDropped-here flags places i names h = names i h
 
 -- a flag set whose place is named
-pub NamesDropped-set : (flags : List Bool) (places : List ℕ) (place : ℕ) → is_named places place ≡ true
+pub NamesDropped-set : (flags : List Bool) (places : List ℕ) (place : ℕ) →
+    is_named places place ≡ true
     → NamesDropped flags places → NamesDropped (slice_set flags place true) places
 unfolding NamesDropped
 NamesDropped-set flags places place named names i h =

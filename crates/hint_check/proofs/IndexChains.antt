@@ -1,25 +1,38 @@
 -- Chains of links: for each number the ids that were listed for it, from the last one back.
-use Rattle.std.proofs.Common.{zero, suc, ◌+◌, ◌-◌, ◌<◌, ◌≤◌, length, get_or, take, arith, ◌≡◌, ◌==◌, ◌&&◌, ℕ, Bool, true, false, nat_eq, List, [], ◌∷◌, ◌++◌, refl, sym, ap, ◌∙◌, inl, inr, subst}
+use Rattle.std.proofs.Common.{zero, suc, ◌+◌, ◌-◌, ◌<◌, ◌≤◌, length, get_or, take, arith, ◌≡◌, ◌==◌}
+use Rattle.std.proofs.Common.{◌&&◌, ℕ, Bool, true, false, nat_eq, List, [], ◌∷◌, ◌++◌, refl, sym}
+use Rattle.std.proofs.Common.{ap, ◌∙◌, inl, inr, subst}
 use Rattle.std.specs.Prelude.{if◌then◌else◌, nat_lt, slice_set, Some, cond}
 use Rattle.std.specs.Map.{lookup}
 use Rattle.std.specs.Option.{unwrap_or}
-use Rattle.std.proofs.lemmas.Bool.{cases_Bool, cases_lt, eqb-true, eq-eqb, ne_eqb, lt-ltb, le-ltb, ltb-true, both_ways, and_parts, and_from, false_from_ne_true, cond-true, cond-false, or_left, or_right}
-use Rattle.std.proofs.lemmas.List.{take_more, take_all, take-append-le, get_or_append_left, get_or_push, length_push, get_or-set_same, get_or-set_other, append-nil, append_assoc}
+use Rattle.std.proofs.lemmas.Bool.{cases_Bool, cases_lt, eqb-true, eq-eqb, ne_eqb, lt-ltb, le-ltb}
+use Rattle.std.proofs.lemmas.Bool.{ltb-true, both_ways, and_parts, and_from, false_from_ne_true}
+use Rattle.std.proofs.lemmas.Bool.{cond-true, cond-false, or_left, or_right}
+use Rattle.std.proofs.lemmas.List.{take_more, take_all, take-append-le, get_or_append_left}
+use Rattle.std.proofs.lemmas.List.{get_or_push, length_push, get_or-set_same, get_or-set_other}
+use Rattle.std.proofs.lemmas.List.{append-nil, append_assoc}
 use Rattle.hint_check.specs.Inner.Resets.{is_named, Resets}
 use Rattle.hint_check.specs.declared.index.Link.{Link}
-use Rattle.hint_check.specs.Inner.Index.{Links, no_link, ids_at, once, IsLast, LeadBack, last_place, NotesLast, SetsPlace, Adds, numbers_of}
+use Rattle.hint_check.specs.Inner.Index.{Links, no_link, ids_at, once, IsLast, LeadBack, last_place}
+use Rattle.hint_check.specs.Inner.Index.{NotesLast, SetsPlace, Adds, numbers_of}
 
 -- one more link
 pub ids_at-push : (links : Links) (x : Link) (n : ℕ)
-    → ids_at (links ++ x ∷ []) n ≡ (if nat_eq x.number n then x.id ∷ ids_at links n else ids_at links n)
+    →
+    ids_at (links ++ x ∷ []) n
+    ≡ (if nat_eq x.number n then x.id ∷ ids_at links n else ids_at links n)
 ids_at-push [] x n =
-    elim (nat_eq x.number n) as (λ b. [] ++ (if b then x.id ∷ [] else []) ≡ (if b then x.id ∷ [] else []))
+    elim (nat_eq x.number n) as
+    (λ b. [] ++ (if b then x.id ∷ [] else []) ≡ (if b then x.id ∷ [] else []))
     [ true ↦ refl | false ↦ refl ]
 ids_at-push (l ∷ links) x n =
     let own = if nat_eq l.number n then l.id ∷ [] else [] in
     ap (λ ids. ids ++ own) (ids_at-push links x n)
     ∙ elim (nat_eq x.number n) as (λ b. (if b then x.id ∷ ids_at links n else ids_at links n) ++ own
-    ≡ (if b then x.id ∷ (ids_at links n ++ own) else ids_at links n ++ own)) [ true ↦ refl | false ↦ refl ]
+    ≡ (if b then x.id ∷ (ids_at links n ++ own) else ids_at links n ++ own)) [
+      | true ↦ refl
+      | false ↦ refl
+    ]
 
 -- whether the link in this place, counted from 1, is there and has the id
 abbrev pub has_id : Links → ℕ → ℕ → Bool
@@ -36,30 +49,44 @@ unfolding NotesLast IsLast
 NotesLast-none reach n =
     elim (nat_lt n reach) as (λ b. ((if b then get_or [] n 0 else 0) ≤ 0)
     × (ids_at (take (if b then get_or [] n 0 else 0) []) n ≡ ids_at (take 0 []) n)
-    × (0 < (if b then get_or [] n 0 else 0) → (get_or [] ((if b then get_or [] n 0 else 0) - 1) no_link).number ≡ n))
-    [ true ↦ (omega arith, refl, λ some. absurd (omega (arith, some))) | false ↦ (omega arith, refl, λ some. absurd (omega (arith, some))) ]
+    × (0 < (if b then get_or [] n 0 else 0) →
+    (get_or [] ((if b then get_or [] n 0 else 0) - 1) no_link).number ≡ n)) [
+      | true ↦ (omega arith, refl, λ some. absurd (omega (arith, some)))
+      | false ↦ (omega arith, refl, λ some. absurd (omega (arith, some)))
+    ]
 
--- A walk along a number's chain has come to this place: the ids it has put behind the first ones, and those from the place on, are all ids of the number.
+-- A walk along a number's chain has come to this place: the ids it has put behind the first ones,
+-- and those from the place on, are all ids of the number.
 abbrev pub Walks : Links → ℕ → List ℕ → List ℕ → ℕ → Type 0
 Walks links n first ids place =
     (place ≤ length links) × (ids ++ ids_at (take place links) n ≡ first ++ ids_at links n)
     × (0 < place → (get_or links (place - 1) no_link).number ≡ n)
 
 -- a walk begins at the last link of its number
-pub Walks-start : (links : Links) (reach : ℕ) (near : List ℕ) (far : List (ℕ × ℕ)) (n place : ℕ) (first : List ℕ)
-    → NotesLast links reach near far → place ≡ last_place reach near far n → Walks links n first first place
+pub Walks-start : (links : Links) (reach : ℕ) (near : List ℕ) (far : List (ℕ × ℕ)) (n place : ℕ)
+    (first : List ℕ)
+    → NotesLast links reach near far → place ≡ last_place reach near far n →
+    Walks links n first first place
 unfolding NotesLast IsLast
 Walks-start links reach near far n place first notes is =
-    let last = subst (λ p. IsLast links n (length links) p) (sym is) (notes n) in
-    (last.0, ap (λ ids. first ++ ids) (last.1 ∙ ap (λ ls. ids_at ls n) (take_all (length links) links (omega arith))), last.2)
+    let last = subst (λ p. IsLast links n (length links) p) (sym is) (notes n) in (
+      last.0,
+      ap (λ ids. first ++ ids)
+          (last.1 ∙ ap (λ ls. ids_at ls n) (take_all (length links) links (omega arith))),
+      last.2,
+    )
 
 -- a walk that has come to no link has all ids of the number
-pub Walks-end : (links : Links) (n : ℕ) (first ids : List ℕ) (place : ℕ) → place ≤ 0 → Walks links n first ids place
+pub Walks-end : (links : Links) (n : ℕ) (first ids : List ℕ) (place : ℕ) → place ≤ 0 →
+    Walks links n first ids place
     → ids ≡ first ++ ids_at links n
 Walks-end links n first ids place none walks =
-    sym (append-nil ids) ∙ ap (λ k. ids ++ ids_at (take k links) n) (let e : 0 ≡ place = omega (arith, none) in e) ∙ walks.1
+    sym (append-nil ids)
+    ∙ ap (λ k. ids ++ ids_at (take k links) n) (let e : 0 ≡ place = omega (arith, none) in e)
+    ∙ walks.1
 
-module _ (links : Links) (n : ℕ) (first ids : List ℕ) (place : ℕ) (link : Link) (leads : LeadBack links) (some : 0 < place)
+module _ (links : Links) (n : ℕ) (first ids : List ℕ) (place : ℕ) (link : Link)
+    (leads : LeadBack links) (some : 0 < place)
     (walks : Walks links n first ids place) (is : link ≡ get_or links (place - 1) no_link) where
   here : link.number ≡ n
   here = ap (λ l. l.number) is ∙ walks.2 some
@@ -68,7 +95,8 @@ module _ (links : Links) (n : ℕ) (first ids : List ℕ) (place : ℕ) (link : 
   unfolding LeadBack
   back =
       subst (λ k. IsLast links k (place - 1) link.before) here
-      (subst (λ l. IsLast links l.number (place - 1) l.before) (sym is) (leads (place - 1) (omega (arith, walks.0, some))))
+      (subst (λ l. IsLast links l.number (place - 1) l.before) (sym is)
+      (leads (place - 1) (omega (arith, walks.0, some))))
 
   -- a walk goes back
   pub Walks-smaller : link.before < place
@@ -83,7 +111,8 @@ module _ (links : Links) (n : ℕ) (first ids : List ℕ) (place : ℕ) (link : 
       ∙ ap (λ ls. ids_at ls n) (take_more links (place - 1) no_link (omega (arith, walks.0, some)))
       ∙ ap (λ l. ids_at (take (place - 1) links ++ l ∷ []) n) (sym is)
       ∙ ids_at-push (take (place - 1) links) link n
-      ∙ cond-true (nat_eq link.number n) (link.id ∷ ids_at (take (place - 1) links) n) (ids_at (take (place - 1) links) n)
+      ∙ cond-true (nat_eq link.number n) (link.id ∷ ids_at (take (place - 1) links) n)
+      (ids_at (take (place - 1) links) n)
       (eq-eqb link.number n here)
       ∙ ap (λ more. link.id ∷ more) (sym back.1)
 
@@ -92,12 +121,14 @@ module _ (links : Links) (n : ℕ) (first ids : List ℕ) (place : ℕ) (link : 
   unfolding IsLast
   Walks-step = (
     omega (arith, back.0, walks.0),
-    append_assoc ids (link.id ∷ []) (ids_at (take link.before links) n) ∙ ap (λ more. ids ++ more) (sym first-id) ∙ walks.1,
+    append_assoc ids (link.id ∷ []) (ids_at (take link.before links) n)
+        ∙ ap (λ more. ids ++ more) (sym first-id) ∙ walks.1,
     back.2,
   )
 
 -- where a number's last link stands
-module _ (links : Links) (reach : ℕ) (near : List ℕ) (far : List (ℕ × ℕ)) (notes : NotesLast links reach near far) (n : ℕ) where
+module _ (links : Links) (reach : ℕ) (near : List ℕ) (far : List (ℕ × ℕ))
+    (notes : NotesLast links reach near far) (n : ℕ) where
   pub start-ids : ids_at (take (last_place reach near far n) links) n ≡ ids_at links n
   unfolding NotesLast IsLast
   start-ids = (notes n).1 ∙ ap (λ ls. ids_at ls n) (take_all (length links) links (omega arith))
@@ -108,18 +139,23 @@ module _ (links : Links) (reach : ℕ) (near : List ℕ) (far : List (ℕ × ℕ
   start-within = (notes n).0
 
 -- one more link, which leads back to the last one of its number
-module _ (links : Links) (reach : ℕ) (near : List ℕ) (far : List (ℕ × ℕ)) (x : Link) (leads : LeadBack links) (notes : NotesLast links reach near far)
+module _ (links : Links) (reach : ℕ) (near : List ℕ) (far : List (ℕ × ℕ)) (x : Link)
+    (leads : LeadBack links) (notes : NotesLast links reach near far)
     (back : x.before ≡ last_place reach near far x.number) where
   abbrev pub pushed : Links
   pushed = links ++ x ∷ []
 
-  carried : (n bound place : ℕ) → bound ≤ length links → IsLast links n bound place → IsLast pushed n bound place
+  carried : (n bound place : ℕ) → bound ≤ length links → IsLast links n bound place →
+      IsLast pushed n bound place
   unfolding IsLast
   carried n bound place within last = (
     last.0,
-    ap (λ ls. ids_at ls n) (take-append-le place links (x ∷ []) (omega (arith, within, last.0))) ∙ last.1
+    ap (λ ls. ids_at ls n) (take-append-le place links (x ∷ []) (omega (arith, within, last.0)))
+        ∙ last.1
         ∙ sym (ap (λ ls. ids_at ls n) (take-append-le bound links (x ∷ []) within)),
-    λ some. ap (λ l. l.number) (get_or_append_left links (x ∷ []) no_link (place - 1) (omega (arith, within, last.0, some)))
+    λ some. ap (λ l. l.number)
+        (get_or_append_left links (x ∷ []) no_link (place - 1)
+        (omega (arith, within, last.0, some)))
         ∙ last.2 some,
   )
 
@@ -131,81 +167,116 @@ module _ (links : Links) (reach : ℕ) (near : List ℕ) (far : List (ℕ × ℕ
         | inl old ↦
             subst (λ l. IsLast pushed l.number place l.before)
             (sym (get_or_append_left links (x ∷ []) no_link place old))
-            (carried (get_or links place no_link).number place (get_or links place no_link).before (omega (arith, old)) (leads place old))
+            (carried (get_or links place no_link).number place (get_or links place no_link).before
+            (omega (arith, old)) (leads place old))
         | inr new ↦
-            let at : length links ≡ place = let more = length_push links x in omega (arith, below, more, new) in
-            subst (λ l. IsLast pushed l.number place l.before) (sym (get_or_push links x no_link place at))
+            let at : length links ≡ place = let more = length_push links x in
+            omega (arith, below, more, new) in
+            subst (λ l. IsLast pushed l.number place l.before)
+            (sym (get_or_push links x no_link place at))
             (subst (λ p. IsLast pushed x.number place p) (sym back)
             (subst (λ p. IsLast pushed x.number p (last_place reach near far x.number)) at
-            (carried x.number (length links) (last_place reach near far x.number) (omega arith) (notes x.number))))
+            (carried x.number (length links) (last_place reach near far x.number) (omega arith)
+            (notes x.number))))
       ]
 
   -- the last link of each number is noted, after one more link
-  pub NotesLast-push : (near' : List ℕ) (far' : List (ℕ × ℕ)) → SetsPlace reach near far near' far' x.number (length pushed) → NotesLast pushed reach near' far'
+  pub NotesLast-push : (near' : List ℕ) (far' : List (ℕ × ℕ)) →
+      SetsPlace reach near far near' far' x.number (length pushed) →
+      NotesLast pushed reach near' far'
   unfolding NotesLast SetsPlace IsLast
   NotesLast-push near' far' sets n =
       subst (λ p. IsLast pushed n (length pushed) p) (sym (sets n))
       (elim (cases_Bool (nat_eq x.number n)) [
         | inl this ↦
             subst (λ p. IsLast pushed n (length pushed) p)
-            (sym (cond-true (nat_eq x.number n) (length pushed) (last_place reach near far n) this)) (
+            (sym
+            (cond-true (nat_eq x.number n) (length pushed) (last_place reach near far n) this)) (
               omega arith,
               refl,
               λ some. ap (λ l. l.number)
-                  (get_or_push links x no_link (length pushed - 1) (let more = length_push links x in omega (arith, more)))
+                  (get_or_push links x no_link (length pushed - 1)
+                  (let more = length_push links x in omega (arith, more)))
                   ∙ eqb-true x.number n this,
             )
         | inr other ↦
-            let was = carried n (length links) (last_place reach near far n) (omega arith) (notes n) in
+            let was =
+            carried n (length links) (last_place reach near far n) (omega arith) (notes n) in
             subst (λ p. IsLast pushed n (length pushed) p)
-            (sym (cond-false (nat_eq x.number n) (length pushed) (last_place reach near far n) other)) (
+            (sym (cond-false (nat_eq x.number n) (length pushed) (last_place reach near far n)
+            other)) (
               let more = length_push links x in omega (arith, more, was.0),
-              was.1 ∙ ap (λ ls. ids_at ls n) (take-append-le (length links) links (x ∷ []) (omega arith) ∙ take_all (length links) links (omega arith))
-                  ∙ sym (cond-false (nat_eq x.number n) (x.id ∷ ids_at links n) (ids_at links n) other)
-                  ∙ sym (ids_at-push links x n) ∙ sym (ap (λ ls. ids_at ls n) (take_all (length pushed) pushed (omega arith))),
+              was.1
+                  ∙ ap (λ ls. ids_at ls n)
+                  (take-append-le (length links) links (x ∷ []) (omega arith)
+                  ∙ take_all (length links) links (omega arith))
+                  ∙ sym (cond-false (nat_eq x.number n) (x.id ∷ ids_at links n) (ids_at links n)
+                  other)
+                  ∙ sym (ids_at-push links x n)
+                  ∙ sym (ap (λ ls. ids_at ls n) (take_all (length pushed) pushed (omega arith))),
               was.2,
             )
       ])
 
 -- other lists that note the same
 pub NotesLast-same : (links : Links) (reach : ℕ) (near near' : List ℕ) (far far' : List (ℕ × ℕ))
-    → ((n : ℕ) → last_place reach near' far' n ≡ last_place reach near far n) → NotesLast links reach near far → NotesLast links reach near' far'
+    → ((n : ℕ) → last_place reach near' far' n ≡ last_place reach near far n) →
+    NotesLast links reach near far → NotesLast links reach near' far'
 unfolding NotesLast
-NotesLast-same links reach near near' far far' same notes n = subst (λ p. IsLast links n (length links) p) (sym (same n)) (notes n)
+NotesLast-same links reach near near' far far' same notes n =
+    subst (λ p. IsLast links n (length links) p) (sym (same n)) (notes n)
 
 -- ---- what is noted for a number
 
-near-place : (reach : ℕ) (near : List ℕ) (far : List (ℕ × ℕ)) (n : ℕ) → n < reach → last_place reach near far n ≡ get_or near n 0
-near-place reach near far n low = cond-true (nat_lt n reach) (get_or near n 0) (unwrap_or (lookup (nat_eq n) far) 0) (lt-ltb n reach low)
+near-place : (reach : ℕ) (near : List ℕ) (far : List (ℕ × ℕ)) (n : ℕ) → n < reach →
+    last_place reach near far n ≡ get_or near n 0
+near-place reach near far n low =
+    cond-true (nat_lt n reach) (get_or near n 0) (unwrap_or (lookup (nat_eq n) far) 0)
+    (lt-ltb n reach low)
 
-far-place : (reach : ℕ) (near : List ℕ) (far : List (ℕ × ℕ)) (n : ℕ) → reach ≤ n → last_place reach near far n ≡ unwrap_or (lookup (nat_eq n) far) 0
-far-place reach near far n high = cond-false (nat_lt n reach) (get_or near n 0) (unwrap_or (lookup (nat_eq n) far) 0) (le-ltb n reach high)
+far-place : (reach : ℕ) (near : List ℕ) (far : List (ℕ × ℕ)) (n : ℕ) → reach ≤ n →
+    last_place reach near far n ≡ unwrap_or (lookup (nat_eq n) far) 0
+far-place reach near far n high =
+    cond-false (nat_lt n reach) (get_or near n 0) (unwrap_or (lookup (nat_eq n) far) 0)
+    (le-ltb n reach high)
 
 module _ (reach : ℕ) (near : List ℕ) (far : List (ℕ × ℕ)) (number place : ℕ) where
-  other : (n : ℕ) (p : ℕ) → (number ≡ n → ⊥) → p ≡ last_place reach near far n → p ≡ (if nat_eq number n then place else last_place reach near far n)
-  other n p apart is = is ∙ sym (cond-false (nat_eq number n) place (last_place reach near far n) (ne_eqb number n apart))
+  other : (n : ℕ) (p : ℕ) → (number ≡ n → ⊥) → p ≡ last_place reach near far n →
+      p ≡ (if nat_eq number n then place else last_place reach near far n)
+  other n p apart is =
+      is
+      ∙ sym (cond-false (nat_eq number n) place (last_place reach near far n)
+      (ne_eqb number n apart))
 
   -- a place noted for a number within reach
-  pub SetsPlace-near : (made : List ℕ) → number < reach → ((n : ℕ) → get_or made n 0 ≡ get_or near n 0) → number < length made
+  pub SetsPlace-near : (made : List ℕ) → number < reach →
+      ((n : ℕ) → get_or made n 0 ≡ get_or near n 0) → number < length made
       → SetsPlace reach near far (slice_set made number place) far number place
   unfolding SetsPlace
   SetsPlace-near made low same room n =
       elim (cases_lt n reach) [
         | inl under ↦ near-place reach (slice_set made number place) far n under
             ∙ elim (cases_Bool (nat_eq number n)) [
-              | inl this ↦ ap (λ k. get_or (slice_set made number place) k 0) (sym (eqb-true number n this)) ∙ get_or-set_same made number place 0 room
+              | inl this ↦ ap (λ k. get_or (slice_set made number place) k 0)
+                  (sym (eqb-true number n this)) ∙ get_or-set_same made number place 0 room
                   ∙ sym (cond-true (nat_eq number n) place (last_place reach near far n) this)
-              | inr apart ↦ let differ : number ≡ n → ⊥ = λ e. both_ways (nat_eq number n) apart (eq-eqb number n e) in
+              | inr apart ↦ let differ : number ≡ n → ⊥ =
+                  λ e. both_ways (nat_eq number n) apart (eq-eqb number n e) in
                   other n (get_or (slice_set made number place) n 0) differ
-                  (get_or-set_other made number n place 0 (λ e. differ (sym e)) ∙ same n ∙ sym (near-place reach near far n under))
+                  (get_or-set_other made number n place 0 (λ e. differ (sym e)) ∙ same n
+                  ∙ sym (near-place reach near far n under))
             ]
-        | inr over ↦ other n (last_place reach (slice_set made number place) far n) (λ e. omega (arith, e, low, over))
-            (far-place reach (slice_set made number place) far n over ∙ sym (far-place reach near far n over))
+        | inr over ↦ other n (last_place reach (slice_set made number place) far n)
+            (λ e. omega (arith, e, low, over))
+            (far-place reach (slice_set made number place) far n over
+            ∙ sym (far-place reach near far n over))
       ]
 
   -- a place noted for a number out of reach
   pub SetsPlace-far : (far' : List (ℕ × ℕ)) → reach ≤ number
-      → ((q : ℕ) → lookup (nat_eq q) far' ≡ cond (nat_eq number q) (Some place) (lookup (nat_eq q) far))
+      →
+      ((q : ℕ) →
+      lookup (nat_eq q) far' ≡ cond (nat_eq number q) (Some place) (lookup (nat_eq q) far))
       → SetsPlace reach near far near far' number place
   unfolding SetsPlace
   SetsPlace-far far' high put n =
@@ -214,96 +285,123 @@ module _ (reach : ℕ) (near : List ℕ) (far : List (ℕ × ℕ)) (number place
             (near-place reach near far' n under ∙ sym (near-place reach near far n under))
         | inr over ↦ far-place reach near far' n over ∙ ap (λ o. unwrap_or o 0) (put n)
             ∙ elim (cases_Bool (nat_eq number n)) [
-              | inl this ↦ ap (λ o. unwrap_or o 0) (cond-true (nat_eq number n) (Some place) (lookup (nat_eq n) far) this)
+              | inl this ↦ ap (λ o. unwrap_or o 0)
+                  (cond-true (nat_eq number n) (Some place) (lookup (nat_eq n) far) this)
                   ∙ sym (cond-true (nat_eq number n) place (last_place reach near far n) this)
-              | inr apart ↦ ap (λ o. unwrap_or o 0) (cond-false (nat_eq number n) (Some place) (lookup (nat_eq n) far) apart)
-                  ∙ sym (far-place reach near far n over) ∙ sym (cond-false (nat_eq number n) place (last_place reach near far n) apart)
+              | inr apart ↦ ap (λ o. unwrap_or o 0)
+                  (cond-false (nat_eq number n) (Some place) (lookup (nat_eq n) far) apart)
+                  ∙ sym (far-place reach near far n over)
+                  ∙ sym (cond-false (nat_eq number n) place (last_place reach near far n) apart)
             ]
       ]
 
 -- ---- an id listed once
 
-module _ (links : Links) (reach : ℕ) (near : List ℕ) (far : List (ℕ × ℕ)) (leads : LeadBack links) (notes : NotesLast links reach near far) (n id : ℕ) where
+module _ (links : Links) (reach : ℕ) (near : List ℕ) (far : List (ℕ × ℕ)) (leads : LeadBack links)
+    (notes : NotesLast links reach near far) (n id : ℕ) where
   abbrev last : Link
   last = get_or links (last_place reach near far n - 1) no_link
 
   -- where the number has a link, its ids are the last link's and others
   last-first : 0 < last_place reach near far n → (more : List ℕ) × (ids_at links n ≡ last.id ∷ more)
   last-first some =
-      let walks = Walks-start links reach near far n (last_place reach near far n) [] notes refl in (
+      let walks =
+      Walks-start links reach near far n (last_place reach near far n) [] notes refl in (
         ids_at (take last.before links) n,
-        sym (start-ids links reach near far notes n) ∙ first-id links n [] [] (last_place reach near far n) last leads some walks refl,
+        sym (start-ids links reach near far notes n)
+            ∙ first-id links n [] [] (last_place reach near far n) last leads some walks refl,
       )
 
   -- an id that the last link has isn't listed again
-  pub once-there : has_id links (last_place reach near far n) id ≡ true → once id (ids_at links n) ≡ ids_at links n
+  pub once-there : has_id links (last_place reach near far n) id ≡ true →
+      once id (ids_at links n) ≡ ids_at links n
   once-there there =
       let parts = and_parts (nat_lt 0 (last_place reach near far n)) (last.id == id) there in
       let found = last-first (ltb-true 0 (last_place reach near far n) parts.0) in
-      ap (once id) found.1 ∙ cond-true (last.id == id) (last.id ∷ found.0) (id ∷ last.id ∷ found.0) parts.1 ∙ sym found.1
+      ap (once id) found.1
+      ∙ cond-true (last.id == id) (last.id ∷ found.0) (id ∷ last.id ∷ found.0) parts.1 ∙ sym found.1
 
   -- an id that the last link doesn't have is listed
-  pub once-more : has_id links (last_place reach near far n) id ≡ false → once id (ids_at links n) ≡ id ∷ ids_at links n
+  pub once-more : has_id links (last_place reach near far n) id ≡ false →
+      once id (ids_at links n) ≡ id ∷ ids_at links n
   once-more apart =
       elim (cases_lt 0 (last_place reach near far n)) [
         | inl some ↦
             let found = last-first some in
             let differ : (last.id == id) ≡ false =
-            false_from_ne_true (last.id == id) (λ same. both_ways (has_id links (last_place reach near far n) id) apart
-            (and_from (nat_lt 0 (last_place reach near far n)) (last.id == id) (lt-ltb 0 (last_place reach near far n) some) same)) in
-            ap (once id) found.1 ∙ cond-false (last.id == id) (last.id ∷ found.0) (id ∷ last.id ∷ found.0) differ ∙ ap (λ ids. id ∷ ids) (sym found.1)
+            false_from_ne_true (last.id == id)
+            (λ same. both_ways (has_id links (last_place reach near far n) id) apart
+            (and_from (nat_lt 0 (last_place reach near far n)) (last.id == id)
+            (lt-ltb 0 (last_place reach near far n) some) same)) in
+            ap (once id) found.1
+            ∙ cond-false (last.id == id) (last.id ∷ found.0) (id ∷ last.id ∷ found.0) differ
+            ∙ ap (λ ids. id ∷ ids) (sym found.1)
         | inr none ↦
             let empty : ids_at links n ≡ [] = sym (start-ids links reach near far notes n)
-            ∙ ap (λ k. ids_at (take k links) n) (let e : last_place reach near far n ≡ 0 = omega (arith, none) in e) in
+            ∙ ap (λ k. ids_at (take k links) n)
+            (let e : last_place reach near far n ≡ 0 = omega (arith, none) in e) in
             ap (once id) empty ∙ ap (λ ids. id ∷ ids) (sym empty)
       ]
 
 -- one more link lists its id, where the last one has another
-pub Adds-push : (links : Links) (x : Link) → once x.id (ids_at links x.number) ≡ x.id ∷ ids_at links x.number
+pub Adds-push : (links : Links) (x : Link) →
+    once x.id (ids_at links x.number) ≡ x.id ∷ ids_at links x.number
     → Adds links (links ++ x ∷ []) x.number x.id
 unfolding Adds
 Adds-push links x more n =
     ids_at-push links x n
     ∙ elim (cases_Bool (nat_eq x.number n)) [
       | inl this ↦ cond-true (nat_eq x.number n) (x.id ∷ ids_at links n) (ids_at links n) this
-          ∙ ap (λ k. x.id ∷ ids_at links k) (sym (eqb-true x.number n this)) ∙ sym more ∙ ap (λ k. once x.id (ids_at links k)) (eqb-true x.number n this)
+          ∙ ap (λ k. x.id ∷ ids_at links k) (sym (eqb-true x.number n this)) ∙ sym more
+          ∙ ap (λ k. once x.id (ids_at links k)) (eqb-true x.number n this)
           ∙ sym (cond-true (nat_eq x.number n) (once x.id (ids_at links n)) (ids_at links n) this)
       | inr other ↦ cond-false (nat_eq x.number n) (x.id ∷ ids_at links n) (ids_at links n) other
           ∙ sym (cond-false (nat_eq x.number n) (once x.id (ids_at links n)) (ids_at links n) other)
     ]
 
 -- nothing is added where the id is listed as the last one
-pub Adds-nothing : (links : Links) (number id : ℕ) → once id (ids_at links number) ≡ ids_at links number → Adds links links number id
+pub Adds-nothing : (links : Links) (number id : ℕ) →
+    once id (ids_at links number) ≡ ids_at links number → Adds links links number id
 unfolding Adds
 Adds-nothing links number id there n =
     elim (cases_Bool (nat_eq number n)) [
-      | inl this ↦ ap (ids_at links) (sym (eqb-true number n this)) ∙ sym there ∙ ap (λ k. once id (ids_at links k)) (eqb-true number n this)
+      | inl this ↦ ap (ids_at links) (sym (eqb-true number n this)) ∙ sym there
+          ∙ ap (λ k. once id (ids_at links k)) (eqb-true number n this)
           ∙ sym (cond-true (nat_eq number n) (once id (ids_at links n)) (ids_at links n) this)
-      | inr other ↦ sym (cond-false (nat_eq number n) (once id (ids_at links n)) (ids_at links n) other)
+      | inr other ↦ sym
+          (cond-false (nat_eq number n) (once id (ids_at links n)) (ids_at links n) other)
     ]
 
 -- ---- no link any more
 
-number-there : (links : Links) (i n : ℕ) → i < length links → (get_or links i no_link).number ≡ n → is_named (numbers_of links) n ≡ true
+number-there : (links : Links) (i n : ℕ) → i < length links → (get_or links i no_link).number ≡ n →
+    is_named (numbers_of links) n ≡ true
 number-there [] i n below is = absurd (omega arith)
-number-there (link ∷ links) zero n below is = or_left (nat_eq link.number n) (is_named (numbers_of links) n) (eq-eqb link.number n is)
+number-there (link ∷ links) zero n below is =
+    or_left (nat_eq link.number n) (is_named (numbers_of links) n) (eq-eqb link.number n is)
 number-there (link ∷ links) (suc i) n below is =
-    or_right (nat_eq link.number n) (is_named (numbers_of links) n) (number-there links i n (omega arith) is)
+    or_right (nat_eq link.number n) (is_named (numbers_of links) n)
+    (number-there links i n (omega arith) is)
 
 -- where all links are forgotten, nothing is noted
-module _ (links : Links) (reach : ℕ) (near near' : List ℕ) (far : List (ℕ × ℕ)) (notes : NotesLast links reach near far)
+module _ (links : Links) (reach : ℕ) (near near' : List ℕ) (far : List (ℕ × ℕ))
+    (notes : NotesLast links reach near far)
     (forgets : Resets 0 (numbers_of links) near near') where
   none-noted : (n : ℕ) → n < reach → get_or near' n 0 ≡ 0
   unfolding NotesLast IsLast Resets
   none-noted n low =
-      let last = subst (λ p. IsLast links n (length links) p) (near-place reach near far n low) (notes n) in
+      let last =
+      subst (λ p. IsLast links n (length links) p) (near-place reach near far n low) (notes n) in
       elim (cases_Bool (is_named (numbers_of links) n)) [
-        | inl there ↦ forgets n ∙ cond-true (is_named (numbers_of links) n) 0 (get_or near n 0) there
-        | inr none ↦ forgets n ∙ cond-false (is_named (numbers_of links) n) 0 (get_or near n 0) none ∙ elim (cases_lt 0 (get_or near n 0)) [
-          | inl some ↦ absurd (both_ways (is_named (numbers_of links) n) none
-              (number-there links (get_or near n 0 - 1) n (omega (arith, some, last.0)) (last.2 some)))
-          | inr at ↦ let e : get_or near n 0 ≡ 0 = omega (arith, at) in e
-        ]
+        | inl there ↦ forgets n
+            ∙ cond-true (is_named (numbers_of links) n) 0 (get_or near n 0) there
+        | inr none ↦ forgets n ∙ cond-false (is_named (numbers_of links) n) 0 (get_or near n 0) none
+            ∙ elim (cases_lt 0 (get_or near n 0)) [
+              | inl some ↦ absurd (both_ways (is_named (numbers_of links) n) none
+                  (number-there links (get_or near n 0 - 1) n (omega (arith, some, last.0))
+                  (last.2 some)))
+              | inr at ↦ let e : get_or near n 0 ≡ 0 = omega (arith, at) in e
+            ]
       ]
 
   -- with all heads forgotten, nothing is noted of no links
@@ -312,7 +410,8 @@ module _ (links : Links) (reach : ℕ) (near near' : List ℕ) (far : List (ℕ 
   NotesLast-forgotten n =
       subst (λ p. IsLast [] n 0 p)
       (elim (cases_lt n reach) [
-        | inl under ↦ near-place reach [] [] n under ∙ sym (near-place reach near' [] n under ∙ none-noted n under)
+        | inl under ↦ near-place reach [] [] n under
+            ∙ sym (near-place reach near' [] n under ∙ none-noted n under)
         | inr over ↦ far-place reach [] [] n over ∙ sym (far-place reach near' [] n over)
       ])
       (NotesLast-none reach n)

@@ -14,12 +14,15 @@ use Rattle.std.specs.FinMap as fin
 use Rattle.std.proofs.lemmas.Bool.{cases_Bool, cases_lt, both_ways, cond-true, cond-false, eqb-true}
 use Rattle.std.proofs.lemmas.Bool.Decides.{nat_tests}
 use Rattle.std.proofs.lemmas.Bool.{eq-eqb, ne_eqb, lt-ltb, le-ltb, lt-leb, le-leb}
-use Rattle.std.proofs.lemmas.List.{get_or-set_same, get_or-set_other, take-append-le, drop-append-le, length-drop}
+use Rattle.std.proofs.lemmas.List.{get_or-set_same, get_or-set_other, take-append-le}
+use Rattle.std.proofs.lemmas.List.{drop-append-le, length-drop}
 use Rattle.std.proofs.Math.Seq.{drop-append_seam, take-length}
 use Rattle.cnf_text.specs.Literal.{Literal}
 use Rattle.hint_check.specs.declared.own.Slot.{Slot}
 use Rattle.hint_check.specs.declared.own.Span.{Span}
-use Rattle.hint_check.specs.Inner.Own.{no_slot, slot_at, slot_clause, span_clause, near_at, far_at, entry_of, near_entries, far_entries, own_clauses, SlotsEndBy, SpansEndBy, SetsSlot, ListsAll}
+use Rattle.hint_check.specs.Inner.Own.{no_slot, slot_at, slot_clause, span_clause, near_at, far_at}
+use Rattle.hint_check.specs.Inner.Own.{entry_of, near_entries, far_entries, own_clauses, SlotsEndBy}
+use Rattle.hint_check.specs.Inner.Own.{SpansEndBy, SetsSlot, ListsAll}
 use Rattle.hint_check.proofs.LiveOverlay.{find-append, same_test, same_test_back}
 use Rattle.hint_check.specs.Literals.{has}
 use Rattle.hint_check.specs.Inner.Index.{Links, is_listed, Lists, Indexes, Awaits}
@@ -27,7 +30,8 @@ use Rattle.hint_check.proofs.IndexIds.{Awaits-all, Awaits-next, Awaits-none}
 
 -- ---- look-ups in the map of far ids
 
-pub by_order : {X : Type 0} (q : ℕ) (es : List (ℕ × X)) → lookup (eq_by_cmp nat_cmp q) es ≡ lookup (nat_eq q) es
+pub by_order : {X : Type 0} (q : ℕ) (es : List (ℕ × X)) →
+    lookup (eq_by_cmp nat_cmp q) es ≡ lookup (nat_eq q) es
 by_order q [] = refl
 by_order q (e ∷ es) =
     ap (λ b. cond b (Some e.1) (lookup (eq_by_cmp nat_cmp q) es)) (same_test q e.0)
@@ -36,10 +40,13 @@ by_order q (e ∷ es) =
 -- an update that is said by one comparison of keys, said by the other
 pub updated : {X : Type 0} (before after : List (ℕ × X)) (k : ℕ) (w : Option X)
     → ((q : ℕ)
-    → lookup (eq_by_cmp nat_cmp q) after ≡ cond (eq_by_cmp nat_cmp k q) w (lookup (eq_by_cmp nat_cmp q) before))
+    →
+    lookup (eq_by_cmp nat_cmp q) after
+    ≡ cond (eq_by_cmp nat_cmp k q) w (lookup (eq_by_cmp nat_cmp q) before))
     → (q : ℕ) → lookup (nat_eq q) after ≡ cond (nat_eq k q) w (lookup (nat_eq q) before)
 updated before after k w h q =
-    sym (by_order q after) ∙ h q ∙ ap (λ b. cond b w (lookup (eq_by_cmp nat_cmp q) before)) (same_test k q)
+    sym (by_order q after) ∙ h q
+    ∙ ap (λ b. cond b w (lookup (eq_by_cmp nat_cmp q) before)) (same_test k q)
     ∙ ap (cond (nat_eq k q) w) (by_order q before)
 
 -- ---- what stands under an id
@@ -47,18 +54,21 @@ updated before after k w h q =
 near-below : (lits : List Literal) (first : ℕ) (slots : List Slot) (q : ℕ) → q < first
     → near_at lits first slots q ≡ None
 near-below lits first slots q low =
-    cond-true (nat_lt q first) None (slot_clause lits (slot_at slots (q - first))) (lt-ltb q first low)
+    cond-true (nat_lt q first) None (slot_clause lits (slot_at slots (q - first)))
+    (lt-ltb q first low)
 
 near-from : (lits : List Literal) (first : ℕ) (slots : List Slot) (q : ℕ) → first ≤ q
     → near_at lits first slots q ≡ slot_clause lits (slot_at slots (q - first))
 near-from lits first slots q high =
-    cond-false (nat_lt q first) None (slot_clause lits (slot_at slots (q - first))) (le-ltb q first high)
+    cond-false (nat_lt q first) None (slot_clause lits (slot_at slots (q - first)))
+    (le-ltb q first high)
 
 none_either : {A : Type 0} (b : Bool) (o : Option A) → o ≡ None → o ≡ cond b None o
 none_either true o none = none
 none_either false o none = refl
 
-one_entry : (q n : ℕ) (x : Option (List Literal)) → fin.find nat_cmp q (entry_of n x) ≡ cond (nat_eq q n) x None
+one_entry : (q n : ℕ) (x : Option (List Literal)) →
+    fin.find nat_cmp q (entry_of n x) ≡ cond (nat_eq q n) x None
 one_entry q n None = none_either (nat_eq q n) None refl
 one_entry q n (Some clause) = ap (λ b. cond b (Some clause) None) (same_test q n)
 
@@ -73,20 +83,26 @@ no_slots lits n q =
 
 -- the first slot, and those behind it
 near-cons : (lits : List Literal) (n : ℕ) (slot : Slot) (slots : List Slot) (q : ℕ)
-    → option_or (cond (nat_eq q n) (slot_clause lits slot) None) (near_at lits (n + 1) slots q) ≡ near_at lits n
+    →
+    option_or (cond (nat_eq q n) (slot_clause lits slot) None) (near_at lits (n + 1) slots q)
+    ≡ near_at lits n
     (slot ∷ slots) q
 near-cons lits n slot slots q =
     elim (cases_lt q n) [
       | inl low ↦ ap (λ o. option_or o (near_at lits (n + 1) slots q))
-          (cond-false (nat_eq q n) (slot_clause lits slot) None (ne_eqb q n (λ e. omega (arith, e, low))))
-          ∙ near-below lits (n + 1) slots q (omega arith) ∙ sym (near-below lits n (slot ∷ slots) q low)
+          (cond-false (nat_eq q n) (slot_clause lits slot) None
+          (ne_eqb q n (λ e. omega (arith, e, low))))
+          ∙ near-below lits (n + 1) slots q (omega arith)
+          ∙ sym (near-below lits n (slot ∷ slots) q low)
       | inr high ↦ elim (cases_Bool (nat_eq q n)) [
         | inl here ↦ let e : q ≡ n = eqb-true q n here in
             ap (λ o. option_or o (near_at lits (n + 1) slots q))
             (cond-true (nat_eq q n) (slot_clause lits slot) None here)
-            ∙ ap (option_or (slot_clause lits slot)) (near-below lits (n + 1) slots q (omega (arith, e)))
+            ∙ ap (option_or (slot_clause lits slot))
+            (near-below lits (n + 1) slots q (omega (arith, e)))
             ∙ or_none (slot_clause lits slot)
-            ∙ ap (λ i. slot_clause lits (slot_at (slot ∷ slots) i)) (let z : 0 ≡ q - n = omega (arith, e) in z)
+            ∙ ap (λ i. slot_clause lits (slot_at (slot ∷ slots) i))
+            (let z : 0 ≡ q - n = omega (arith, e) in z)
             ∙ sym (near-from lits n (slot ∷ slots) q high)
         | inr apart ↦ let past : n + 1 ≤ q = let ne =
             λ (e : q ≡ n). both_ways (nat_eq q n) apart (eq-eqb q n e) in omega (arith, high, ne) in
@@ -106,7 +122,8 @@ find-near lits n (slot ∷ slots) q =
     find-append q (entry_of n (slot_clause lits slot)) (near_entries lits (n + 1) slots)
     ∙ ap (λ o. option_or o (fin.find nat_cmp q (near_entries lits (n + 1) slots)))
     (one_entry q n (slot_clause lits slot))
-    ∙ ap (option_or (cond (nat_eq q n) (slot_clause lits slot) None)) (find-near lits (n + 1) slots q)
+    ∙ ap (option_or (cond (nat_eq q n) (slot_clause lits slot) None))
+    (find-near lits (n + 1) slots q)
     ∙ near-cons lits n slot slots q
 
 mapped : {A B : Type 0} (f : A → B) (b : Bool) (x : A) (o : Option A)
@@ -118,18 +135,22 @@ find-far : (lits : List Literal) (far : List (ℕ × Span)) (q : ℕ)
     → fin.find nat_cmp q (far_entries lits far) ≡ far_at lits far q
 find-far lits [] q = refl
 find-far lits (e ∷ far) q =
-    ap (λ b. cond b (Some (span_clause lits e.1)) (fin.find nat_cmp q (far_entries lits far))) (same_test q e.0)
+    ap (λ b. cond b (Some (span_clause lits e.1)) (fin.find nat_cmp q (far_entries lits far)))
+    (same_test q e.0)
     ∙ ap (cond (nat_eq q e.0) (Some (span_clause lits e.1))) (find-far lits far q)
     ∙ mapped (span_clause lits) (nat_eq q e.0) e.1 (lookup (nat_eq q) far)
 
 -- the own clause of an id is the near one, or else the far one
 pub own-get : (lits : List Literal) (first : ℕ) (slots : List Slot) (far : List (ℕ × Span)) (q : ℕ)
-    → fin.get (own_clauses lits first slots far) q ≡ option_or (near_at lits first slots q) (far_at lits far q)
+    →
+    fin.get (own_clauses lits first slots far) q
+    ≡ option_or (near_at lits first slots q) (far_at lits far q)
 unfolding own_clauses
 own-get lits first slots far q =
     fin.get-from_entries nat_cmp_total (near_entries lits first slots ++ far_entries lits far) q
     ∙ find-append q (near_entries lits first slots) (far_entries lits far)
-    ∙ ap (λ o. option_or o (fin.find nat_cmp q (far_entries lits far))) (find-near lits first slots q)
+    ∙ ap (λ o. option_or o (fin.find nat_cmp q (far_entries lits far)))
+    (find-near lits first slots q)
     ∙ ap (option_or (near_at lits first slots q)) (find-far lits far q)
 
 -- ---- more literals behind the others
@@ -140,7 +161,10 @@ unfolding SpansEndBy
 spans-found [] count h q = tt
 spans-found (e ∷ far) count h q =
     elim (nat_eq q e.0) as (λ b. IfSome (cond b (Some e.1) (lookup (nat_eq q) far))
-    (λ span. (span.start ≤ span.end) × (span.end ≤ count))) [ true ↦ h.0 | false ↦ spans-found far count h.1 q ]
+    (λ span. (span.start ≤ span.end) × (span.end ≤ count))) [
+      | true ↦ h.0
+      | false ↦ spans-found far count h.1 q
+    ]
 
 slice-append : (lits more : List Literal) (i j : ℕ) → i ≤ j → j ≤ length lits
     → slice_range (lits ++ more) i j ≡ slice_range lits i j
@@ -157,13 +181,15 @@ last_part lits more end is =
     ∙ ap (take (length more)) (drop-append_seam lits more) ∙ take-length more
 
 module _ (lits more : List Literal) where
-  slot-grown : (slot : Slot) → slot.end ≤ length lits → slot_clause (lits ++ more) slot ≡ slot_clause lits slot
+  slot-grown : (slot : Slot) → slot.end ≤ length lits →
+      slot_clause (lits ++ more) slot ≡ slot_clause lits slot
   slot-grown slot within =
       elim (cases_lt slot.end slot.start) [
         | inl empty ↦ let none = lt-leb slot.start slot.end empty in
             cond-false (nat_le slot.start slot.end)
             (Some (slice_range (lits ++ more) slot.start slot.end)) None none
-            ∙ sym (cond-false (nat_le slot.start slot.end) (Some (slice_range lits slot.start slot.end)) None none)
+            ∙ sym (cond-false (nat_le slot.start slot.end)
+            (Some (slice_range lits slot.start slot.end)) None none)
         | inr ordered ↦ ap (λ clause. if nat_le slot.start slot.end then Some clause else None)
             (slice-append lits more slot.start slot.end ordered within)
       ]
@@ -172,9 +198,11 @@ module _ (lits more : List Literal) where
       → near_at (lits ++ more) first slots q ≡ near_at lits first slots q
   unfolding SlotsEndBy
   near-grown first slots ends q =
-      ap (λ o. if nat_lt q first then None else o) (slot-grown (slot_at slots (q - first)) (ends (q - first)))
+      ap (λ o. if nat_lt q first then None else o)
+      (slot-grown (slot_at slots (q - first)) (ends (q - first)))
 
-  span-grown : (o : Option Span) → IfSome o (λ span. (span.start ≤ span.end) × (span.end ≤ length lits))
+  span-grown : (o : Option Span) →
+      IfSome o (λ span. (span.start ≤ span.end) × (span.end ≤ length lits))
       → option_map (span_clause (lits ++ more)) o ≡ option_map (span_clause lits) o
   span-grown None h = refl
   span-grown (Some span) h = ap Some (slice-append lits more span.start span.end h.0 h.1)
@@ -193,15 +221,20 @@ module _ (lits : List Literal) (first : ℕ) (before after : List Slot) (id : �
   set-cases slot q false = refl
 
   set-from : (slot : Slot) → SetsSlot first before after id slot → (q : ℕ) → first ≤ q
-      → near_at lits first after q ≡ cond (nat_eq id q) (slot_clause lits slot) (near_at lits first before q)
+      →
+      near_at lits first after q
+      ≡ cond (nat_eq id q) (slot_clause lits slot) (near_at lits first before q)
   unfolding SetsSlot
   set-from slot sets q high =
-      near-from lits first after q high ∙ ap (slot_clause lits) (sets q high) ∙ set-cases slot q (nat_eq id q)
+      near-from lits first after q high ∙ ap (slot_clause lits) (sets q high)
+      ∙ set-cases slot q (nat_eq id q)
       ∙ ap (cond (nat_eq id q) (slot_clause lits slot)) (sym (near-from lits first before q high))
 
   -- the clause of an id that may have a slot, and those of the others
   pub near-put : (slot : Slot) → first ≤ id → SetsSlot first before after id slot → (q : ℕ)
-      → near_at lits first after q ≡ cond (nat_eq id q) (slot_clause lits slot) (near_at lits first before q)
+      →
+      near_at lits first after q
+      ≡ cond (nat_eq id q) (slot_clause lits slot) (near_at lits first before q)
   near-put slot may sets q =
       elim (cases_lt q first) [
         | inl low ↦ near-below lits first after q low ∙ sym (near-below lits first before q low)
@@ -215,7 +248,8 @@ module _ (lits : List Literal) (first : ℕ) (before after : List Slot) (id : �
   near-take sets q =
       elim (cases_lt q first) [
         | inl low ↦ near-below lits first after q low ∙ sym (near-below lits first before q low)
-            ∙ none_either (nat_eq id q) (near_at lits first before q) (near-below lits first before q low)
+            ∙ none_either (nat_eq id q) (near_at lits first before q)
+            (near-below lits first before q low)
         | inr high ↦ set-from no_slot sets q high
       ]
 
@@ -226,7 +260,8 @@ near-same lits first before after same q =
     ap (λ slot. if nat_lt q first then None else slot_clause lits slot) (same (q - first))
 
 -- the slot at one place is set, and no other
-pub SetsSlot-put : (first : ℕ) (before after : List Slot) (place id : ℕ) (slot : Slot) → id ≡ first + place
+pub SetsSlot-put : (first : ℕ) (before after : List Slot) (place id : ℕ) (slot : Slot) →
+    id ≡ first + place
     → ((i : ℕ) → slot_at after i ≡ cond (nat_eq place i) slot (slot_at before i))
     → SetsSlot first before after id slot
 unfolding SetsSlot
@@ -260,11 +295,14 @@ slot-pushed (s ∷ before) slot zero =
 slot-pushed (s ∷ before) slot (suc i) =
     slot-pushed before slot i
     ∙ ap (λ b. cond b slot (slot_at before i))
-    (let same : nat_eq (length before) i ≡ nat_eq (suc (length before)) (suc i) = grind (arith, nat_tests) in same)
+    (let same : nat_eq (length before) i
+    ≡ nat_eq (suc (length before)) (suc i) = grind (arith, nat_tests) in same)
 
 -- a slot that is there is set
-pub SetsSlot-write : (first : ℕ) (before after : List Slot) (place id : ℕ) (slot : Slot) → id ≡ first + place
-    → place < length before → after ≡ slice_set before place slot → SetsSlot first before after id slot
+pub SetsSlot-write : (first : ℕ) (before after : List Slot) (place id : ℕ) (slot : Slot) →
+    id ≡ first + place
+    → place < length before → after ≡ slice_set before place slot →
+    SetsSlot first before after id slot
 SetsSlot-write first before after place id slot is room set =
     SetsSlot-put first before after place id slot is
     (λ i. ap (λ slots. slot_at slots i) set ∙ slot-written before place i slot room)
@@ -279,7 +317,8 @@ unset true slot h = h refl
 unset false slot h = refl
 
 -- an id that has no slot has none to be emptied
-pub SetsSlot-low : (first : ℕ) (slots : List Slot) (id : ℕ) → id < first → SetsSlot first slots slots id no_slot
+pub SetsSlot-low : (first : ℕ) (slots : List Slot) (id : ℕ) → id < first →
+    SetsSlot first slots slots id no_slot
 unfolding SetsSlot
 SetsSlot-low first slots id low q high =
     sym (cond-false (nat_eq id q) no_slot (slot_at slots (q - first))
@@ -291,7 +330,8 @@ pub SetsSlot-past : (first : ℕ) (slots : List Slot) (id : ℕ) → length slot
 unfolding SetsSlot
 SetsSlot-past first slots id beyond q high =
     unset (nat_eq id q) (slot_at slots (q - first))
-    (λ here. ap (λ k. slot_at slots (k - first)) (sym (eqb-true id q here)) ∙ past slots (id - first) beyond)
+    (λ here. ap (λ k. slot_at slots (k - first)) (sym (eqb-true id q here))
+    ∙ past slots (id - first) beyond)
 
 -- ---- a far id put in or taken out
 
@@ -303,25 +343,30 @@ module _ (lits : List Literal) (far far' : List (ℕ × Span)) (id : ℕ) where
   mapped_cond false x y = refl
 
   far-put : (span : Span)
-      → ((q : ℕ) → lookup (nat_eq q) far' ≡ cond (nat_eq id q) (Some span) (lookup (nat_eq q) far)) → (q : ℕ)
+      →
+      ((q : ℕ) → lookup (nat_eq q) far' ≡ cond (nat_eq id q) (Some span) (lookup (nat_eq q) far)) →
+      (q : ℕ)
       → far_at lits far' q ≡ cond (nat_eq id q) (Some (span_clause lits span)) (far_at lits far q)
   far-put span put q = ap (option_map (span_clause lits)) (put q)
       ∙ mapped_cond (nat_eq id q) (Some span) (lookup (nat_eq q) far)
 
-  far-take : ((q : ℕ) → lookup (nat_eq q) far' ≡ cond (nat_eq id q) None (lookup (nat_eq q) far)) → (q : ℕ)
+  far-take : ((q : ℕ) → lookup (nat_eq q) far' ≡ cond (nat_eq id q) None (lookup (nat_eq q) far)) →
+      (q : ℕ)
       → far_at lits far' q ≡ cond (nat_eq id q) None (far_at lits far q)
   far-take taken q = ap (option_map (span_clause lits)) (taken q)
       ∙ mapped_cond (nat_eq id q) None (lookup (nat_eq q) far)
 
 -- ---- the whole map
 
-module _ (lits more : List Literal) (first : ℕ) (slots slots' : List Slot) (far far' : List (ℕ × Span))
+module _ (lits more : List Literal) (first : ℕ) (slots slots' : List Slot)
+    (far far' : List (ℕ × Span))
     (slots_end : SlotsEndBy slots (length lits)) (spans_end : SpansEndBy far (length lits)) where
   both-grown : (q : ℕ)
       → option_or (near_at (lits ++ more) first slots q) (far_at (lits ++ more) far q) ≡ fin.get
       (own_clauses lits first slots far) q
   both-grown q =
-      ap (λ o. option_or o (far_at (lits ++ more) far q)) (near-grown lits more first slots slots_end q)
+      ap (λ o. option_or o (far_at (lits ++ more) far q))
+      (near-grown lits more first slots slots_end q)
       ∙ ap (option_or (near_at lits first slots q)) (far-grown lits more far spans_end q)
       ∙ sym (own-get lits first slots far q)
 
@@ -339,58 +384,81 @@ module _ (lits more : List Literal) (first : ℕ) (slots slots' : List Slot) (fa
   pub own-same : ((i : ℕ) → slot_at slots' i ≡ slot_at slots i) → far' ≡ far
       → own_clauses (lits ++ more) first slots' far' ≡ own_clauses lits first slots far
   own-same same is =
-      fin.same_map nat_cmp_total fin.nat_cmp-IsAntisymmetric (own_clauses (lits ++ more) first slots' far')
+      fin.same_map nat_cmp_total fin.nat_cmp-IsAntisymmetric
+      (own_clauses (lits ++ more) first slots' far')
       (own_clauses lits first slots far) (λ q.
       own-get (lits ++ more) first slots' far' q
-      ∙ ap (λ o. option_or o (far_at (lits ++ more) far' q)) (near-same (lits ++ more) first slots slots' same q)
+      ∙ ap (λ o. option_or o (far_at (lits ++ more) far' q))
+      (near-same (lits ++ more) first slots slots' same q)
       ∙ ap (λ es. option_or (near_at (lits ++ more) first slots q) (far_at (lits ++ more) es q)) is
       ∙ both-grown q)
 
   module _ (id : ℕ) where
     inserted : ((q : ℕ)
-        → option_or (near_at (lits ++ more) first slots' q) (far_at (lits ++ more) far' q) ≡ cond (nat_eq id q)
-        (Some more) (option_or (near_at (lits ++ more) first slots q) (far_at (lits ++ more) far q)))
-        → own_clauses (lits ++ more) first slots' far' ≡ fin.insert (own_clauses lits first slots far) id more
+        →
+        option_or (near_at (lits ++ more) first slots' q) (far_at (lits ++ more) far' q)
+        ≡ cond (nat_eq id q)
+        (Some more) (option_or (near_at (lits ++ more) first slots q)
+        (far_at (lits ++ more) far q)))
+        →
+        own_clauses (lits ++ more) first slots' far'
+        ≡ fin.insert (own_clauses lits first slots far) id more
     inserted h =
-        fin.same_map nat_cmp_total fin.nat_cmp-IsAntisymmetric (own_clauses (lits ++ more) first slots' far')
+        fin.same_map nat_cmp_total fin.nat_cmp-IsAntisymmetric
+        (own_clauses (lits ++ more) first slots' far')
         (fin.insert (own_clauses lits first slots far) id more) (λ q.
         own-get (lits ++ more) first slots' far' q ∙ h q
         ∙ ap (cond (nat_eq id q) (Some more)) (both-grown q)
-        ∙ ap (λ b. cond b (Some more) (fin.get (own_clauses lits first slots far) q)) (same_test_back id q)
+        ∙ ap (λ b. cond b (Some more) (fin.get (own_clauses lits first slots far) q))
+        (same_test_back id q)
         ∙ sym (fin.get-insert nat_cmp_total (own_clauses lits first slots far) id more q))
 
     new-slot : (slot : Slot) → slot.start ≡ length lits → slot.end ≡ length lits + length more
         → slot_clause (lits ++ more) slot ≡ Some more
     new-slot slot starts ends =
-        cond-true (nat_le slot.start slot.end) (Some (slice_range (lits ++ more) slot.start slot.end)) None
+        cond-true (nat_le slot.start slot.end)
+        (Some (slice_range (lits ++ more) slot.start slot.end)) None
         (le-leb slot.start slot.end (omega (arith, starts, ends)))
-        ∙ ap Some (ap (λ i. slice_range (lits ++ more) i slot.end) starts ∙ last_part lits more slot.end ends)
+        ∙ ap Some (ap (λ i. slice_range (lits ++ more) i slot.end) starts
+        ∙ last_part lits more slot.end ends)
 
     -- the clause of a near id; one that it has in the map is behind it
-    pub own-insert-near : (slot : Slot) → slot.start ≡ length lits → slot.end ≡ length lits + length more
+    pub own-insert-near : (slot : Slot) → slot.start ≡ length lits →
+        slot.end ≡ length lits + length more
         → first ≤ id → SetsSlot first slots slots' id slot → far' ≡ far
-        → own_clauses (lits ++ more) first slots' far' ≡ fin.insert (own_clauses lits first slots far) id more
+        →
+        own_clauses (lits ++ more) first slots' far'
+        ≡ fin.insert (own_clauses lits first slots far) id more
     own-insert-near slot starts ends may sets same = inserted (λ q.
         ap (λ o. option_or o (far_at (lits ++ more) far' q))
         (near-put (lits ++ more) first slots slots' id slot may sets q
-        ∙ ap (λ o. cond (nat_eq id q) o (near_at (lits ++ more) first slots q)) (new-slot slot starts ends))
-        ∙ ap (λ es. option_or (cond (nat_eq id q) (Some more) (near_at (lits ++ more) first slots q))
+        ∙ ap (λ o. cond (nat_eq id q) o (near_at (lits ++ more) first slots q))
+        (new-slot slot starts ends))
+        ∙ ap (λ es. option_or
+        (cond (nat_eq id q) (Some more) (near_at (lits ++ more) first slots q))
         (far_at (lits ++ more) es q)) same
-        ∙ put_first (nat_eq id q) more (near_at (lits ++ more) first slots q) (far_at (lits ++ more) far q))
+        ∙ put_first (nat_eq id q) more (near_at (lits ++ more) first slots q)
+        (far_at (lits ++ more) far q))
 
     -- the clause of any other
-    pub own-insert-far : (span : Span) → span.start ≡ length lits → span.end ≡ length lits + length more
+    pub own-insert-far : (span : Span) → span.start ≡ length lits →
+        span.end ≡ length lits + length more
         → SetsSlot first slots slots' id no_slot
-        → ((q : ℕ) → lookup (nat_eq q) far' ≡ cond (nat_eq id q) (Some span) (lookup (nat_eq q) far))
-        → own_clauses (lits ++ more) first slots' far' ≡ fin.insert (own_clauses lits first slots far) id more
+        →
+        ((q : ℕ) → lookup (nat_eq q) far' ≡ cond (nat_eq id q) (Some span) (lookup (nat_eq q) far))
+        →
+        own_clauses (lits ++ more) first slots' far'
+        ≡ fin.insert (own_clauses lits first slots far) id more
     own-insert-far span starts ends sets put = inserted (λ q.
         ap (λ o. option_or o (far_at (lits ++ more) far' q))
         (near-take (lits ++ more) first slots slots' id sets q)
         ∙ ap (option_or (cond (nat_eq id q) None (near_at (lits ++ more) first slots q)))
         (far-put (lits ++ more) far far' id span put q
         ∙ ap (λ clause. cond (nat_eq id q) (Some clause) (far_at (lits ++ more) far q))
-        (ap (λ i. slice_range (lits ++ more) i span.end) starts ∙ last_part lits more span.end ends))
-        ∙ put_last (nat_eq id q) more (near_at (lits ++ more) first slots q) (far_at (lits ++ more) far q))
+        (ap (λ i. slice_range (lits ++ more) i span.end) starts
+        ∙ last_part lits more span.end ends))
+        ∙ put_last (nat_eq id q) more (near_at (lits ++ more) first slots q)
+        (far_at (lits ++ more) far q))
 
 take_both : {A : Type 0} (b : Bool) (x y : Option A)
     → option_or (cond b None x) (cond b None y) ≡ cond b None (option_or x y)
@@ -398,7 +466,8 @@ take_both true x y = refl
 take_both false x y = refl
 
 -- an id whose slot was emptied and that is no far one any more is taken out
-pub own-remove : (lits : List Literal) (first : ℕ) (slots slots' : List Slot) (far far' : List (ℕ × Span)) (id : ℕ)
+pub own-remove : (lits : List Literal) (first : ℕ) (slots slots' : List Slot)
+    (far far' : List (ℕ × Span)) (id : ℕ)
     → SetsSlot first slots slots' id no_slot
     → ((q : ℕ) → lookup (nat_eq q) far' ≡ cond (nat_eq id q) None (lookup (nat_eq q) far))
     → own_clauses lits first slots' far' ≡ fin.remove (own_clauses lits first slots far) id
@@ -407,17 +476,20 @@ own-remove lits first slots slots' far far' id sets taken =
     (fin.remove (own_clauses lits first slots far) id) (λ q.
     own-get lits first slots' far' q
     ∙ ap (λ o. option_or o (far_at lits far' q)) (near-take lits first slots slots' id sets q)
-    ∙ ap (option_or (cond (nat_eq id q) None (near_at lits first slots q))) (far-take lits far far' id taken q)
+    ∙ ap (option_or (cond (nat_eq id q) None (near_at lits first slots q)))
+    (far-take lits far far' id taken q)
     ∙ take_both (nat_eq id q) (near_at lits first slots q) (far_at lits far q)
     ∙ ap (cond (nat_eq id q) None) (sym (own-get lits first slots far q))
     ∙ ap (λ b. cond b None (fin.get (own_clauses lits first slots far) q)) (same_test_back id q)
     ∙ sym (fin.get-remove nat_cmp_total (own_clauses lits first slots far) id q))
 
 -- without slots and far clauses there are no own clauses
-pub own-none : (lits : List Literal) (first : ℕ) (slots : List Slot) (far : List (ℕ × Span)) → slots ≡ []
+pub own-none : (lits : List Literal) (first : ℕ) (slots : List Slot) (far : List (ℕ × Span)) →
+    slots ≡ []
     → far ≡ [] → own_clauses lits first slots far ≡ fin.empty
 own-none lits first slots far none none_far =
-    fin.same_map nat_cmp_total fin.nat_cmp-IsAntisymmetric (own_clauses lits first slots far) fin.empty (λ q.
+    fin.same_map nat_cmp_total fin.nat_cmp-IsAntisymmetric (own_clauses lits first slots far)
+    fin.empty (λ q.
     own-get lits first slots far q
     ∙ ap (λ es. option_or (near_at lits first es q) (far_at lits far q)) none
     ∙ ap (λ es. option_or (near_at lits first [] q) (far_at lits es q)) none_far
@@ -429,13 +501,15 @@ own-none lits first slots far none none_far =
 -- no slots end anywhere
 pub SlotsEndBy-none : (slots : List Slot) (count : ℕ) → slots ≡ [] → SlotsEndBy slots count
 unfolding SlotsEndBy
-SlotsEndBy-none slots count none place = let e = ap (λ es. (slot_at es place).end) none in omega (arith, e)
+SlotsEndBy-none slots count none place =
+    let e = ap (λ es. (slot_at es place).end) none in omega (arith, e)
 
 -- slots end among more literals, too
 pub SlotsEndBy-same : (slots slots' : List Slot) (count more : ℕ) → SlotsEndBy slots count
     → ((i : ℕ) → slot_at slots' i ≡ slot_at slots i) → SlotsEndBy slots' (count + more)
 unfolding SlotsEndBy
-SlotsEndBy-same slots slots' count more h same place = let e = ap (λ slot. slot.end) (same place) in let low =
+SlotsEndBy-same slots slots' count more h same place =
+    let e = ap (λ slot. slot.end) (same place) in let low =
     h place in omega (arith, e, low)
 
 set_end : (b : Bool) (slot old : Slot) (count : ℕ) → slot.end ≤ count → old.end ≤ count
@@ -458,7 +532,8 @@ SlotsEndBy-set first slots slots' id slot count more h sets within place =
     (let low = h place in omega (arith, low)))
 
 -- slots end where they did after one was emptied
-pub SlotsEndBy-cleared : (first : ℕ) (slots slots' : List Slot) (id count : ℕ) → SlotsEndBy slots count
+pub SlotsEndBy-cleared : (first : ℕ) (slots slots' : List Slot) (id count : ℕ) →
+    SlotsEndBy slots count
     → SetsSlot first slots slots' id no_slot → SlotsEndBy slots' count
 SlotsEndBy-cleared first slots slots' id count h sets =
     subst (SlotsEndBy slots') (let e : count + 0 ≡ count = omega arith in e)
@@ -478,13 +553,15 @@ SpansEndBy-more (e ∷ far) count more h =
     ((h.0.0, let low = h.0.1 in omega (arith, low)), SpansEndBy-more far count more h.1)
 
 -- spans end among the literals after one that does was put in
-pub SpansEndBy-put : (far : List (ℕ × Span)) (id : ℕ) (span : Span) (count : ℕ) → SpansEndBy far count
+pub SpansEndBy-put : (far : List (ℕ × Span)) (id : ℕ) (span : Span) (count : ℕ) →
+    SpansEndBy far count
     → span.start ≤ span.end → span.end ≤ count → SpansEndBy (insert_entry nat_cmp far id span) count
 unfolding SpansEndBy
 SpansEndBy-put [] id span count h ordered within = ((ordered, within), tt)
 SpansEndBy-put (e ∷ far) id span count h ordered within =
     elim (nat_cmp id e.0) as (λ r. SpansEndBy
-    (match_ordering r ((id, span) ∷ e ∷ far) ((e.0, span) ∷ far) (e ∷ insert_entry nat_cmp far id span)) count) [
+    (match_ordering r ((id, span) ∷ e ∷ far) ((e.0, span) ∷ far)
+    (e ∷ insert_entry nat_cmp far id span)) count) [
       | Less ↦ ((ordered, within), h)
       | Equal ↦ ((ordered, within), h.1)
       | Greater ↦ (h.0, SpansEndBy-put far id span count h.1 ordered within)
@@ -503,13 +580,15 @@ SpansEndBy-take test (e ∷ far) count h =
     ]
 
 -- the first span ends among the literals
-pub SpansEndBy-head : (e : ℕ × Span) (far : List (ℕ × Span)) (count : ℕ) → SpansEndBy (e ∷ far) count
+pub SpansEndBy-head : (e : ℕ × Span) (far : List (ℕ × Span)) (count : ℕ) →
+    SpansEndBy (e ∷ far) count
     → (e.1.start ≤ e.1.end) × (e.1.end ≤ count)
 unfolding SpansEndBy
 SpansEndBy-head e far count h = h.0
 
 -- the spans after the first end among the literals
-pub SpansEndBy-tail : (e : ℕ × Span) (far : List (ℕ × Span)) (count : ℕ) → SpansEndBy (e ∷ far) count
+pub SpansEndBy-tail : (e : ℕ × Span) (far : List (ℕ × Span)) (count : ℕ) →
+    SpansEndBy (e ∷ far) count
     → SpansEndBy far count
 unfolding SpansEndBy
 SpansEndBy-tail e far count h = h.1
@@ -518,7 +597,8 @@ SpansEndBy-tail e far count h = h.1
 pub span-within : (far : List (ℕ × Span)) (count id : ℕ) (span : Span) → SpansEndBy far count
     → Some span ≡ lookup (nat_eq id) far → (span.start ≤ span.end) × (span.end ≤ count)
 span-within far count id span h is =
-    subst (λ o. IfSome o (λ s. (s.start ≤ s.end) × (s.end ≤ count))) (sym is) (spans-found far count h id)
+    subst (λ o. IfSome o (λ s. (s.start ≤ s.end) × (s.end ≤ count))) (sym is)
+    (spans-found far count h id)
 
 -- a slot ends among the literals
 pub slot-within : (slots : List Slot) (count place : ℕ) (slot : Slot) → SlotsEndBy slots count
@@ -530,14 +610,18 @@ slot-within slots count place slot h is = subst (λ s. s.end ≤ count) (sym is)
 
 -- entries that were waited for before, and aren't after, are listed
 pub ListsAll-end : (before after : Links) (entries : List (ℕ × List Literal))
-    → ((rest all : List (ℕ × List Literal)) → Awaits before (entries ++ rest) all → Awaits after rest all)
+    →
+    ((rest all : List (ℕ × List Literal)) → Awaits before (entries ++ rest) all →
+    Awaits after rest all)
     → ListsAll before after entries
 unfolding ListsAll
 ListsAll-end before after entries h = h
 
 -- the slot at a place, and those behind it
 near-drop : (lits : List Literal) (id : ℕ) (slots : List Slot) (i : ℕ) → i < length slots
-    → near_entries lits id (drop i slots) ≡ entry_of id (slot_clause lits (slot_at slots i)) ++ near_entries lits
+    →
+    near_entries lits id (drop i slots)
+    ≡ entry_of id (slot_clause lits (slot_at slots i)) ++ near_entries lits
     (id + 1) (drop (suc i) slots)
 near-drop lits id [] i within = absurd (omega arith)
 near-drop lits id (slot ∷ slots) zero within = refl
@@ -551,12 +635,14 @@ all-slots (slot ∷ slots) zero h = absurd (omega arith)
 all-slots (slot ∷ slots) (suc i) h = all-slots slots i (omega arith)
 
 -- a slot that is there doesn't depend on what stands for none
-pub any_default : (slots : List Slot) (i : ℕ) (d e : Slot) → i < length slots → get_or slots i d ≡ get_or slots i e
+pub any_default : (slots : List Slot) (i : ℕ) (d e : Slot) → i < length slots →
+    get_or slots i d ≡ get_or slots i e
 any_default [] i d e below = absurd (omega arith)
 any_default (slot ∷ slots) zero d e below = refl
 any_default (slot ∷ slots) (suc i) d e below = any_default slots i d e (omega arith)
 
-regrouped : (rows : Links) (xs ys zs all : List (ℕ × List Literal)) → Awaits rows ((xs ++ ys) ++ zs) all
+regrouped : (rows : Links) (xs ys zs all : List (ℕ × List Literal)) →
+    Awaits rows ((xs ++ ys) ++ zs) all
     → Awaits rows (xs ++ (ys ++ zs)) all
 regrouped rows xs ys zs all h = subst (λ es. Awaits rows es all) (append_assoc xs ys zs) h
 
@@ -565,14 +651,16 @@ pub near-next : (rows : Links) (lits : List Literal) (id : ℕ) (slots : List Sl
     (rest all : List (ℕ × List Literal)) → i < length slots
     → Awaits rows (near_entries lits id (drop i slots) ++ rest) all
     → Awaits rows
-    (entry_of id (slot_clause lits (slot_at slots i)) ++ (near_entries lits (id + 1) (drop (i + 1) slots) ++ rest))
+    (entry_of id (slot_clause lits (slot_at slots i))
+    ++ (near_entries lits (id + 1) (drop (i + 1) slots) ++ rest))
     all
 near-next rows lits id slots i rest all within h =
     regrouped rows (entry_of id (slot_clause lits (slot_at slots i)))
     (near_entries lits (id + 1) (drop (i + 1) slots)) rest all
     (subst (λ es. Awaits rows (es ++ rest) all)
     (near-drop lits id slots i within
-    ∙ ap (λ k. entry_of id (slot_clause lits (slot_at slots i)) ++ near_entries lits (id + 1) (drop k slots))
+    ∙ ap (λ k. entry_of id (slot_clause lits (slot_at slots i))
+    ++ near_entries lits (id + 1) (drop k slots))
     (let e : suc i ≡ i + 1 = omega arith in e)) h)
 
 -- the clause of one entry is listed
@@ -584,7 +672,8 @@ listed-one before after id clause x rest all is lists h =
     (subst (λ o. Awaits before (entry_of id o ++ rest) all) is h) lists
 
 -- an id without a clause isn't waited for
-pub listed-none : (rows : Links) (id : ℕ) (x : Option (List Literal)) (rest all : List (ℕ × List Literal))
+pub listed-none : (rows : Links) (id : ℕ) (x : Option (List Literal))
+    (rest all : List (ℕ × List Literal))
     → x ≡ None → Awaits rows (entry_of id x ++ rest) all → Awaits rows rest all
 listed-none rows id x rest all is h = subst (λ o. Awaits rows (entry_of id o ++ rest) all) is h
 
@@ -595,7 +684,8 @@ append-nil (x ∷ xs) = ap (λ ys. x ∷ ys) (append-nil xs)
 -- an index in which near and far clauses were listed is one of the own clauses
 pub own-Indexes : (start middle rows : Links) (lits : List Literal) (first : ℕ) (slots : List Slot)
     (far : List (ℕ × Span)) → ListsAll start middle (near_entries lits first slots)
-    → ListsAll middle rows (far_entries lits far) → Indexes rows (fin.entries (own_clauses lits first slots far))
+    → ListsAll middle rows (far_entries lits far) →
+    Indexes rows (fin.entries (own_clauses lits first slots far))
 unfolding ListsAll own_clauses Indexes
 own-Indexes start middle rows lits first slots far near beyond q l =
     let all = near_entries lits first slots ++ far_entries lits far in
@@ -604,4 +694,5 @@ own-Indexes start middle rows lits first slots far near beyond q l =
     (subst (λ es. Awaits middle es all) (sym (append-nil (far_entries lits far)))
     (near (far_entries lits far) all (Awaits-all start all)))) in
     subst (λ o. IfSome o (λ clause. has clause l ≡ true → is_listed rows l q ≡ true))
-    (sym (fin.get-from_entries nat_cmp_total all q) ∙ fin.get-entries (fin.from_entries all) q) (done q l)
+    (sym (fin.get-from_entries nat_cmp_total all q) ∙ fin.get-entries (fin.from_entries all) q)
+    (done q l)

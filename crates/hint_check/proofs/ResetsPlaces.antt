@@ -1,7 +1,9 @@
 -- Lists in which one place after another is set back.
-use Rattle.std.proofs.Common.{zero, suc, ◌||◌, ◌≡◌, ℕ, true, false, nat_eq, get_or, List, [], ◌∷◌, ◌++◌, refl, sym, ap, ◌∙◌, inl, inr}
+use Rattle.std.proofs.Common.{zero, suc, ◌||◌, ◌≡◌, ℕ, true, false, nat_eq, get_or, List, [], ◌∷◌}
+use Rattle.std.proofs.Common.{◌++◌, refl, sym, ap, ◌∙◌, inl, inr}
 use Rattle.std.specs.Prelude.{if◌then◌else◌, slice_set}
-use Rattle.std.proofs.lemmas.Bool.{cases_Bool, eqb-true, eq-eqb, both_ways, cond-true, or_left, or_right}
+use Rattle.std.proofs.lemmas.Bool.{cases_Bool, eqb-true, eq-eqb, both_ways, cond-true, or_left}
+use Rattle.std.proofs.lemmas.Bool.{or_right}
 use Rattle.std.proofs.lemmas.List.{get_or-set_other}
 use Rattle.std.proofs.lemmas.List.Folds.{list_any-append}
 use Rattle.hint_check.proofs.LiveMaps.{or_false}
@@ -25,16 +27,22 @@ module _ {A : Type 0} (d : A) where
   Resets-push places p before after h i =
       let more = list_any-append (λ named. nat_eq named i) places (p ∷ []) in
       elim (cases_Bool (nat_eq p i)) [
-        | inl this ↦ ap (λ k. get_or (slice_set after p d) k d) (sym (eqb-true p i this)) ∙ set-default after p
+        | inl this ↦ ap (λ k. get_or (slice_set after p d) k d) (sym (eqb-true p i this))
+            ∙ set-default after p
             ∙ sym (cond-true (is_named (places ++ p ∷ []) i) d (get_or before i d)
-            (more ∙ or_right (is_named places i) (nat_eq p i || false) (or_left (nat_eq p i) false this)))
-        | inr other ↦ get_or-set_other after p i d d (λ e. both_ways (nat_eq p i) other (eq-eqb p i (sym e)))
+            (more
+            ∙ or_right (is_named places i) (nat_eq p i || false) (or_left (nat_eq p i) false this)))
+        | inr other ↦ get_or-set_other after p i d d
+            (λ e. both_ways (nat_eq p i) other (eq-eqb p i (sym e)))
             ∙ h i
             ∙ ap (λ b. if b then d else get_or before i d)
-            (sym (more ∙ ap (λ b. is_named places i || (b || false)) other ∙ or_false (is_named places i)))
+            (sym (more ∙ ap (λ b. is_named places i || (b || false)) other
+            ∙ or_false (is_named places i)))
       ]
 
 -- a place behind others is named as they are
-pub named-more : (places : List ℕ) (p i : ℕ) → is_named places i ≡ true → is_named (places ++ p ∷ []) i ≡ true
+pub named-more : (places : List ℕ) (p i : ℕ) → is_named places i ≡ true →
+    is_named (places ++ p ∷ []) i ≡ true
 named-more places p i h =
-    list_any-append (λ named. nat_eq named i) places (p ∷ []) ∙ or_left (is_named places i) (is_named (p ∷ []) i) h
+    list_any-append (λ named. nat_eq named i) places (p ∷ [])
+    ∙ or_left (is_named places i) (is_named (p ∷ []) i) h

@@ -1,5 +1,6 @@
 //! Which clauses of a base were dropped.
-ghost use Rattle.std.specs.Prelude.{◌≡◌, ℕ, ◌<◌, ◌≤◌, ◌||◌, [], nat_eq, true, false, length, slice_index_or, slice_set, OnOk};
+ghost use Rattle.std.specs.Prelude.{◌≡◌, ℕ, ◌<◌, ◌≤◌, ◌||◌, [], nat_eq, true, false, length};
+ghost use Rattle.std.specs.Prelude.{slice_index_or, slice_set, OnOk};
 ghost use Rattle.hint_check.specs.Inner.Dropped.{is_dropped, HasRoom, NamesDropped};
 ghost use Rattle.hint_check.specs.Inner.Resets.{is_named, Resets};
 

@@ -1,11 +1,15 @@
 //! For each literal the ids of a formula's clauses that hold it.
-ghost use Rattle.std.specs.Prelude.{◌≡◌, ℕ, List, suc, ◌^◌, ◌+◌, ◌-◌, ◌<◌, ◌≤◌, ◌==◌, ◌++◌, [], length, take, drop, sum, true, slice_index, slice_index_or, slice_set, IfOk, OnOk};
+ghost use Rattle.std.specs.Prelude.{◌≡◌, ℕ, List, suc, ◌^◌, ◌+◌, ◌-◌, ◌<◌, ◌≤◌, ◌==◌, ◌++◌, []};
+ghost use Rattle.std.specs.Prelude.{length, take, drop, sum, true, slice_index, slice_index_or};
+ghost use Rattle.std.specs.Prelude.{slice_set, IfOk, OnOk};
 ghost use Rattle.std.specs.Bool.{OnTrue};
 ghost use Rattle.std.specs.List.{enumerate_from, list_any};
 ghost use Rattle.std.specs.List.Sorted.{IsStrictlyIncreasing};
 ghost use Rattle.cnf_text.specs.Literal.{Literal, literal_number};
 ghost use Rattle.hint_check.specs.Literals.{has};
-ghost use Rattle.hint_check.specs.Inner.Holders.{place_in, slot_of, slot_count, hits, occurrences, begin, AreLeft, IsThere, IsWhole, ids_of, NamesEach};
+ghost use Rattle.hint_check.specs.Inner.Holders.{place_in, slot_of, slot_count, hits, occurrences};
+ghost use Rattle.hint_check.specs.Inner.Holders.{begin, AreLeft, IsThere, IsWhole, ids_of};
+ghost use Rattle.hint_check.specs.Inner.Holders.{NamesEach};
 
 use cnf_text::formula::Clause;
 use cnf_text::literal::Lit;

@@ -1,10 +1,13 @@
 //! A proof's own clauses by their ids. All their literals stand in one list, each clause's behind
 //! those put in before it.
-ghost use Rattle.std.specs.Prelude.{◌≡◌, ℕ, ◌+◌, ◌-◌, ◌<◌, ◌≤◌, ◌^◌, nat_eq, cond, length, max, List, None, Some, IfSome, IfOk, OnOk, OnErr};
+ghost use Rattle.std.specs.Prelude.{◌≡◌, ℕ, ◌+◌, ◌-◌, ◌<◌, ◌≤◌, ◌^◌, nat_eq, cond, length, max};
+ghost use Rattle.std.specs.Prelude.{List, None, Some, IfSome, IfOk, OnOk, OnErr};
 ghost use Rattle.std.specs.Map.{lookup};
 ghost use Rattle.std.specs.Option.{option_copied};
 ghost use Rattle.cnf_text.specs.Literal.{Literal};
-ghost use Rattle.hint_check.specs.Inner.Own.{no_slot, slot_at, near_at, far_at, SlotsEndBy, SpansEndBy, slot_clause, span_clause, near_entries, far_entries, slot_length, SetsSlot, ListsAll};
+ghost use Rattle.hint_check.specs.Inner.Own.{no_slot, slot_at, near_at, far_at, SlotsEndBy};
+ghost use Rattle.hint_check.specs.Inner.Own.{SpansEndBy, slot_clause, span_clause, near_entries};
+ghost use Rattle.hint_check.specs.Inner.Own.{far_entries, slot_length, SetsSlot, ListsAll};
 
 use crate::index::Index;
 use cnf_text::literal::Lit;

@@ -1,5 +1,6 @@
 //! Stamps by number: in one list of numbers from 0 on, and in a sorted map.
-ghost use Rattle.std.specs.Prelude.{◌≡◌, ℕ, ◌<◌, ◌≤◌, ◌==◌, if◌then◌else◌, [], nat_eq, length, slice_index, slice_set, OnOk};
+ghost use Rattle.std.specs.Prelude.{◌≡◌, ℕ, ◌<◌, ◌≤◌, ◌==◌, if◌then◌else◌, [], nat_eq, length};
+ghost use Rattle.std.specs.Prelude.{slice_index, slice_set, OnOk};
 ghost use Rattle.std.specs.Map.{lookup};
 ghost use Rattle.hint_check.specs.Inner.Stamps.{mapped_at, HasEntry};
 

@@ -1,6 +1,7 @@
 //! A stamp for each number: in one list for the near numbers, which are most, and in a map for the
 //! others.
-ghost use Rattle.std.specs.Prelude.{◌≡◌, ℕ, ◌<◌, ◌≤◌, ◌==◌, if◌then◌else◌, ◌↔◌, IsTrue, [], length, OnOk};
+ghost use Rattle.std.specs.Prelude.{◌≡◌, ℕ, ◌<◌, ◌≤◌, ◌==◌, if◌then◌else◌, ◌↔◌, IsTrue, [], length};
+ghost use Rattle.std.specs.Prelude.{OnOk};
 ghost use Rattle.hint_check.specs.Inner.Stamps.{stamp_at, HasRoom};
 
 use crate::stamp_parts::{StampList, StampMap};

@@ -1,5 +1,6 @@
 -- Steps are read in one way.
-use Rattle.std.proofs.Common.{◌≡◌, ℕ, ◌≤◌, List, [], ◌∷◌, ◌++◌, map, refl, sym, ◌∙◌, ap, arith, append_assoc, Bool, true, false, not, Result, Ok, Err}
+use Rattle.std.proofs.Common.{◌≡◌, ℕ, ◌≤◌, List, [], ◌∷◌, ◌++◌, map, refl, sym, ◌∙◌, ap, arith}
+use Rattle.std.proofs.Common.{append_assoc, Bool, true, false, not, Result, Ok, Err}
 use Rattle.std.proofs.lemmas.Bool.{false≢true}
 use Rattle.std.specs.List.{AllByRecursion}
 use Rattle.std.specs.Result.{IfOk, IfErr}
@@ -13,8 +14,11 @@ use Rattle.lrat_text.specs.declared.steps.Stop.{Stop}
 use Rattle.lrat_text.specs.declared.steps.Stop.TheVariants as stops
 use Rattle.lrat_text.specs.declared.step.StepFault.TheVariants.{Unreadable, Memory}
 use Rattle.lrat_text.specs.declared.step.StepFault.{StepFault}
-use Rattle.lrat_text.specs.Grammar.{StepSymbol, Numeral, DeleteMark, positive, negative, signed, end_mark, IsId, HintGroup, IsGroup, hint_symbols, Add, Delete, BeginsWith}
-use Rattle.lrat_text.specs.Inner.Steps.{NoStep, IsReadAs, HasId, stop_symbol, IsRun, NoRun, IsLiterals, NoLiterals, IsIds, NoIds, IsHints, NoHints}
+use Rattle.lrat_text.specs.Grammar.{StepSymbol, Numeral, DeleteMark, positive, negative, signed}
+use Rattle.lrat_text.specs.Grammar.{end_mark, IsId, HintGroup, IsGroup, hint_symbols, Add, Delete}
+use Rattle.lrat_text.specs.Grammar.{BeginsWith}
+use Rattle.lrat_text.specs.Inner.Steps.{NoStep, IsReadAs, HasId, stop_symbol, IsRun, NoRun}
+use Rattle.lrat_text.specs.Inner.Steps.{IsLiterals, NoLiterals, IsIds, NoIds, IsHints, NoHints}
 
 same_number : (a b : Number) → Numeral a ≡ Numeral b → a ≡ b
 same_number a b e = cc
@@ -29,7 +33,8 @@ same_magnitude a b e = ap (λ (x : Number). x.magnitude) (same_number a b e)
 
 -- no id is where a run stops
 id_is_no_stop : (id : ℕ) (stop : Stop) → IsId id → positive id ≡ stop_symbol stop → ⊥
-id_is_no_stop id stops.End is e = let zero_is : id ≡ 0 = same_magnitude _ _ e in let some = is.0 in omega arith
+id_is_no_stop id stops.End is e =
+    let zero_is : id ≡ 0 = same_magnitude _ _ e in let some = is.0 in omega arith
 id_is_no_stop id (stops.Group k) is e = signs_differ id k e
 
 -- equal lists have equal first symbols
@@ -47,11 +52,14 @@ nil_cons a x e = cc
 -- one id more in front
 no_run_cons : (id : ℕ) (t : List StepSymbol) → IsId id → NoRun t → NoRun (positive id ∷ t)
 no_run_cons id t is none [] stop left run = id_is_no_stop id stop is (heads _ _ _ _ run.2)
-no_run_cons id t is none (y ∷ ys) stop left run = none ys stop left (run.0.1, run.1, tails _ _ _ _ run.2)
+no_run_cons id t is none (y ∷ ys) stop left run =
+    none ys stop left (run.0.1, run.1, tails _ _ _ _ run.2)
 
-pub no_run_after : (xs : List ℕ) (t : List StepSymbol) → AllByRecursion IsId xs → NoRun t → NoRun (map positive xs ++ t)
+pub no_run_after : (xs : List ℕ) (t : List StepSymbol) → AllByRecursion IsId xs → NoRun t →
+    NoRun (map positive xs ++ t)
 no_run_after [] t all none = none
-no_run_after (x ∷ xs) t all none = no_run_cons x (map positive xs ++ t) all.0 (no_run_after xs t all.1 none)
+no_run_after (x ∷ xs) t all none =
+    no_run_cons x (map positive xs ++ t) all.0 (no_run_after xs t all.1 none)
 
 -- no symbols are no run of ids, since what stops it is missing
 pub no_run_nil : NoRun []
@@ -63,27 +71,38 @@ id_bound id is = is.1
 
 -- no run of ids begins with a stray symbol
 pub no_run_stray : (u : StepSymbol) (t : List StepSymbol) → IsReadAs words.Stray u → NoRun (u ∷ t)
-no_run_stray u t means [] stops.End left run = means.0 (record { negative = false; magnitude = 0 }) (omega arith) (heads _ _ _ _ run.2)
-no_run_stray u t means [] (stops.Group k) left run = means.0 (record { negative = true; magnitude = k }) (id_bound k run.1) (heads _ _ _ _ run.2)
-no_run_stray u t means (y ∷ ys) stop left run = means.0 (record { negative = false; magnitude = y }) (id_bound y run.0.0) (heads _ _ _ _ run.2)
+no_run_stray u t means [] stops.End left run =
+    means.0 (record { negative = false; magnitude = 0 }) (omega arith) (heads _ _ _ _ run.2)
+no_run_stray u t means [] (stops.Group k) left run =
+    means.0 (record { negative = true; magnitude = k }) (id_bound k run.1) (heads _ _ _ _ run.2)
+no_run_stray u t means (y ∷ ys) stop left run =
+    means.0 (record { negative = false; magnitude = y }) (id_bound y run.0.0) (heads _ _ _ _ run.2)
 
 mark_is_no_numeral : (n : Number) → DeleteMark ≡ Numeral n → ⊥
 mark_is_no_numeral n e = cc
 
 -- no run of ids begins with the mark of a deletion
-pub no_run_mark : (u : StepSymbol) (t : List StepSymbol) → IsReadAs words.DeleteMark u → NoRun (u ∷ t)
+pub no_run_mark : (u : StepSymbol) (t : List StepSymbol) → IsReadAs words.DeleteMark u →
+    NoRun (u ∷ t)
 no_run_mark u t means [] stops.End left run = mark_is_no_numeral _ (sym means ∙ heads _ _ _ _ run.2)
-no_run_mark u t means [] (stops.Group k) left run = mark_is_no_numeral _ (sym means ∙ heads _ _ _ _ run.2)
-no_run_mark u t means (y ∷ ys) stop left run = mark_is_no_numeral _ (sym means ∙ heads _ _ _ _ run.2)
+no_run_mark u t means [] (stops.Group k) left run =
+    mark_is_no_numeral _ (sym means ∙ heads _ _ _ _ run.2)
+no_run_mark u t means (y ∷ ys) stop left run =
+    mark_is_no_numeral _ (sym means ∙ heads _ _ _ _ run.2)
 
 -- where ids go on with what begins no run, none began before them
-pub stuck_run : (start left : List StepSymbol) (xs : List ℕ) → start ≡ map positive xs ++ left → AllByRecursion IsId xs → NoRun left → NoRun start
+pub stuck_run : (start left : List StepSymbol) (xs : List ℕ) → start ≡ map positive xs ++ left →
+    AllByRecursion IsId xs → NoRun left → NoRun start
 stuck_run start left xs is all none = rw is (no_run_after xs left all none)
 
 -- a run is read in one way
-pub same_run : (xs ys : List ℕ) (s t : Stop) (a b : List StepSymbol) → AllByRecursion IsId xs → AllByRecursion IsId ys → map positive xs ++ stop_symbol s ∷ a ≡ map positive ys ++ stop_symbol t ∷ b → (xs ≡ ys) × (stop_symbol s ≡ stop_symbol t) × (a ≡ b)
+pub same_run : (xs ys : List ℕ) (s t : Stop) (a b : List StepSymbol) → AllByRecursion IsId xs →
+    AllByRecursion IsId ys →
+    map positive xs ++ stop_symbol s ∷ a ≡ map positive ys ++ stop_symbol t ∷ b →
+    (xs ≡ ys) × (stop_symbol s ≡ stop_symbol t) × (a ≡ b)
 same_run [] [] s t a b all others e = (refl, heads _ _ _ _ e, tails _ _ _ _ e)
-same_run [] (y ∷ ys) s t a b all others e = absurd (id_is_no_stop y s others.0 (sym (heads _ _ _ _ e)))
+same_run [] (y ∷ ys) s t a b all others e =
+    absurd (id_is_no_stop y s others.0 (sym (heads _ _ _ _ e)))
 same_run (x ∷ xs) [] s t a b all others e = absurd (id_is_no_stop x t all.0 (heads _ _ _ _ e))
 same_run (x ∷ xs) (y ∷ ys) s t a b all others e =
     let more = same_run xs ys s t a b all.1 others.1 (tails _ _ _ _ e) in
@@ -93,16 +112,21 @@ same_run (x ∷ xs) (y ∷ ys) s t a b all others e =
 
 -- literals
 literal_is_no_end : (l : Literal) → IsVariable l.variable → signed l ≡ end_mark → ⊥
-literal_is_no_end l is e = let zero_is : l.variable ≡ 0 = same_magnitude _ _ e in let some = is.0 in omega arith
+literal_is_no_end l is e =
+    let zero_is : l.variable ≡ 0 = same_magnitude _ _ e in let some = is.0 in omega arith
 
 -- where no literals begin, none do after one more literal
-pub no_literals_cons : (l : Literal) (t : List StepSymbol) → IsVariable l.variable → NoLiterals t → NoLiterals (signed l ∷ t)
+pub no_literals_cons : (l : Literal) (t : List StepSymbol) → IsVariable l.variable → NoLiterals t →
+    NoLiterals (signed l ∷ t)
 no_literals_cons l t is none [] left found = literal_is_no_end l is (heads _ _ _ _ found.1)
 no_literals_cons l t is none (k ∷ ks) left found = none ks left (found.0.1, tails _ _ _ _ found.1)
 
-no_literals_after : (ls : List Literal) (t : List StepSymbol) → AllByRecursion (λ literal. IsVariable literal.variable) ls → NoLiterals t → NoLiterals (map signed ls ++ t)
+no_literals_after : (ls : List Literal) (t : List StepSymbol) →
+    AllByRecursion (λ literal. IsVariable literal.variable) ls → NoLiterals t →
+    NoLiterals (map signed ls ++ t)
 no_literals_after [] t all none = none
-no_literals_after (l ∷ ls) t all none = no_literals_cons l (map signed ls ++ t) all.0 (no_literals_after ls t all.1 none)
+no_literals_after (l ∷ ls) t all none =
+    no_literals_cons l (map signed ls ++ t) all.0 (no_literals_after ls t all.1 none)
 
 -- no symbols are no literals, since the end mark is missing
 pub no_literals_nil : NoLiterals []
@@ -110,12 +134,16 @@ no_literals_nil [] left found = nil_cons _ _ found.1
 no_literals_nil (k ∷ ks) left found = nil_cons _ _ found.1
 
 -- literals don't begin with a symbol that is neither an end mark nor a literal
-pub no_literals_at : (u : StepSymbol) (t : List StepSymbol) → (u ≡ end_mark → ⊥) → ((l : Literal) → IsVariable l.variable → u ≡ signed l → ⊥) → NoLiterals (u ∷ t)
+pub no_literals_at : (u : StepSymbol) (t : List StepSymbol) → (u ≡ end_mark → ⊥) →
+    ((l : Literal) → IsVariable l.variable → u ≡ signed l → ⊥) → NoLiterals (u ∷ t)
 no_literals_at u t no_end no_literal [] left found = no_end (heads _ _ _ _ found.1)
-no_literals_at u t no_end no_literal (k ∷ ks) left found = no_literal k found.0.0 (heads _ _ _ _ found.1)
+no_literals_at u t no_end no_literal (k ∷ ks) left found =
+    no_literal k found.0.0 (heads _ _ _ _ found.1)
 
 -- where literals go on with what begins none, none began before them
-pub stuck_literals : (start left : List StepSymbol) (ls : List Literal) → start ≡ map signed ls ++ left → AllByRecursion (λ literal. IsVariable literal.variable) ls → NoLiterals left → NoLiterals start
+pub stuck_literals : (start left : List StepSymbol) (ls : List Literal) →
+    start ≡ map signed ls ++ left → AllByRecursion (λ literal. IsVariable literal.variable) ls →
+    NoLiterals left → NoLiterals start
 stuck_literals start left ls is all none = rw is (no_literals_after ls left all none)
 
 not_same : (p q : Bool) → not p ≡ not q → p ≡ q
@@ -127,13 +155,18 @@ not_same false true e = absurd (cc)
 same_literal : (l k : Literal) → signed l ≡ signed k → l ≡ k
 same_literal l k e =
     let variables : l.variable ≡ k.variable = same_magnitude _ _ e in
-    let signs : l.positive ≡ k.positive = not_same _ _ (ap (λ (x : Number). x.negative) (same_number _ _ e)) in
+    let signs : l.positive ≡ k.positive =
+    not_same _ _ (ap (λ (x : Number). x.negative) (same_number _ _ e)) in
     λ i. record { variable = variables i; positive = signs i }
 
 -- symbols begin with one list of literals and an end mark at most, and leave one rest
-pub same_literals : (ls ks : List Literal) (a b : List StepSymbol) → AllByRecursion (λ literal. IsVariable literal.variable) ls → AllByRecursion (λ literal. IsVariable literal.variable) ks → map signed ls ++ end_mark ∷ a ≡ map signed ks ++ end_mark ∷ b → (ls ≡ ks) × (a ≡ b)
+pub same_literals : (ls ks : List Literal) (a b : List StepSymbol) →
+    AllByRecursion (λ literal. IsVariable literal.variable) ls →
+    AllByRecursion (λ literal. IsVariable literal.variable) ks →
+    map signed ls ++ end_mark ∷ a ≡ map signed ks ++ end_mark ∷ b → (ls ≡ ks) × (a ≡ b)
 same_literals [] [] a b all others e = (refl, tails _ _ _ _ e)
-same_literals [] (k ∷ ks) a b all others e = absurd (literal_is_no_end k others.0 (sym (heads _ _ _ _ e)))
+same_literals [] (k ∷ ks) a b all others e =
+    absurd (literal_is_no_end k others.0 (sym (heads _ _ _ _ e)))
 same_literals (l ∷ ls) [] a b all others e = absurd (literal_is_no_end l all.0 (heads _ _ _ _ e))
 same_literals (l ∷ ls) (k ∷ ks) a b all others e =
     let more = same_literals ls ks a b all.1 others.1 (tails _ _ _ _ e) in
@@ -142,35 +175,53 @@ same_literals (l ∷ ls) (k ∷ ks) a b all others e =
     (cc, more.1)
 
 -- hints
-pub hints_nil : (hints : List ℕ) (x : List StepSymbol) → hint_symbols hints [] ++ x ≡ map positive hints ++ x
+pub hints_nil : (hints : List ℕ) (x : List StepSymbol) →
+    hint_symbols hints [] ++ x ≡ map positive hints ++ x
 hints_nil hints x = append_assoc (map positive hints) [] x
 
 -- hints with groups are the leading hints, the first candidate, and the hints with the other groups
-pub hints_cons : (hints : List ℕ) (g : HintGroup) (gs : List HintGroup) (x : List StepSymbol) → hint_symbols hints (g ∷ gs) ++ x ≡ map positive hints ++ negative g.candidate ∷ (hint_symbols g.hints gs ++ x)
-hints_cons hints g gs x = append_assoc (map positive hints) (negative g.candidate ∷ hint_symbols g.hints gs) x
+pub hints_cons : (hints : List ℕ) (g : HintGroup) (gs : List HintGroup) (x : List StepSymbol) →
+    hint_symbols hints (g ∷ gs) ++ x
+    ≡ map positive hints ++ negative g.candidate ∷ (hint_symbols g.hints gs ++ x)
+hints_cons hints g gs x =
+    append_assoc (map positive hints) (negative g.candidate ∷ hint_symbols g.hints gs) x
 
 -- where no run of ids begins, no hints do
 pub no_hints_from_run : (t : List StepSymbol) → NoRun t → NoHints t
-no_hints_from_run t none hints [] left found = none hints stops.End left (found.0, tt, found.2 ∙ hints_nil hints (end_mark ∷ left))
+no_hints_from_run t none hints [] left found =
+    none hints stops.End left (found.0, tt, found.2 ∙ hints_nil hints (end_mark ∷ left))
 no_hints_from_run t none hints (g ∷ gs) left found =
-    none hints (stops.Group g.candidate) (hint_symbols g.hints gs ++ end_mark ∷ left) (found.0, found.1.0.0, found.2 ∙ hints_cons hints g gs (end_mark ∷ left))
+    none hints (stops.Group g.candidate) (hint_symbols g.hints gs ++ end_mark ∷ left)
+    (found.0, found.1.0.0, found.2 ∙ hints_cons hints g gs (end_mark ∷ left))
 
-no_hints_group : (xs : List ℕ) (k : ℕ) (t : List StepSymbol) → AllByRecursion IsId xs → NoHints t → NoHints (map positive xs ++ negative k ∷ t)
+no_hints_group : (xs : List ℕ) (k : ℕ) (t : List StepSymbol) → AllByRecursion IsId xs → NoHints t →
+    NoHints (map positive xs ++ negative k ∷ t)
 no_hints_group xs k t all none hints [] left found =
-    let same = same_run xs hints (stops.Group k) stops.End t left all found.0 (found.2 ∙ hints_nil hints (end_mark ∷ left)) in
+    let same =
+    same_run xs hints (stops.Group k) stops.End t left all found.0
+    (found.2 ∙ hints_nil hints (end_mark ∷ left)) in
     signs_differ 0 k (sym same.1)
 no_hints_group xs k t all none hints (g ∷ gs) left found =
-    let same = same_run xs hints (stops.Group k) (stops.Group g.candidate) t (hint_symbols g.hints gs ++ end_mark ∷ left) all found.0 (found.2 ∙ hints_cons hints g gs (end_mark ∷ left)) in
+    let same =
+    same_run xs hints (stops.Group k) (stops.Group g.candidate) t
+    (hint_symbols g.hints gs ++ end_mark ∷ left) all found.0
+    (found.2 ∙ hints_cons hints g gs (end_mark ∷ left)) in
     none g.hints gs left (found.1.0.1, found.1.1, same.2)
 
 -- hints that a candidate follows, and no hints after it, are no hints
-pub no_hints_after : (hints : List ℕ) (groups : List HintGroup) (k : ℕ) (t : List StepSymbol) → AllByRecursion IsId hints → AllByRecursion IsGroup groups → NoHints t → NoHints (hint_symbols hints groups ++ negative k ∷ t)
+pub no_hints_after : (hints : List ℕ) (groups : List HintGroup) (k : ℕ) (t : List StepSymbol) →
+    AllByRecursion IsId hints → AllByRecursion IsGroup groups → NoHints t →
+    NoHints (hint_symbols hints groups ++ negative k ∷ t)
 no_hints_after hints [] k t all each none = rw hints_nil (no_hints_group hints k t all none)
 no_hints_after hints (g ∷ gs) k t all each none =
-    rw hints_cons (no_hints_group hints g.candidate (hint_symbols g.hints gs ++ negative k ∷ t) all (no_hints_after g.hints gs k t each.0.1 each.1 none))
+    rw hints_cons
+    (no_hints_group hints g.candidate (hint_symbols g.hints gs ++ negative k ∷ t) all
+    (no_hints_after g.hints gs k t each.0.1 each.1 none))
 
 -- hints with one more group are written as before, and then its candidate and its hints
-pub hints_push : (hints : List ℕ) (gs : List HintGroup) (g : HintGroup) (x : List StepSymbol) → hint_symbols hints (gs ++ g ∷ []) ++ x ≡ hint_symbols hints gs ++ negative g.candidate ∷ (map positive g.hints ++ x)
+pub hints_push : (hints : List ℕ) (gs : List HintGroup) (g : HintGroup) (x : List StepSymbol) →
+    hint_symbols hints (gs ++ g ∷ []) ++ x
+    ≡ hint_symbols hints gs ++ negative g.candidate ∷ (map positive g.hints ++ x)
 hints_push hints gs g x = rw (flat_map-append, append-nil) (simp append_assoc)
 
 -- where no run of ids begins, no list of ids does
@@ -178,84 +229,126 @@ pub no_ids_from_run : (t : List StepSymbol) → NoRun t → NoIds t
 no_ids_from_run t none ids left found = none ids stops.End left (found.0, tt, found.1)
 
 -- a run of ids that ends at a candidate is no list of ids with an end mark
-pub no_ids_at_group : (t : List StepSymbol) (xs : List ℕ) (k : ℕ) (rest : List StepSymbol) → IsRun t xs (stops.Group k) rest → NoIds t
+pub no_ids_at_group : (t : List StepSymbol) (xs : List ℕ) (k : ℕ) (rest : List StepSymbol) →
+    IsRun t xs (stops.Group k) rest → NoIds t
 no_ids_at_group t xs k rest run ids left found =
-    let same = same_run xs ids (stops.Group k) stops.End rest left run.0 found.0 (sym run.2 ∙ found.1) in
+    let same =
+    same_run xs ids (stops.Group k) stops.End rest left run.0 found.0 (sym run.2 ∙ found.1) in
     signs_differ 0 k (sym same.1)
 
 -- literals and their end mark don't begin with the mark of a deletion
-pub no_mark_in_literals : (ls : List Literal) (x t : List StepSymbol) → DeleteMark ∷ t ≡ map signed ls ++ end_mark ∷ x → ⊥
+pub no_mark_in_literals : (ls : List Literal) (x t : List StepSymbol) →
+    DeleteMark ∷ t ≡ map signed ls ++ end_mark ∷ x → ⊥
 no_mark_in_literals [] x t e = mark_is_no_numeral _ (heads _ _ _ _ e)
 no_mark_in_literals (l ∷ ls) x t e = mark_is_no_numeral _ (heads _ _ _ _ e)
 
 -- what follows the id of an addition
-pub addition_parts : (literals : List Literal) (hints : List ℕ) (groups : List HintGroup) (left : List StepSymbol) → (map signed literals ++ end_mark ∷ (hint_symbols hints groups ++ end_mark ∷ [])) ++ left ≡ map signed literals ++ end_mark ∷ (hint_symbols hints groups ++ end_mark ∷ left)
+pub addition_parts : (literals : List Literal) (hints : List ℕ) (groups : List HintGroup)
+    (left : List StepSymbol) →
+    (map signed literals ++ end_mark ∷ (hint_symbols hints groups ++ end_mark ∷ [])) ++ left
+    ≡ map signed literals ++ end_mark ∷ (hint_symbols hints groups ++ end_mark ∷ left)
 addition_parts literals hints groups left =
-    append_assoc (map signed literals) (end_mark ∷ (hint_symbols hints groups ++ end_mark ∷ [])) left
-    ∙ ap (λ x. map signed literals ++ end_mark ∷ x) (append_assoc (hint_symbols hints groups) (end_mark ∷ []) left)
+    append_assoc (map signed literals) (end_mark ∷ (hint_symbols hints groups ++ end_mark ∷ []))
+    left
+    ∙ ap (λ x. map signed literals ++ end_mark ∷ x)
+    (append_assoc (hint_symbols hints groups) (end_mark ∷ []) left)
 
 -- the mark of a deletion without ids begins no step
-pub no_step_deletion : (n : ℕ) (t : List StepSymbol) → NoIds t → NoStep (positive n ∷ DeleteMark ∷ t)
+pub no_step_deletion : (n : ℕ) (t : List StepSymbol) → NoIds t →
+    NoStep (positive n ∷ DeleteMark ∷ t)
 no_step_deletion n t none (Add a) left found =
-    no_mark_in_literals a.literals _ t (tails _ _ _ _ (found.2 ∙ ap (λ x. x ++ left) found.1.4) ∙ addition_parts a.literals a.hints a.groups left)
+    no_mark_in_literals a.literals _ t
+    (tails _ _ _ _ (found.2 ∙ ap (λ x. x ++ left) found.1.4)
+    ∙ addition_parts a.literals a.hints a.groups left)
 no_step_deletion n t none (Delete ids) left found =
-    none ids left (found.1.0, tails _ _ _ _ (tails _ _ _ _ (found.2 ∙ ap (λ x. x ++ left) found.1.1.2)) ∙ append_assoc (map positive ids) (end_mark ∷ []) left)
+    none ids left (
+      found.1.0,
+      tails _ _ _ _ (tails _ _ _ _ (found.2 ∙ ap (λ x. x ++ left) found.1.1.2))
+          ∙ append_assoc (map positive ids) (end_mark ∷ []) left,
+    )
 
 -- an addition cannot stand here, and no mark of a deletion comes
-no_step_addition : (n : ℕ) (t : List StepSymbol) → ((r : List StepSymbol) → t ≡ DeleteMark ∷ r → ⊥) → ((literals : List Literal) (hints : List ℕ) (groups : List HintGroup) (left : List StepSymbol) → IsId n → AllByRecursion (λ literal. IsVariable literal.variable) literals → AllByRecursion IsId hints → AllByRecursion IsGroup groups → t ≡ map signed literals ++ end_mark ∷ (hint_symbols hints groups ++ end_mark ∷ left) → ⊥) → NoStep (positive n ∷ t)
+no_step_addition : (n : ℕ) (t : List StepSymbol) →
+    ((r : List StepSymbol) → t ≡ DeleteMark ∷ r → ⊥) →
+    ((literals : List Literal) (hints : List ℕ) (groups : List HintGroup) (left : List StepSymbol) →
+    IsId n → AllByRecursion (λ literal. IsVariable literal.variable) literals →
+    AllByRecursion IsId hints → AllByRecursion IsGroup groups →
+    t ≡ map signed literals ++ end_mark ∷ (hint_symbols hints groups ++ end_mark ∷ left) → ⊥) →
+    NoStep (positive n ∷ t)
 no_step_addition n t no_mark none (Add a) left found =
     let whole = found.2 ∙ ap (λ x. x ++ left) found.1.4 in
     let same : n ≡ a.id = same_magnitude _ _ (heads _ _ _ _ whole) in
-    none a.literals a.hints a.groups left (rw same found.1.0) found.1.1 found.1.2 found.1.3 (tails _ _ _ _ whole ∙ addition_parts a.literals a.hints a.groups left)
+    none a.literals a.hints a.groups left (rw same found.1.0) found.1.1 found.1.2 found.1.3
+    (tails _ _ _ _ whole ∙ addition_parts a.literals a.hints a.groups left)
 no_step_addition n t no_mark none (Delete ids) left found =
     no_mark _ (tails _ _ _ _ (found.2 ∙ ap (λ x. x ++ left) found.1.1.2))
 
 -- literals without hints begin no step
-pub no_step_hints : (n : ℕ) (t : List StepSymbol) (ls : List Literal) (rest : List StepSymbol) → IsLiterals t ls rest → NoHints rest → ((r : List StepSymbol) → t ≡ DeleteMark ∷ r → ⊥) → NoStep (positive n ∷ t)
+pub no_step_hints : (n : ℕ) (t : List StepSymbol) (ls : List Literal) (rest : List StepSymbol) →
+    IsLiterals t ls rest → NoHints rest → ((r : List StepSymbol) → t ≡ DeleteMark ∷ r → ⊥) →
+    NoStep (positive n ∷ t)
 no_step_hints n t ls rest found none no_mark =
     no_step_addition n t no_mark (λ literals hints groups left id all each every e.
-    let same = same_literals ls literals rest (hint_symbols hints groups ++ end_mark ∷ left) found.0 all (sym found.1 ∙ e) in
+    let same =
+    same_literals ls literals rest (hint_symbols hints groups ++ end_mark ∷ left) found.0 all
+    (sym found.1 ∙ e) in
     none hints groups left (each, every, same.1))
 
 -- an id, literals with an end mark and hints with an end mark begin with an addition of them
-pub addition_begins : (id : ℕ) (t rest left : List StepSymbol) (ls : List Literal) (hints : List ℕ) (groups : List HintGroup) → IsId id → IsLiterals t ls rest → IsHints rest hints groups left → BeginsWith (positive id ∷ t) (Add (record { id = id; literals = ls; hints = hints; groups = groups })) left
+pub addition_begins : (id : ℕ) (t rest left : List StepSymbol) (ls : List Literal) (hints : List ℕ)
+    (groups : List HintGroup) → IsId id → IsLiterals t ls rest → IsHints rest hints groups left →
+    BeginsWith (positive id ∷ t)
+    (Add (record { id = id; literals = ls; hints = hints; groups = groups })) left
 addition_begins id t rest left ls hints groups is literals found = (
   positive id ∷ (map signed ls ++ end_mark ∷ (hint_symbols hints groups ++ end_mark ∷ [])),
   (is, literals.0, found.0, found.1, refl),
-  ap (λ x. positive id ∷ x) (literals.1 ∙ ap (λ x. map signed ls ++ end_mark ∷ x) found.2 ∙ sym (addition_parts ls hints groups left)),
+  ap (λ x. positive id ∷ x)
+      (literals.1 ∙ ap (λ x. map signed ls ++ end_mark ∷ x) found.2
+      ∙ sym (addition_parts ls hints groups left)),
 )
 
 -- a number, the mark of a deletion and ids with an end mark begin with a deletion of these ids
-pub deletion_begins : (n : ℕ) (t left : List StepSymbol) (ids : List ℕ) → n ≤ 4611686018427387904 → IsIds t ids left → BeginsWith (positive n ∷ DeleteMark ∷ t) (Delete ids) left
+pub deletion_begins : (n : ℕ) (t left : List StepSymbol) (ids : List ℕ) → n ≤ 4611686018427387904 →
+    IsIds t ids left → BeginsWith (positive n ∷ DeleteMark ∷ t) (Delete ids) left
 deletion_begins n t left ids bound found = (
   positive n ∷ DeleteMark ∷ (map positive ids ++ end_mark ∷ []),
   (found.0, (n, bound, refl)),
-  ap (λ x. positive n ∷ DeleteMark ∷ x) (found.1 ∙ sym (append_assoc (map positive ids) (end_mark ∷ []) left)),
+  ap (λ x. positive n ∷ DeleteMark ∷ x)
+      (found.1 ∙ sym (append_assoc (map positive ids) (end_mark ∷ []) left)),
 )
 
 -- a word that isn't read as an end mark stands for none
-pub not_end : (word : Word) (symbol : StepSymbol) → IsReadAs word symbol → HasId word → (word ≡ words.End → ⊥) → symbol ≡ end_mark → ⊥
+pub not_end : (word : Word) (symbol : StepSymbol) → IsReadAs word symbol → HasId word →
+    (word ≡ words.End → ⊥) → symbol ≡ end_mark → ⊥
 not_end words.End symbol means has other e = other refl
-not_end (words.Positive n) symbol means has other e = let zero_is : n ≡ 0 = same_magnitude _ _ (sym means.1 ∙ e) in let some = has.0 in omega arith
+not_end (words.Positive n) symbol means has other e =
+    let zero_is : n ≡ 0 = same_magnitude _ _ (sym means.1 ∙ e) in let some = has.0 in omega arith
 not_end (words.Negative n) symbol means has other e = signs_differ 0 n (sym e ∙ means.1)
 not_end words.DeleteMark symbol means has other e = mark_is_no_numeral _ (sym means ∙ e)
-not_end words.Stray symbol means has other e = means.0 (record { negative = false; magnitude = 0 }) (omega arith) e
+not_end words.Stray symbol means has other e =
+    means.0 (record { negative = false; magnitude = 0 }) (omega arith) e
 
 -- a word that is no mark of a deletion
-pub not_mark : (word : Word) → (word ≡ words.DeleteMark → ⊥) → (symbol : StepSymbol) → IsReadAs word symbol → (t r : List StepSymbol) → symbol ∷ t ≡ DeleteMark ∷ r → ⊥
+pub not_mark : (word : Word) → (word ≡ words.DeleteMark → ⊥) → (symbol : StepSymbol) →
+    IsReadAs word symbol → (t r : List StepSymbol) → symbol ∷ t ≡ DeleteMark ∷ r → ⊥
 not_mark words.End other symbol means t r e = mark_is_no_numeral _ (sym (heads _ _ _ _ e) ∙ means)
-not_mark (words.Positive n) other symbol means t r e = mark_is_no_numeral _ (sym (heads _ _ _ _ e) ∙ means.1)
-not_mark (words.Negative n) other symbol means t r e = mark_is_no_numeral _ (sym (heads _ _ _ _ e) ∙ means.1)
+not_mark (words.Positive n) other symbol means t r e =
+    mark_is_no_numeral _ (sym (heads _ _ _ _ e) ∙ means.1)
+not_mark (words.Negative n) other symbol means t r e =
+    mark_is_no_numeral _ (sym (heads _ _ _ _ e) ∙ means.1)
 not_mark words.DeleteMark other symbol means t r e = other refl
 not_mark words.Stray other symbol means t r e = means.1 (heads _ _ _ _ e)
 
 -- what holds of an answer
-pub ok_each : {A : Type 0} (result : Result A StepFault) (P : A → Type 0) (Q : StepSymbol → A → Type 0) → ((symbol : StepSymbol) (kind : A) → P kind → Q symbol kind) → IfOk result P → IfOk result (λ kind. (symbol : StepSymbol) → Q symbol kind)
+pub ok_each : {A : Type 0} (result : Result A StepFault) (P : A → Type 0)
+    (Q : StepSymbol → A → Type 0) → ((symbol : StepSymbol) (kind : A) → P kind → Q symbol kind) →
+    IfOk result P → IfOk result (λ kind. (symbol : StepSymbol) → Q symbol kind)
 ok_each (Ok kind) P Q more h = λ symbol. more symbol kind h
 ok_each (Err fault) P Q more h = tt
 
 -- what follows from each fault is said of a result's fault
-pub err_each : {A : Type 0} (result : Result A StepFault) (P Q : StepFault → Type 0) → ((fault : StepFault) → P fault → Q fault) → IfErr result P → IfErr result Q
+pub err_each : {A : Type 0} (result : Result A StepFault) (P Q : StepFault → Type 0) →
+    ((fault : StepFault) → P fault → Q fault) → IfErr result P → IfErr result Q
 err_each (Ok kind) P Q more h = tt
 err_each (Err fault) P Q more h = more fault h
 

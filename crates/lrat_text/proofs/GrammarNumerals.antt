@@ -1,5 +1,6 @@
 -- Numbers as symbols.
-use Rattle.std.proofs.Common.{◌≡◌, ℕ, ◌≤◌, ◌<◌, List, [], ◌∷◌, drop, refl, sym, ◌∙◌, ap, arith, Bool, true, false, Option, Some, None, inl, inr}
+use Rattle.std.proofs.Common.{◌≡◌, ℕ, ◌≤◌, ◌<◌, List, [], ◌∷◌, drop, refl, sym, ◌∙◌, ap, arith}
+use Rattle.std.proofs.Common.{Bool, true, false, Option, Some, None, inl, inr}
 use Rattle.std.specs.Prelude.{min, codes, slice_index, ◌==◌}
 use Rattle.std.specs.Option.{option_map}
 use Rattle.std.specs.Str.{bytes_eq}
@@ -21,9 +22,12 @@ no_letter : number_of (100 ∷ []) ≡ None
 unfolding number_of decimal
 no_letter = refl
 
-no_mark : (bytes : List ℕ) (n : Number) → number_of bytes ≡ Some n → bytes_eq bytes (codes "d") ≡ false
+no_mark : (bytes : List ℕ) (n : Number) → number_of bytes ≡ Some n →
+    bytes_eq bytes (codes "d") ≡ false
 no_mark bytes n h = elim (cases_Bool (bytes_eq bytes (codes "d"))) [
-  | inl same ↦ absurd (some_none n (sym no_letter ∙ sym (ap number_of ((bytes_eq-Decides bytes (codes "d")).0 same)) ∙ h))
+  | inl same ↦ absurd
+      (some_none n
+      (sym no_letter ∙ sym (ap number_of ((bytes_eq-Decides bytes (codes "d")).0 same)) ∙ h))
   | inr other ↦ other
 ]
 
@@ -42,7 +46,8 @@ no_sign : (found : Option ℕ) (n : Number) → unsigned_of found ≡ Some n →
 no_sign None n h = absurd (some_none n h)
 no_sign (Some v) n h = sym (ap (λ (m : Number). m.negative) (same_some _ _ h))
 
-below_zero : (bytes : List ℕ) (n : Number) → number_of bytes ≡ Some n → n.negative ≡ true → 1 ≤ n.magnitude
+below_zero : (bytes : List ℕ) (n : Number) → number_of bytes ≡ Some n → n.negative ≡ true →
+    1 ≤ n.magnitude
 unfolding number_of
 below_zero bytes n h sign = elim (cases_Bool (slice_index bytes 0 == 45)) [
   | inl minus ↦ not_zero_below (decimal (drop 1 bytes)) n (sym (rw minus refl) ∙ h)
@@ -56,7 +61,8 @@ record IsNumeral (bytes : List ℕ) (told : code.Number) : Type 0 where
   pub told_is : capped number ≡ told
   pub some : number.negative ≡ true → 1 ≤ number.magnitude
 
-numeral_found : (bytes : List ℕ) (told : code.Number) (found : Option Number) → number_of bytes ≡ found → option_map capped found ≡ Some told → IsNumeral bytes told
+numeral_found : (bytes : List ℕ) (told : code.Number) (found : Option Number) →
+    number_of bytes ≡ found → option_map capped found ≡ Some told → IsNumeral bytes told
 numeral_found bytes told None at h = absurd (some_none told h)
 numeral_found bytes told (Some n) at h = record {
   number = n;
@@ -65,7 +71,8 @@ numeral_found bytes told (Some n) at h = record {
   some = below_zero bytes n at;
 }
 
-is_numeral : (bytes : List ℕ) (told : code.Number) → option_map capped (number_of bytes) ≡ Some told → IsNumeral bytes told
+is_numeral : (bytes : List ℕ) (told : code.Number) →
+    option_map capped (number_of bytes) ≡ Some told → IsNumeral bytes told
 is_numeral bytes told h = numeral_found bytes told (number_of bytes) refl h
 
 same_numeral : (a b : Number) → Numeral a ≡ Numeral b → a ≡ b
@@ -74,39 +81,53 @@ same_numeral a b e = cc
 no_numeral : (n : Number) → Numeral n ≡ DeleteMark → ⊥
 no_numeral n e = cc
 
-capped_size : (n : Number) (told : code.Number) → capped n ≡ told → min n.magnitude 18446744073709551615 ≡ told.magnitude
+capped_size : (n : Number) (told : code.Number) → capped n ≡ told →
+    min n.magnitude 18446744073709551615 ≡ told.magnitude
 capped_size n told h = ap (λ (m : code.Number). m.magnitude) h
 
 capped_sign : (n : Number) (told : code.Number) → capped n ≡ told → n.negative ≡ told.negative
 capped_sign n told h = ap (λ (m : code.Number). m.negative) h
 
-same_parts : (n : Number) (sign : Bool) (size : ℕ) → n.negative ≡ sign → n.magnitude ≡ size → n ≡ record { negative = sign; magnitude = size }
+same_parts : (n : Number) (sign : Bool) (size : ℕ) → n.negative ≡ sign → n.magnitude ≡ size →
+    n ≡ record { negative = sign; magnitude = size }
 same_parts n sign size signs sizes = λ i. record { negative = signs i; magnitude = sizes i }
 
 -- a number past the greatest id
-pub too_large : (bytes : List ℕ) (told : code.Number) → option_map capped (number_of bytes) ≡ Some told → 4611686018427387904 < told.magnitude → IsReadAs words.Stray (step_symbol_of bytes)
+pub too_large : (bytes : List ℕ) (told : code.Number) →
+    option_map capped (number_of bytes) ≡ Some told → 4611686018427387904 < told.magnitude →
+    IsReadAs words.Stray (step_symbol_of bytes)
 too_large bytes told h large =
     let is = is_numeral bytes told h in
-    let size : min is.number.magnitude 18446744073709551615 ≡ told.magnitude = capped_size is.number told is.told_is in (
+    let size : min is.number.magnitude 18446744073709551615 ≡ told.magnitude =
+    capped_size is.number told is.told_is in (
       λ number bound e. (
-          let sizes : is.number.magnitude ≡ number.magnitude = ap (λ (m : Number). m.magnitude) (same_numeral _ _ (sym is.symbol ∙ e)) in
+          let sizes : is.number.magnitude ≡ number.magnitude =
+          ap (λ (m : Number). m.magnitude) (same_numeral _ _ (sym is.symbol ∙ e)) in
           omega arith
           ),
       λ e. no_numeral is.number (sym is.symbol ∙ e),
     )
 
 -- a number of an id's size
-pub within : (bytes : List ℕ) (told : code.Number) → option_map capped (number_of bytes) ≡ Some told → told.magnitude ≤ 4611686018427387904
-    → step_symbol_of bytes ≡ Numeral (record { negative = told.negative; magnitude = told.magnitude })
+pub within : (bytes : List ℕ) (told : code.Number) →
+    option_map capped (number_of bytes) ≡ Some told → told.magnitude ≤ 4611686018427387904
+    →
+    step_symbol_of bytes ≡ Numeral (record { negative = told.negative; magnitude = told.magnitude })
 within bytes told h small =
     let is = is_numeral bytes told h in
-    let size : min is.number.magnitude 18446744073709551615 ≡ told.magnitude = capped_size is.number told is.told_is in
-    is.symbol ∙ ap Numeral (same_parts is.number told.negative told.magnitude (capped_sign is.number told is.told_is) (omega arith))
+    let size : min is.number.magnitude 18446744073709551615 ≡ told.magnitude =
+    capped_size is.number told is.told_is in
+    is.symbol
+    ∙ ap Numeral
+    (same_parts is.number told.negative told.magnitude (capped_sign is.number told is.told_is)
+    (omega arith))
 
 -- there is no negative zero
-pub some_below_zero : (bytes : List ℕ) (told : code.Number) → option_map capped (number_of bytes) ≡ Some told → told.negative ≡ true → 1 ≤ told.magnitude
+pub some_below_zero : (bytes : List ℕ) (told : code.Number) →
+    option_map capped (number_of bytes) ≡ Some told → told.negative ≡ true → 1 ≤ told.magnitude
 some_below_zero bytes told h sign =
     let is = is_numeral bytes told h in
-    let size : min is.number.magnitude 18446744073709551615 ≡ told.magnitude = capped_size is.number told is.told_is in
+    let size : min is.number.magnitude 18446744073709551615 ≡ told.magnitude =
+    capped_size is.number told is.told_is in
     let some : 1 ≤ is.number.magnitude = is.some (capped_sign is.number told is.told_is ∙ sign) in
     omega arith

@@ -4,7 +4,8 @@ use Rattle.std.proofs.Common.{Bool, true, false, not, ◌&&◌, refl, sym, ap, �
 use Rattle.std.specs.Prelude.{slice_index_or}
 use Rattle.std.specs.List.{Contains}
 use Rattle.std.proofs.lemmas.Bool.{cases_lt, cases_eq, cases_Bool, and_parts, and_from}
-use Rattle.std.proofs.lemmas.List.Elements.{Contains-append_left, Contains-append_right, Contains-append_cases}
+use Rattle.std.proofs.lemmas.List.Elements.{Contains-append_left, Contains-append_right}
+use Rattle.std.proofs.lemmas.List.Elements.{Contains-append_cases}
 use Rattle.split_tree.specs.SplitTree.{SplitTree, missing, cube, split, size, subtree_at}
 use Rattle.split_tree.specs.Navigation.{HasBelow, IsParent}
 use Rattle.split_tree.proofs.NodesCoding.{branches_at, subtree-root, some_node}
@@ -34,7 +35,8 @@ false_is false h = refl
 none : (place : NodeWithTree) → Contains {X = NodeWithTree} [] place → ⊥
 none place h = absurd (omega (arith, h.1))
 
-at_one : (one place : NodeWithTree) (k : ℕ) → k < length (one ∷ []) → slice_index_or (one ∷ []) k place ≡ place →
+at_one : (one place : NodeWithTree) (k : ℕ) → k < length (one ∷ []) →
+    slice_index_or (one ∷ []) k place ≡ place →
     place ≡ one
 at_one one place zero l e = sym e
 at_one one place (suc k) l e = absurd (omega arith)
@@ -62,7 +64,8 @@ parent_below tree p c r =
     record { reached = omega arith; before_end = rw r.branches.is ends }
 
 -- no node lies between a node and its parent
-parent_lowest : (tree : SplitTree) (p c j : ℕ) → IsParent tree p c → j < c → HasBelow tree j c → j ≤ p
+parent_lowest : (tree : SplitTree) (p c j : ℕ) → IsParent tree p c → j < c → HasBelow tree j c →
+    j ≤ p
 parent_lowest tree p c j r l has = elim (cases_lt p j) [
   | inr least ↦ least
   | inl later ↦
@@ -76,7 +79,8 @@ parent_lowest tree p c j r l has = elim (cases_lt p j) [
             let inside : j < r.first + size (subtree_at tree r.first) =
             rw r.branches.at_first (omega (arith, e, first, second, l)) in
             let whole : j + size (subtree_at tree j) ≤ r.first + size (subtree_at tree r.first) =
-            nested tree r.first j (omega (arith, first, later)) inside (omega (arith, first, second, within)) in
+            nested tree r.first j (omega (arith, first, later)) inside
+            (omega (arith, first, second, within)) in
             let short : j + size (subtree_at tree j) ≤ r.first + size r.branches.positive =
             rw r.branches.at_first at whole in
             absurd (omega (arith, e, first, second, short, ends))
@@ -90,14 +94,16 @@ module _ (refuted : ℕ → Bool) (whole : SplitTree) where
   abbrev both : ℕ → SplitTree → SplitTree → Bool
   both node p n = wholly_open refuted (suc node) p && wholly_open refuted (suc (node + size p)) n
 
-  whole_free : (node : ℕ) (t : SplitTree) → wholly_open refuted node t ≡ true → marked refuted node t ≡ false
+  whole_free : (node : ℕ) (t : SplitTree) → wholly_open refuted node t ≡ true →
+      marked refuted node t ≡ false
   whole_free node missing w = not_true (refuted node) w
   whole_free node (cube k) w = not_true (refuted node) w
   whole_free node (split v p n) w =
       not_true (marked refuted node (split v p n))
       (and_parts (not (marked refuted node (split v p n))) (both node p n) w).0
 
-  free_here : (node : ℕ) (t : SplitTree) (j : ℕ) → subtree_at whole node ≡ t → wholly_open refuted node t ≡ true →
+  free_here : (node : ℕ) (t : SplitTree) (j : ℕ) → subtree_at whole node ≡ t →
+      wholly_open refuted node t ≡ true →
       j ≡ node → marked refuted j (subtree_at whole j) ≡ false
   free_here node t j s w e =
       let at : subtree_at whole j ≡ t = ap (λ (q : ℕ). subtree_at whole q) e ∙ s in
@@ -114,13 +120,16 @@ module _ (refuted : ℕ → Bool) (whole : SplitTree) where
     | inr ne ↦
         let c = branches_at whole node v p n l s in
         let within : node + suc (size p + size n) ≤ size whole = c.within in
-        let parts = and_parts (wholly_open refuted (suc node) p) (wholly_open refuted (suc (node + size p)) n)
+        let parts =
+        and_parts (wholly_open refuted (suc node) p) (wholly_open refuted (suc (node + size p)) n)
         (and_parts (not (marked refuted node (split v p n))) (both node p n) w).1 in
         let second_inside : suc (node + size p) < size whole = omega (arith, some_node n) in
         let later : suc node ≤ j = omega (arith, ne) in
         elim (cases_lt j (suc (node + size p))) [
-          | inl first ↦ under_free (suc node) p (omega arith) c.positive parts.0 j later (omega arith)
-          | inr second ↦ under_free (suc (node + size p)) n second_inside c.negative parts.1 j second (omega arith)
+          | inl first ↦ under_free (suc node) p (omega arith) c.positive parts.0 j later
+              (omega arith)
+          | inr second ↦ under_free (suc (node + size p)) n second_inside c.negative parts.1 j
+              second (omega arith)
         ]
   ]
 
@@ -128,18 +137,23 @@ module _ (refuted : ℕ → Bool) (whole : SplitTree) where
       ((j : ℕ) → node ≤ j → j < node + size t → marked refuted j (subtree_at whole j) ≡ false) →
       wholly_open refuted node t ≡ true
   free_under node missing l s free =
-      let here : refuted node ≡ false = rw s at (free node (omega arith) (omega arith)) in rw here refl
+      let here : refuted node ≡ false = rw s at (free node (omega arith) (omega arith)) in
+      rw here refl
   free_under node (cube k) l s free =
-      let here : refuted node ≡ false = rw s at (free node (omega arith) (omega arith)) in rw here refl
+      let here : refuted node ≡ false = rw s at (free node (omega arith) (omega arith)) in
+      rw here refl
   free_under node (split v p n) l s free =
       let c = branches_at whole node v p n l s in
       let within : node + suc (size p + size n) ≤ size whole = c.within in
-      let here : marked refuted node (split v p n) ≡ false = rw s at (free node (omega arith) (omega arith)) in
+      let here : marked refuted node (split v p n) ≡ false =
+      rw s at (free node (omega arith) (omega arith)) in
       let second_inside : suc (node + size p) < size whole = omega (arith, some_node n) in
       and_from (not (marked refuted node (split v p n))) (both node p n) (rw here refl)
       (and_from (wholly_open refuted (suc node) p) (wholly_open refuted (suc (node + size p)) n)
-      (free_under (suc node) p (omega arith) c.positive (λ j a b. free j (omega arith) (omega arith)))
-      (free_under (suc (node + size p)) n second_inside c.negative (λ j a b. free j (omega arith) (omega arith))))
+      (free_under (suc node) p (omega arith) c.positive
+      (λ j a b. free j (omega arith) (omega arith)))
+      (free_under (suc (node + size p)) n second_inside c.negative
+      (λ j a b. free j (omega arith) (omega arith))))
 
   -- ---- what is listed, as the walk over the tree comes to it
 
@@ -147,11 +161,13 @@ module _ (refuted : ℕ → Bool) (whole : SplitTree) where
   abbrev Lists : ℕ → SplitTree → NodeWithTree → Type 0
   Lists node t place = Contains (open_branches refuted node t) place
 
-  to_list : (node : ℕ) (t : SplitTree) (list : List NodeWithTree) (place : NodeWithTree) → open_branches refuted node t ≡ list →
+  to_list : (node : ℕ) (t : SplitTree) (list : List NodeWithTree) (place : NodeWithTree) →
+      open_branches refuted node t ≡ list →
       Contains list place → Lists node t place
   to_list node t list place e h = subst (λ (xs : List NodeWithTree). Contains xs place) (sym e) h
 
-  of_list : (node : ℕ) (t : SplitTree) (list : List NodeWithTree) (place : NodeWithTree) → open_branches refuted node t ≡ list →
+  of_list : (node : ℕ) (t : SplitTree) (list : List NodeWithTree) (place : NodeWithTree) →
+      open_branches refuted node t ≡ list →
       Lists node t place → Contains list place
   of_list node t list place e h = subst (λ (xs : List NodeWithTree). Contains xs place) e h
 
@@ -162,8 +178,10 @@ module _ (refuted : ℕ → Bool) (whole : SplitTree) where
     pub free : marked refuted place.node (subtree_at whole place.node) ≡ false
     pub entire : wholly_open refuted place.node (subtree_at whole place.node) ≡ true
 
-  listed_here : (node : ℕ) (t : SplitTree) (place : NodeWithTree) → node < size whole → subtree_at whole node ≡ t →
-      IsClear refuted whole node → marked refuted node t ≡ false → wholly_open refuted node t ≡ true →
+  listed_here : (node : ℕ) (t : SplitTree) (place : NodeWithTree) → node < size whole →
+      subtree_at whole node ≡ t →
+      IsClear refuted whole node → marked refuted node t ≡ false →
+      wholly_open refuted node t ≡ true →
       Lists node t place → IsListed place
   listed_here node t place l s c f w h =
       let here : NodeWithTree = record { node = node; tree = t } in
@@ -172,8 +190,10 @@ module _ (refuted : ℕ → Bool) (whole : SplitTree) where
       subst (λ (q : NodeWithTree). IsListed q) (sym same)
       (record { within = l; below = sym s; clear = c; free = rw s f; entire = rw s w })
 
-  listed_none : (node : ℕ) (t : SplitTree) (place : NodeWithTree) → marked refuted node t ≡ true → Lists node t place → ⊥
-  listed_none node t place m h = none place (of_list node t [] place (marked_none refuted node t m) h)
+  listed_none : (node : ℕ) (t : SplitTree) (place : NodeWithTree) → marked refuted node t ≡ true →
+      Lists node t place → ⊥
+  listed_none node t place m h =
+      none place (of_list node t [] place (marked_none refuted node t m) h)
 
   listed_is : (node : ℕ) (t : SplitTree) → node < size whole → subtree_at whole node ≡ t →
       IsClear refuted whole node → (place : NodeWithTree) → Lists node t place → IsListed place
@@ -185,31 +205,36 @@ module _ (refuted : ℕ → Bool) (whole : SplitTree) where
     | inl m ↦ absurd (listed_none node (cube k) place m h)
     | inr f ↦ listed_here node (cube k) place l s c f (rw f refl) h
   ]
-  listed_is node (split v p n) l s c place h = elim (cases_Bool (marked refuted node (split v p n))) [
-    | inl m ↦ absurd (listed_none node (split v p n) place m h)
-    | inr f ↦ elim (cases_Bool (wholly_open refuted node (split v p n))) [
-      | inl w ↦ listed_here node (split v p n) place l s c f w h
-      | inr part ↦
-          let b = branches_at whole node v p n l s in
-          let within : node + suc (size p + size n) ≤ size whole = b.within in
-          let first_inside : suc node < size whole = omega (arith, some_node p, some_node n) in
-          let at : suc node + size p ≡ suc (node + size p) = omega arith in
-          let first_clear = clear_into refuted whole node c (rw s f) (rw s part) in
-          let second_clear : IsClear refuted whole (suc (node + size p)) =
-          rw (b.positive, at) at (clear_past refuted whole (suc node) first_inside first_clear) in
-          let second_inside : suc (node + size p) < size whole = omega (arith, some_node n) in
-          let firsts : List NodeWithTree = open_branches refuted (suc node) p in
-          let seconds : List NodeWithTree = open_branches refuted (suc (node + size p)) n in
-          let lists = of_list node (split v p n) (firsts ++ seconds) place
-          (opened refuted node v p n (split v p n) refl f part) h in
-          elim (Contains-append_cases firsts seconds place lists) [
-            | inl first ↦ listed_is (suc node) p first_inside b.positive first_clear place first
-            | inr second ↦ listed_is (suc (node + size p)) n second_inside b.negative second_clear place second
-          ]
-    ]
-  ]
+  listed_is node (split v p n) l s c place h =
+      elim (cases_Bool (marked refuted node (split v p n))) [
+        | inl m ↦ absurd (listed_none node (split v p n) place m h)
+        | inr f ↦ elim (cases_Bool (wholly_open refuted node (split v p n))) [
+          | inl w ↦ listed_here node (split v p n) place l s c f w h
+          | inr part ↦
+              let b = branches_at whole node v p n l s in
+              let within : node + suc (size p + size n) ≤ size whole = b.within in
+              let first_inside : suc node < size whole = omega (arith, some_node p, some_node n) in
+              let at : suc node + size p ≡ suc (node + size p) = omega arith in
+              let first_clear = clear_into refuted whole node c (rw s f) (rw s part) in
+              let second_clear : IsClear refuted whole (suc (node + size p)) =
+              rw (b.positive, at) at
+              (clear_past refuted whole (suc node) first_inside first_clear) in
+              let second_inside : suc (node + size p) < size whole = omega (arith, some_node n) in
+              let firsts : List NodeWithTree = open_branches refuted (suc node) p in
+              let seconds : List NodeWithTree = open_branches refuted (suc (node + size p)) n in
+              let lists = of_list node (split v p n) (firsts ++ seconds) place
+              (opened refuted node v p n (split v p n) refl f part) h in
+              elim (Contains-append_cases firsts seconds place lists) [
+                | inl first ↦ listed_is (suc node) p first_inside b.positive first_clear place first
+                | inr second ↦ listed_is (suc (node + size p)) n second_inside b.negative
+                    second_clear
+                    place second
+              ]
+        ]
+      ]
 
-  has_here : (node : ℕ) (t : SplitTree) (place : NodeWithTree) → subtree_at whole node ≡ t → IsListed place →
+  has_here : (node : ℕ) (t : SplitTree) (place : NodeWithTree) → subtree_at whole node ≡ t →
+      IsListed place →
       place.node ≡ node → Lists node t place
   has_here node t place s is e =
       let at : subtree_at whole place.node ≡ t = ap (λ (q : ℕ). subtree_at whole q) e ∙ s in
@@ -217,9 +242,11 @@ module _ (refuted : ℕ → Bool) (whole : SplitTree) where
       let entire : wholly_open refuted node t ≡ true = rw (at, e) at is.entire in
       let here : NodeWithTree = record { node = node; tree = t } in
       let same : here ≡ place = same_place here place (sym e) (sym at ∙ sym is.below) in
-      to_list node t (here ∷ []) place (whole_one refuted node t free entire) (is_in_one here place same)
+      to_list node t (here ∷ []) place (whole_one refuted node t free entire)
+      (is_in_one here place same)
 
-  listed_has : (node : ℕ) (t : SplitTree) → node < size whole → subtree_at whole node ≡ t → (place : NodeWithTree) →
+  listed_has : (node : ℕ) (t : SplitTree) → node < size whole → subtree_at whole node ≡ t →
+      (place : NodeWithTree) →
       IsListed place → node ≤ place.node → place.node < node + size t → Lists node t place
   listed_has node missing l s place is a b = has_here node missing place s is (omega arith)
   listed_has node (cube k) l s place is a b = has_here node (cube k) place s is (omega arith)
@@ -238,10 +265,12 @@ module _ (refuted : ℕ → Bool) (whole : SplitTree) where
         (elim (cases_lt place.node (suc (node + size p))) [
           | inl first ↦
               Contains-append_left firsts seconds place
-              (listed_has (suc node) p (omega arith) c.positive place is (omega (arith, ne)) (omega arith))
+              (listed_has (suc node) p (omega arith) c.positive place is (omega (arith, ne))
+              (omega arith))
           | inr second ↦
               Contains-append_right firsts seconds place
-              (listed_has (suc (node + size p)) n second_inside c.negative place is second (omega arith))
+              (listed_has (suc (node + size p)) n second_inside c.negative place is second
+              (omega arith))
         ])
   ]
 
@@ -254,7 +283,8 @@ module _ (refuted : ℕ → Bool) (whole : SplitTree) where
     whole = λ other lies. elim lies [
       | inl above ↦ elim (cases_eq other place.node) [
         | inl e ↦ rw e is.free
-        | inr ne ↦ (is.clear other (let r : other ≤ place.node = above.reached in omega (arith, ne)) above).0
+        | inr ne ↦ (is.clear other (let r : other ≤ place.node = above.reached in omega (arith, ne))
+            above).0
       ]
       | inr under ↦
           under_free place.node (subtree_at whole place.node) is.within refl is.entire other
@@ -282,7 +312,8 @@ module _ (refuted : ℕ → Bool) (whole : SplitTree) where
       elim lies [
         | inl above ↦
             let reached : other ≤ parent = above.reached in
-            let more : parent + size (subtree_at whole parent) ≤ other + size (subtree_at whole other) =
+            let more : parent + size (subtree_at whole parent)
+            ≤ other + size (subtree_at whole other) =
             nested whole other parent above.reached above.before_end (omega arith) in
             entire other (inl (record { reached = omega arith; before_end = omega arith }))
         | inr under ↦
@@ -316,13 +347,15 @@ module _ (refuted : ℕ → Bool) (whole : SplitTree) where
   all_listed : (place : NodeWithTree) → Lists 0 whole place → IsOpenBranch refuted whole place
   all_listed place h =
       let some : 0 < size whole = some_node whole in
-      branch_of place (listed_is 0 whole some (subtree-root whole) (clear_start refuted whole) place h)
+      branch_of place
+      (listed_is 0 whole some (subtree-root whole) (clear_start refuted whole) place h)
 
   all_stand : (place : NodeWithTree) → IsOpenBranch refuted whole place → Lists 0 whole place
   all_stand place is =
       let some : 0 < size whole = some_node whole in
       let inside : place.node < size whole = is.within in
-      listed_has 0 whole some (subtree-root whole) place (listed_of place is) (omega arith) (omega arith)
+      listed_has 0 whole some (subtree-root whole) place (listed_of place is) (omega arith)
+      (omega arith)
 
 -- the open branches are all wholly open nodes whose parents aren't
 pub are_all : OpenBranchesAreAll

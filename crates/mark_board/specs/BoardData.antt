@@ -11,7 +11,8 @@ use Rattle.mark_board.specs.TopPlaces.{part_count, part_root, top_node, worth_of
 use Rattle.mark_board.specs.declared.kind.Kind.{Kind}
 use Rattle.mark_board.specs.declared.kind.Kind.TheVariants.{Part as part_kind, Top as top_kind}
 use Rattle.mark_board.specs.declared.stored.Stored.{Stored}
-use Rattle.mark_board.specs.declared.stored.Stored.TheVariants.{Part as part_stored, Top as top_stored}
+use Rattle.mark_board.specs.declared.stored.Stored.TheVariants.{Part as part_stored}
+use Rattle.mark_board.specs.declared.stored.Stored.TheVariants.{Top as top_stored}
 use Rattle.mark_board.specs.declared.stored.BoardData.{BoardData}
 use Rattle.mark_board.specs.declared.place.Place.TheVariants.{Part, Top}
 use Rattle.mark_board.specs.Board.{BoardOf}

@@ -3,7 +3,8 @@ use Rattle.std.specs.Prelude.{ℕ, ◌≡◌, length, List, MatchOption}
 use Rattle.split_tree.specs.SplitTree.{size}
 use Rattle.split_tree.specs.Leaves.{IsTargetAt, IsPathOf}
 use Rattle.hint_check.specs.declared.Judged.{Judged}
-use Rattle.hint_check.specs.declared.Judged.TheVariants.{Refuted as judged_refuted, Rejected as judged_rejected}
+use Rattle.hint_check.specs.declared.Judged.TheVariants.{Refuted as judged_refuted}
+use Rattle.hint_check.specs.declared.Judged.TheVariants.{Rejected as judged_rejected}
 use Rattle.mark_board.specs.declared.mark.Mark.{Mark}
 use Rattle.mark_board.specs.declared.mark.Mark.TheVariants.{Refuted, Rejected, Open}
 use Rattle.cnf_text.specs.Literal.{Literal}

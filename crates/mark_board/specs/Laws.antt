@@ -8,7 +8,9 @@ use Rattle.split_tree.specs.Navigation.{HasBelow, IsParent}
 use Rattle.split_tree.specs.Leaves.{missing_nodes}
 use Rattle.split_tree.specs.Parts.{part_nodes, top}
 use Rattle.mark_board.specs.TopPlaces.{top_node, IsPlaceOf}
-use Rattle.mark_board.specs.Marking.{NodeWithTree, marked, open_weight, open_below, marked_on_top, open_on_top, open_branches, weight_under, AreApart, AreRefuted, IsWithin, Agrees}
+use Rattle.mark_board.specs.Marking.{NodeWithTree, marked, open_weight, open_below, marked_on_top}
+use Rattle.mark_board.specs.Marking.{open_on_top, open_branches, weight_under, AreApart, AreRefuted}
+use Rattle.mark_board.specs.Marking.{IsWithin, Agrees}
 
 -- where each node of the set has no model together with the formula, so has each marked node
 abbrev pub MarkedHasNoModel : Type 0

@@ -1,6 +1,9 @@
 //! Laws of marks and open weights. Each function does nothing: its contract is the law.
 
-ghost use Rattle.mark_board.specs.Laws.{MarkedHasNoModel, MarkedStaysMarked, OpenAfterPost, TopMarksTheRoot, OpenPartsAddUp, OpenBranchesAddUp, OpenBranchesAreApart, PartsStandOnTop, TopHasTheNodesAboveTheCut};
+ghost use Rattle.mark_board.specs.Laws.{MarkedHasNoModel, MarkedStaysMarked, OpenAfterPost};
+ghost use Rattle.mark_board.specs.Laws.{TopMarksTheRoot, OpenPartsAddUp, OpenBranchesAddUp};
+ghost use Rattle.mark_board.specs.Laws.{OpenBranchesAreApart, PartsStandOnTop};
+ghost use Rattle.mark_board.specs.Laws.{TopHasTheNodesAboveTheCut};
 ghost use Rattle.mark_board.specs.Laws.{OpenBranchesAreAll};
 
 /// Where each refuted node has no model together with the formula, so has each marked node.

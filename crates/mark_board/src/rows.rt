@@ -1,6 +1,7 @@
 //! The marks of the nodes of a tree, and the open weight below each.
 
-ghost use Rattle.std.specs.Prelude.{◌≡◌, ◌≢◌, ◌<◌, ◌↔◌, ℕ, length, IfOk, IsTrue, slice_index, slice_set, replicate};
+ghost use Rattle.std.specs.Prelude.{◌≡◌, ◌≢◌, ◌<◌, ◌↔◌, ℕ, length, IfOk, IsTrue, slice_index};
+ghost use Rattle.std.specs.Prelude.{slice_set, replicate};
 ghost use Rattle.split_tree.specs.SplitTree.{size, subtree_at};
 ghost use Rattle.mark_board.specs.declared.mark.Mark.TheVariants.{Open, Refuted};
 ghost use Rattle.mark_board.specs.Marking.{refuted_by, mark_at};

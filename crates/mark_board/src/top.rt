@@ -1,6 +1,7 @@
 //! The top board.
 
-ghost use Rattle.std.specs.Prelude.{◌≡◌, ◌≢◌, ◌≤◌, ◌<◌, ◌↔◌, ◌+◌, ℕ, IfOk, IsTrue, [], map, length, slice_index};
+ghost use Rattle.std.specs.Prelude.{◌≡◌, ◌≢◌, ◌≤◌, ◌<◌, ◌↔◌, ◌+◌, ℕ, IfOk, IsTrue, [], map, length};
+ghost use Rattle.std.specs.Prelude.{slice_index};
 ghost use Rattle.std.specs.Coded.{Coded-set};
 ghost use Rattle.split_tree.specs.TreeCode.{tree_code};
 ghost use Rattle.split_tree.specs.SplitTree.{size, subtree_at};
@@ -52,7 +53,8 @@ pub(crate) struct TopBoard<'c> {
 impl<'c> TopBoard<'c> {
     ghost use Rattle.std.specs.Prelude.{replicate};
     ghost use Rattle.mark_board.specs.declared.rows.Answer.TheVariants.{RootMarked, Already};
-    ghost use Rattle.mark_board.specs.declared.mark.Mark.TheVariants.{Open, Refuted as refuted_mark};
+    ghost use Rattle.mark_board.specs.declared.mark.Mark.TheVariants.{Open};
+    ghost use Rattle.mark_board.specs.declared.mark.Mark.TheVariants.{Refuted as refuted_mark};
     ghost use Rattle.mark_board.specs.declared.kind.Kind.TheVariants.{Top as top_kind};
     ghost use Rattle.mark_board.specs.Board.{IsRowOn, TakesNode};
     ghost use Rattle.mark_board.specs.Posting.{marks_after, MarksRoot, posted_answer};

@@ -13,28 +13,34 @@ use Rattle.check_crew.proofs.SeenTurns.{section_stays}
 use Rattle.own_threads.specs.Inner.Sections.{HasSeenFrom, HavePosted}
 
 -- the section behind those that were seen
-pub forwards : (v w : View) (first at : ℕ) → Stays v w → HasSeenFrom v first at → HasSeenSection w at
+pub forwards : (v w : View) (first at : ℕ) → Stays v w → HasSeenFrom v first at →
+    HasSeenSection w at
     → HasSeenFrom w first (at + 1)
 forwards v w first at stays were is place from before =
     dite (ℕ_discrete place at)
     (λ (here : place ≡ at). subst (HasSeenSection w) (sym here) is)
-    (λ (other : place ≢ at). section_stays v w stays place (were place from (omega (arith, before, other))))
+    (λ (other : place ≢ at).
+    section_stays v w stays place (were place from (omega (arith, before, other))))
 
 -- the section before those that were seen
-pub backwards : (v w : View) (at after end : ℕ) → after ≡ at + 1 → Stays v w → HasSeenFrom v after end
+pub backwards : (v w : View) (at after end : ℕ) → after ≡ at + 1 → Stays v w →
+    HasSeenFrom v after end
     → HasSeenSection w at → HasSeenFrom w at end
 backwards v w at after end next stays were is place from before =
     dite (ℕ_discrete place at)
     (λ (here : place ≡ at). subst (HasSeenSection w) (sym here) is)
-    (λ (other : place ≢ at). section_stays v w stays place (were place (omega (arith, next, from, other)) before))
+    (λ (other : place ≢ at).
+    section_stays v w stays place (were place (omega (arith, next, from, other)) before))
 
 -- a section of either half was seen by one of the two passes
 pub both_halves : (case : CaseOf) (hall : HallOf) (half : ℕ) (rest : List Pass) (ours theirs : Pass)
-    → HavePosted case hall half ours theirs → HaveSeenSections case ((rest ++ ours ∷ []) ++ theirs ∷ [])
+    → HavePosted case hall half ours theirs →
+    HaveSeenSections case ((rest ++ ours ∷ []) ++ theirs ∷ [])
 both_halves case hall half rest ours theirs posted place within =
     dite (dec_lt place half)
     (λ (early : place < half).
-    let there = Contains-append_left (rest ++ ours ∷ []) (theirs ∷ []) ours (Contains-push rest ours) in
+    let there =
+    Contains-append_left (rest ++ ours ∷ []) (theirs ∷ []) ours (Contains-push rest ours) in
     (ours, there, posted.first.seen place (omega arith) early))
     (λ (late : ¬ (place < half)).
     let there = Contains-push (rest ++ ours ∷ []) theirs in

@@ -1,5 +1,8 @@
--- What the growing of a tree uses: what stands where some cubes have come to, and which cubes go which way.
-use Rattle.std.proofs.Common.{◌≡◌, ◌≢◌, ℕ, ◌+◌, ◌<◌, List, [], ◌∷◌, ◌++◌, length, get_or, drop, Bool, true, false, cond, refl, sym, ap, ◌∙◌, inl, inr, arith, append_assoc, append-nil, Vec, Some, None, slice_get}
+-- What the growing of a tree uses: what stands where some cubes have come to, and which cubes go
+-- which way.
+use Rattle.std.proofs.Common.{◌≡◌, ◌≢◌, ℕ, ◌+◌, ◌<◌, List, [], ◌∷◌, ◌++◌, length, get_or, drop}
+use Rattle.std.proofs.Common.{Bool, true, false, cond, refl, sym, ap, ◌∙◌, inl, inr, arith}
+use Rattle.std.proofs.Common.{append_assoc, append-nil, Vec, Some, None, slice_get}
 use Rattle.std.specs.List.{AllByRecursion}
 use Rattle.std.specs.Bool.{beq}
 use Rattle.std.proofs.lemmas.List.{drop_more}
@@ -18,7 +21,8 @@ pub ended_unfit : (right : List Literal) → relation_of [] right ≡ Fit → �
 ended_unfit [] h = cc
 ended_unfit (m ∷ right) h = cc
 
-fit_splits : (l : Literal) (left right : List Literal) → relation_of (l ∷ left) right ≡ Fit → SplitsOn l.variable right
+fit_splits : (l : Literal) (left right : List Literal) → relation_of (l ∷ left) right ≡ Fit →
+    SplitsOn l.variable right
 fit_splits l left [] h = absurd (cc)
 fit_splits l left (m ∷ right) h = elim (cases_eq l.variable m.variable) [
   | inl same ↦ sym same
@@ -27,16 +31,19 @@ fit_splits l left (m ∷ right) h = elim (cases_eq l.variable m.variable) [
 
 -- cubes that all fit one that goes on split on the variable of its next literal
 pub all_fit_split : (l : Literal) (left : List Literal) (cubes : List Numbered) →
-    AllByRecursion (λ d. relation_of (l ∷ left) d.literals ≡ Fit) cubes → AllByRecursion (λ d. SplitsOn l.variable d.literals) cubes
+    AllByRecursion (λ d. relation_of (l ∷ left) d.literals ≡ Fit) cubes →
+    AllByRecursion (λ d. SplitsOn l.variable d.literals) cubes
 all_fit_split l left [] h = tt
-all_fit_split l left (d ∷ cubes) h = (fit_splits l left d.literals h.0, all_fit_split l left cubes h.1)
+all_fit_split l left (d ∷ cubes) h =
+    (fit_splits l left d.literals h.0, all_fit_split l left cubes h.1)
 
 nothing_ahead : (literals : List Literal) → None ≡ slice_get literals 0 → literals ≡ []
 nothing_ahead [] h = refl
 nothing_ahead (l ∷ literals) h = cc
 
 -- a cube that has ended, alone
-pub alone : (cubes : List Ahead) (f : Ahead) → Some f ≡ slice_get cubes 0 → None ≡ slice_get f.literals.now 0 →
+pub alone : (cubes : List Ahead) (f : Ahead) → Some f ≡ slice_get cubes 0 →
+    None ≡ slice_get f.literals.now 0 →
     length cubes ≡ 1 → cubes_ahead cubes ≡ record { number = f.number; literals = [] } ∷ []
 alone [] f h e l = cc
 alone (c ∷ d ∷ cubes) f h e l = absurd (omega arith)
@@ -46,12 +53,14 @@ alone (c ∷ []) f h e l =
     rw (← i, j) refl
 
 -- with a first cube there are some
-pub some_ahead : (cubes : List Ahead) (f : Ahead) → Some f ≡ slice_get cubes 0 → cubes_ahead cubes ≢ []
+pub some_ahead : (cubes : List Ahead) (f : Ahead) → Some f ≡ slice_get cubes 0 →
+    cubes_ahead cubes ≢ []
 some_ahead [] f h e = cc
 some_ahead (c ∷ cubes) f h e = cc
 
 -- a cube that has ended clashes with others beside it
-pub ended_clash : (cubes : List Ahead) (f : Ahead) → Some f ≡ slice_get cubes 0 → None ≡ slice_get f.literals.now 0 →
+pub ended_clash : (cubes : List Ahead) (f : Ahead) → Some f ≡ slice_get cubes 0 →
+    None ≡ slice_get f.literals.now 0 →
     (length cubes ≡ 1 → ⊥) → AreFit (cubes_ahead cubes) → ⊥
 ended_clash [] f h e l a = cc
 ended_clash (c ∷ []) f h e l a = l refl
@@ -61,8 +70,10 @@ ended_clash (c ∷ d ∷ cubes) f h e l a =
     let k : c.literals.now ≡ [] = cc in
     ended_unfit d.literals.now (rw k at a.0.0)
 
-split_ahead : (c : Ahead) (literals : List Literal) (l : Literal) (cubes : List Numbered) → c.literals.now ≡ literals →
-    Some l ≡ slice_get literals 0 → AllByRecursion (λ d. relation_of c.literals.now d.literals ≡ Fit) cubes →
+split_ahead : (c : Ahead) (literals : List Literal) (l : Literal) (cubes : List Numbered) →
+    c.literals.now ≡ literals →
+    Some l ≡ slice_get literals 0 →
+    AllByRecursion (λ d. relation_of c.literals.now d.literals ≡ Fit) cubes →
     SplitsOn l.variable c.literals.now × AllByRecursion (λ d. SplitsOn l.variable d.literals) cubes
 split_ahead c [] l cubes i h a = cc
 split_ahead c (m ∷ literals) l cubes i h a =
@@ -70,8 +81,10 @@ split_ahead c (m ∷ literals) l cubes i h a =
     rw (j, i) (refl, all_fit_split m literals cubes (rw i at a))
 
 -- where cubes fit and the first goes on with a literal, all of them split on its variable
-pub all_split : (cubes : List Ahead) (f : Ahead) (l : Literal) → Some f ≡ slice_get cubes 0 → Some l ≡ slice_get f.literals.now 0 →
-    AreFit (cubes_ahead cubes) → AllByRecursion (λ c. SplitsOn l.variable c.literals) (cubes_ahead cubes)
+pub all_split : (cubes : List Ahead) (f : Ahead) (l : Literal) → Some f ≡ slice_get cubes 0 →
+    Some l ≡ slice_get f.literals.now 0 →
+    AreFit (cubes_ahead cubes) →
+    AllByRecursion (λ c. SplitsOn l.variable c.literals) (cubes_ahead cubes)
 all_split [] f l h e a = cc
 all_split (c ∷ cubes) f l h e a =
     let i : f ≡ c = cc in
@@ -85,39 +98,63 @@ going_with-others : (sign : Bool) (number : ℕ) (literals : List Literal) (othe
     going_with sign number literals others ≡ going_with sign number literals [] ++ others
 going_with-others sign number [] others = refl
 going_with-others sign number (l ∷ rest) others =
-    elim (beq l.positive sign) as (λ b. cond b (record { number = number; literals = rest } ∷ others) others
-    ≡ cond b (record { number = number; literals = rest } ∷ []) [] ++ others) [ true ↦ refl | false ↦ refl ]
+    elim (beq l.positive sign) as
+    (λ b. cond b (record { number = number; literals = rest } ∷ others) others
+    ≡ cond b (record { number = number; literals = rest } ∷ []) [] ++ others) [
+      | true ↦ refl
+      | false ↦ refl
+    ]
 
-pub cubes_ahead-append : (xs ys : List Ahead) → cubes_ahead (xs ++ ys) ≡ cubes_ahead xs ++ cubes_ahead ys
+pub cubes_ahead-append : (xs ys : List Ahead) →
+    cubes_ahead (xs ++ ys) ≡ cubes_ahead xs ++ cubes_ahead ys
 cubes_ahead-append [] ys = refl
-cubes_ahead-append (x ∷ xs) ys = ap (λ zs. record { number = x.number; literals = x.literals.now } ∷ zs) (cubes_ahead-append xs ys)
+cubes_ahead-append (x ∷ xs) ys =
+    ap (λ zs. record { number = x.number; literals = x.literals.now } ∷ zs)
+    (cubes_ahead-append xs ys)
 
 -- one cube more has been looked at
-pub going_more : (sign : Bool) (way more cubes : List Ahead) (i : ℕ) (c : Ahead) (all : List Numbered) → i < length cubes → c ≡ get_or cubes i c →
+pub going_more : (sign : Bool) (way more cubes : List Ahead) (i : ℕ) (c : Ahead)
+    (all : List Numbered) → i < length cubes → c ≡ get_or cubes i c →
     cubes_ahead more ≡ going_with sign c.number c.literals.now [] →
     cubes_ahead way ++ going sign (cubes_ahead (drop i cubes)) ≡ all →
     cubes_ahead (way ++ more) ++ going sign (cubes_ahead (drop (i + 1) cubes)) ≡ all
 going_more sign way more cubes i c all h same m e =
     let rest : List Numbered = going sign (cubes_ahead (drop (i + 1) cubes)) in
-    let d : drop i cubes ≡ c ∷ drop (i + 1) cubes = drop_more cubes i c h ∙ ap (λ (x : Ahead). x ∷ drop (i + 1) cubes) (sym same) in
+    let d : drop i cubes ≡ c ∷ drop (i + 1) cubes =
+    drop_more cubes i c h ∙ ap (λ (x : Ahead). x ∷ drop (i + 1) cubes) (sym same) in
     let k : cubes_ahead way ++ going_with sign c.number c.literals.now rest ≡ all = rw d at e in
-    rw (cubes_ahead-append way more, append_assoc (cubes_ahead way) (cubes_ahead more) rest, m, ← going_with-others sign c.number c.literals.now rest) k
+    rw (
+      cubes_ahead-append way more,
+      append_assoc (cubes_ahead way) (cubes_ahead more) rest,
+      m,
+      ← going_with-others sign c.number c.literals.now rest,
+    ) k
 
 -- the same where that cube goes the other way
-pub going_past : (sign : Bool) (way cubes : List Ahead) (i : ℕ) (c : Ahead) (all : List Numbered) → i < length cubes → c ≡ get_or cubes i c →
+pub going_past : (sign : Bool) (way cubes : List Ahead) (i : ℕ) (c : Ahead) (all : List Numbered) →
+    i < length cubes → c ≡ get_or cubes i c →
     [] ≡ going_with sign c.number c.literals.now [] →
     cubes_ahead way ++ going sign (cubes_ahead (drop i cubes)) ≡ all →
     cubes_ahead way ++ going sign (cubes_ahead (drop (i + 1) cubes)) ≡ all
 going_past sign way cubes i c all h same m e =
-    let k : cubes_ahead (way ++ []) ++ going sign (cubes_ahead (drop (i + 1) cubes)) ≡ all = going_more sign way [] cubes i c all h same m e in
+    let k : cubes_ahead (way ++ []) ++ going sign (cubes_ahead (drop (i + 1) cubes)) ≡ all =
+    going_more sign way [] cubes i c all h same m e in
     rw (append-nil way) at k
 
 -- one cube more has been numbered
-pub numbered_more : {Z : Type 0} (way more : List Ahead) (vs : List (Vec Literal Z)) (i : ℕ) (v : Vec Literal Z) (all : List Numbered) →
-    i < length vs → v ≡ get_or vs i v → cubes_ahead more ≡ record { number = i + 1; literals = v.items } ∷ [] →
+pub numbered_more : {Z : Type 0} (way more : List Ahead) (vs : List (Vec Literal Z)) (i : ℕ)
+    (v : Vec Literal Z) (all : List Numbered) →
+    i < length vs → v ≡ get_or vs i v →
+    cubes_ahead more ≡ record { number = i + 1; literals = v.items } ∷ [] →
     cubes_ahead way ++ numbered (i + 1) (cube_lists (drop i vs)) ≡ all →
     cubes_ahead (way ++ more) ++ numbered (i + 1 + 1) (cube_lists (drop (i + 1) vs)) ≡ all
 numbered_more {Z} way more vs i v all h e m inv =
-    let k : drop i vs ≡ v ∷ drop (i + 1) vs = drop_more vs i v h ∙ ap (λ (x : Vec Literal Z). x ∷ drop (i + 1) vs) (sym e) in
-    rw (cubes_ahead-append way more, append_assoc (cubes_ahead way) (cubes_ahead more) (numbered (i + 1 + 1) (cube_lists (drop (i + 1) vs))), m)
+    let k : drop i vs ≡ v ∷ drop (i + 1) vs =
+    drop_more vs i v h ∙ ap (λ (x : Vec Literal Z). x ∷ drop (i + 1) vs) (sym e) in
+    rw (
+      cubes_ahead-append way more,
+      append_assoc (cubes_ahead way) (cubes_ahead more)
+          (numbered (i + 1 + 1) (cube_lists (drop (i + 1) vs))),
+      m,
+    )
     (rw k at inv)

@@ -1,5 +1,6 @@
 -- Which node is a branch of which.
-use Rattle.std.proofs.Common.{◌≡◌, ◌⊎◌, ℕ, zero, suc, ◌+◌, ◌-◌, ◌<◌, List, length, get_or, refl, ap, ◌∙◌, inl, inr, arith}
+use Rattle.std.proofs.Common.{◌≡◌, ◌⊎◌, ℕ, zero, suc, ◌+◌, ◌-◌, ◌<◌, List, length, get_or, refl, ap}
+use Rattle.std.proofs.Common.{◌∙◌, inl, inr, arith}
 use Rattle.std.proofs.lemmas.Bool.{cases_lt, cases_eq}
 use Rattle.split_tree.specs.SplitTree.{SplitTree, missing, cube, split, size, subtree_at, depth_at}
 use Rattle.split_tree.specs.Navigation.{IsParent}
@@ -31,7 +32,8 @@ above_first u a b j r =
       one_of = elim r.one_of [ inl e ↦ inl (ap suc e) | inr e ↦ inr (omega arith) ];
     }
 
-above_second : (u : ℕ) (a b : SplitTree) (i j : ℕ) → i ≡ size a + j → Above b j → Above (split u a b) (suc i)
+above_second : (u : ℕ) (a b : SplitTree) (i j : ℕ) → i ≡ size a + j → Above b j →
+    Above (split u a b) (suc i)
 above_second u a b i j e r =
     let w : r.parent < size b = r.within in
     record {
@@ -48,12 +50,28 @@ has_above : (tree : SplitTree) (i : ℕ) → suc i < size tree → Above tree (s
 has_above missing i h = absurd (omega arith)
 has_above (cube k) i h = absurd (omega arith)
 has_above (split u a b) zero h =
-    record { parent = 0; variable = u; positive = a; negative = b; within = omega arith; is = refl; one_of = inl refl }
+    record {
+      parent = 0;
+      variable = u;
+      positive = a;
+      negative = b;
+      within = omega arith;
+      is = refl;
+      one_of = inl refl;
+    }
 has_above (split u a b) (suc i) h = elim (cases_lt (suc i) (size a)) [
   | inl less ↦ above_first u a b (suc i) (has_above a i less)
   | inr more ↦ elim (cases_eq (suc i) (size a)) [
     | inl same ↦
-        record { parent = 0; variable = u; positive = a; negative = b; within = omega arith; is = refl; one_of = inr (omega arith) }
+        record {
+          parent = 0;
+          variable = u;
+          positive = a;
+          negative = b;
+          within = omega arith;
+          is = refl;
+          one_of = inr (omega arith);
+        }
     | inr other ↦
         let e : suc i ≡ size a + suc (i - size a) = omega arith in
         above_second u a b (suc i) (suc (i - size a)) e (has_above b (i - size a) (omega arith))
@@ -77,9 +95,11 @@ above_parent tree child a =
     }
 
 -- each node but the root has a parent
-pub parent_of : (tree : SplitTree) (child : ℕ) → 0 < child → child < size tree → (p : ℕ) × IsParent tree p child
+pub parent_of : (tree : SplitTree) (child : ℕ) → 0 < child → child < size tree →
+    (p : ℕ) × IsParent tree p child
 parent_of tree zero h l = absurd (omega arith)
-parent_of tree (suc i) h l = let a : Above tree (suc i) = has_above tree i l in (a.parent, above_parent tree (suc i) a)
+parent_of tree (suc i) h l =
+    let a : Above tree (suc i) = has_above tree i l in (a.parent, above_parent tree (suc i) a)
 
 -- ---- what a parent tells of its branch
 
@@ -91,19 +111,25 @@ parent_before tree p c r =
     elim r.one_of [ inl e ↦ omega arith | inr e ↦ omega arith ]
 
 -- a branch lies one deeper than its parent
-pub parent_depth : (tree : SplitTree) (p c : ℕ) → IsParent tree p c → depth_at tree c ≡ suc (depth_at tree p)
+pub parent_depth : (tree : SplitTree) (p c : ℕ) → IsParent tree p c →
+    depth_at tree c ≡ suc (depth_at tree p)
 parent_depth tree p c r =
     let q : depth_at tree p + 1 ≡ suc (depth_at tree p) = omega arith in
-    elim r.one_of [ inl e ↦ rw e (r.branches.depth_first ∙ q) | inr e ↦ rw e (r.branches.depth_second ∙ q) ]
+    elim r.one_of [
+      | inl e ↦ rw e (r.branches.depth_first ∙ q)
+      | inr e ↦ rw e (r.branches.depth_second ∙ q)
+    ]
 
 -- ---- filling the table of parents
 
 -- the table has the parent of each branch of the nodes before `i`
 abbrev pub Parented : SplitTree → ℕ → List ℕ → Type 0
-Parented tree i parents = (j c : ℕ) → j < i → IsParent tree j c → IsParent tree (get_or parents c 0) c
+Parented tree i parents =
+    (j c : ℕ) → j < i → IsParent tree j c → IsParent tree (get_or parents c 0) c
 
 -- once all nodes were looked at, each parent is in the table
-pub parented_all : (tree : SplitTree) (parents : List ℕ) → length parents ≡ size tree → Parented tree (size tree) parents → AreParents tree parents
+pub parented_all : (tree : SplitTree) (parents : List ℕ) → length parents ≡ size tree →
+    Parented tree (size tree) parents → AreParents tree parents
 parented_all tree parents long known = record {
   long = long;
   each = λ i some within. let r = parent_of tree i some within in

@@ -3,17 +3,23 @@ use Rattle.split_tree.specs.Navigation.{IsParent, AreBranches}
 use Rattle.split_tree.proofs.TablesParents.{parent_before, parent_depth}
 use Rattle.split_tree.proofs.SplitTreeLabels.{label-root}
 use Rattle.std.proofs.lemmas.List.{get_or_append_left, get_or_push}
-use Rattle.std.proofs.Common.{ap, [], ◌∷◌, ◌++◌, length-append, ◌≡◌, ℕ, zero, suc, ◌+◌, ◌-◌, ◌*◌, ◌/◌, ◌^◌, ◌<◌, ◌≤◌, List, length, get_or, Bool, refl, sym, ◌∙◌, inl, inr, arith}
+use Rattle.std.proofs.Common.{ap, [], ◌∷◌, ◌++◌, length-append, ◌≡◌, ℕ, zero, suc, ◌+◌, ◌-◌, ◌*◌}
+use Rattle.std.proofs.Common.{◌/◌, ◌^◌, ◌<◌, ◌≤◌, List, length, get_or, Bool, refl, sym, ◌∙◌, inl}
+use Rattle.std.proofs.Common.{inr, arith}
 use Rattle.std.proofs.lemmas.List.{get_or_read}
 use Rattle.std.proofs.lemmas.Bool.{cases_lt}
-use Rattle.split_tree.specs.SplitTree.{SplitTree, missing, cube, split, size, weight, total, subtree_at, labels, depth_at, IsLeaf}
+use Rattle.split_tree.specs.SplitTree.{SplitTree, missing, cube, split, size, weight, total}
+use Rattle.split_tree.specs.SplitTree.{subtree_at, labels, depth_at, IsLeaf}
 use Rattle.split_tree.proofs.NodesCoding.{in_positive, in_negative, size-splits}
-use Rattle.split_tree.proofs.SplitTreeUnique.{weight-deep, weight-shallow, one_le_power, twice, splits, total_bound}
+use Rattle.split_tree.proofs.SplitTreeUnique.{weight-deep, weight-shallow, one_le_power, twice}
+use Rattle.split_tree.proofs.SplitTreeUnique.{splits, total_bound}
 use Rattle.split_tree.proofs.SplitTreeLabels.{label_positive, label_negative}
 
 -- the totals are known from the node `from` on
 abbrev pub TotalsFrom : SplitTree → ℕ → List ℕ → Type 0
-TotalsFrom tree from weights = (k : ℕ) → from ≤ k → k < size tree → get_or weights k 0 ≡ total (depth_at tree k) (subtree_at tree k)
+TotalsFrom tree from weights =
+    (k : ℕ) → from ≤ k → k < size tree →
+    get_or weights k 0 ≡ total (depth_at tree k) (subtree_at tree k)
 
 -- the total of a leaf is its weight
 pub leaf_total : (depth : ℕ) (t : SplitTree) → IsLeaf t → total depth t ≡ weight depth
@@ -23,7 +29,8 @@ leaf_total depth (split v p n) h = absurd h
 
 pub split_total : (tree : SplitTree) (node first second : ℕ) → AreBranches tree node first second →
     total (depth_at tree node) (subtree_at tree node)
-    ≡ total (depth_at tree first) (subtree_at tree first) + total (depth_at tree second) (subtree_at tree second)
+    ≡ total (depth_at tree first) (subtree_at tree first)
+    + total (depth_at tree second) (subtree_at tree second)
 split_total tree node first second b =
     let q : depth_at tree node + 1 ≡ suc (depth_at tree node) = omega arith in
     rw (b.is, b.at_first, b.at_second, b.depth_first, b.depth_second, q) refl
@@ -49,8 +56,11 @@ total_part depth (split v p n) (suc i) h = elim (cases_lt i (size p)) [
 ]
 
 -- the sum of what stands at the branches of a node
-pub sum_of : (tree : SplitTree) (weights : List ℕ) (node first second : ℕ) → TotalsFrom tree (node + 1) weights →
-    AreBranches tree node first second → get_or weights first 0 + get_or weights second 0 ≡ total (depth_at tree node) (subtree_at tree node)
+pub sum_of : (tree : SplitTree) (weights : List ℕ) (node first second : ℕ) →
+    TotalsFrom tree (node + 1) weights →
+    AreBranches tree node first second →
+    get_or weights first 0 + get_or weights second 0
+    ≡ total (depth_at tree node) (subtree_at tree node)
 sum_of tree weights node first second t b =
     let w : second < size tree = b.within in
     let p : first ≡ node + 1 = b.first_is in
@@ -61,13 +71,15 @@ sum_of tree weights node first second t b =
     omega (arith, k, m, s)
 
 -- the leaves below a node weigh at most as much as all leaves of the tree
-pub total_at : (tree : SplitTree) (node : ℕ) → node < size tree → total (depth_at tree node) (subtree_at tree node) ≤ total 0 tree
+pub total_at : (tree : SplitTree) (node : ℕ) → node < size tree →
+    total (depth_at tree node) (subtree_at tree node) ≤ total 0 tree
 total_at tree node h = total_part 0 tree node h
 
 -- ---- the weight one level down
 
 -- one level deeper a leaf weighs half, and at least 1
-pub weight_next : (depth above : ℕ) → above ≡ weight depth → (1 < above → above / 2 ≡ weight (suc depth)) × (above ≤ 1 → 1 ≡ weight (suc depth))
+pub weight_next : (depth above : ℕ) → above ≡ weight depth →
+    (1 < above → above / 2 ≡ weight (suc depth)) × (above ≤ 1 → 1 ≡ weight (suc depth))
 weight_next depth above e = elim (cases_lt depth 60) [
   | inl less ↦
       let a : weight depth ≡ 2 ^ (60 - depth) = weight-shallow depth (omega arith) in
@@ -101,14 +113,19 @@ abbrev pub WeightsTo : SplitTree → ℕ → List ℕ → Type 0
 WeightsTo tree i weights = (k : ℕ) → k < i → get_or weights k 0 ≡ weight (depth_at tree k)
 
 -- at the root a leaf weighs 2 to the power 60
-pub weight_root : (tree : SplitTree) (i : ℕ) → i ≡ 0 → 1152921504606846976 ≡ weight (depth_at tree i)
+pub weight_root : (tree : SplitTree) (i : ℕ) → i ≡ 0 →
+    1152921504606846976 ≡ weight (depth_at tree i)
 weight_root tree i e =
     let d : depth_at tree 0 ≡ 0 = label-root (λ (d v : ℕ) (sign : Bool). suc d) 0 0 tree in
     rw (e, d) refl
 
 -- the weight of one more node is in the table
-pub weights_more : (tree : SplitTree) (weights : List ℕ) (i x : ℕ) → length weights ≡ i → WeightsTo tree i weights → x ≡ weight (depth_at tree i) →
-    record { long : length (weights ++ x ∷ []) ≡ i + 1; known : WeightsTo tree (i + 1) (weights ++ x ∷ []) }
+pub weights_more : (tree : SplitTree) (weights : List ℕ) (i x : ℕ) → length weights ≡ i →
+    WeightsTo tree i weights → x ≡ weight (depth_at tree i) →
+    record {
+      long : length (weights ++ x ∷ []) ≡ i + 1;
+      known : WeightsTo tree (i + 1) (weights ++ x ∷ []);
+    }
 weights_more tree weights i x long known e = record {
   long = rw length-append (omega arith);
   known = λ k l. elim (cases_lt k i) [
@@ -120,10 +137,13 @@ weights_more tree weights i x long known e = record {
 }
 
 -- the weight at a branch, by the one at its parent
-pub weight_branch : (tree : SplitTree) (weights : List ℕ) (i p above w : ℕ) → length weights ≡ i → WeightsTo tree i weights → IsParent tree p i →
-    above ≡ get_or weights p above → ((depth : ℕ) → above ≡ weight depth → w ≡ weight (suc depth)) → w ≡ weight (depth_at tree i)
+pub weight_branch : (tree : SplitTree) (weights : List ℕ) (i p above w : ℕ) → length weights ≡ i →
+    WeightsTo tree i weights → IsParent tree p i →
+    above ≡ get_or weights p above → ((depth : ℕ) → above ≡ weight depth → w ≡ weight (suc depth)) →
+    w ≡ weight (depth_at tree i)
 weight_branch tree weights i p above w long known parent e f =
     let before : p < i = parent_before tree p i parent in
     let m : p < length weights = omega arith in
-    let read : above ≡ weight (depth_at tree p) = get_or_read weights p above m e 0 ∙ known p before in
+    let read : above ≡ weight (depth_at tree p) =
+    get_or_read weights p above m e 0 ∙ known p before in
     f (depth_at tree p) read ∙ ap weight (sym (parent_depth tree p i parent))

@@ -1,9 +1,11 @@
-use Rattle.std.specs.Prelude.{ℕ, ◌+◌, ◌<◌, ◌≡◌, ◌≢◌, ◌==◌, if◌then◌else◌, List, [], ◌∷◌, length, get_or, map, Vec}
+use Rattle.std.specs.Prelude.{ℕ, ◌+◌, ◌<◌, ◌≡◌, ◌≢◌, ◌==◌, if◌then◌else◌, List, [], ◌∷◌, length}
+use Rattle.std.specs.Prelude.{get_or, map, Vec}
 use Rattle.std.specs.Bool.{beq}
 use Rattle.split_tree.specs.declared.clash.Relation.{Relation}
 use Rattle.split_tree.specs.declared.clash.Relation.TheVariants.{Fit, Equal, Prefix, Unrelated}
 use Rattle.split_tree.specs.declared.clash.TreeFault.{TreeFault}
-use Rattle.split_tree.specs.declared.clash.TreeFault.TheVariants.{Repeats, NotATree, Overlap, Memory}
+use Rattle.split_tree.specs.declared.clash.TreeFault.TheVariants.{Repeats, NotATree, Overlap}
+use Rattle.split_tree.specs.declared.clash.TreeFault.TheVariants.{Memory}
 use Rattle.cnf_text.specs.Literal.{Literal}
 
 -- how two cubes lie to each other, after their longest common beginning

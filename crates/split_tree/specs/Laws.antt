@@ -3,7 +3,8 @@ use Rattle.std.specs.Prelude.{ℕ, ◌+◌, ◌^◌, ◌<◌, ◌≤◌, ◌≡�
 use Rattle.cnf_text.specs.Literal.{Literal}
 use Rattle.cnf_text.specs.Icnf.{literal_count}
 use Rattle.cnf_text.specs.Formula.{IsRefuted}
-use Rattle.split_tree.specs.SplitTree.{SplitTree, cube, numbered, IsTreeOf, size, total, branch, subtree_at, path_at}
+use Rattle.split_tree.specs.SplitTree.{SplitTree, cube, numbered, IsTreeOf, size, total, branch}
+use Rattle.split_tree.specs.SplitTree.{subtree_at, path_at}
 use Rattle.split_tree.specs.Clash.{AllFit, IsClashFault, cube_at}
 use Rattle.split_tree.specs.declared.clash.TreeFault.{TreeFault}
 use Rattle.split_tree.specs.declared.clash.TreeFault.TheVariants.{Memory}

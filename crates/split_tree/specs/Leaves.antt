@@ -7,7 +7,8 @@ use Rattle.split_tree.specs.declared.node.Target.{Target}
 use Rattle.split_tree.specs.declared.node.Target.TheVariants.{Leaf as Named, Node}
 use Rattle.std.specs.declared.option.Option.{Option}
 use Rattle.std.specs.declared.option.Option.TheVariants.{None, Some}
-use Rattle.split_tree.specs.SplitTree.{SplitTree, missing, cube, split, size, weight, subtrees, subtree_at, depth_at, path_at, IsSplit}
+use Rattle.split_tree.specs.SplitTree.{SplitTree, missing, cube, split, size, weight, subtrees}
+use Rattle.split_tree.specs.SplitTree.{subtree_at, depth_at, path_at, IsSplit}
 
 -- the numbers of the missing leaves' nodes, where these trees are below the nodes from `node` on
 abbrev pub missing_from : ℕ → List SplitTree → List ℕ

@@ -2,7 +2,8 @@
 use Rattle.std.specs.Prelude.{ℕ, true, false, ◌+◌, ◌<◌, ◌≤◌, ◌≡◌, List, length, slice_index, ◌⊎◌}
 use Rattle.std.specs.declared.option.Option.{Option}
 use Rattle.std.specs.declared.option.Option.TheVariants.{None, Some}
-use Rattle.split_tree.specs.SplitTree.{SplitTree, split, IsLeaf, subtree_at, depth_at, path_at, branch, split_variable, size, total}
+use Rattle.split_tree.specs.SplitTree.{SplitTree, split, IsLeaf, subtree_at, depth_at, path_at}
+use Rattle.split_tree.specs.SplitTree.{branch, split_variable, size, total}
 
 -- a node lies below another one
 pub record IsBelow (tree : SplitTree) (node target : ℕ) : Type 0 where

@@ -1,7 +1,9 @@
 -- The parts of a cut: the nodes at its depth, and the leaves above it.
-use Rattle.std.specs.Prelude.{ℕ, zero, suc, ◌+◌, ◌^◌, ◌<◌, ◌≤◌, ◌≡◌, ◌&&◌, nat_le, nat_lt, Bool, List, [], ◌∷◌, ◌++◌, length, map, count_by}
+use Rattle.std.specs.Prelude.{ℕ, zero, suc, ◌+◌, ◌^◌, ◌<◌, ◌≤◌, ◌≡◌, ◌&&◌, nat_le, nat_lt, Bool}
+use Rattle.std.specs.Prelude.{List, [], ◌∷◌, ◌++◌, length, map, count_by}
 use Rattle.std.specs.List.{All, sum_by}
-use Rattle.split_tree.specs.SplitTree.{SplitTree, missing, cube, split, size, total, subtree_at, depth_at, IsLeaf}
+use Rattle.split_tree.specs.SplitTree.{SplitTree, missing, cube, split, size, total, subtree_at}
+use Rattle.split_tree.specs.SplitTree.{depth_at, IsLeaf}
 
 -- a part: the number of its root, and the tree below that
 pub record Part : Type 0 where

@@ -1,4 +1,5 @@
-use Rattle.std.specs.Prelude.{ℕ, suc, get_or, ◌+◌, ◌-◌, ◌^◌, ◌≡◌, ◌≢◌, nat_le, if◌then◌else◌, Bool, true, false, List, [], ◌∷◌, ◌++◌}
+use Rattle.std.specs.Prelude.{ℕ, suc, get_or, ◌+◌, ◌-◌, ◌^◌, ◌≡◌, ◌≢◌, nat_le, if◌then◌else◌, Bool}
+use Rattle.std.specs.Prelude.{true, false, List, [], ◌∷◌, ◌++◌}
 use Rattle.std.specs.Bool.{beq}
 use Rattle.std.specs.List.{AllByRecursion}
 use Rattle.cnf_text.specs.Literal.{Literal}

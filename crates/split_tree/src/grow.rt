@@ -1,6 +1,7 @@
 //! The nodes of the tree of some cubes, each before its branches.
 
-ghost use Rattle.std.specs.Prelude.{length, ◌<◌, ◌^◌, true, false, OnOk, ◌∷◌, ◌++◌, ◌≡◌, IfOk, IfSome, IsTrue, ◌↔◌, []};
+ghost use Rattle.std.specs.Prelude.{length, ◌<◌, ◌^◌, true, false, OnOk, ◌∷◌, ◌++◌, ◌≡◌, IfOk};
+ghost use Rattle.std.specs.Prelude.{IfSome, IsTrue, ◌↔◌, []};
 ghost use Rattle.std.specs.List.{All, AllByRecursion};
 ghost use Rattle.split_tree.specs.Inner.Nodes.{HasVariable};
 ghost use Rattle.std.specs.Option.{option_to_list};

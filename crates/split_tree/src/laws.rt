@@ -1,7 +1,10 @@
 //! Laws of splitting trees. Each function does nothing: its contract is the law.
 
-ghost use Rattle.split_tree.specs.Laws.{AllFitOrAClash, TreeWhereAllFit, TreeIsOnlyOne, CubePathIsCube, PathsAreApart, TotalIsBounded, BranchesRefuteTheirNode};
-ghost use Rattle.split_tree.specs.Parts.{EachLeafInOnePart, PartTotalsAddUp, PartsAreSubtrees, PartsAreFew};
+ghost use Rattle.split_tree.specs.Laws.{AllFitOrAClash, TreeWhereAllFit, TreeIsOnlyOne};
+ghost use Rattle.split_tree.specs.Laws.{CubePathIsCube, PathsAreApart, TotalIsBounded};
+ghost use Rattle.split_tree.specs.Laws.{BranchesRefuteTheirNode};
+ghost use Rattle.split_tree.specs.Parts.{EachLeafInOnePart, PartTotalsAddUp, PartsAreSubtrees};
+ghost use Rattle.split_tree.specs.Parts.{PartsAreFew};
 
 /// All cubes of a list fit, or the list has a clash.
 pub fn all_fit_or_a_clash()

@@ -2,8 +2,11 @@
 
 ghost use Rattle.std.specs.Prelude.{ℕ, ◌≡◌, ◌≤◌, ◌+◌, ◌<◌, ◌↔◌, length, IfOk, IsTrue};
 ghost use Rattle.split_tree.specs.SplitTree.{size, total, subtree_at, depth_at};
-ghost use Rattle.split_tree.specs.Navigation.{IsBelow, StepsToward, HasBranches, IsParentOf, AreTotals};
-ghost use Rattle.split_tree.specs.Leaves.{missing_nodes, cube_count, leaf_count, IsLeafAt, IsLeafOf, HasLeaf, IsTargetAt, HasTarget, IsPathOf, IsWeightOf, IsNodeOf};
+ghost use Rattle.split_tree.specs.Navigation.{IsBelow, StepsToward, HasBranches, IsParentOf};
+ghost use Rattle.split_tree.specs.Navigation.{AreTotals};
+ghost use Rattle.split_tree.specs.Leaves.{missing_nodes, cube_count, leaf_count, IsLeafAt};
+ghost use Rattle.split_tree.specs.Leaves.{IsLeafOf, HasLeaf, IsTargetAt, HasTarget, IsPathOf};
+ghost use Rattle.split_tree.specs.Leaves.{IsWeightOf, IsNodeOf};
 
 use crate::node::{Leaf, NodeId, Target};
 use crate::shape::Shape;
@@ -84,8 +87,8 @@ impl Tree {
         }
     }
 
-    /// The target that stands at a node: the leaf there, or the inner node. It asks for a node of the
-    /// tree.
+    /// The target that stands at a node: the leaf there, or the inner node. It asks for a node of
+    /// the tree.
     pub fn target_at(&self, node: NodeId) -> Target
         requires { node < size self.now }
         ensures { IsTargetAt self.now node result }

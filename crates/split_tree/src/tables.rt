@@ -3,7 +3,8 @@
 ghost use Rattle.std.specs.Prelude.{◌≡◌, ◌+◌, ◌<◌, ℕ, suc, IfOk};
 ghost use Rattle.split_tree.specs.SplitTree.{size, weight};
 ghost use Rattle.split_tree.specs.Leaves.{missing_nodes};
-ghost use Rattle.split_tree.specs.Inner.Tables.{AreParents, AreWeights, AreCubeLeaves, AreCubeNodes};
+ghost use Rattle.split_tree.specs.Inner.Tables.{AreParents, AreWeights, AreCubeLeaves};
+ghost use Rattle.split_tree.specs.Inner.Tables.{AreCubeNodes};
 ghost use Rattle.split_tree.specs.Navigation.{AreTotals};
 
 use crate::nodes::Nodes;

@@ -134,8 +134,8 @@ fn half_refuted(rt: HostRuntime) {
     assert_eq!(rt; text.as_slice(), expected.as_bytes());
 }
 
-// Where both leaves are refuted, the root is: all cells have that colour, and no proof of the root's
-// own is told.
+// Where both leaves are refuted, the root is: all cells have that colour, and no proof of the
+// root's own is told.
 #[test]
 fn both_refuted(rt: HostRuntime) {
     let text = map(&rt, rt.alloc(), BOTH_CUBES, &[cube(2), cube(1)]);

@@ -1,9 +1,11 @@
 -- What is told of a node, and whether one is rejected.
-use Rattle.std.proofs.Common.{◌≡◌, ◌==◌, ℕ, suc, ◌+◌, ◌-◌, ◌<◌, ◌≤◌, List, [], ◌++◌, Bool, true, false, ◌||◌, inl, inr, refl, sym, ap, ◌∙◌, arith}
+use Rattle.std.proofs.Common.{◌≡◌, ◌==◌, ℕ, suc, ◌+◌, ◌-◌, ◌<◌, ◌≤◌, List, [], ◌++◌, Bool, true}
+use Rattle.std.proofs.Common.{false, ◌||◌, inl, inr, refl, sym, ap, ◌∙◌, arith}
 use Rattle.std.proofs.lemmas.Bool.{cases_eq}
 use Rattle.std.specs.Prelude.{codes, is_some}
 use Rattle.cnf_text.specs.Literal.{Literal}
-use Rattle.split_tree.specs.SplitTree.{SplitTree, missing, cube, split, size, subtree_at, path_at, IsLeaf, IsSplit}
+use Rattle.split_tree.specs.SplitTree.{SplitTree, missing, cube, split, size, subtree_at, path_at}
+use Rattle.split_tree.specs.SplitTree.{IsLeaf, IsSplit}
 use Rattle.split_tree.specs.Leaves.{IsTargetAt, IsPathOf}
 use Rattle.split_tree.specs.declared.node.Leaf.TheVariants.{Missing as MissingLeaf}
 use Rattle.split_tree.specs.declared.node.Target.{Target}
@@ -14,14 +16,17 @@ use Rattle.mark_board.specs.declared.mark.Mark.{Mark}
 use Rattle.mark_board.specs.Marking.{marked, mark_at, open_weight, refuted_by}
 use Rattle.mark_board.specs.TopPlaces.{worth_of}
 use Rattle.mark_board.proofs.MarkingLaws.{test_same, test_other}
-use Rattle.mark_board.proofs.MarkingWalk.{zero_is_marked, some_not_marked, all_is_open, less_not_whole}
+use Rattle.mark_board.proofs.MarkingWalk.{zero_is_marked, some_not_marked, all_is_open}
+use Rattle.mark_board.proofs.MarkingWalk.{less_not_whole}
 use Rattle.tree_map.specs.Fields.{number_field, status_fields}
-use Rattle.tree_map.specs.Picture.{is_rejected, one_rejected, shown, colour, frame, own_status, path_fields, told}
+use Rattle.tree_map.specs.Picture.{is_rejected, one_rejected, shown, colour, frame, own_status}
+use Rattle.tree_map.specs.Picture.{path_fields, told}
 
 -- ---- rejected proofs
 
 -- the next node's proof isn't rejected
-pub goes_past : (marks : List Mark) (number end : ℕ) → number < end → is_rejected (mark_at marks number) ≡ false →
+pub goes_past : (marks : List Mark) (number end : ℕ) → number < end →
+    is_rejected (mark_at marks number) ≡ false →
     one_rejected marks number (end - number) ≡ one_rejected marks (number + 1) (end - (number + 1))
 goes_past marks number end l other =
     let q : end - number ≡ suc (end - (number + 1)) = omega arith in
@@ -29,14 +34,16 @@ goes_past marks number end l other =
     rw (q, r, other) refl
 
 -- the next node's proof is rejected
-pub finds_one : (marks : List Mark) (number end : ℕ) → number < end → is_rejected (mark_at marks number) ≡ true →
+pub finds_one : (marks : List Mark) (number end : ℕ) → number < end →
+    is_rejected (mark_at marks number) ≡ true →
     one_rejected marks number (end - number) ≡ true
 finds_one marks number end l is =
     let q : end - number ≡ suc (end - (number + 1)) = omega arith in
     rw (q, is) refl
 
 -- no node is left
-pub finds_none : (marks : List Mark) (number end : ℕ) → end ≤ number → one_rejected marks number (end - number) ≡ false
+pub finds_none : (marks : List Mark) (number end : ℕ) → end ≤ number →
+    one_rejected marks number (end - number) ≡ false
 finds_none marks number end l = let q : end - number ≡ 0 = omega arith in rw q refl
 
 or_none : (b : Bool) → (b || false) ≡ b
@@ -44,17 +51,20 @@ or_none true = refl
 or_none false = refl
 
 -- one node alone
-pub only_one : (marks : List Mark) (node : ℕ) → one_rejected marks node 1 ≡ is_rejected (mark_at marks node)
+pub only_one : (marks : List Mark) (node : ℕ) →
+    one_rejected marks node 1 ≡ is_rejected (mark_at marks node)
 only_one marks node = or_none (is_rejected (mark_at marks node))
 
 -- ---- what is told
 
 -- a leaf's target stands at a leaf
-pub missing_stands : (tree : SplitTree) (node j : ℕ) → IsTargetAt tree node (Named (MissingLeaf j)) → subtree_at tree node ≡ missing
+pub missing_stands : (tree : SplitTree) (node j : ℕ) →
+    IsTargetAt tree node (Named (MissingLeaf j)) → subtree_at tree node ≡ missing
 missing_stands tree node j h = let r = missing_at tree j h.0 h.1 in rw h.2 r.1
 
 pub told_missing : (case : CaseOf) (marks : List Mark) (node : ℕ) (t : SplitTree) → t ≡ missing →
-    told case marks node t ≡ codes "m" ++ path_fields case.tree node ++ status_fields (mark_at marks node)
+    told case marks node t
+    ≡ codes "m" ++ path_fields case.tree node ++ status_fields (mark_at marks node)
 told_missing case marks node t e = rw e refl
 
 pub told_cube : (case : CaseOf) (marks : List Mark) (node k : ℕ) (t : SplitTree) → t ≡ cube k →
@@ -62,7 +72,8 @@ pub told_cube : (case : CaseOf) (marks : List Mark) (node k : ℕ) (t : SplitTre
 told_cube case marks node k t e = rw e refl
 
 pub told_split : (case : CaseOf) (marks : List Mark) (node : ℕ) (t : SplitTree) → IsSplit t →
-    told case marks node t ≡ codes "n" ++ path_fields case.tree node ++ own_status (mark_at marks node) ++ codes " w"
+    told case marks node t
+    ≡ codes "n" ++ path_fields case.tree node ++ own_status (mark_at marks node) ++ codes " w"
     ++ number_field (open_weight (worth_of case.tree) (refuted_by marks) node t)
 told_split case marks node missing s = absurd s
 told_split case marks node (cube k) s = absurd s
@@ -75,58 +86,80 @@ frame_leaf case node missing s = refl
 frame_leaf case node (cube k) s = refl
 frame_leaf case node (split v p n) s = absurd s
 
-pub frame_split : (case : CaseOf) (node : ℕ) (t : SplitTree) → IsSplit t → is_some (proof_for case.sections (Node node)) ≡ true →
+pub frame_split : (case : CaseOf) (node : ℕ) (t : SplitTree) → IsSplit t →
+    is_some (proof_for case.sections (Node node)) ≡ true →
     frame case node t ≡ codes " n"
 frame_split case node missing s e = absurd s
 frame_split case node (cube k) s e = absurd s
 frame_split case node (split v p n) s e = rw e refl
 
-pub frame_none : (case : CaseOf) (node : ℕ) (t : SplitTree) → is_some (proof_for case.sections (Node node)) ≡ false → frame case node t ≡ []
+pub frame_none : (case : CaseOf) (node : ℕ) (t : SplitTree) →
+    is_some (proof_for case.sections (Node node)) ≡ false → frame case node t ≡ []
 frame_none case node missing e = refl
 frame_none case node (cube k) e = refl
 frame_none case node (split v p n) e = rw e refl
 
 -- the path of a target that stands at one node alone
-pub path_is : (tree : SplitTree) (target : Target) (node there : ℕ) (path : List Literal) → IsPathOf tree target path → IsTargetAt tree node target →
+pub path_is : (tree : SplitTree) (target : Target) (node there : ℕ) (path : List Literal) →
+    IsPathOf tree target path → IsTargetAt tree node target →
     ((n : ℕ) → IsTargetAt tree n target → n ≡ there) → path ≡ path_at tree node
-path_is tree target node there path of at only = of.2 ∙ ap (path_at tree) (only of.0 of.1 ∙ sym (only node at))
+path_is tree target node there path of at only =
+    of.2 ∙ ap (path_at tree) (only of.0 of.1 ∙ sym (only node at))
 
 -- ---- the class by the colour
 
 module _ (tree : SplitTree) (marks : List Mark) (level node open_under : ℕ) (covered : Bool)
-    (is : open_under ≡ open_weight (worth_of tree) (refuted_by marks) node (subtree_at tree node)) where
-  pub colour_marked : open_under ≡ 0 → codes "r" ≡ colour marks level node covered (subtree_at tree node)
-  colour_marked z = let m = zero_is_marked tree (refuted_by marks) node (sym is ∙ z) in rw m refl
+    (is : open_under ≡ open_weight (worth_of tree) (refuted_by marks) node (subtree_at tree node))
+  where
+    pub colour_marked : open_under ≡ 0 →
+        codes "r" ≡ colour marks level node covered (subtree_at tree node)
+    colour_marked z = let m = zero_is_marked tree (refuted_by marks) node (sym is ∙ z) in rw m refl
 
-  pub colour_covered : covered ≡ true → (open_under ≡ 0 → ⊥) → codes "c" ≡ colour marks level node covered (subtree_at tree node)
-  colour_covered under some = let m = some_not_marked tree (refuted_by marks) node (λ z. some (is ∙ z)) in rw (m, under) refl
+    pub colour_covered : covered ≡ true → (open_under ≡ 0 → ⊥) →
+        codes "c" ≡ colour marks level node covered (subtree_at tree node)
+    colour_covered under some =
+        let m = some_not_marked tree (refuted_by marks) node (λ z. some (is ∙ z)) in
+        rw (m, under) refl
 
-  pub colour_rejected : covered ≡ false → (open_under ≡ 0 → ⊥) → one_rejected marks node (shown level (subtree_at tree node)) ≡ true →
-      codes "x" ≡ colour marks level node covered (subtree_at tree node)
-  colour_rejected free some bad = let m = some_not_marked tree (refuted_by marks) node (λ z. some (is ∙ z)) in rw (m, free, bad) refl
+    pub colour_rejected : covered ≡ false → (open_under ≡ 0 → ⊥) →
+        one_rejected marks node (shown level (subtree_at tree node)) ≡ true →
+        codes "x" ≡ colour marks level node covered (subtree_at tree node)
+    colour_rejected free some bad =
+        let m = some_not_marked tree (refuted_by marks) node (λ z. some (is ∙ z)) in
+        rw (m, free, bad) refl
 
-  pub colour_open : covered ≡ false → (open_under ≡ 0 → ⊥) → one_rejected marks node (shown level (subtree_at tree node)) ≡ false → node < size tree → open_under ≡ worth_of tree node →
-      codes "o" ≡ colour marks level node covered (subtree_at tree node)
-  colour_open free some good l whole =
-      let m = some_not_marked tree (refuted_by marks) node (λ z. some (is ∙ z)) in
-      let w = all_is_open tree (refuted_by marks) node l (sym is ∙ whole) in rw (free, m, good, w) refl
+    pub colour_open : covered ≡ false → (open_under ≡ 0 → ⊥) →
+        one_rejected marks node (shown level (subtree_at tree node)) ≡ false → node < size tree →
+        open_under ≡ worth_of tree node →
+        codes "o" ≡ colour marks level node covered (subtree_at tree node)
+    colour_open free some good l whole =
+        let m = some_not_marked tree (refuted_by marks) node (λ z. some (is ∙ z)) in
+        let w = all_is_open tree (refuted_by marks) node l (sym is ∙ whole) in
+        rw (free, m, good, w) refl
 
-  pub colour_part : covered ≡ false → (open_under ≡ 0 → ⊥) → one_rejected marks node (shown level (subtree_at tree node)) ≡ false → node < size tree → (open_under ≡ worth_of tree node → ⊥) →
-      codes "p" ≡ colour marks level node covered (subtree_at tree node)
-  colour_part free some good l part =
-      let m = some_not_marked tree (refuted_by marks) node (λ z. some (is ∙ z)) in
-      let w = less_not_whole tree (refuted_by marks) node l (λ f. part (is ∙ f)) in rw (free, m, good, w) refl
+    pub colour_part : covered ≡ false → (open_under ≡ 0 → ⊥) →
+        one_rejected marks node (shown level (subtree_at tree node)) ≡ false → node < size tree →
+        (open_under ≡ worth_of tree node → ⊥) →
+        codes "p" ≡ colour marks level node covered (subtree_at tree node)
+    colour_part free some good l part =
+        let m = some_not_marked tree (refuted_by marks) node (λ z. some (is ∙ z)) in
+        let w = less_not_whole tree (refuted_by marks) node l (λ f. part (is ∙ f)) in
+        rw (free, m, good, w) refl
 
-  -- nothing is open under a node exactly where it is marked
-  pub none_open : (open_under == 0) ≡ marked (refuted_by marks) node (subtree_at tree node)
-  none_open = elim (cases_eq open_under 0) [
-    | inl z ↦ test_same open_under 0 z ∙ sym (zero_is_marked tree (refuted_by marks) node (sym is ∙ z))
-    | inr some ↦ test_other open_under 0 some ∙ sym (some_not_marked tree (refuted_by marks) node (λ z. some (is ∙ z)))
-  ]
+    -- nothing is open under a node exactly where it is marked
+    pub none_open : (open_under == 0) ≡ marked (refuted_by marks) node (subtree_at tree node)
+    none_open = elim (cases_eq open_under 0) [
+      | inl z ↦ test_same open_under 0 z
+          ∙ sym (zero_is_marked tree (refuted_by marks) node (sym is ∙ z))
+      | inr some ↦ test_other open_under 0 some
+          ∙ sym (some_not_marked tree (refuted_by marks) node (λ z. some (is ∙ z)))
+    ]
 
 -- a node is covered, or marked
-pub covered_above : (covered under next : Bool) → covered ≡ true → next ≡ covered → next ≡ (covered || under)
+pub covered_above : (covered under next : Bool) → covered ≡ true → next ≡ covered →
+    next ≡ (covered || under)
 covered_above covered under next h e = rw h (e ∙ h)
 
-pub covered_here : (covered under next test : Bool) → covered ≡ false → next ≡ test → test ≡ under → next ≡ (covered || under)
+pub covered_here : (covered under next test : Bool) → covered ≡ false → next ≡ test → test ≡ under →
+    next ≡ (covered || under)
 covered_here covered under next test h e f = rw h (e ∙ f)

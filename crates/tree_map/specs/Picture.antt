@@ -1,8 +1,10 @@
--- The picture of a tree by the marks of its nodes, as SVG, as bytes. The root's cell is 2048 wide, a
+-- The picture of a tree by the marks of its nodes, as SVG, as bytes. The root's cell is 2048 wide,
+-- a
 -- branch's cell half as wide as its node's, in the row below it. A cell's level is how many rows
 -- there are below its own: 11 at the root. At level 0 one cell stands for all nodes of its subtree.
 -- No byte of a cell needs an escape in XML: the texts have letters, digits, spaces and minus signs.
-use Rattle.std.specs.Prelude.{ℕ, zero, suc, ◌+◌, ◌-◌, ◌*◌, ◌^◌, ◌||◌, Bool, true, false, List, [], ◌++◌, codes, decimal, is_some, if◌then◌else◌}
+use Rattle.std.specs.Prelude.{ℕ, zero, suc, ◌+◌, ◌-◌, ◌*◌, ◌^◌, ◌||◌, Bool, true, false, List, []}
+use Rattle.std.specs.Prelude.{◌++◌, codes, decimal, is_some, if◌then◌else◌}
 use Rattle.std.specs.List.{flat_map}
 use Rattle.split_tree.specs.SplitTree.{SplitTree, missing, cube, split, size, total, path_at}
 use Rattle.split_tree.specs.declared.node.Target.TheVariants.{Node}
@@ -128,7 +130,8 @@ unfoldable pub legend : List ℕ
 legend =
     key (codes "r") 760 (codes "refuted") ++ key (codes "x") 900 (codes "rejected")
     ++ key (codes "o") 1050 (codes "open") ++ key (codes "p") 1170 (codes "partly open")
-    ++ key (codes "c") 1350 (codes "under a refuted node") ++ key (codes "n") 1620 (codes "own proof")
+    ++ key (codes "c") 1350 (codes "under a refuted node")
+    ++ key (codes "n") 1620 (codes "own proof")
 
 -- how much of the whole weight is open
 unfoldable pub weights : ℕ → ℕ → List ℕ

@@ -4,7 +4,8 @@ ghost use Rattle.std.specs.Prelude.{◌≡◌, ◌<◌, ◌≤◌, ◌++◌, ◌
 ghost use Rattle.split_tree.specs.SplitTree.{size, subtree_at};
 ghost use Rattle.mark_board.specs.Marking.{mark_at, open_weight, refuted_by};
 ghost use Rattle.mark_board.specs.TopPlaces.{worth_of};
-ghost use Rattle.tree_map.specs.Picture.{attribute, edges, rectangle, is_rejected, one_rejected, shown, colour, frame, own_status, path_fields, told};
+ghost use Rattle.tree_map.specs.Picture.{attribute, edges, rectangle, is_rejected, one_rejected};
+ghost use Rattle.tree_map.specs.Picture.{shown, colour, frame, own_status, path_fields, told};
 ghost use Rattle.tree_map.specs.Inner.Picture.{cell_of};
 
 use crate::fields::{write_number, write_path, write_status};

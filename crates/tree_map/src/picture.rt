@@ -2,7 +2,8 @@
 
 ghost use Rattle.std.specs.Prelude.{◌≡◌, ◌≤◌, ◌++◌, false, OnOk, IfOk};
 ghost use Rattle.split_tree.specs.SplitTree.{size, subtree_at};
-ghost use Rattle.tree_map.specs.Picture.{map_text, head, legend, key, word_at, weights, title, cells};
+ghost use Rattle.tree_map.specs.Picture.{map_text, head, legend, key, word_at, weights, title};
+ghost use Rattle.tree_map.specs.Picture.{cells};
 ghost use Rattle.tree_map.specs.Inner.Picture.{IsPending, cell_of, below, next_cells};
 
 use crate::cell::{Cell, width, write_attribute, write_cell, write_rectangle};

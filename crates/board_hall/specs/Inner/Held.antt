@@ -1,5 +1,6 @@
 -- What a seat that holds a board has after a post, and what a seat that met others stands for.
-use Rattle.std.specs.Prelude.{◌+◌, ◌⊎◌, All, true, false, ◌≡◌, ◌≢◌, ℕ, List, [], ◌∷◌, Option, None, Some}
+use Rattle.std.specs.Prelude.{◌+◌, ◌⊎◌, All, true, false, ◌≡◌, ◌≢◌, ℕ, List, [], ◌∷◌, Option, None}
+use Rattle.std.specs.Prelude.{Some}
 use Rattle.split_tree.specs.SplitTree.{missing}
 use Rattle.mark_board.specs.declared.mark.Mark.TheVariants.{Open}
 use Rattle.mark_board.specs.declared.posted.Posted.{Posted}

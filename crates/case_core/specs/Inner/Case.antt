@@ -1,5 +1,6 @@
 -- The table that a case keeps beside its parts.
-use Rattle.std.specs.Prelude.{◌≡◌, ℕ, ◌≤◌, ◌+◌, ◌-◌, ◌^◌, ◌==◌, if◌then◌else◌, List, Option, None, Some, slice_index, length}
+use Rattle.std.specs.Prelude.{◌≡◌, ℕ, ◌≤◌, ◌+◌, ◌-◌, ◌^◌, ◌==◌, if◌then◌else◌, List, Option, None}
+use Rattle.std.specs.Prelude.{Some, slice_index, length}
 use Rattle.split_tree.specs.SplitTree.{SplitTree, size, total}
 use Rattle.split_tree.specs.Leaves.{IsTargetAt}
 use Rattle.split_tree.specs.declared.node.Target.{Target}

@@ -5,7 +5,8 @@ use Rattle.cnf_text.specs.Literal.{Literal, greatest_variable}
 use Rattle.split_tree.specs.SplitTree.{SplitTree, cube, subtree_at, path_at}
 use Rattle.split_tree.specs.declared.node.Target.{Target}
 use Rattle.case_core.specs.declared.label.LabelFault.{LabelFault}
-use Rattle.case_core.specs.declared.label.LabelFault.TheVariants.{BadForm, NoSuchTarget, Twice, Memory}
+use Rattle.case_core.specs.declared.label.LabelFault.TheVariants.{BadForm, NoSuchTarget, Twice}
+use Rattle.case_core.specs.declared.label.LabelFault.TheVariants.{Memory}
 use Rattle.case_core.specs.Label.{Name, IsNamed}
 use Rattle.case_core.specs.declared.fault.CaseFault.{CaseFault}
 use Rattle.case_core.specs.declared.fault.CaseFault.TheVariants as bundle

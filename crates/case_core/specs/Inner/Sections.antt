@@ -1,5 +1,6 @@
 -- What the reader of sections keeps.
-use Rattle.std.specs.Prelude.{◌≡◌, ◌≢◌, ℕ, ◌+◌, ◌^◌, ◌≤◌, ◌==◌, Bool, not, List, [], ◌∷◌, ◌++◌, length, count_by, Option, None}
+use Rattle.std.specs.Prelude.{◌≡◌, ◌≢◌, ℕ, ◌+◌, ◌^◌, ◌≤◌, ◌==◌, Bool, not, List, [], ◌∷◌, ◌++◌}
+use Rattle.std.specs.Prelude.{length, count_by, Option, None}
 use Rattle.cnf_text.specs.Icnf.{Item, cubes_of}
 use Rattle.split_tree.specs.Clash as clash
 use Rattle.split_tree.specs.declared.clash.TreeFault.{TreeFault}
@@ -15,7 +16,8 @@ use Rattle.case_core.specs.Inner.Bundle.{EndsWith, BeginsWithLabel}
 use Rattle.case_core.specs.Sections.{AreSectionsOf}
 use Rattle.case_core.specs.Inner.Label.{NamesNone, IsLimited}
 use Rattle.case_core.specs.declared.label.LabelFault.{LabelFault}
-use Rattle.case_core.specs.declared.label.LabelFault.TheVariants.{BadForm, NoSuchTarget, Twice, Memory}
+use Rattle.case_core.specs.declared.label.LabelFault.TheVariants.{BadForm, NoSuchTarget, Twice}
+use Rattle.case_core.specs.declared.label.LabelFault.TheVariants.{Memory}
 
 abbrev pub is_place : ℕ → Bool
 is_place place = not (place == 0)

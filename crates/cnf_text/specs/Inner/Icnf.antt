@@ -8,7 +8,9 @@ use Rattle.cnf_text.specs.declared.icnf.Word.TheVariants as words
 use Rattle.cnf_text.specs.declared.icnf.TextFault.{TextFault}
 use Rattle.cnf_text.specs.declared.icnf.TextFault.TheVariants.{Memory}
 use Rattle.cnf_text.specs.Literal.{Literal, greatest_variable}
-use Rattle.cnf_text.specs.Icnf.{Symbol, Signed, EndMark, CubeMark, Unknown, Item, ClauseItem, CubeItem, spelled, clauses_of, cubes_of, literal_count, Within, FaultAt}
+use Rattle.cnf_text.specs.Icnf.{Symbol, Signed, EndMark, CubeMark, Unknown, Item, ClauseItem}
+use Rattle.cnf_text.specs.Icnf.{CubeItem, spelled, clauses_of, cubes_of, literal_count, Within}
+use Rattle.cnf_text.specs.Icnf.{FaultAt}
 
 -- what a word stands for
 abbrev pub Means : Word → Symbol → Type 0

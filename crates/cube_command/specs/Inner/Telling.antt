@@ -1,7 +1,10 @@
 -- The status of a fault and of an answer, and the line that tells a fault.
 use Rattle.std.specs.Prelude.{◌≡◌, ℕ, Bool, List, true, false, ◌⊎◌, Option}
 use Rattle.cube_report.specs.declared.fault.Fault.{Fault}
-use Rattle.cube_report.specs.declared.fault.Fault.TheVariants.{Header, Token, Unfinished, TooLarge, Limit, Memory, Repeats, NotATree, Overlap, BadLabel, NoSuchLeaf, ProofTwice, Device, Thread}
+use Rattle.cube_report.specs.declared.fault.Fault.TheVariants.{Header, Token, Unfinished, TooLarge}
+use Rattle.cube_report.specs.declared.fault.Fault.TheVariants.{Limit, Memory, Repeats, NotATree}
+use Rattle.cube_report.specs.declared.fault.Fault.TheVariants.{Overlap, BadLabel, NoSuchLeaf}
+use Rattle.cube_report.specs.declared.fault.Fault.TheVariants.{ProofTwice, Device, Thread}
 use Rattle.cube_report.specs.Faults.{IsInputFault}
 use Rattle.cube_command.specs.Program.{fault_line, IsLineWritten}
 

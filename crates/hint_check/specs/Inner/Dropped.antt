@@ -1,5 +1,6 @@
 -- Flags of clauses that were dropped.
-use Rattle.std.specs.Prelude.{◌≡◌, ℕ, ◌-◌, ◌≤◌, Bool, true, false, List, length, slice_index_or as get_or}
+use Rattle.std.specs.Prelude.{◌≡◌, ℕ, ◌-◌, ◌≤◌, Bool, true, false, List, length}
+use Rattle.std.specs.Prelude.{slice_index_or as get_or}
 use Rattle.hint_check.specs.Inner.Resets.{is_named}
 
 -- whether the flag of an id, counted from 1, is set

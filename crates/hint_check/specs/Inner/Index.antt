@@ -1,5 +1,7 @@
 -- For each literal the ids of the clauses that may hold it.
-use Rattle.std.specs.Prelude.{◌≡◌, ℕ, ◌-◌, ◌<◌, ◌≤◌, ◌==◌, nat_eq, nat_lt, slice_index, slice_index_or, take, length, Bool, true, ◌&&◌, ◌||◌, if◌then◌else◌, List, [], ◌∷◌, ◌++◌, Option, Some, None, map as map_list}
+use Rattle.std.specs.Prelude.{◌≡◌, ℕ, ◌-◌, ◌<◌, ◌≤◌, ◌==◌, nat_eq, nat_lt, slice_index}
+use Rattle.std.specs.Prelude.{slice_index_or, take, length, Bool, true, ◌&&◌, ◌||◌, if◌then◌else◌}
+use Rattle.std.specs.Prelude.{List, [], ◌∷◌, ◌++◌, Option, Some, None, map as map_list}
 use Rattle.std.specs.Option.{unwrap_or, IfSome}
 use Rattle.std.specs.List.{list_any}
 use Rattle.std.specs.Map.{lookup}

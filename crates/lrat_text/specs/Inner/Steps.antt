@@ -1,5 +1,7 @@
 -- Runs of words in a step, and the decoding of all words that a reader has left.
-use Rattle.std.specs.Prelude.{◌≡◌, ℕ, zero, suc, ◌≤◌, Bool, true, false, not, ◌&&◌, ◌==◌, leb, if◌then◌else◌, List, [], ◌∷◌, ◌++◌, map, length, Option, None, Some, option_map, option_and_then}
+use Rattle.std.specs.Prelude.{◌≡◌, ℕ, zero, suc, ◌≤◌, Bool, true, false, not, ◌&&◌, ◌==◌, leb}
+use Rattle.std.specs.Prelude.{if◌then◌else◌, List, [], ◌∷◌, ◌++◌, map, length, Option, None, Some}
+use Rattle.std.specs.Prelude.{option_map, option_and_then}
 use Rattle.std.specs.List.{AllByRecursion}
 use Rattle.cnf_text.specs.Literal.{Literal, IsVariable, greatest_variable}
 use Rattle.cnf_text.specs.Numbers.{Number}
@@ -7,7 +9,10 @@ use Rattle.lrat_text.specs.declared.steps.Word.{Word}
 use Rattle.lrat_text.specs.declared.steps.Word.TheVariants as words
 use Rattle.lrat_text.specs.declared.steps.Stop.{Stop}
 use Rattle.lrat_text.specs.declared.steps.Stop.TheVariants as stops
-use Rattle.lrat_text.specs.Grammar.{StepSymbol, Numeral, DeleteMark, Stray, step_symbol_of, positive, negative, signed, end_mark, greatest_id, IsId, HintGroup, IsGroup, hint_symbols, ProofStep, Add, Delete, BeginsWith}
+use Rattle.lrat_text.specs.Grammar.{StepSymbol, Numeral, DeleteMark, Stray, step_symbol_of}
+use Rattle.lrat_text.specs.Grammar.{positive, negative, signed, end_mark, greatest_id, IsId}
+use Rattle.lrat_text.specs.Grammar.{HintGroup, IsGroup, hint_symbols, ProofStep, Add, Delete}
+use Rattle.lrat_text.specs.Grammar.{BeginsWith}
 use Rattle.lrat_text.specs.Proof.{Proof}
 
 -- no whole step stands at the front

@@ -5,7 +5,8 @@ use Rattle.std.specs.declared.option.Option.TheVariants.{None, Some}
 use Rattle.split_tree.specs.declared.clash.Relation.{Relation}
 use Rattle.split_tree.specs.declared.clash.Relation.TheVariants.{Fit, Equal, Prefix, Unrelated}
 use Rattle.split_tree.specs.declared.clash.TreeFault.{TreeFault}
-use Rattle.split_tree.specs.declared.clash.TreeFault.TheVariants.{Repeats, NotATree, Overlap, Memory}
+use Rattle.split_tree.specs.declared.clash.TreeFault.TheVariants.{Repeats, NotATree, Overlap}
+use Rattle.split_tree.specs.declared.clash.TreeFault.TheVariants.{Memory}
 use Rattle.cnf_text.specs.Literal.{Literal}
 use Rattle.split_tree.specs.Clash.{relation_of, cube_at, AllFit}
 

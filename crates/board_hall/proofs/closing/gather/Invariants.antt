@@ -10,7 +10,8 @@ ghosts-meet a = record { other = a.other.me.0 }
 abbrev pub invariant-loop-pass : goal.invariant-loop-pass
 invariant-loop-pass l =
     (l.seat.table_id ≡ l.fn.shared.table_id)
-    × ((met : List Pass) × (l.fn.others.items ≡ l.others.items ++ met) × Gathered l.fn.first (length met) met l.seat.me)
+    × ((met : List Pass) × (l.fn.others.items ≡ l.others.items ++ met)
+    × Gathered l.fn.first (length met) met l.seat.me)
     × All (λ p. p.seat.table_id ≡ l.fn.shared.table_id) l.others.items
     × All (λ p. (view_of p).owes ≡ None) l.others.items
 

@@ -4,8 +4,12 @@ use Rattle.bundle_files.proofs.folder.add_section.Goals as goal
 
 pub returns-then-branch-clause-added : goal.returns-then-branch-clause-added
 returns-then-branch-clause-added g c =
-    one_added _ _ _ _ _ _ _ c.in_ok-read.field-0 c.if-branch.true (c.as_str.ensures.value ∙ c.in_ok-path.ensures) c.in_ok-write_label.ensures c.in_ok-read.ensures.found
+    one_added _ _ _ _ _ _ _ c.in_ok-read.field-0 c.if-branch.true
+    (c.as_str.ensures.value ∙ c.in_ok-path.ensures) c.in_ok-write_label.ensures
+    c.in_ok-read.ensures.found
 
 pub returns-clause-added : goal.returns-clause-added
 returns-clause-added g c =
-    one_missing _ _ _ _ _ _ _ _ c.in_ok-read.field-0 c.if-branch.false (c.as_str.ensures.value ∙ c.in_ok-path.ensures) c.in_ok-write_label.ensures c.in_ok-read.ensures.found (search rules)
+    one_missing _ _ _ _ _ _ _ _ c.in_ok-read.field-0 c.if-branch.false
+    (c.as_str.ensures.value ∙ c.in_ok-path.ensures) c.in_ok-write_label.ensures
+    c.in_ok-read.ensures.found (search rules)

@@ -4,10 +4,13 @@ use Rattle.bundle_files.proofs.folder.add_sections.Goals as goal
 
 pub loop-done-preserved : goal.loop-done-preserved
 loop-done-preserved g c =
-    let name_is : c.as_str.result.now ≡ c.args.kind.now ++ decimal (c.loop-done.done + 1) = search rules in record {
+    let name_is : c.as_str.result.now ≡ c.args.kind.now ++ decimal (c.loop-done.done + 1) =
+    search rules in record {
       in_range = search rules;
       held = search rules;
       same = search rules;
-      added = one_further (g.D.Store.held c.args.store.now) _ c.args.folder.now c.args.kind.now _ _ _ _ c.loop-done.done c.loop-done.invariant.held name_is c.loop-done.invariant.added
+      added =
+          one_further (g.D.Store.held c.args.store.now) _ c.args.folder.now c.args.kind.now _ _ _ _
+          c.loop-done.done c.loop-done.invariant.held name_is c.loop-done.invariant.added
           c.in_ok-add_section.ensures.added;
     }

@@ -7,7 +7,8 @@ invariant-loop-done g l = record {
   in_range : l.done ≤ l.count;
   held : g.D.Store.held l.store ≡ g.D.Store.held l.initial.store;
   same : g.D.Store.failures l.store ≡ g.D.Store.failures l.initial.store;
-  added : AreAdded (g.D.Store.held l.initial.store) l.folder (names_from l.kind 1 l.done) l.initial.bundle.items l.bundle.items;
+  added : AreAdded (g.D.Store.held l.initial.store) l.folder (names_from l.kind 1 l.done)
+      l.initial.bundle.items l.bundle.items;
 }
 
 abbrev pub decreases-loop-done : goal.decreases-loop-done

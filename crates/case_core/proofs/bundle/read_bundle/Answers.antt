@@ -14,5 +14,6 @@ returns-clause-only c =
 
 pub returns-clause-err : goal.returns-clause-err
 returns-clause-err c =
-    subst (λ (text : List ℕ). IfErr c.take_bundle.result (λ fault. fault ≢ Memory → IsFaultOf text fault))
+    subst (λ (text : List ℕ).
+    IfErr c.take_bundle.result (λ fault. fault ≢ Memory → IsFaultOf text fault))
     (c.in_ok-to_vec.ensures.items_if_clones_equal (λ x y e. e)) c.take_bundle.ensures.err

@@ -7,8 +7,12 @@ use Rattle.case_core.proofs.bundle.read_sections.Given as goal
 
 abbrev pub invariant-loop-next : goal.invariant-loop-next
 invariant-loop-next l = record {
-  kept : AreKept l.tree (map (section_in l.bundle) l.sections.sections.items) l.sections.places.items;
-  read : MatchOption l.next (AreSectionsOf l.tree (labels_of l.bundle) (map (section_in l.bundle) l.sections.sections.items)) (λ at. LabelAt l.tree l.bundle (map (section_in l.bundle) l.sections.sections.items) at.now);
+  kept : AreKept l.tree (map (section_in l.bundle) l.sections.sections.items)
+      l.sections.places.items;
+  read : MatchOption l.next
+      (AreSectionsOf l.tree (labels_of l.bundle)
+      (map (section_in l.bundle) l.sections.sections.items))
+      (λ at. LabelAt l.tree l.bundle (map (section_in l.bundle) l.sections.sections.items) at.now);
 }
 
 abbrev pub left : Option (Bor (List ℕ)) → ℕ

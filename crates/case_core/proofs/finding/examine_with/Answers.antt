@@ -4,12 +4,28 @@ use Rattle.case_core.proofs.finding.examine_with.Goals as goal
 
 pub invariant_of-result : goal.invariant_of-result
 invariant_of-result c =
-    let here = stands_there _ _ _ c.number-node.result c.args.target c.tree.ensures.tree c.number-node.ensures c.node_of_target.ensures.here in
-    let found = found_of c.args.case.now c.args.target _ c.number-node.result c.in-Some.judged (c.leaf_of.ensures _ _ here)
+    let here =
+    stands_there _ _ _ c.number-node.result c.args.target c.tree.ensures.tree c.number-node.ensures
+    c.node_of_target.ensures.here in
+    let found =
+    found_of c.args.case.now c.args.target _ c.number-node.result c.in-Some.judged
+    (c.leaf_of.ensures _ _ here)
     (rw c.in-Some.is at c.in_ok-judged.ensures) here in
-    record { here = found.0; only = only_there _ _ c.args.target _ c.node_of_target.result c.number-node.result c.tree.ensures.tree c.number-node.ensures (c.leaf_of.ensures _ _ here) c.node_of_target.ensures.only; has_section = found.1; is = found.2; sound = found.3 }
+    record {
+      here = found.0;
+      only =
+          only_there _ _ c.args.target _ c.node_of_target.result c.number-node.result
+          c.tree.ensures.tree c.number-node.ensures (c.leaf_of.ensures _ _ here)
+          c.node_of_target.ensures.only;
+      has_section = found.1;
+      is = found.2;
+      sound = found.3;
+    }
 
 pub returns : goal.returns
 returns c =
-    let here = stands_there _ _ _ c.number-node.result c.args.target c.tree.ensures.tree c.number-node.ensures c.node_of_target.ensures.here in
-    let found = rw c.in-Some.is at c.in_ok-judged.ensures in (found.0, refl, c.leaf_of.ensures _ _ here, found.1)
+    let here =
+    stands_there _ _ _ c.number-node.result c.args.target c.tree.ensures.tree c.number-node.ensures
+    c.node_of_target.ensures.here in
+    let found = rw c.in-Some.is at c.in_ok-judged.ensures in
+    (found.0, refl, c.leaf_of.ensures _ _ here, found.1)

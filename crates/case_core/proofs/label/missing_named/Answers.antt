@@ -9,4 +9,5 @@ returns-then-value-from-clause-err c =
 
 pub returns-then-not-has_leaf-clause-err : goal.returns-then-not-has_leaf-clause-err
 returns-then-not-has_leaf-clause-err c =
-    no_missing _ _ c.in-Some.value (sym c.in-Some.is ∙ c.digits_value.ensures) (omega arith) (iff_false c.has_leaf.ensures c.if-not-has_leaf.true)
+    no_missing _ _ c.in-Some.value (sym c.in-Some.is ∙ c.digits_value.ensures) (omega arith)
+    (iff_false c.has_leaf.ensures c.if-not-has_leaf.true)

@@ -13,7 +13,8 @@ invariant-loop-shift l = record {
   job_passes_count : vec_len l.job_passes + into_iter_len l.shift-iterator ≡ vec_len l.fn.shifts;
   passes_room : vec_len l.fn.shifts ≤ vec_capacity l.passes;
   job_passes_room : vec_len l.fn.shifts ≤ vec_capacity l.job_passes;
-  rest : All (IsShiftOf (shared_of l.site.core.now) l.site.jobs.now l.site.order.now) (into_iter_items l.shift-iterator);
+  rest : All (IsShiftOf (shared_of l.site.core.now) l.site.jobs.now l.site.order.now)
+      (into_iter_items l.shift-iterator);
   own : All (IsPassOf (shared_of l.site.core.now)) l.passes.items;
   free : All (λ (pass : Pass). (view_of pass).owes ≡ None) l.passes.items;
   jobs : All (queue.IsPassOf l.site.jobs.now) l.job_passes.items;

@@ -15,5 +15,6 @@ loop-preserved g c =
       job_pass = c.claim.ensures.same;
       seen = rw c.in-Some-claim.ensures.claimed
           (All-push after c.loop.job_pass.claims c.in-Some-claim.turn
-          (All-weaker before after (λ turn. section_stays _ _ c.take_turn.ensures.stays _) c.loop.job_pass.claims was.seen) c.in-Ok.ensures.seen);
+          (All-weaker before after (λ turn. section_stays _ _ c.take_turn.ensures.stays _)
+          c.loop.job_pass.claims was.seen) c.in-Ok.ensures.seen);
     }

@@ -5,4 +5,6 @@ use Rattle.cnf_text.proofs.words.behind_space.Goals as goal
 
 pub returns-in-len1-up : goal.returns-in-len1-up
 unfolding is_blank
-returns-in-len1-up c = behind_blank c.args.text.now (omega arith) (rw c.if-first-eq32.true refl) (rw c.if-first-eq32.true refl)
+returns-in-len1-up c =
+    behind_blank c.args.text.now (omega arith) (rw c.if-first-eq32.true refl)
+    (rw c.if-first-eq32.true refl)

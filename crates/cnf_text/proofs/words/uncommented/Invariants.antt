@@ -6,7 +6,8 @@ use Rattle.cnf_text.proofs.words.uncommented.Given as goal
 
 abbrev pub invariant-loop-below : goal.invariant-loop-below
 invariant-loop-below l = record {
-  same : words_of_lines (slice_split is_line_end l.left) ≡ words_of_lines (slice_split is_line_end l.text);
+  same : words_of_lines (slice_split is_line_end l.left)
+      ≡ words_of_lines (slice_split is_line_end l.text);
   within : length l.left ≤ length l.text;
 }
 

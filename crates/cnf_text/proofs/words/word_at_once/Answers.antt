@@ -14,6 +14,11 @@ pub returns : goal.returns
 returns c = (
   c.split_at.result.0.now,
   left_word c.args.text.now c.requires.some c.requires.visible
-      ∙ rw (c.split_at.ensures.front, c.behind_space.ensures, c.split_at.ensures.back, c.word_len.ensures.value) refl,
+      ∙ rw (
+        c.split_at.ensures.front,
+        c.behind_space.ensures,
+        c.split_at.ensures.back,
+        c.word_len.ensures.value,
+      ) refl,
   c.word_of.ensures,
 )

@@ -12,9 +12,15 @@ returns-in_err-outcome-clause-fault g c =
     handed_on c.from_residual-in_err-outcome.result
     (λ fault. IsInputFault fault → IsRefused (g.D.Store.held c.args.store.now)
     (option_map {T = Bor (List ℕ)} {U = List ℕ} (λ text. text.now) c.args.request.now.file)
-    (option_map {T = Bor (List ℕ)} {U = List ℕ} (λ text. text.now) c.args.request.now.proofs) (g.I.Source.remaining c.args.input.now) fault)
+    (option_map {T = Bor (List ℕ)} {U = List ℕ} (λ text. text.now) c.args.request.now.proofs)
+    (g.I.Source.remaining c.args.input.now) fault)
     c.in_err-outcome.field-0.0
-    (λ input. record { read = bundle.0; whole = c.in_ok-bundle.bundle.items; bundle = bundle.1; first = c.in_err-outcome.ensures.fault input })
+    (λ input. record {
+      read = bundle.0;
+      whole = c.in_ok-bundle.bundle.items;
+      bundle = bundle.1;
+      first = c.in_err-outcome.ensures.fault input;
+    })
     c.from_residual-in_err-outcome.ensures.1
 
 pub write_outcome-requires-clause-store : goal.write_outcome-requires-clause-store
@@ -22,8 +28,11 @@ write_outcome-requires-clause-store g c = rw c.in_ok-bundle.ensures.ok.0 c.requi
 
 pub returns-clause-report : goal.returns-clause-report
 returns-clause-report g c =
-    reported (g.D.Store.held c.args.store.now) (g.D.Store.held c.write_outcome.new.store) _ _ _ _ (g.O.Sink.contents c.args.output.now)
-    (g.O.Sink.contents c.write_outcome.new.output) _ c.in_ok-bundle.bundle.items c.in_ok-outcome.outcome.text.items c.in_ok-outcome.outcome.map.items c.is_some-draws.result
+    reported (g.D.Store.held c.args.store.now) (g.D.Store.held c.write_outcome.new.store) _ _ _ _
+    (g.O.Sink.contents c.args.output.now)
+    (g.O.Sink.contents c.write_outcome.new.output) _ c.in_ok-bundle.bundle.items
+    c.in_ok-outcome.outcome.text.items c.in_ok-outcome.outcome.map.items c.is_some-draws.result
     c.in_ok-outcome.outcome.refuted c.in_ok-bundle.ensures.bundle.1 c.in_ok-outcome.ensures.outcome
-    (some_mapped (λ (text : Bor (List ℕ)). text.now) c.args.request.now.map c.is_some-draws.result c.is_some-draws.ensures)
+    (some_mapped (λ (text : Bor (List ℕ)). text.now) c.args.request.now.map c.is_some-draws.result
+    c.is_some-draws.ensures)
     c.in_ok-write_outcome.ensures.written c.in_ok-write_outcome.ensures.drawn

@@ -4,4 +4,8 @@ use Rattle.cube_report.specs.Faults.{fault_text}
 use Rattle.cube_command.proofs.telling.line_of.Goals as goal
 
 pub returns : goal.returns
-returns c = IfOk-weaker c.format.result _ _ (λ line is. is ∙ sym (append_assoc (codes "cubeboard: ") (fault_text c.args.fault) (codes "\n"))) c.format.ensures.ok
+returns c =
+    IfOk-weaker c.format.result _ _
+    (λ line is. is
+    ∙ sym (append_assoc (codes "cubeboard: ") (fault_text c.args.fault) (codes "\n")))
+    c.format.ensures.ok

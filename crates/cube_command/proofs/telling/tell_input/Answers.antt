@@ -8,7 +8,8 @@ returns-in-Ok g c = record {
     c.status_of.ensures,
     subst
         (λ (line : List ℕ).
-        IsLineWritten (g.E.Sink.contents c.args.errors.now) (g.E.Sink.contents c.tell.new.errors) (g.E.Sink.failures c.args.errors.now) (g.E.Sink.failures c.tell.new.errors) line)
+        IsLineWritten (g.E.Sink.contents c.args.errors.now) (g.E.Sink.contents c.tell.new.errors)
+        (g.E.Sink.failures c.args.errors.now) (g.E.Sink.failures c.tell.new.errors) line)
         (c.as_bytes.ensures.value ∙ c.in-Ok.ensures) c.tell.ensures,
   );
 }

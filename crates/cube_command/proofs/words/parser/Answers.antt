@@ -8,9 +8,16 @@ use Rattle.cube_command.proofs.words.parser.Goals as goal
 pub returns : goal.returns
 returns c =
     let first : app_of c.in_ok-arg.field-0 ≡ with_rule with_numbers proofs_word =
-    c.in_ok-arg.ensures.shape c.proofs_word.ensures.own ∙ ap₂ with_rule c.in_ok-numbers.ensures c.proofs_word.ensures.rule in
-    let second : app_of c.in_ok-arg-2.field-0 ≡ with_rule (with_rule with_numbers proofs_word) progress_word =
-    c.in_ok-arg-2.ensures.shape c.progress_word.ensures.own ∙ ap₂ with_rule first c.progress_word.ensures.rule in
-    let third : app_of c.in_ok-arg-3.field-0 ≡ with_rule (with_rule (with_rule with_numbers proofs_word) progress_word) map_word =
-    c.in_ok-arg-3.ensures.shape c.map_word.ensures.own ∙ ap₂ with_rule second c.map_word.ensures.rule in
-    IfOk-weaker c.arg-4.result _ _ (λ parser adds. adds.shape c.file_word.ensures.own ∙ ap₂ with_rule third c.file_word.ensures.rule) c.arg-4.ensures
+    c.in_ok-arg.ensures.shape c.proofs_word.ensures.own
+    ∙ ap₂ with_rule c.in_ok-numbers.ensures c.proofs_word.ensures.rule in
+    let second : app_of c.in_ok-arg-2.field-0
+    ≡ with_rule (with_rule with_numbers proofs_word) progress_word =
+    c.in_ok-arg-2.ensures.shape c.progress_word.ensures.own
+    ∙ ap₂ with_rule first c.progress_word.ensures.rule in
+    let third : app_of c.in_ok-arg-3.field-0
+    ≡ with_rule (with_rule (with_rule with_numbers proofs_word) progress_word) map_word =
+    c.in_ok-arg-3.ensures.shape c.map_word.ensures.own
+    ∙ ap₂ with_rule second c.map_word.ensures.rule in
+    IfOk-weaker c.arg-4.result _ _
+    (λ parser adds. adds.shape c.file_word.ensures.own
+    ∙ ap₂ with_rule third c.file_word.ensures.rule) c.arg-4.ensures

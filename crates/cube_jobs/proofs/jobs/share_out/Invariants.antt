@@ -12,5 +12,8 @@ invariant-loop l = record {
   claims : (injector_view l.seat).claims ≡ [];
   count : vec_len l.shared_out + 1 ≡ l.counter;
   room : l.passes ≤ vec_capacity l.shared_out;
-  new : All (λ (p : JobPassOf). p ≡ new_pass record { queue = l.queue.queue; sections = (injector_view l.fn.seat).sections; passes = l.passes }) l.shared_out.items;
+  new : All (λ (p : JobPassOf). p
+      ≡ new_pass record
+      { queue = l.queue.queue; sections = (injector_view l.fn.seat).sections; passes = l.passes })
+      l.shared_out.items;
 }

@@ -6,7 +6,8 @@ abbrev pub invariant-loop-count : goal.invariant-loop-count
 invariant-loop-count g l = record {
   same : g.R.Source.failures l.reader ≡ g.R.Source.failures l.initial.reader;
   room : length l.buffer ≡ 65536;
-  read : ReadSoFar (g.R.Source.remaining l.initial.reader) (g.R.Source.remaining l.reader) l.initial.bytes.items l.bytes.items;
+  read : ReadSoFar (g.R.Source.remaining l.initial.reader) (g.R.Source.remaining l.reader)
+      l.initial.bytes.items l.bytes.items;
 }
 
 abbrev pub decreases-loop-count : goal.decreases-loop-count

@@ -2,4 +2,7 @@ use Rattle.cube_report.proofs.CorrectReports.{outcome_says}
 use Rattle.cube_report.proofs.engine.run_one.Goals as goal
 
 pub returns-clause-sound : goal.returns-clause-sound
-returns-clause-sound c = λ says formula stands. c.in_ok-outcome.ensures.outcome.sound (outcome_says c.args.bundle.now _ _ c.in_ok-outcome.ensures.outcome says) formula stands
+returns-clause-sound c =
+    λ says formula stands.
+    c.in_ok-outcome.ensures.outcome.sound
+    (outcome_says c.args.bundle.now _ _ c.in_ok-outcome.ensures.outcome says) formula stands

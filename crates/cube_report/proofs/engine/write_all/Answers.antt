@@ -6,5 +6,7 @@ pub loop-done-preserved : goal.loop-done-preserved
 loop-done-preserved g c = record {
   same = search rules;
   in_range = search rules;
-  written = appends_more _ _ _ c.args.text.now c.loop-done.done c.in-Ok.count c.loop-done.invariant.written c.in-Ok.ensures.bytes;
+  written =
+      appends_more _ _ _ c.args.text.now c.loop-done.done c.in-Ok.count
+      c.loop-done.invariant.written c.in-Ok.ensures.bytes;
 }

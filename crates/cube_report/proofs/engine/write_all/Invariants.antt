@@ -6,7 +6,8 @@ abbrev pub invariant-loop-done : goal.invariant-loop-done
 invariant-loop-done g l = record {
   same : g.W.Sink.failures l.writer ≡ g.W.Sink.failures l.initial.writer;
   in_range : l.done ≤ length l.text;
-  written : Appends (g.W.Sink.contents l.initial.writer) (g.W.Sink.contents l.writer) (take l.done l.text);
+  written : Appends (g.W.Sink.contents l.initial.writer) (g.W.Sink.contents l.writer)
+      (take l.done l.text);
 }
 
 abbrev pub decreases-loop-done : goal.decreases-loop-done

@@ -4,7 +4,12 @@ use Rattle.cube_report.proofs.report.write_missing_leaves.Goals as goal
 
 pub loop-before-preserved : goal.loop-before-preserved
 loop-before-preserved c =
-    let tree : c.tree-tree.result.now ≡ c.args.boards.now.case.tree = c.tree-tree.ensures.tree ∙ ap (λ x. x.tree) c.case.ensures in
-    missing_turn c.args.boards.now.case.tree c.args.boards.now.marks c.args.text.now.items c.loop-before.text.items c.write_missing.new.text.items c.loop-before.before
-    c.in_ok-path.path.items c.mark_of-mark.result (rw tree at (rw c.missing_count-before-end.ensures at c.loop-before-test.true)) c.loop-before.invariant
-    (rw c.deref.ensures.value at c.in_ok-write_missing.ensures) (rw tree at c.in_ok-path.ensures) c.mark_of-mark.ensures.mark
+    let tree : c.tree-tree.result.now ≡ c.args.boards.now.case.tree =
+    c.tree-tree.ensures.tree ∙ ap (λ x. x.tree) c.case.ensures in
+    missing_turn c.args.boards.now.case.tree c.args.boards.now.marks c.args.text.now.items
+    c.loop-before.text.items c.write_missing.new.text.items c.loop-before.before
+    c.in_ok-path.path.items c.mark_of-mark.result
+    (rw tree at (rw c.missing_count-before-end.ensures at c.loop-before-test.true))
+    c.loop-before.invariant
+    (rw c.deref.ensures.value at c.in_ok-write_missing.ensures) (rw tree at c.in_ok-path.ensures)
+    c.mark_of-mark.ensures.mark

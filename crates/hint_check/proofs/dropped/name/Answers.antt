@@ -11,4 +11,5 @@ returns-in_ok-push-clause-kept c =
 
 pub returns-else-not-flags-place-clause-named : goal.returns-else-not-flags-place-clause-named
 returns-else-not-flags-place-clause-named c =
-    NamesDropped-here c.args.flags.now c.args.places.now.items c.args.place c.requires.names c.if-not-flags-place.false
+    NamesDropped-here c.args.flags.now c.args.places.now.items c.args.place c.requires.names
+    c.if-not-flags-place.false

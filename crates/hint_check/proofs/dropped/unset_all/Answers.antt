@@ -16,7 +16,8 @@ loop-place-preserved c =
     subst (Resets false (take (i + 1) places) before) (sym c.unset.ensures)
     (subst (λ done. Resets false done before (slice_set c.loop-place.flags.items place false))
     (sym (take_more places i 0 c.loop-place-test.true))
-    (Resets-push false (take i places) place before c.loop-place.flags.items c.loop-place.invariant))
+    (Resets-push false (take i places) place before c.loop-place.flags.items
+    c.loop-place.invariant))
 
 pub returns : goal.returns
 returns c =

@@ -3,4 +3,5 @@ use Rattle.hint_check.specs.Inner.Resets.{Resets}
 use Rattle.hint_check.proofs.dropped.unset_all.Given as goal
 
 abbrev pub invariant-loop-place : goal.invariant-loop-place
-invariant-loop-place l = Resets false (take l.place-index l.places) l.initial.flags.items l.flags.items
+invariant-loop-place l =
+    Resets false (take l.place-index l.places) l.initial.flags.items l.flags.items

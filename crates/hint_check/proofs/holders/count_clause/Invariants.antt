@@ -5,4 +5,6 @@ use Rattle.hint_check.proofs.holders.count_clause.Given as goal
 abbrev pub invariant-loop-lit : goal.invariant-loop-lit
 invariant-loop-lit l =
     (slot : ℕ) → slot < length l.counts
-    → get_or l.counts slot 0 ≡ get_or l.initial.counts slot 0 + hits l.slots slot (take l.lit-index l.lits)
+    →
+    get_or l.counts slot 0
+    ≡ get_or l.initial.counts slot 0 + hits l.slots slot (take l.lit-index l.lits)

@@ -10,7 +10,9 @@ loop-clause-init c =
     let zeros = c.in_ok-counts.ensures.items_if_clones_equal (λ y e. e) in
     record {
       room = omega (arith, c.in_ok-counts.ensures.len);
-      counted = λ s below. ap (λ xs. get_or xs s 0) zeros ∙ get_or-replicate _ s 0 0 (omega (arith, c.in_ok-counts.ensures.len, below));
+      counted =
+          λ s below. ap (λ xs. get_or xs s 0) zeros
+          ∙ get_or-replicate _ s 0 0 (omega (arith, c.in_ok-counts.ensures.len, below));
     }
 
 pub loop-clause-preserved : goal.loop-clause-preserved
@@ -27,10 +29,13 @@ loop-clause-preserved c =
       room = ap length is ∙ same ∙ c.loop-clause.invariant.room;
       counted = λ s below.
           let near : s < length old.items = omega (arith, ap length is, same, below) in
-          let more : occurrences slots (take (i + 1) clauses) s ≡ occurrences slots (take i clauses) s + hits slots s c.lits.result.now
+          let more : occurrences slots (take (i + 1) clauses) s
+          ≡ occurrences slots (take i clauses) s + hits slots s c.lits.result.now
           = sum_by_more (hits slots s) clauses i c.clause-item.result c.loop-clause-test.true
-          ∙ ap (λ clause. occurrences slots (take i clauses) s + hits slots s clause) (sym c.clause-item.is ∙ sym c.lits.ensures) in
-          let counted : get_or new s 0 ≡ get_or c.deref_mut.result.now s 0 + hits slots s c.lits.result.now
+          ∙ ap (λ clause. occurrences slots (take i clauses) s + hits slots s clause)
+          (sym c.clause-item.is ∙ sym c.lits.ensures) in
+          let counted : get_or new s 0
+          ≡ get_or c.deref_mut.result.now s 0 + hits slots s c.lits.result.now
           = c.in_ok-count_clause.ensures s (omega (arith, near, ap length lent)) in
           let before : get_or c.deref_mut.result.now s 0 ≡ occurrences slots (take i clauses) s
           = ap (λ xs. get_or xs s 0) lent ∙ c.loop-clause.invariant.counted s near in
@@ -41,5 +46,6 @@ pub returns : goal.returns
 returns c = (
   c.loop-clause.invariant.room,
   λ s below. c.loop-clause.invariant.counted s below
-      ∙ ap (λ clauses. occurrences c.args.slots.now clauses s) (take_all c.loop-clause.clause-index c.args.clauses.now c.loop-clause-test.false),
+      ∙ ap (λ clauses. occurrences c.args.slots.now clauses s)
+      (take_all c.loop-clause.clause-index c.args.clauses.now c.loop-clause-test.false),
 )

@@ -16,7 +16,9 @@ returns c =
       λ s below.
           let near : s < length counts.items = omega (arith, ap length is, same, below) in
           let e : s + 1 ≡ suc s = omega arith in
-          ap (λ xs. get_or xs s 0) is ∙ c.in_ok-sum_up.ensures s (omega (arith, near, ap length lent))
+          ap (λ xs. get_or xs s 0) is
+          ∙ c.in_ok-sum_up.ensures s (omega (arith, near, ap length lent))
           ∙ ap (λ xs. sum (take (s + 1) xs)) lent
-          ∙ begin-sum slots clauses counts.items c.in_ok-ends.ensures.1 (s + 1) (omega (arith, near)) ∙ ap (begin slots clauses) e,
+          ∙ begin-sum slots clauses counts.items c.in_ok-ends.ensures.1 (s + 1)
+          (omega (arith, near)) ∙ ap (begin slots clauses) e,
     )

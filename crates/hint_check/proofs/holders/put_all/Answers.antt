@@ -1,4 +1,5 @@
-use Rattle.std.proofs.Common.{◌≡◌, ◌+◌, ◌≤◌, ◌∙◌, ap, sym, subst, arith, length, get_or, drop, [], true, refl, inl, inr}
+use Rattle.std.proofs.Common.{◌≡◌, ◌+◌, ◌≤◌, ◌∙◌, ap, sym, subst, arith, length, get_or, drop, []}
+use Rattle.std.proofs.Common.{true, refl, inl, inr}
 use Rattle.std.proofs.lemmas.Bool.{cases_lt}
 use Rattle.std.proofs.lemmas.List.{drop_all}
 use Rattle.cnf_text.specs.Literal.{literal_number}
@@ -17,7 +18,8 @@ loop-place-init c = record {
 pub put_clause-requires-clause-within : goal.put_clause-requires-clause-within
 put_clause-requires-clause-within c =
     let same = c.loop-place.invariant.same_lengths in
-    subst (λ n. begin c.args.slots.now c.args.clauses.now n ≤ length c.loop-place.ids) (sym same.0) (omega (arith, c.requires.within, same.1))
+    subst (λ n. begin c.args.slots.now c.args.clauses.now n ≤ length c.loop-place.ids) (sym same.0)
+    (omega (arith, c.requires.within, same.1))
 
 pub loop-place-preserved : goal.loop-place-preserved
 loop-place-preserved c =
@@ -27,11 +29,14 @@ loop-place-preserved c =
       left = c.put_clause.ensures.left;
       there = λ k m below holds. elim (cases_lt k c.loop-place.place) [
         | inl before ↦ c.put_clause.ensures.kept (k + 1) (slot_of slots (literal_number m))
-            (omega (arith, slot_of-below slots (literal_number m), c.requires.room, same.0)) (c.loop-place.invariant.there k m before holds)
+            (omega (arith, slot_of-below slots (literal_number m), c.requires.room, same.0))
+            (c.loop-place.invariant.there k m before holds)
         | inr here ↦
             let e : c.loop-place.place ≡ k = omega (arith, here, below) in
-            subst (λ j. IsThere slots c.args.clauses.now c.put_clause.new.starts c.put_clause.new.ids (j + 1) (slot_of slots (literal_number m))) e
-            (c.put_clause.ensures.there m (subst (λ j. has (get_or c.args.clauses.now j []) m ≡ true) (sym e) holds))
+            subst (λ j. IsThere slots c.args.clauses.now c.put_clause.new.starts
+            c.put_clause.new.ids (j + 1) (slot_of slots (literal_number m))) e
+            (c.put_clause.ensures.there m
+            (subst (λ j. has (get_or c.args.clauses.now j []) m ≡ true) (sym e) holds))
       ];
       same_lengths = (c.put_clause.auto.starts ∙ same.0, c.put_clause.auto.ids ∙ same.1);
     }

@@ -9,5 +9,6 @@ invariant-loop-place l = record {
   left : AreLeft l.slots l.clauses (occurrences l.slots (drop l.place l.clauses)) l.starts;
   there : (k : ℕ) (m : Literal) → k < l.place → has (get_or l.clauses k []) m ≡ true
       → IsThere l.slots l.clauses l.starts l.ids (k + 1) (slot_of l.slots (literal_number m));
-  same_lengths : (length l.starts ≡ length l.initial.starts) × (length l.ids ≡ length l.initial.ids);
+  same_lengths : (length l.starts ≡ length l.initial.starts)
+      × (length l.ids ≡ length l.initial.ids);
 }

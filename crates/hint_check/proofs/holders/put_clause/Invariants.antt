@@ -7,10 +7,13 @@ use Rattle.hint_check.proofs.holders.put_clause.Given as goal
 abbrev pub invariant-loop-lit : goal.invariant-loop-lit
 invariant-loop-lit l = record {
   left : AreLeft l.slots l.clauses
-      (λ slot. hits l.slots slot (drop l.lit-index l.lits) + occurrences l.slots (drop (l.place + 1) l.clauses) slot) l.starts;
+      (λ slot. hits l.slots slot (drop l.lit-index l.lits)
+      + occurrences l.slots (drop (l.place + 1) l.clauses) slot) l.starts;
   there : (m : Literal) → has (take l.lit-index l.lits) m ≡ true
       → IsThere l.slots l.clauses l.starts l.ids l.id (slot_of l.slots (literal_number m));
-  kept : (id slot : ℕ) → slot < length l.starts → IsThere l.slots l.clauses l.initial.starts l.initial.ids id slot
+  kept : (id slot : ℕ) → slot < length l.starts →
+      IsThere l.slots l.clauses l.initial.starts l.initial.ids id slot
       → IsThere l.slots l.clauses l.starts l.ids id slot;
-  same_lengths : (length l.starts ≡ length l.initial.starts) × (length l.ids ≡ length l.initial.ids);
+  same_lengths : (length l.starts ≡ length l.initial.starts)
+      × (length l.ids ≡ length l.initial.ids);
 }

@@ -1,4 +1,5 @@
-use Rattle.std.proofs.Common.{◌+◌, ◌≡◌, take, ◌++◌, ◌∷◌, [], get_or, slice_set, sym, ap, ◌∙◌, subst, arith}
+use Rattle.std.proofs.Common.{◌+◌, ◌≡◌, take, ◌++◌, ◌∷◌, [], get_or, slice_set, sym, ap, ◌∙◌, subst}
+use Rattle.std.proofs.Common.{arith}
 use Rattle.std.proofs.lemmas.List.{take_more, take_all, map-append}
 use Rattle.hint_check.specs.declared.index.Link.{Link}
 use Rattle.hint_check.specs.Inner.Index.{no_link, numbers_of}
@@ -20,7 +21,8 @@ loop-link-preserved c =
     ∙ map-append (λ (l : Link). l.number) (take i links) (link ∷ [])) in
     subst (Resets 0 (numbers_of (take (i + 1) links)) before) (sym c.forget_place.ensures)
     (subst (λ done. Resets 0 done before (slice_set c.loop-link.near.items link.number 0)) more
-    (Resets-push 0 (numbers_of (take i links)) link.number before c.loop-link.near.items c.loop-link.invariant))
+    (Resets-push 0 (numbers_of (take i links)) link.number before c.loop-link.near.items
+    c.loop-link.invariant))
 
 pub returns : goal.returns
 returns c =

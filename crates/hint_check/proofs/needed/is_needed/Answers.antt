@@ -10,9 +10,11 @@ returns-then-holds_with_none_true c =
     let set = has c.args.reached.now in
     let clause = c.in-Some.clause.now in
     let test : Literal → Bool = λ lit. has clause lit && not (meets set (others lit clause)) in
-    is_needed-held c.args.live.now set c.args.pivot c.args.id clause c.in-Some.ensures c.is_tautology.result
+    is_needed-held c.args.live.now set c.args.pivot c.args.id clause c.in-Some.ensures
+    c.is_tautology.result
     c.is_tautology.ensures
-    (ap test (sym c.negated.ensures) ∙ sym c.holds_with_none_true.ensures ∙ c.if-holds_with_none_true.true)
+    (ap test (sym c.negated.ensures) ∙ sym c.holds_with_none_true.ensures
+    ∙ c.if-holds_with_none_true.true)
 
 pub returns-else-holds_with_none_true : goal.returns-else-holds_with_none_true
 returns-else-holds_with_none_true c =
@@ -21,4 +23,5 @@ returns-else-holds_with_none_true c =
     let test : Literal → Bool = λ lit. has clause lit && not (meets set (others lit clause)) in
     c.if-holds_with_none_true.false
     ∙ is_needed-free c.args.live.now set c.args.pivot c.args.id clause c.in-Some.ensures
-    (ap test (sym c.negated.ensures) ∙ sym c.holds_with_none_true.ensures ∙ c.if-holds_with_none_true.false)
+    (ap test (sym c.negated.ensures) ∙ sym c.holds_with_none_true.ensures
+    ∙ c.if-holds_with_none_true.false)

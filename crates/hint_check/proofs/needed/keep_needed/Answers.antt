@@ -1,5 +1,6 @@
 use Rattle.std.proofs.Common.{sym, ◌∙◌, arith}
-use Rattle.std.proofs.lemmas.List.Filters.{FiltersInPlace-all, FiltersInPlace-more_no, FiltersInPlace-more_set}
+use Rattle.std.proofs.lemmas.List.Filters.{FiltersInPlace-all, FiltersInPlace-more_no}
+use Rattle.std.proofs.lemmas.List.Filters.{FiltersInPlace-more_set}
 use Rattle.hint_check.specs.Literals.{has}
 use Rattle.hint_check.proofs.AdditionGroups.{filter-NamesNeeded}
 use Rattle.hint_check.proofs.needed.keep_needed.Goals as goal

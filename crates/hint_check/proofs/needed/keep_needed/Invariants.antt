@@ -5,4 +5,5 @@ use Rattle.hint_check.proofs.needed.keep_needed.Given as goal
 
 abbrev pub invariant-loop-place : goal.invariant-loop-place
 invariant-loop-place l =
-    FiltersInPlace (is_needed l.live (has l.reached) l.pivot) l.fn.ids.items l.ids.items l.kept l.place
+    FiltersInPlace (is_needed l.live (has l.reached) l.pivot) l.fn.ids.items l.ids.items l.kept
+    l.place

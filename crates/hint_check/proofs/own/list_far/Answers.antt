@@ -14,13 +14,15 @@ loop-id-init c =
     record {
       ends = subst (λ far. SpansEndBy far (length lits)) (sym same) c.requires;
       listed =
-          λ rest all h. subst (λ far. Awaits c.args.index.now (far_entries lits far ++ rest) all) (sym same) h;
+          λ rest all h.
+          subst (λ far. Awaits c.args.index.now (far_entries lits far ++ rest) all) (sym same) h;
     }
 
 pub span_clause-requires : goal.span_clause-requires
 span_clause-requires c =
     SpansEndBy-head (c.in-Some.id.now, c.in-Some.span.now) c.next.new.self (length c.args.lits.now)
-    (subst (λ far. SpansEndBy far (length c.args.lits.now)) c.in-Some.ensures.steps c.loop-id.invariant.ends)
+    (subst (λ far. SpansEndBy far (length c.args.lits.now)) c.in-Some.ensures.steps
+    c.loop-id.invariant.ends)
 
 pub loop-id-preserved : goal.loop-id-preserved
 loop-id-preserved c =
@@ -30,12 +32,15 @@ loop-id-preserved c =
     let after = c.push_all.new.self in
     record {
       ends = SpansEndBy-tail e c.next.new.self (length lits)
-          (subst (λ far. SpansEndBy far (length lits)) c.in-Some.ensures.steps c.loop-id.invariant.ends);
+          (subst (λ far. SpansEndBy far (length lits)) c.in-Some.ensures.steps
+          c.loop-id.invariant.ends);
       listed = λ rest all h.
-          Awaits-next before after (e.0, span_clause lits e.1) (far_entries lits c.next.new.self ++ rest) all
+          Awaits-next before after (e.0, span_clause lits e.1)
+          (far_entries lits c.next.new.self ++ rest) all
           (subst (λ far. Awaits before (far_entries lits far ++ rest) all) c.in-Some.ensures.steps
           (c.loop-id.invariant.listed rest all h))
-          (subst (λ clause. Lists before after clause e.0) c.span_clause.ensures c.in_ok-push_all.ensures);
+          (subst (λ clause. Lists before after clause e.0) c.span_clause.ensures
+          c.in_ok-push_all.ensures);
     }
 
 pub returns : goal.returns

@@ -12,5 +12,6 @@ returns-then-place-len-clause-put c i =
 
 pub returns-clause-put : goal.returns-clause-put
 returns-clause-put c i =
-    slot-written c.make_slots.new.slots.items c.args.place i c.args.slot c.in_ok-make_slots.ensures.room
+    slot-written c.make_slots.new.slots.items c.args.place i c.args.slot
+    c.in_ok-make_slots.ensures.room
     ∙ ap (cond (nat_eq c.args.place i) c.args.slot) (c.make_slots.ensures.same i)

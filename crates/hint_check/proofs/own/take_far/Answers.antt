@@ -6,7 +6,8 @@ use Rattle.hint_check.proofs.own.take_far.Goals as goal
 
 pub returns-clause-taken : goal.returns-clause-taken
 returns-clause-taken c =
-    updated c.args.far.now.entries c.remove.new.self.entries c.args.id None c.remove.ensures.updates.0
+    updated c.args.far.now.entries c.remove.new.self.entries c.args.id None
+    c.remove.ensures.updates.0
 
 pub returns-clause-ends : goal.returns-clause-ends
 returns-clause-ends c count h =

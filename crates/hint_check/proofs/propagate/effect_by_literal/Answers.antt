@@ -5,7 +5,8 @@ use Rattle.hint_check.specs.Literals.{has}
 use Rattle.hint_check.proofs.PropagationSteps.{effect_after, effect_after-start, effect_after-first}
 use Rattle.hint_check.proofs.PropagationSteps.{effect_after-same, effect_after-other}
 use Rattle.hint_check.proofs.PropagationSteps.{effect_after-falsified, effect_after-none}
-use Rattle.hint_check.proofs.PropagationSteps.{effect_after-one, effect_after-turn, effect_after-end}
+use Rattle.hint_check.proofs.PropagationSteps.{effect_after-one, effect_after-turn}
+use Rattle.hint_check.proofs.PropagationSteps.{effect_after-end}
 use Rattle.hint_check.proofs.propagate.effect_by_literal.Goals as goal
 use Rattle.hint_check.proofs.propagate.effect_by_literal.Goals.{then-not-contains+in-None}
 use Rattle.hint_check.proofs.propagate.effect_by_literal.Goals.{then-not-contains+in-Some+else-ne}
@@ -24,7 +25,8 @@ returns-then-ne c =
     let other : same c.in-Some.first l ≡ false = not-true (same c.in-Some.first l) (sym c.ne.ensures
     ∙ c.if-ne.true) in
     sym (c.loop-lit.invariant
-    ∙ effect_after-turn set c.loop-lit.forced c.args.clause.now c.loop-lit.lit-index l c.loop-lit-test.true c.lit-item.is
+    ∙ effect_after-turn set c.loop-lit.forced c.args.clause.now c.loop-lit.lit-index l
+    c.loop-lit-test.true c.lit-item.is
     ∙ ap (λ forced. effect_after set forced (l ∷ rest)) c.in-Some.is
     ∙ effect_after-other set c.in-Some.first l rest left other)
 
@@ -33,8 +35,12 @@ loop-lit-preserved c =
     let set = has c.args.assignment.now in
     let l = c.lit-item.result in
     let rest = drop (c.loop-lit.lit-index + 1) c.args.clause.now in
-    let so_far = c.loop-lit.invariant ∙ effect_after-turn set c.loop-lit.forced c.args.clause.now c.loop-lit.lit-index l c.loop-lit-test.true c.lit-item.is in
-    let answer : c.contains.result ≡ set (negation l) = c.contains.ensures ∙ ap set c.negated.ensures in
+    let so_far =
+    c.loop-lit.invariant
+    ∙ effect_after-turn set c.loop-lit.forced c.args.clause.now c.loop-lit.lit-index l
+    c.loop-lit-test.true c.lit-item.is in
+    let answer : c.contains.result ≡ set (negation l) =
+    c.contains.ensures ∙ ap set c.negated.ensures in
     elim c.if-not-contains.branch [
       | then-not-contains+in-None w ↦
           so_far ∙ ap (λ forced. effect_after set forced (l ∷ rest)) w.in-None.is
@@ -43,10 +49,13 @@ loop-lit-preserved c =
       | then-not-contains+in-Some+else-ne w ↦
           so_far ∙ ap (λ forced. effect_after set forced (l ∷ rest)) w.in-Some.is
           ∙ effect_after-same set w.in-Some.first l rest (sym answer
-          ∙ w.if-not-contains.true) (not-false (same w.in-Some.first l) (sym w.ne.ensures ∙ w.if-ne.false))
+          ∙ w.if-not-contains.true)
+          (not-false (same w.in-Some.first l) (sym w.ne.ensures ∙ w.if-ne.false))
           ∙ ap (λ forced. effect_after set forced rest) (sym w.forced-is)
       | else-not-contains w ↦
-          so_far ∙ effect_after-falsified set c.loop-lit.forced l rest (sym answer ∙ w.if-not-contains.false)
+          so_far
+          ∙ effect_after-falsified set c.loop-lit.forced l rest
+          (sym answer ∙ w.if-not-contains.false)
           ∙ ap (λ forced. effect_after set forced rest) (sym w.forced-is)
     ]
 

@@ -7,5 +7,6 @@ pub returns-in-Some : goal.returns-in-Some
 returns-in-Some c n =
     let before = c.args.stamps.now.entries in
     let after = (c.get_mut.follows.lender c.args.stamp).entries in
-    mapped-put before after c.args.number c.args.stamp n (updated before after c.args.number (Some c.args.stamp)
+    mapped-put before after c.args.number c.args.stamp n
+    (updated before after c.args.number (Some c.args.stamp)
     ((c.get_mut.follows.holds c.args.stamp).3 (search rules)).0)

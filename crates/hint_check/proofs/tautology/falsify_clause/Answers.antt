@@ -22,7 +22,8 @@ loop-lit-preserved c =
     let full = with_literals no_literals (negations clause) in
     let rest = drop (i + 1) clause in
     let at_it = c.loop-lit-test.true in
-    let here = sym (at_literal (λ ls. with_literals before (negations ls)) clause i l at_it c.lit-item.is)
+    let here =
+    sym (at_literal (λ ls. with_literals before (negations ls)) clause i l at_it c.lit-item.is)
     ∙ c.loop-lit.invariant.set in
     record {
       set = ap (λ set. with_literals set (negations rest))
@@ -30,7 +31,8 @@ loop-lit-preserved c =
           ∙ sym (with_literals-more before (negation l) (negations rest)) ∙ here;
       tautology = found-turn full before c.loop-lit.found _ l rest here
           (ap (λ b. c.loop-lit.found || b) c.contains-found.ensures)
-          ∙ sym (at_literal (λ ls. c.loop-lit.found || meets full ls) clause i l at_it c.lit-item.is)
+          ∙ sym (at_literal (λ ls. c.loop-lit.found || meets full ls) clause i l at_it
+          c.lit-item.is)
           ∙ c.loop-lit.invariant.tautology;
     }
 
@@ -39,7 +41,8 @@ returns-clause-tautology c =
     let clause = c.args.clause.now in
     let full = with_literals no_literals (negations clause) in
     sym (found-end full c.loop-lit.found)
-    ∙ sym (at_drop_all (λ ls. c.loop-lit.found || meets full ls) clause c.loop-lit.lit-index (omega arith))
+    ∙ sym (at_drop_all (λ ls. c.loop-lit.found || meets full ls) clause c.loop-lit.lit-index
+    (omega arith))
     ∙ c.loop-lit.invariant.tautology
 
 pub returns-clause-set : goal.returns-clause-set

@@ -1,7 +1,8 @@
 use Rattle.std.proofs.Common.{◌+◌, drop, sym, ap, ◌∙◌, arith}
 use Rattle.std.proofs.lemmas.List.{at_drop_all}
 use Rattle.hint_check.specs.Literals.{has}
-use Rattle.hint_check.proofs.AdditionCandidates.{at_literal, held_after, held_after-start, held_after-here}
+use Rattle.hint_check.proofs.AdditionCandidates.{at_literal, held_after, held_after-start}
+use Rattle.hint_check.proofs.AdditionCandidates.{held_after-here}
 use Rattle.hint_check.proofs.AdditionCandidates.{held_after-true, held_after-other, held_after-end}
 use Rattle.hint_check.proofs.tautology.holds_with_none_true.Goals as goal
 use Rattle.hint_check.proofs.tautology.holds_with_none_true.Goals.{then-eq, else-eq+else-contains}
@@ -30,7 +31,8 @@ loop-other-preserved c =
     let held = c.loop-other.is_held in
     let rest = drop (i + 1) clause in
     let so_far = c.loop-other.invariant
-    ∙ at_literal (held_after set c.args.lit held) clause i l c.loop-other-test.true c.other-item.is in
+    ∙ at_literal (held_after set c.args.lit held) clause i l c.loop-other-test.true
+    c.other-item.is in
     elim c.if-eq.branch [
       | then-eq w ↦
           so_far ∙ held_after-here set c.args.lit held l rest (sym c.eq.ensures ∙ w.if-eq.true)
@@ -46,5 +48,6 @@ returns c =
     let set = has c.args.reached.now in
     let held = c.loop-other.is_held in
     sym (c.loop-other.invariant
-    ∙ at_drop_all (held_after set c.args.lit held) c.args.clause.now c.loop-other.other-index (omega arith)
+    ∙ at_drop_all (held_after set c.args.lit held) c.args.clause.now c.loop-other.other-index
+    (omega arith)
     ∙ held_after-end set c.args.lit held)

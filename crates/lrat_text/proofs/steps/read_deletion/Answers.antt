@@ -11,4 +11,5 @@ returns-in_err-rest-clause-err c =
 
 pub returns-clause-ok : goal.returns-clause-ok
 returns-clause-ok c = λ front bound.
-    deletion_read front _ _ _ c.read_ids.new.ids.items bound (c.len-buffer-inside.ensures ∙ c.read_ids.new.ids.ok.0) c.in_ok-rest.ensures.ok
+    deletion_read front _ _ _ c.read_ids.new.ids.items bound
+    (c.len-buffer-inside.ensures ∙ c.read_ids.new.ids.ok.0) c.in_ok-rest.ensures.ok

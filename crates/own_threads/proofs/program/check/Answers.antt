@@ -13,7 +13,8 @@ returns-in_err-outcome-clause-fault g c =
     (λ fault. IsInputFault fault → IfSome known (λ bundle. IsFaultOn bundle fault)) fault
     c.from_residual-in_err-outcome.ensures.1
     (λ of_input. of_known (λ bundle. IsFaultOn bundle fault) known c.in_ok-bundle.bundle.items
-    c.in_ok-bundle.ensures.bytes (rw c.deref.ensures.value at (c.in_err-outcome.ensures.fault of_input)))
+    c.in_ok-bundle.ensures.bytes
+    (rw c.deref.ensures.value at (c.in_err-outcome.ensures.fault of_input)))
 
 pub returns-clause-sound : goal.returns-clause-sound
 returns-clause-sound g c = λ says.

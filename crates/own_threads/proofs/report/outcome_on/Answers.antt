@@ -7,7 +7,8 @@ use Rattle.own_threads.proofs.report.outcome_on.Goals as goal
 pub returns : goal.returns
 returns g c =
     let same = c.in_ok-boards.ensures.case.0 in
-    subst (λ (case : CaseOf). IsStated case false c.in_ok-text.text.items [] c.root_marked.result) same (record {
+    subst (λ (case : CaseOf). IsStated case false c.in_ok-text.text.items [] c.root_marked.result)
+    same (record {
       marks = c.in_ok-boards.boards.marks;
       findings = rw same c.in_ok-boards.ensures.findings;
       text = c.in_ok-text.ensures;

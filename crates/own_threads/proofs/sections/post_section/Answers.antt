@@ -16,9 +16,11 @@ pub unreachable-requires : goal.unreachable-requires
 unreachable-requires g c =
     let sections = c.sections.ensures in
     (section_here c.args.case.now c.sections.result.now _ c.index-sections-place.result
-    sections.targets_are sections.targets c.requires.place).proof (rw c.in_default.is at c.in_ok-finding.ensures)
+    sections.targets_are sections.targets c.requires.place).proof
+    (rw c.in_default.is at c.in_ok-finding.ensures)
 
--- a target stands at one node, so who has seen what was found of the node has seen what was found of the section
+-- a target stands at one node, so who has seen what was found of the node has seen what was found
+-- of the section
 pub returns-clause-seen : goal.returns-clause-seen
 returns-clause-seen g c =
     let sections = c.sections.ensures in
@@ -28,5 +30,6 @@ returns-clause-seen g c =
     let same : c.in-Some.finding.case.now ≡ c.args.case.now = found.1 in
     let of_case = ap (λ (k : CutCase). k.case) c.post.ensures.own.1 ∙ sym c.requires.case in
     let only = rw (same, found.2) at c.in-Some.finding.only in
-    section_seen c.args.case.now (view_of c.post.new.pass) c.args.place c.in-Some.finding.node _ of_case here.is only
+    section_seen c.args.case.now (view_of c.post.new.pass) c.args.place c.in-Some.finding.node _
+    of_case here.is only
     c.post.ensures.seen

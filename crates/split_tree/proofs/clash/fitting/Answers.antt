@@ -4,7 +4,8 @@ use Rattle.split_tree.proofs.clash.fitting.Goals as goal
 
 pub loop-fit-preserved-then-branch : goal.loop-fit-preserved-then-branch
 loop-fit-preserved-then-branch c =
-    let cut = cubes_of-take (c.loop-fit.fit + (c.loop-fit.clash - c.loop-fit.fit) / 2) c.args.cubes.now in
+    let cut =
+    cubes_of-take (c.loop-fit.fit + (c.loop-fit.clash - c.loop-fit.fit) / 2) c.args.cubes.now in
     record {
       below = omega arith;
       within = c.loop-fit.invariant.within;
@@ -14,7 +15,8 @@ loop-fit-preserved-then-branch c =
 
 pub loop-fit-preserved : goal.loop-fit-preserved
 loop-fit-preserved c =
-    let cut = cubes_of-take (c.loop-fit.fit + (c.loop-fit.clash - c.loop-fit.fit) / 2) c.args.cubes.now in
+    let cut =
+    cubes_of-take (c.loop-fit.fit + (c.loop-fit.clash - c.loop-fit.fit) / 2) c.args.cubes.now in
     record {
       below = omega arith;
       within = omega arith;

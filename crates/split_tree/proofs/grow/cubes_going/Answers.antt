@@ -8,9 +8,13 @@ use Rattle.split_tree.proofs.grow.cubes_going.Goals.{in-Some+in_ok-push, in_defa
 pub loop-cube-preserved : goal.loop-cube-preserved
 loop-cube-preserved c = elim c.match-going.branch [
   | in-Some+in_ok-push w ↦ rw (w.way'-is, w.in_ok-push.ensures.items)
-      (going_more c.args.sign c.loop-cube.way.items (w.in-Some.next ∷ []) c.args.cubes.now c.loop-cube.cube-index c.cube-item.result
-      (going c.args.sign (cubes_ahead c.args.cubes.now)) c.loop-cube-test.true c.cube-item.is w.in-Some.ensures c.loop-cube.invariant)
+      (going_more c.args.sign c.loop-cube.way.items (w.in-Some.next ∷ []) c.args.cubes.now
+      c.loop-cube.cube-index c.cube-item.result
+      (going c.args.sign (cubes_ahead c.args.cubes.now)) c.loop-cube-test.true c.cube-item.is
+      w.in-Some.ensures c.loop-cube.invariant)
   | in_default w ↦ rw w.way'-is
-      (going_past c.args.sign c.loop-cube.way.items c.args.cubes.now c.loop-cube.cube-index c.cube-item.result
-      (going c.args.sign (cubes_ahead c.args.cubes.now)) c.loop-cube-test.true c.cube-item.is w.in_default.ensures c.loop-cube.invariant)
+      (going_past c.args.sign c.loop-cube.way.items c.args.cubes.now c.loop-cube.cube-index
+      c.cube-item.result
+      (going c.args.sign (cubes_ahead c.args.cubes.now)) c.loop-cube-test.true c.cube-item.is
+      w.in_default.ensures c.loop-cube.invariant)
 ]

@@ -4,18 +4,24 @@ use Rattle.split_tree.proofs.grow.shape_at.Goals as goal
 
 pub returns-then-cubes-eq1-clause-shape : goal.returns-then-cubes-eq1-clause-shape
 returns-then-cubes-eq1-clause-shape c =
-    alone c.args.cubes.now c.in-Some.first.now c.in-Some.ensures.value c.in_default-first.ensures.value c.if-cubes-eq1.true
+    alone c.args.cubes.now c.in-Some.first.now c.in-Some.ensures.value
+    c.in_default-first.ensures.value c.if-cubes-eq1.true
 
 pub returns-else-cubes-eq1-clause-shape : goal.returns-else-cubes-eq1-clause-shape
 returns-else-cubes-eq1-clause-shape c =
-    ended_clash c.args.cubes.now c.in-Some.first.now c.in-Some.ensures.value c.in_default-first.ensures.value c.if-cubes-eq1.false
+    ended_clash c.args.cubes.now c.in-Some.first.now c.in-Some.ensures.value
+    c.in_default-first.ensures.value c.if-cubes-eq1.false
 
 pub returns-then-all_split_on-clause-shape : goal.returns-then-all_split_on-clause-shape
-returns-then-all_split_on-clause-shape c =
-    (some_ahead c.args.cubes.now c.in-Some.first.now c.in-Some.ensures.value, c.if-all_split_on.ensures.0 refl)
+returns-then-all_split_on-clause-shape c = (
+  some_ahead c.args.cubes.now c.in-Some.first.now c.in-Some.ensures.value,
+  c.if-all_split_on.ensures.0 refl,
+)
 
 pub returns-else-all_split_on-clause-shape : goal.returns-else-all_split_on-clause-shape
 returns-else-all_split_on-clause-shape c fit =
     let k : false ≡ true = c.if-all_split_on.ensures.1
-    (rw c.variable-variable.ensures.value (all_split c.args.cubes.now c.in-Some.first.now c.in-Some-first.literal.now c.in-Some.ensures.value c.in-Some-first.ensures.value fit)) in
+    (rw c.variable-variable.ensures.value
+    (all_split c.args.cubes.now c.in-Some.first.now c.in-Some-first.literal.now
+    c.in-Some.ensures.value c.in-Some-first.ensures.value fit)) in
     cc

@@ -6,4 +6,5 @@ use Rattle.tree_map.proofs.cell.rejected_under.Given as goal
 abbrev pub invariant-loop-number : goal.invariant-loop-number
 invariant-loop-number l =
     one_rejected l.boards.marks l.fn.node (size (subtree_at l.boards.case.tree l.fn.node))
-    ≡ one_rejected l.boards.marks l.number (l.fn.node + size (subtree_at l.boards.case.tree l.fn.node) - l.number)
+    ≡ one_rejected l.boards.marks l.number
+    (l.fn.node + size (subtree_at l.boards.case.tree l.fn.node) - l.number)

@@ -4,4 +4,5 @@ use Rattle.tree_map.specs.Fields.{literal_field}
 use Rattle.tree_map.proofs.fields.write_path.Given as goal
 
 abbrev pub invariant-loop-lit : goal.invariant-loop-lit
-invariant-loop-lit l = l.text.items ≡ l.initial.text.items ++ flat_map literal_field (take l.lit-index l.path)
+invariant-loop-lit l =
+    l.text.items ≡ l.initial.text.items ++ flat_map literal_field (take l.lit-index l.path)

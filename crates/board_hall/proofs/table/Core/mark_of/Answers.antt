@@ -14,23 +14,43 @@ use Rattle.board_hall.proofs.table.Core.mark_of.Goals as goal
 
 pub returns-clause-own : goal.returns-clause-own
 returns-clause-own g c =
-    let k : CutCase = core_of c.args.self.now in let r = c.requires.own in let e = c.take.ensures in let q = c.give.ensures in let v = c.args.pass.now.seat.me.0 in let me = c.take.new.seat.me in
-    let s = saw k c.board_for-number.result v me me c.give.new.seat.me (ap (λ (m : Hand). m.0.of) e.holds ∙ r.1) (ap (λ (m : Hand). m.0.seen) e.holds) (keeps_all me) q.gave r.2 in
+    let k : CutCase = core_of c.args.self.now in let r = c.requires.own in let e = c.take.ensures in
+    let q = c.give.ensures in let v = c.args.pass.now.seat.me.0 in let me = c.take.new.seat.me in
+    let s =
+    saw k c.board_for-number.result v me me c.give.new.seat.me
+    (ap (λ (m : Hand). m.0.of) e.holds ∙ r.1) (ap (λ (m : Hand). m.0.seen) e.holds) (keeps_all me)
+    q.gave r.2 in
     (q.own.0 ∙ (e.own.0 ∙ r.0), s.0, s.1)
 
 pub returns-clause-mark : goal.returns-clause-mark
 returns-clause-mark g c =
-    let k : CutCase = core_of c.args.self.now in let r = c.requires.own in let e = c.take.ensures in let q = c.give.ensures in let v = c.args.pass.now.seat.me.0 in let me = c.take.new.seat.me in let n : ℕ = c.board_for-number.result in
-    let s = saw k n v me me c.give.new.seat.me (ap (λ (m : Hand). m.0.of) e.holds ∙ r.1) (ap (λ (m : Hand). m.0.seen) e.holds) (keeps_all me) q.gave r.2 in
-    let known : List Post = me.0.known in let node : ℕ = c.node_of_target.result in let row : ℕ = c.board_for-number.ensures.0 in let home = c.board_for-number.ensures.1 in
-    let tree : c.tree.result.now ≡ k.case.tree = c.tree.ensures.tree ∙ ap (λ z. z.tree) c.requires.of in
-    let here : IsTargetAt k.case.tree node c.args.target = subst (λ (t : SplitTree). IsTargetAt t node c.args.target) tree c.node_of_target.ensures.here in
-    let stored : IsBoard k n known c.take.result = subst (λ z. IsBoard z n known c.take.result) r.1 e.board in
-    let bound : stored_board k.case c.take.result ≡ c.bind-board.result = sym (c.bind-board.ensures ∙ ap (λ z. stored_board z c.take.result) c.requires.of) in
-    let is : IsBoardOf k n known c.bind-board.result = subst (IsBoardOf k n known) bound stored.is_board in
-    let there : IsTargetAt c.bind-board.result.case.tree node c.args.target = subst (λ (t : SplitTree). IsTargetAt t node c.args.target) (sym (ap (λ z. z.tree) is.is_at.case_is)) here in
-    let mark = c.mark_of-mark.ensures.mark node row there (row_on k n known c.bind-board.result is node row home) in
-    let seen : mark_in c.give.new.seat.me.0.seen n row ≡ mark_in known n row = (λ i. mark_in (ap (λ (m : Hand). m.0.seen) q.gave.after_is i) n row) ∙ q.gave.gave.marks row in record {
+    let k : CutCase = core_of c.args.self.now in let r = c.requires.own in let e = c.take.ensures in
+    let q = c.give.ensures in let v = c.args.pass.now.seat.me.0 in let me = c.take.new.seat.me in
+    let n : ℕ = c.board_for-number.result in
+    let s =
+    saw k n v me me c.give.new.seat.me (ap (λ (m : Hand). m.0.of) e.holds ∙ r.1)
+    (ap (λ (m : Hand). m.0.seen) e.holds) (keeps_all me) q.gave r.2 in
+    let known : List Post = me.0.known in let node : ℕ = c.node_of_target.result in
+    let row : ℕ = c.board_for-number.ensures.0 in let home = c.board_for-number.ensures.1 in
+    let tree : c.tree.result.now ≡ k.case.tree =
+    c.tree.ensures.tree ∙ ap (λ z. z.tree) c.requires.of in
+    let here : IsTargetAt k.case.tree node c.args.target =
+    subst (λ (t : SplitTree). IsTargetAt t node c.args.target) tree c.node_of_target.ensures.here in
+    let stored : IsBoard k n known c.take.result =
+    subst (λ z. IsBoard z n known c.take.result) r.1 e.board in
+    let bound : stored_board k.case c.take.result ≡ c.bind-board.result =
+    sym (c.bind-board.ensures ∙ ap (λ z. stored_board z c.take.result) c.requires.of) in
+    let is : IsBoardOf k n known c.bind-board.result =
+    subst (IsBoardOf k n known) bound stored.is_board in
+    let there : IsTargetAt c.bind-board.result.case.tree node c.args.target =
+    subst (λ (t : SplitTree). IsTargetAt t node c.args.target)
+    (sym (ap (λ z. z.tree) is.is_at.case_is)) here in
+    let mark =
+    c.mark_of-mark.ensures.mark node row there
+    (row_on k n known c.bind-board.result is node row home) in
+    let seen : mark_in c.give.new.seat.me.0.seen n row ≡ mark_in known n row =
+    (λ i. mark_in (ap (λ (m : Hand). m.0.seen) q.gave.after_is i) n row) ∙ q.gave.gave.marks row in
+    record {
       node = node;
       board = n;
       row = row;

@@ -4,7 +4,9 @@ use Rattle.case_core.proofs.CaseTables.{targets_in}
 use Rattle.case_core.proofs.case.Case.sections.Goals as goal
 
 pub returns-clause-targets : goal.returns-clause-targets
-returns-clause-targets c = subst (λ (case : CaseOf). AreSections case.tree case.sections) c.self.view_is c.self.invariant.are_sections
+returns-clause-targets c =
+    subst (λ (case : CaseOf). AreSections case.tree case.sections) c.self.view_is
+    c.self.invariant.are_sections
 
 pub returns-clause-targets_are : goal.returns-clause-targets_are
 returns-clause-targets_are c =

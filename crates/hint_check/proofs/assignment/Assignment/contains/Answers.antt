@@ -7,6 +7,7 @@ use Rattle.hint_check.proofs.assignment.Assignment.contains.Goals as goal
 pub returns : goal.returns
 returns c =
     let inside = c.self.inside in
-    ap (λ stamp. nat_eq stamp inside.epoch) (c.get.ensures ∙ ap (stamp_at inside.stamps) c.number.ensures.value)
+    ap (λ stamp. nat_eq stamp inside.epoch)
+    (c.get.ensures ∙ ap (stamp_at inside.stamps) c.number.ensures.value)
     ∙ Sound-parts inside.stamps inside.epoch inside.trail.items c.self.invariant c.args.lit
     ∙ ap (λ trail. has trail c.args.lit) c.self.view_is

@@ -6,7 +6,9 @@ use Rattle.hint_check.proofs.assignment.Assignment.undo.Goals as goal
 
 pub loop-init : goal.loop-init
 loop-init c = record {
-  left = sym (take_all (length c.args.self.now - (c.args.mark - c.args.mark)) c.args.self.now (omega arith));
+  left =
+      sym (take_all (length c.args.self.now - (c.args.mark - c.args.mark)) c.args.self.now
+      (omega arith));
   from = omega arith;
   within = omega arith;
 }
@@ -19,7 +21,12 @@ loop-preserved c =
     let more = c.loop-test.true in
     let all = c.len-end.ensures in
     record {
-      left = c.pop.ensures ∙ take_one_less c.args.self.now c.loop.self (length c.args.self.now - (c.loop.counter - c.args.mark)) (length c.args.self.now - (c.loop.counter + 1 - c.args.mark)) h.left (omega (arith, from, within, more, all)) (omega arith);
+      left =
+          c.pop.ensures
+          ∙ take_one_less c.args.self.now c.loop.self
+          (length c.args.self.now - (c.loop.counter - c.args.mark))
+          (length c.args.self.now - (c.loop.counter + 1 - c.args.mark)) h.left
+          (omega (arith, from, within, more, all)) (omega arith);
       from = omega (arith, from);
       within = omega (arith, from, within, more, all);
     }
@@ -32,6 +39,12 @@ returns c =
     let done = c.loop-test.false in
     let all = c.len-end.ensures in
     elim (cases_lt c.args.mark (length c.args.self.now)) [
-      | inl below ↦ h.left ∙ ap (λ n. take n c.args.self.now) (let e : length c.args.self.now - (c.loop.counter - c.args.mark) ≡ c.args.mark = omega (arith, from, within, done, all, below) in e)
-      | inr above ↦ h.left ∙ take_all (length c.args.self.now - (c.loop.counter - c.args.mark)) c.args.self.now (omega (arith, within, above)) ∙ sym (take_all c.args.mark c.args.self.now (omega (arith, above)))
+      | inl below ↦ h.left
+          ∙ ap (λ n. take n c.args.self.now)
+          (let e : length c.args.self.now - (c.loop.counter - c.args.mark)
+          ≡ c.args.mark = omega (arith, from, within, done, all, below) in e)
+      | inr above ↦ h.left
+          ∙ take_all (length c.args.self.now - (c.loop.counter - c.args.mark)) c.args.self.now
+          (omega (arith, within, above))
+          ∙ sym (take_all c.args.mark c.args.self.now (omega (arith, above)))
     ]

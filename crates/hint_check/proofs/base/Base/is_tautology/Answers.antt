@@ -12,7 +12,11 @@ unfolding MarksTautologies
 returns c =
     let id = c.args.id in
     let inside = c.self.inside in
-    subst (λ clauses. IfSome (lookup (nat_eq id) (enumerate_from 1 clauses)) (λ clause. c.has.result ≡ is_tautology clause))
+    subst (λ clauses.
+    IfSome (lookup (nat_eq id) (enumerate_from 1 clauses))
+    (λ clause. c.has.result ≡ is_tautology clause))
     c.self.view_is
-    (subst (λ mark. IfSome (lookup (nat_eq id) (enumerate_from 1 (cow_value inside.formula))) (λ clause. mark ≡ is_tautology clause))
+    (subst (λ mark.
+    IfSome (lookup (nat_eq id) (enumerate_from 1 (cow_value inside.formula)))
+    (λ clause. mark ≡ is_tautology clause))
     (sym c.has.ensures) (c.self.invariant.2 id))

@@ -16,12 +16,15 @@ returns c =
     let ids = c.args.ids.now.items in
     let found = c.list.new.ids.items in
     OnOk-weaker c.list.result
-    ((more : List ℕ) × (found ≡ ids ++ more) × ((id : ℕ) → list_any (λ named. named == id) (ids_of inside.holders lit) ≡ true → list_any (λ named. named == id) more ≡ true))
+    ((more : List ℕ) × (found ≡ ids ++ more)
+    × ((id : ℕ) → list_any (λ named. named == id) (ids_of inside.holders lit) ≡ true →
+    list_any (λ named. named == id) more ≡ true))
     (AddsHolders (enumerate_from 1 c.args.self.now) lit ids found)
     (λ is. (
       is.0,
       is.1,
       subst (λ clauses. NamesEntries (enumerate_from 1 clauses) lit is.0) c.self.view_is
-          (λ q. IfSome-weaker (fin.find nat_cmp q (enumerate_from 1 (cow_value inside.formula))) (c.self.invariant.1.1 lit q) (λ clause names holds. is.2 q (names holds))),
+          (λ q. IfSome-weaker (fin.find nat_cmp q (enumerate_from 1 (cow_value inside.formula)))
+          (c.self.invariant.1.1 lit q) (λ clause names holds. is.2 q (names holds))),
     ))
     c.list.ensures

@@ -9,11 +9,13 @@ invariant_of-self c =
     let flags = c.unset_all.new.flags.items in
     NamesDropped-unset flags c.clear.new.self.items
     (none-set inside.flags.items flags inside.places.items c.self.invariant
-    (subst (λ places. Resets false places inside.flags.items flags) c.deref.ensures.value c.unset_all.ensures))
+    (subst (λ places. Resets false places inside.flags.items flags) c.deref.ensures.value
+    c.unset_all.ensures))
 
 pub returns : goal.returns
 returns c q =
     let inside = c.self.inside in
     let flags = c.unset_all.new.flags.items in
     none-set inside.flags.items flags inside.places.items c.self.invariant
-    (subst (λ places. Resets false places inside.flags.items flags) c.deref.ensures.value c.unset_all.ensures) (q - 1)
+    (subst (λ places. Resets false places inside.flags.items flags) c.deref.ensures.value
+    c.unset_all.ensures) (q - 1)

@@ -13,6 +13,8 @@ invariant_of-self c =
       subst LeadBack links LeadBack-none,
       subst (λ l. NotesLast l REACH near c.clear-2.new.self.entries) links
           (subst (λ far. NotesLast [] REACH near far) (sym c.clear-2.ensures.empty)
-          (NotesLast-forgotten inside.links.items REACH inside.near.items near inside.far.entries c.self.invariant.1
-          (subst (λ l. Resets 0 (numbers_of l) inside.near.items near) c.deref.ensures.value c.forget_places.ensures))),
+          (NotesLast-forgotten inside.links.items REACH inside.near.items near inside.far.entries
+          c.self.invariant.1
+          (subst (λ l. Resets 0 (numbers_of l) inside.near.items near) c.deref.ensures.value
+          c.forget_places.ensures))),
     )

@@ -9,8 +9,11 @@ use Rattle.hint_check.proofs.index.Index.list.Goals as goal
 pub loop-place-init : goal.loop-place-init
 loop-place-init c =
     let inside = c.self.inside in
-    Walks-start inside.links.items REACH inside.near.items inside.far.entries (literal_number c.args.lit) c.last_place-place.result c.args.ids.now.items
-    c.self.invariant.1 (c.last_place-place.ensures ∙ ap (λ near. last_place REACH near inside.far.entries c.number.result) c.deref.ensures.value
+    Walks-start inside.links.items REACH inside.near.items inside.far.entries
+    (literal_number c.args.lit) c.last_place-place.result c.args.ids.now.items
+    c.self.invariant.1
+    (c.last_place-place.ensures
+    ∙ ap (λ near. last_place REACH near inside.far.entries c.number.result) c.deref.ensures.value
     ∙ ap (last_place REACH inside.near.items inside.far.entries) c.number.ensures.value)
 
 pub index-link-requires : goal.index-link-requires
@@ -21,21 +24,28 @@ index-link-requires c =
 
 pub loop-place-smaller : goal.loop-place-smaller
 loop-place-smaller c =
-    Walks-smaller c.self.inside.links.items (literal_number c.args.lit) c.args.ids.now.items c.loop-place.ids.items c.loop-place.place
+    Walks-smaller c.self.inside.links.items (literal_number c.args.lit) c.args.ids.now.items
+    c.loop-place.ids.items c.loop-place.place
     c.index-link.result.now c.self.invariant.0 c.loop-place-test.true c.loop-place.invariant
-    (c.index-link.ensures ∙ get_or_default c.self.inside.links.items (c.loop-place.place - 1) c.index-link.result.now no_link (omega (arith, c.loop-place.invariant.0, c.loop-place-test.true)))
+    (c.index-link.ensures
+    ∙ get_or_default c.self.inside.links.items (c.loop-place.place - 1) c.index-link.result.now
+    no_link (omega (arith, c.loop-place.invariant.0, c.loop-place-test.true)))
 
 pub loop-place-preserved : goal.loop-place-preserved
 loop-place-preserved c =
     let links = c.self.inside.links.items in
     let n = literal_number c.args.lit in
-    subst (λ ids. Walks links n c.args.ids.now.items ids c.index-link.result.now.before) (sym c.in_ok-push.ensures.items)
+    subst (λ ids. Walks links n c.args.ids.now.items ids c.index-link.result.now.before)
+    (sym c.in_ok-push.ensures.items)
     (Walks-step links n c.args.ids.now.items c.loop-place.ids.items c.loop-place.place
     c.index-link.result.now c.self.invariant.0 c.loop-place-test.true c.loop-place.invariant
-    (c.index-link.ensures ∙ get_or_default c.self.inside.links.items (c.loop-place.place - 1) c.index-link.result.now no_link (omega (arith, c.loop-place.invariant.0, c.loop-place-test.true))))
+    (c.index-link.ensures
+    ∙ get_or_default c.self.inside.links.items (c.loop-place.place - 1) c.index-link.result.now
+    no_link (omega (arith, c.loop-place.invariant.0, c.loop-place-test.true))))
 
 pub returns : goal.returns
 returns c =
-    Walks-end c.self.inside.links.items (literal_number c.args.lit) c.args.ids.now.items c.loop-place.ids.items c.loop-place.place
+    Walks-end c.self.inside.links.items (literal_number c.args.lit) c.args.ids.now.items
+    c.loop-place.ids.items c.loop-place.place
     (omega (arith, c.loop-place-test.false)) c.loop-place.invariant
     ∙ ap (λ links. c.args.ids.now.items ++ ids_at links (literal_number c.args.lit)) c.self.view_is

@@ -10,6 +10,8 @@ invariant_of-result c =
     let reach = REACH in (
       subst LeadBack links LeadBack-none,
       subst (λ l. NotesLast l reach c.new-2.result.items c.new-3.result.entries) links
-          (subst (λ near. NotesLast [] reach near c.new-3.result.entries) (sym c.new-2.ensures.items)
-          (subst (λ far. NotesLast [] reach [] far) (sym c.new-3.ensures.empty) (NotesLast-none reach))),
+          (subst (λ near. NotesLast [] reach near c.new-3.result.entries)
+          (sym c.new-2.ensures.items)
+          (subst (λ far. NotesLast [] reach [] far) (sym c.new-3.ensures.empty)
+          (NotesLast-none reach))),
     )

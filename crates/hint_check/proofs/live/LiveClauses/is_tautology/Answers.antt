@@ -19,9 +19,12 @@ returns-in-Some c =
     told-base base dropped (fin.entries inside.own) c.args.self.now c.self.view_is id
     (λ clause. c.is_tautology.result ≡ is_tautology clause) c.in-Some.field-0.now
     (c.in-Some.ensures
-    ∙ ap (λ clauses. base_clause clauses c.flags.result.now id) (c.clauses.ensures ∙ c.formula.ensures ∙ c.deref.ensures)
+    ∙ ap (λ clauses. base_clause clauses c.flags.result.now id)
+    (c.clauses.ensures ∙ c.formula.ensures ∙ c.deref.ensures)
     ∙ ap (λ flags. base_clause base flags id) c.flags.ensures)
-    (subst (λ clauses. IfSome (lookup (nat_eq id) (enumerate_from 1 clauses)) (λ clause. c.is_tautology.result ≡ is_tautology clause))
+    (subst (λ clauses.
+    IfSome (lookup (nat_eq id) (enumerate_from 1 clauses))
+    (λ clause. c.is_tautology.result ≡ is_tautology clause))
     c.deref-in-Some.ensures c.is_tautology.ensures)
 
 pub returns-in-None : goal.returns-in-None
@@ -34,7 +37,9 @@ returns-in-None c =
     told-own base dropped (fin.entries inside.own) c.args.self.now c.self.view_is id
     (λ clause. c.has.result ≡ is_tautology clause)
     (c.in-None.ensures
-    ∙ ap (λ clauses. base_clause clauses c.flags.result.now id) (c.clauses.ensures ∙ c.formula.ensures ∙ c.deref.ensures)
+    ∙ ap (λ clauses. base_clause clauses c.flags.result.now id)
+    (c.clauses.ensures ∙ c.formula.ensures ∙ c.deref.ensures)
     ∙ ap (λ flags. base_clause base flags id) c.flags.ensures)
-    (subst (λ mark. IfSome (lookup (nat_eq id) (fin.entries inside.own)) (λ clause. mark ≡ is_tautology clause))
+    (subst (λ mark.
+    IfSome (lookup (nat_eq id) (fin.entries inside.own)) (λ clause. mark ≡ is_tautology clause))
     (sym c.has.ensures) (c.self.invariant.1 id))

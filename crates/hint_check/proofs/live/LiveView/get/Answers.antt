@@ -14,7 +14,8 @@ returns-in-Some c =
 pub returns : goal.returns
 returns c =
     let view = c.args.self in
-    let none : None ≡ base_clause view.clauses.now view.dropped.now c.args.id = elim c.if-id-self.branch [
+    let none : None ≡ base_clause view.clauses.now view.dropped.now c.args.id =
+    elim c.if-id-self.branch [
       | then-id-self+in_default w ↦ w.in_default.ensures
       | else-id-self w ↦ base_clause-past view.clauses.now view.dropped.now c.args.id (omega arith)
     ] in

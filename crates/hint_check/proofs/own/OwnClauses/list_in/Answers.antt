@@ -14,10 +14,13 @@ returns c =
     let middle = c.list_near.new.index in
     let rows = c.list_far.new.index in
     let near =
-    subst (λ slots. ListsAll start middle (near_entries lits inside.first slots)) c.deref-2.ensures.value
-    (subst (λ ls. ListsAll start middle (near_entries ls inside.first c.deref-2.result.now)) c.deref.ensures.value
+    subst (λ slots. ListsAll start middle (near_entries lits inside.first slots))
+    c.deref-2.ensures.value
+    (subst (λ ls. ListsAll start middle (near_entries ls inside.first c.deref-2.result.now))
+    c.deref.ensures.value
     c.in_ok-list_near.ensures) in
     let beyond =
-    subst (λ ls. ListsAll middle rows (far_entries ls far)) c.deref-3.ensures.value c.in_ok-list_far.ensures in
+    subst (λ ls. ListsAll middle rows (far_entries ls far)) c.deref-3.ensures.value
+    c.in_ok-list_far.ensures in
     subst (λ m. Indexes rows (fin.entries m)) c.self.view_is
     (own-Indexes start middle rows lits inside.first inside.slots.items far near beyond)

@@ -8,7 +8,8 @@ invariant_of-self c =
     let inside = c.self.inside in
     let count = length inside.lits.items in
     let same = c.clear_slot-cleared.ensures.length in (
-      SlotsEndBy-cleared inside.first inside.slots.items c.clear_slot-cleared.new.slots.items c.args.id count
+      SlotsEndBy-cleared inside.first inside.slots.items c.clear_slot-cleared.new.slots.items
+          c.args.id count
           c.self.invariant.0 c.clear_slot-cleared.ensures.cleared,
       c.take_far-taken.ensures.ends count c.self.invariant.1,
       let bound = c.self.invariant.2 in omega (arith, bound, same),
@@ -17,7 +18,9 @@ invariant_of-self c =
 pub returns : goal.returns
 returns c =
     let inside = c.self.inside in
-    own-remove inside.lits.items inside.first inside.slots.items c.clear_slot-cleared.new.slots.items
-    inside.far.entries c.take_far-taken.new.far.entries c.args.id c.clear_slot-cleared.ensures.cleared
+    own-remove inside.lits.items inside.first inside.slots.items
+    c.clear_slot-cleared.new.slots.items
+    inside.far.entries c.take_far-taken.new.far.entries c.args.id
+    c.clear_slot-cleared.ensures.cleared
     c.take_far-taken.ensures.taken
     ∙ ap (λ m. fin.remove m c.args.id) c.self.view_is

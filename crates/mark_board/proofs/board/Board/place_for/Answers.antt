@@ -6,6 +6,7 @@ use Rattle.mark_board.proofs.board.Board.place_for.Goals as goal
 
 pub returns-in-Some : goal.returns-in-Some
 returns-in-Some c =
-    let e : c.args.self.now ≡ board_of (top_kind c.in-Top.board) = sym c.self.view_is ∙ ap board_of c.in-Top.is in
+    let e : c.args.self.now ≡ board_of (top_kind c.in-Top.board) =
+    sym c.self.view_is ∙ ap board_of c.in-Top.is in
     let at = c.in-Some.ensures in
     rw e (place_in_part _ _ _ _ _ c.place_of.ensures at.0 at.1)

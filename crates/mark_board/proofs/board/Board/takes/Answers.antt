@@ -6,7 +6,8 @@ use Rattle.mark_board.proofs.board.Board.takes.Goals as goal
 
 pub returns-in-Part : goal.returns-in-Part
 returns-in-Part c =
-    let e : c.args.self.now ≡ board_of (part_kind c.in-Part.board) = sym c.self.view_is ∙ ap board_of c.in-Part.is in
+    let e : c.args.self.now ≡ board_of (part_kind c.in-Part.board) =
+    sym c.self.view_is ∙ ap board_of c.in-Part.is in
     rw e (
       λ t. part_takes c.in-Part.board c.args.node (c.takes.ensures.0 t),
       λ h. c.takes.ensures.1 (part_row c.in-Part.board c.args.node h.0 h.1.is_row).has_below,
@@ -14,7 +15,8 @@ returns-in-Part c =
 
 pub returns-in-Top : goal.returns-in-Top
 returns-in-Top c =
-    let e : c.args.self.now ≡ board_of (top_kind c.in-Top.board) = sym c.self.view_is ∙ ap board_of c.in-Top.is in
+    let e : c.args.self.now ≡ board_of (top_kind c.in-Top.board) =
+    sym c.self.view_is ∙ ap board_of c.in-Top.is in
     rw e (
       λ t. own_takes c.in-Top.board c.args.node (c.takes-in-Top.ensures.0 t),
       λ h. c.takes-in-Top.ensures.1 (takes_own c.in-Top.board c.args.node h),

@@ -8,26 +8,59 @@ use Rattle.mark_board.proofs.boards.Boards.post.Goals as goal
 
 pub place_for-requires-clause-node : goal.place_for-requires-clause-node
 place_for-requires-clause-node c =
-    let v : boards_of c.self.inside.above c.self.inside.parts.items ≡ c.args.self.now = c.self.view_is in
-    let tree : c.args.finding.case.now.tree ≡ c.self.inside.above.case.tree = rw (← v) at (ap (λ x. x.tree) c.requires) in
+    let v : boards_of c.self.inside.above c.self.inside.parts.items ≡ c.args.self.now =
+    c.self.view_is in
+    let tree : c.args.finding.case.now.tree ≡ c.self.inside.above.case.tree =
+    rw (← v) at (ap (λ x. x.tree) c.requires) in
     target_inside c.self.inside.above.case.tree c.node.result _ (rw tree at c.node.ensures.here)
 
 pub invariant_of-self : goal.invariant_of-self
 invariant_of-self c =
-    (after_top c.self.inside.above c.self.inside.parts.items c.self.invariant c.args.finding.node c.in-Top.ensures.row (mark_as c.args.finding.judged) c.post.new.self
-    (rw c.node.ensures.value at c.in-Top.ensures.is_row) c.in-Top.ensures.has_targets (posted_answer c.post.result)
-    (record { case = c.post.ensures.same.0; cut = c.post.ensures.same.1; place = c.post.ensures.same.2; marks = c.post.ensures.marks; already = c.post.ensures.already; root = c.post.ensures.root })).0
+    (after_top c.self.inside.above c.self.inside.parts.items c.self.invariant c.args.finding.node
+    c.in-Top.ensures.row (mark_as c.args.finding.judged) c.post.new.self
+    (rw c.node.ensures.value at c.in-Top.ensures.is_row) c.in-Top.ensures.has_targets
+    (posted_answer c.post.result)
+    (record {
+      case = c.post.ensures.same.0;
+      cut = c.post.ensures.same.1;
+      place = c.post.ensures.same.2;
+      marks = c.post.ensures.marks;
+      already = c.post.ensures.already;
+      root = c.post.ensures.root;
+    })).0
 
 pub returns-in-Top-clause-new : goal.returns-in-Top-clause-new
 returns-in-Top-clause-new c =
-    let v : boards_of c.self.inside.above c.self.inside.parts.items ≡ c.args.self.now = c.self.view_is in
-    rw (← v, c.is_new.ensures) (after_top c.self.inside.above c.self.inside.parts.items c.self.invariant c.args.finding.node c.in-Top.ensures.row (mark_as c.args.finding.judged) c.post.new.self
-    (rw c.node.ensures.value at c.in-Top.ensures.is_row) c.in-Top.ensures.has_targets (posted_answer c.post.result)
-    (record { case = c.post.ensures.same.0; cut = c.post.ensures.same.1; place = c.post.ensures.same.2; marks = c.post.ensures.marks; already = c.post.ensures.already; root = c.post.ensures.root })).2
+    let v : boards_of c.self.inside.above c.self.inside.parts.items ≡ c.args.self.now =
+    c.self.view_is in
+    rw (← v, c.is_new.ensures)
+    (after_top c.self.inside.above c.self.inside.parts.items c.self.invariant c.args.finding.node
+    c.in-Top.ensures.row (mark_as c.args.finding.judged) c.post.new.self
+    (rw c.node.ensures.value at c.in-Top.ensures.is_row) c.in-Top.ensures.has_targets
+    (posted_answer c.post.result)
+    (record {
+      case = c.post.ensures.same.0;
+      cut = c.post.ensures.same.1;
+      place = c.post.ensures.same.2;
+      marks = c.post.ensures.marks;
+      already = c.post.ensures.already;
+      root = c.post.ensures.root;
+    })).2
 
 pub returns-in-Top-clause-marks : goal.returns-in-Top-clause-marks
 returns-in-Top-clause-marks c =
-    let v : boards_of c.self.inside.above c.self.inside.parts.items ≡ c.args.self.now = c.self.view_is in
-    rw (← v, c.is_new.ensures) (after_top c.self.inside.above c.self.inside.parts.items c.self.invariant c.args.finding.node c.in-Top.ensures.row (mark_as c.args.finding.judged) c.post.new.self
-    (rw c.node.ensures.value at c.in-Top.ensures.is_row) c.in-Top.ensures.has_targets (posted_answer c.post.result)
-    (record { case = c.post.ensures.same.0; cut = c.post.ensures.same.1; place = c.post.ensures.same.2; marks = c.post.ensures.marks; already = c.post.ensures.already; root = c.post.ensures.root })).1
+    let v : boards_of c.self.inside.above c.self.inside.parts.items ≡ c.args.self.now =
+    c.self.view_is in
+    rw (← v, c.is_new.ensures)
+    (after_top c.self.inside.above c.self.inside.parts.items c.self.invariant c.args.finding.node
+    c.in-Top.ensures.row (mark_as c.args.finding.judged) c.post.new.self
+    (rw c.node.ensures.value at c.in-Top.ensures.is_row) c.in-Top.ensures.has_targets
+    (posted_answer c.post.result)
+    (record {
+      case = c.post.ensures.same.0;
+      cut = c.post.ensures.same.1;
+      place = c.post.ensures.same.2;
+      marks = c.post.ensures.marks;
+      already = c.post.ensures.already;
+      root = c.post.ensures.root;
+    })).1

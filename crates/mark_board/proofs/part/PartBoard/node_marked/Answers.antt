@@ -11,5 +11,6 @@ returns c =
     let e : c.weight_of.result ≡ slice_index board.rows.weights.items (c.args.node - board.root) =
     rw c.index.ensures.value at c.weight_of.ensures in
     rw (subtree_below board.case.now.tree board.root c.args.node board.inside c.requires)
-    (kept_marked (subtree_at board.case.now.tree board.root) _ board.rows.marks.items board.rows.weights.items (c.args.node - board.root)
+    (kept_marked (subtree_at board.case.now.tree board.root) _ board.rows.marks.items
+    board.rows.weights.items (c.args.node - board.root)
     c.weight_of.result board.kept l e)

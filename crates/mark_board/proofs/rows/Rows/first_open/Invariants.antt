@@ -5,7 +5,9 @@ use Rattle.mark_board.proofs.RowsSeeking.{IsSought}
 use Rattle.mark_board.proofs.rows.Rows.first_open.Given as goal
 
 abbrev pub invariant-loop-here : goal.invariant-loop-here
-invariant-loop-here l = (worth : ℕ → ℕ) → IsSought (subtree_at l.tree l.root) worth (refuted_by l.self.marks.items) l.node l.here l.first
+invariant-loop-here l =
+    (worth : ℕ → ℕ) →
+    IsSought (subtree_at l.tree l.root) worth (refuted_by l.self.marks.items) l.node l.here l.first
 
 abbrev pub decreases-loop-here : goal.decreases-loop-here
 decreases-loop-here l = l.node - l.here

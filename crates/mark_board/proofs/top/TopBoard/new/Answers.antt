@@ -10,24 +10,34 @@ use Rattle.mark_board.proofs.top.TopBoard.new.Goals as goal
 pub worths_of-requires : goal.worths_of-requires
 worths_of-requires c =
     let tree = c.args.case.now.tree in
-    let nodes : c.deref.result.now ≡ top_nodes c.args.cut 0 tree = rw c.tree.ensures.tree at (c.deref.ensures.value ∙ c.in_ok-above.ensures.nodes) in
-    rw (c.tree-2.ensures.tree, nodes) (λ i l. node_within tree c.args.cut i (rw (length-top_nodes c.args.cut 0 tree) at l))
+    let nodes : c.deref.result.now ≡ top_nodes c.args.cut 0 tree =
+    rw c.tree.ensures.tree at (c.deref.ensures.value ∙ c.in_ok-above.ensures.nodes) in
+    rw (c.tree-2.ensures.tree, nodes)
+    (λ i l. node_within tree c.args.cut i (rw (length-top_nodes c.args.cut 0 tree) at l))
 
 pub invariant_of-result : goal.invariant_of-result
 invariant_of-result c =
     let tree = c.args.case.now.tree in
-    let nodes : c.in_ok-above.above.nodes.items ≡ top_nodes c.args.cut 0 tree = rw c.tree.ensures.tree at c.in_ok-above.ensures.nodes in
-    let above : c.in_ok-above.above.tree ≡ top c.args.cut tree = rw c.tree.ensures.tree at c.in_ok-above.ensures.tree in
+    let nodes : c.in_ok-above.above.nodes.items ≡ top_nodes c.args.cut 0 tree =
+    rw c.tree.ensures.tree at c.in_ok-above.ensures.nodes in
+    let above : c.in_ok-above.above.tree ≡ top c.args.cut tree =
+    rw c.tree.ensures.tree at c.in_ok-above.ensures.tree in
     let worths : c.in_ok-worths.worths.items ≡ map (worth_of tree) c.in_ok-above.above.nodes.items =
     rw (c.tree-2.ensures.tree, c.deref.ensures.value) at c.in_ok-worths.ensures in
-    let weights : c.in_ok-rows.rows.weights.items ≡ map (worth_of tree) c.in_ok-above.above.nodes.items =
+    let weights : c.in_ok-rows.rows.weights.items
+    ≡ map (worth_of tree) c.in_ok-above.above.nodes.items =
     c.in_ok-rows.ensures.weights ∙ (c.deref-2.ensures.value ∙ worths) in
-    let marks : c.in_ok-rows.rows.marks.items ≡ replicate (length c.in_ok-rows.rows.weights.items) Open =
+    let marks : c.in_ok-rows.rows.marks.items
+    ≡ replicate (length c.in_ok-rows.rows.weights.items) Open =
     rw c.in_ok-rows.ensures.weights c.in_ok-rows.ensures.marks in
     record {
       low = c.requires;
       nodes = nodes;
       tree = above;
-      kept = top_kept tree c.args.cut c.in_ok-above.above.nodes.items c.in_ok-rows.rows.weights.items c.in_ok-rows.rows.marks.items nodes weights marks;
-      sound = part_sound c.args.case.now.formula [] (top c.args.cut tree) _ c.in_ok-rows.rows.marks.items marks;
+      kept =
+          top_kept tree c.args.cut c.in_ok-above.above.nodes.items c.in_ok-rows.rows.weights.items
+          c.in_ok-rows.rows.marks.items nodes weights marks;
+      sound =
+          part_sound c.args.case.now.formula [] (top c.args.cut tree) _
+          c.in_ok-rows.rows.marks.items marks;
     }

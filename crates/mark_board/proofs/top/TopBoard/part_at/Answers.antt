@@ -7,6 +7,9 @@ use Rattle.mark_board.proofs.top.TopBoard.part_at.Goals as goal
 pub unreachable-requires : goal.unreachable-requires
 unreachable-requires c =
     let board = c.args.self.now in
-    let here : IsLeafAt board.above.tree c.new.result (Cube c.in-Some-Cube.field-0-0) = rw c.in-Some-Cube.field-0-is at c.in-Some-Cube.ensures in
-    let at : IsLeafAt (top board.cut board.case.now.tree) c.args.place (Cube c.in-Some-Cube.field-0-0) = rw (board.tree, c.new.ensures) at here in
-    no_cube_above board.case.now.tree board.cut c.args.place c.in-Some-Cube.field-0-0 c.requires at.1
+    let here : IsLeafAt board.above.tree c.new.result (Cube c.in-Some-Cube.field-0-0) =
+    rw c.in-Some-Cube.field-0-is at c.in-Some-Cube.ensures in
+    let at : IsLeafAt (top board.cut board.case.now.tree) c.args.place
+    (Cube c.in-Some-Cube.field-0-0) = rw (board.tree, c.new.ensures) at here in
+    no_cube_above board.case.now.tree board.cut c.args.place c.in-Some-Cube.field-0-0 c.requires
+    at.1

@@ -2,11 +2,13 @@ use Rattle.std.proofs.Common.{◌≡◌, ◌∙◌, sym, arith}
 use Rattle.split_tree.specs.Parts.{top}
 use Rattle.split_tree.specs.Navigation.{AreBranches}
 use Rattle.mark_board.specs.TopPlaces.{top_node}
-use Rattle.mark_board.proofs.TopPlacesNodes.{place_root, place_first, place_second, place_own, nodes_long, nodes_read}
+use Rattle.mark_board.proofs.TopPlacesNodes.{place_root, place_first, place_second, place_own}
+use Rattle.mark_board.proofs.TopPlacesNodes.{nodes_long, nodes_read}
 use Rattle.mark_board.proofs.top.TopBoard.place_of.Goals as goal
 
 pub loop-node-init : goal.loop-node-init
-loop-node-init c = place_root c.args.self.now.case.now.tree c.args.self.now.cut c.args.node c.requires
+loop-node-init c =
+    place_root c.args.self.now.case.now.tree c.args.self.now.cut c.args.node c.requires
 
 pub index-requires : goal.index-requires
 index-requires c =
@@ -19,7 +21,8 @@ pub index-requires-in-loop-node-2 : goal.index-requires-in-loop-node-2
 index-requires-in-loop-node-2 c =
     let board = c.args.self.now in
     let k = nodes_long board.case.now.tree board.cut board.above.nodes.items board.nodes in
-    let b : AreBranches (top board.cut board.case.now.tree) c.loop-node.place _ _ = rw (board.tree, c.new-here.ensures) at c.in-Some.ensures in
+    let b : AreBranches (top board.cut board.case.now.tree) c.loop-node.place _ _ =
+    rw (board.tree, c.new-here.ensures) at c.in-Some.ensures in
     let l = b.within in
     let i = c.index-in-loop-node.ensures.value in
     omega (arith, k, l, i, board.above.nodes.ok)
@@ -28,39 +31,52 @@ pub loop-node-preserved-then-number : goal.loop-node-preserved-then-number
 loop-node-preserved-then-number c =
     let board = c.args.self.now in
     let tree = board.case.now.tree in
-    let b : AreBranches (top board.cut tree) c.loop-node.place _ _ = rw (board.tree, c.new-here.ensures) at c.in-Some.ensures in
+    let b : AreBranches (top board.cut tree) c.loop-node.place _ _ =
+    rw (board.tree, c.new-here.ensures) at c.in-Some.ensures in
     let here : c.index.result.now ≡ top_node board.cut tree c.loop-node.place =
-    nodes_read tree board.cut board.above.nodes.items c.loop-node.place c.index.result.now board.nodes c.loop-node.invariant.0 c.index.ensures in
-    let second : c.index-in-loop-node-2.result.now ≡ top_node board.cut tree c.index-in-loop-node.result =
-    nodes_read tree board.cut board.above.nodes.items c.index-in-loop-node.result c.index-in-loop-node-2.result.now board.nodes
+    nodes_read tree board.cut board.above.nodes.items c.loop-node.place c.index.result.now
+    board.nodes c.loop-node.invariant.0 c.index.ensures in
+    let second : c.index-in-loop-node-2.result.now
+    ≡ top_node board.cut tree c.index-in-loop-node.result =
+    nodes_read tree board.cut board.above.nodes.items c.index-in-loop-node.result
+    c.index-in-loop-node-2.result.now board.nodes
     (rw c.index-in-loop-node.ensures.value b.within) c.index-in-loop-node-2.ensures in
     let n1 = c.number.ensures in
     let n2 = c.number-in-loop-node.ensures in
     let i2 = c.index-in-loop-node.ensures.value in
     let n3 = c.number-in-loop-node-2.ensures in
     let n4 = c.number-in-loop-node-3.ensures in
-    rw c.index-place.ensures.value (place_first tree board.cut c.loop-node.place _ _ c.args.node c.loop-node.invariant.0 b
-    c.loop-node.invariant.1 (λ e. c.loop-node-test.true (n1 ∙ (here ∙ (e ∙ sym n2)))) (omega (arith, rw i2 at second, n3, n4, c.if-number.true)))
+    rw c.index-place.ensures.value
+    (place_first tree board.cut c.loop-node.place _ _ c.args.node c.loop-node.invariant.0 b
+    c.loop-node.invariant.1 (λ e. c.loop-node-test.true (n1 ∙ (here ∙ (e ∙ sym n2))))
+    (omega (arith, rw i2 at second, n3, n4, c.if-number.true)))
 
 pub loop-node-preserved : goal.loop-node-preserved
 loop-node-preserved c =
     let board = c.args.self.now in
     let tree = board.case.now.tree in
-    let b : AreBranches (top board.cut tree) c.loop-node.place _ _ = rw (board.tree, c.new-here.ensures) at c.in-Some.ensures in
-    let second : c.index-in-loop-node-2.result.now ≡ top_node board.cut tree c.index-in-loop-node.result =
-    nodes_read tree board.cut board.above.nodes.items c.index-in-loop-node.result c.index-in-loop-node-2.result.now board.nodes
+    let b : AreBranches (top board.cut tree) c.loop-node.place _ _ =
+    rw (board.tree, c.new-here.ensures) at c.in-Some.ensures in
+    let second : c.index-in-loop-node-2.result.now
+    ≡ top_node board.cut tree c.index-in-loop-node.result =
+    nodes_read tree board.cut board.above.nodes.items c.index-in-loop-node.result
+    c.index-in-loop-node-2.result.now board.nodes
     (rw c.index-in-loop-node.ensures.value b.within) c.index-in-loop-node-2.ensures in
     let i2 = c.index-in-loop-node.ensures.value in
     let n3 = c.number-in-loop-node-2.ensures in
     let n4 = c.number-in-loop-node-3.ensures in
-    rw c.index-place-else-number.ensures.value (place_second tree board.cut c.loop-node.place _ _ c.args.node
-    c.loop-node.invariant.0 b c.loop-node.invariant.1 (omega (arith, rw i2 at second, n3, n4, c.if-number.false)))
+    rw c.index-place-else-number.ensures.value
+    (place_second tree board.cut c.loop-node.place _ _ c.args.node
+    c.loop-node.invariant.0 b c.loop-node.invariant.1
+    (omega (arith, rw i2 at second, n3, n4, c.if-number.false)))
 
 pub returns : goal.returns
 returns c =
     let board = c.args.self.now in
     let tree = board.case.now.tree in
     let here : c.index.result.now ≡ top_node board.cut tree c.loop-node.place =
-    nodes_read tree board.cut board.above.nodes.items c.loop-node.place c.index.result.now board.nodes c.loop-node.invariant.0 c.index.ensures in
-    place_own tree board.cut c.loop-node.place c.args.node c.loop-node.invariant.0 c.loop-node.invariant.1
+    nodes_read tree board.cut board.above.nodes.items c.loop-node.place c.index.result.now
+    board.nodes c.loop-node.invariant.0 c.index.ensures in
+    place_own tree board.cut c.loop-node.place c.args.node c.loop-node.invariant.0
+    c.loop-node.invariant.1
     (sym here ∙ (sym c.number.ensures ∙ (c.loop-node-test.false ∙ c.number-in-loop-node.ensures)))

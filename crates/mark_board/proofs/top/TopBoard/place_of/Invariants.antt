@@ -7,7 +7,8 @@ use Rattle.mark_board.proofs.top.TopBoard.place_of.Given as goal
 
 abbrev pub invariant-loop-node : goal.invariant-loop-node
 invariant-loop-node l =
-    (l.place < size (top l.self.cut l.self.case.now.tree)) × HasBelow l.self.case.now.tree (top_node l.self.cut l.self.case.now.tree l.place) l.node
+    (l.place < size (top l.self.cut l.self.case.now.tree))
+    × HasBelow l.self.case.now.tree (top_node l.self.cut l.self.case.now.tree l.place) l.node
 
 abbrev pub decreases-loop-node : goal.decreases-loop-node
 decreases-loop-node l = size (top l.self.cut l.self.case.now.tree) - l.place

@@ -10,8 +10,11 @@ returns-in-Some c =
     let board = c.args.self.now in (
       λ t. let k : false ≡ true = t in absurd (cc),
       λ own.
-          let same = place_once board.cut board.case.now.tree c.args.node own.0 c.place_of.result (own_place board.cut board.case.now.tree c.args.node own.0 own.1) c.place_of.ensures in
-          absurd (part_not_own board.cut board.case.now.tree c.in-Some.field-0 c.place_of.result c.in-Some.ensures.0 c.in-Some.ensures.1 (rw same at own.1.inner)),
+          let same =
+          place_once board.cut board.case.now.tree c.args.node own.0 c.place_of.result
+          (own_place board.cut board.case.now.tree c.args.node own.0 own.1) c.place_of.ensures in
+          absurd (part_not_own board.cut board.case.now.tree c.in-Some.field-0 c.place_of.result
+          c.in-Some.ensures.0 c.in-Some.ensures.1 (rw same at own.1.inner)),
     )
 
 pub returns-then-number-size : goal.returns-then-number-size
@@ -19,7 +22,9 @@ returns-then-number-size c =
     let board = c.args.self.now in (
       λ t. let k : false ≡ true = t in absurd (cc),
       λ own.
-          let l : c.args.node < size board.case.now.tree = rw own.1.here at (node_within board.case.now.tree board.cut own.0 own.1.within) in
-          let e : c.size.result ≡ size board.case.now.tree = rw c.tree.ensures.tree at c.size.ensures in
+          let l : c.args.node < size board.case.now.tree =
+          rw own.1.here at (node_within board.case.now.tree board.cut own.0 own.1.within) in
+          let e : c.size.result ≡ size board.case.now.tree =
+          rw c.tree.ensures.tree at c.size.ensures in
           absurd (omega (arith, l, e, c.number.ensures, c.if-number-size.true)),
     )

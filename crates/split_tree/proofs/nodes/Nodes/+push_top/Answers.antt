@@ -11,15 +11,21 @@ use Rattle.split_tree.proofs.nodes.Nodes.+push_top.Goals as goal
 
 pub returns-in-Some-clause-shapes : goal.returns-in-Some-clause-shapes
 returns-in-Some-clause-shapes t c =
-    let whole = top_shapes c.args.self.now c.args.node c.in-Some.positive c.in-Some.negative c.args.cut c.variable_of.result c.in-Some.ensures c.if-cut-gt0.true c.variable_of.ensures.value in
-    let e = regroup c.args.shapes.now.items c.push-in-Some.new.self.items c.push_top.new.shapes.items
-    (preorder (top (c.args.cut - 1) (subtree_at c.args.self.now c.in-Some.positive))) (preorder (top (c.args.cut - 1) (subtree_at c.args.self.now c.in-Some.negative)))
+    let whole =
+    top_shapes c.args.self.now c.args.node c.in-Some.positive c.in-Some.negative c.args.cut
+    c.variable_of.result c.in-Some.ensures c.if-cut-gt0.true c.variable_of.ensures.value in
+    let e =
+    regroup c.args.shapes.now.items c.push-in-Some.new.self.items c.push_top.new.shapes.items
+    (preorder (top (c.args.cut - 1) (subtree_at c.args.self.now c.in-Some.positive)))
+    (preorder (top (c.args.cut - 1) (subtree_at c.args.self.now c.in-Some.negative)))
     (Split c.variable_of.result) c.in_ok-push-2.ensures.items c.in_ok-push_top.ensures.shapes in
     rw (whole, ← e) c.push_top-in-Some.ensures.shapes
 
 pub returns-in-Some-clause-nodes : goal.returns-in-Some-clause-nodes
 returns-in-Some-clause-nodes t c =
-    let whole = top_numbers c.args.self.now c.args.node c.in-Some.positive c.in-Some.negative c.args.cut c.in-Some.ensures c.if-cut-gt0.true in
+    let whole =
+    top_numbers c.args.self.now c.args.node c.in-Some.positive c.in-Some.negative c.args.cut
+    c.in-Some.ensures c.if-cut-gt0.true in
     let e = regroup c.args.nodes.now.items c.push.new.self.items c.push_top.new.nodes.items
     (top_nodes (c.args.cut - 1) c.in-Some.positive (subtree_at c.args.self.now c.in-Some.positive))
     (top_nodes (c.args.cut - 1) c.in-Some.negative (subtree_at c.args.self.now c.in-Some.negative))
@@ -28,10 +34,17 @@ returns-in-Some-clause-nodes t c =
 
 pub variable_of-requires : goal.variable_of-requires
 variable_of-requires t c =
-    record { within = c.requires; inner = split_branches c.args.self.now c.args.node c.in-Some.positive c.in-Some.negative c.in-Some.ensures }
+    record {
+      within = c.requires;
+      inner =
+          split_branches c.args.self.now c.args.node c.in-Some.positive c.in-Some.negative
+          c.in-Some.ensures;
+    }
 
 pub returns-in-Some-clause-variables : goal.returns-in-Some-clause-variables
 returns-in-Some-clause-variables t c old =
     let one : All HasVariable c.push-in-Some.new.self.items =
-    rw c.in_ok-push-2.ensures.items (All-push HasVariable c.args.shapes.now.items (Split c.variable_of.result) old c.variable_of.ensures.range) in
+    rw c.in_ok-push-2.ensures.items
+    (All-push HasVariable c.args.shapes.now.items (Split c.variable_of.result) old
+    c.variable_of.ensures.range) in
     c.push_top-in-Some.ensures.variables (c.in_ok-push_top.ensures.variables one)

@@ -6,4 +6,5 @@ use Rattle.split_tree.proofs.nodes.Nodes.cube_nodes.Goals as goal
 pub returns : goal.returns
 returns c =
     let all : c.loop-i.i ≡ size c.args.self.now = omega arith in
-    placed_all c.args.self.now c.args.cubes c.loop-i.nodes.items c.requires c.loop-i.invariant.long (rw all at c.loop-i.invariant.known)
+    placed_all c.args.self.now c.args.cubes c.loop-i.nodes.items c.requires c.loop-i.invariant.long
+    (rw all at c.loop-i.invariant.known)

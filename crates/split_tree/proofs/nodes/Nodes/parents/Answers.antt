@@ -6,4 +6,5 @@ use Rattle.split_tree.proofs.nodes.Nodes.parents.Goals as goal
 pub returns : goal.returns
 returns c =
     let all : c.loop-i.i ≡ size c.args.self.now = omega arith in
-    parented_all c.args.self.now c.loop-i.parents.items c.loop-i.invariant.long (rw all at c.loop-i.invariant.known)
+    parented_all c.args.self.now c.loop-i.parents.items c.loop-i.invariant.long
+    (rw all at c.loop-i.invariant.known)

@@ -8,9 +8,11 @@ pub returns-then-number-ge1 : goal.returns-then-number-ge1
 returns-then-number-ge1 c =
     let cubes = rw c.self.view_is at c.self.invariant.cubes_are in
     rw c.in-Cube.is (
-      λ e. has_cube c.args.self.now c.self.inside.cube_nodes.items c.in-Cube.number cubes c.if-number-ge1.true
+      λ e. has_cube c.args.self.now c.self.inside.cube_nodes.items c.in-Cube.number cubes
+          c.if-number-ge1.true
           (omega (arith, leb-true c.in-Cube.number c.len.result e)),
-      λ h. let r = cube_has c.args.self.now c.self.inside.cube_nodes.items c.in-Cube.number cubes h in
+      λ h. let r =
+          cube_has c.args.self.now c.self.inside.cube_nodes.items c.in-Cube.number cubes h in
           le-leb c.in-Cube.number c.len.result (omega (arith, r.1)),
     )
 
@@ -19,7 +21,8 @@ returns-else-number-ge1 c =
     let cubes = rw c.self.view_is at c.self.invariant.cubes_are in
     rw c.in-Cube.is (
       λ e. absurd (omega (arith, leb-true 1 c.in-Cube.number e)),
-      λ h. let r = cube_has c.args.self.now c.self.inside.cube_nodes.items c.in-Cube.number cubes h in
+      λ h. let r =
+          cube_has c.args.self.now c.self.inside.cube_nodes.items c.in-Cube.number cubes h in
           le-leb 1 c.in-Cube.number r.0,
     )
 
@@ -30,7 +33,11 @@ returns-then-number-ge1-2 c =
     rw c.in-Missing.is (
       λ e. (
         get_or (missing_nodes c.args.self.now) (c.in-Missing.number - 1) 0,
-        (c.if-number-ge1-2.true, omega (arith, leb-true c.in-Missing.number c.len-then-number-ge1-2.result e), refl),
+        (
+          c.if-number-ge1-2.true,
+          omega (arith, leb-true c.in-Missing.number c.len-then-number-ge1-2.result e),
+          refl,
+        ),
       ),
       λ h. le-leb c.in-Missing.number c.len-then-number-ge1-2.result (omega (arith, h.1.1)),
     )

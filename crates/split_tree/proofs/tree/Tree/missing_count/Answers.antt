@@ -6,7 +6,10 @@ use Rattle.split_tree.proofs.tree.Tree.missing_count.Goals as goal
 
 pub overflow_cast-result : goal.overflow_cast-result
 overflow_cast-result c =
-    let counted : length (missing_nodes c.self.inside.nodes) + cube_count c.self.inside.nodes ≡ leaf_count c.self.inside.nodes = count_leaves c.self.inside.nodes in
-    let few : leaf_count c.self.inside.nodes ≤ size c.self.inside.nodes = few_leaves c.self.inside.nodes in
-    let listed : length c.self.inside.missing_nodes.items ≡ length (missing_nodes c.self.inside.nodes) = ap length c.self.invariant.missing_are in
+    let counted : length (missing_nodes c.self.inside.nodes) + cube_count c.self.inside.nodes
+    ≡ leaf_count c.self.inside.nodes = count_leaves c.self.inside.nodes in
+    let few : leaf_count c.self.inside.nodes ≤ size c.self.inside.nodes =
+    few_leaves c.self.inside.nodes in
+    let listed : length c.self.inside.missing_nodes.items
+    ≡ length (missing_nodes c.self.inside.nodes) = ap length c.self.invariant.missing_are in
     omega (arith, c.self.invariant.cubes_are.count)

@@ -6,9 +6,13 @@ pub returns-clause-within : goal.returns-clause-within
 returns-clause-within c =
     elim c.match-leaf.branch [
       | in-Cube w ↦ rw (c.new.ensures, w.new-is)
-          (cube_within c.args.self.now c.self.inside.cube_nodes.items w.in-Cube.number w.index.result.now
-          (rw c.self.view_is at c.self.invariant.cubes_are) (rw w.in-Cube.is at c.requires) w.index.ensures)
+          (cube_within c.args.self.now c.self.inside.cube_nodes.items w.in-Cube.number
+          w.index.result.now
+          (rw c.self.view_is at c.self.invariant.cubes_are) (rw w.in-Cube.is at c.requires)
+          w.index.ensures)
       | in-Missing w ↦ rw (c.new.ensures, w.new-is)
-          (missing_inside c.args.self.now c.self.inside.missing_nodes.items w.in-Missing.number w.index-in-Missing.result.now
-          (rw c.self.view_is at c.self.invariant.missing_are) (rw w.in-Missing.is at c.requires) w.index-in-Missing.ensures)
+          (missing_inside c.args.self.now c.self.inside.missing_nodes.items w.in-Missing.number
+          w.index-in-Missing.result.now
+          (rw c.self.view_is at c.self.invariant.missing_are) (rw w.in-Missing.is at c.requires)
+          w.index-in-Missing.ensures)
     ]
