@@ -1,5 +1,4 @@
 use Rattle.std.proofs.Common.{List, ℕ, option_map, Bor}
-use Rattle.bundle_files.specs.Files.{IsBundleOf}
 use Rattle.cube_report.specs.Faults.{IsInputFault}
 use Rattle.cube_command.specs.Program.{IsRefused}
 use Rattle.cube_command.proofs.ProgramRuns.{reported, some_mapped}
