@@ -32,8 +32,8 @@ pub struct Found<'a> {
 /// gate.
 pub trait Gate {
     /// Once, before the first worker starts: the case of the run, and the depth at which its tree
-    /// is cut, from 0 to 6. Where it answers `AllocError`, the run ends as it does where a growth is
-    /// refused.
+    /// is cut, from 0 to 6. Where it answers `AllocError`, the run ends as it does where a growth
+    /// is refused.
     fn start(&self, _alloc: Global, _case: &Case, _cut: u32) -> Result<(), AllocError>
         requires { _cut ≤ 6 }
     {

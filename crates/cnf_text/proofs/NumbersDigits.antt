@@ -150,3 +150,20 @@ front_of_front bs k n short = take-take n k bs short
 pub within_front : (bs : List ℕ) (k n : ℕ) → k ≤ length bs → n ≤ length (take k bs) → n ≤ k
 within_front bs k n whole within =
     let same : length (take k bs) ≡ k = length-take-le k bs whole in omega arith
+
+-- the digits of a number in the first bytes of a text are digits of the text
+pub digits_in_front : (bs : List ℕ) (k n : ℕ) → k ≤ length bs → n ≤ length (take k bs) →
+    list_all is_ascii_digit (take n (take k bs)) ≡ true →
+    (n ≤ k) × (list_all is_ascii_digit (take n bs) ≡ true)
+digits_in_front bs k n whole within digits =
+    let few = within_front bs k n whole within in
+    (few, ap (list_all is_ascii_digit) (sym (front_of_front bs k n few)) ∙ digits)
+
+-- and the number is that of the text
+pub number_in_front : (bs : List ℕ) (k n value : ℕ) → k ≤ length bs → n ≤ length (take k bs) →
+    list_all is_ascii_digit (take n (take k bs)) ≡ true →
+    value ≡ digits_value (take n (take k bs)) → (n ≡ 0 → ⊥) → decimal (take n bs) ≡ Some value
+number_in_front bs k n value whole within digits is some =
+    let read = digits_in_front bs k n whole within digits in
+    decimal_of_digits bs n (omega (arith, read.0, whole)) some read.1
+    ∙ ap Some (sym (is ∙ ap digits_value (front_of_front bs k n read.0)))

@@ -210,7 +210,8 @@ fn write_outcome<D: Store, O: Sink>(
     requires store { D.failures store.old < 2 ^ 64 - 1 }
     requires output { O.failures output.old < 2 ^ 64 - 1 }
     ensures drawn { OnOk result
-        (IsDrawn (D.held store.new) (option_map (λ path. path.now) map.entry) outcome.now.map.items) }
+        (IsDrawn (D.held store.new) (option_map (λ path. path.now) map.entry)
+        outcome.now.map.items) }
     ensures elsewhere { (path : List ℕ) → option_map (λ path. path.now) map.entry ≢ Some path
         → D.held store.new path ≡ D.held store.old path }
     ensures undrawn { IfErr result

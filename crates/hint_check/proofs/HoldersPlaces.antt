@@ -290,15 +290,14 @@ module _ (slots : Slots) (clauses : List (List Literal)) (place : ℕ) (clause :
   fit s = hits-fit slots clauses place clause i s known clause-is
 
   module _ (are : AreLeft slots clauses (left-from i) starts) where
-    pub clause-some : 0 < get_or starts at 0
-    clause-some =
-        some-left slots clauses starts ids (left-from i) (left-from (i + 1)) at id here are less fit
-        within
-
-    pub clause-room : get_or starts at 0 ≤ length ids
-    clause-room =
-        has-room slots clauses starts ids (left-from i) (left-from (i + 1)) at id here are less fit
-        within
+    -- the slot has a place left for the id
+    pub clause-room : (0 < get_or starts at 0) × (get_or starts at 0 ≤ length ids)
+    clause-room = (
+      some-left slots clauses starts ids (left-from i) (left-from (i + 1)) at id here are less fit
+          within,
+      has-room slots clauses starts ids (left-from i) (left-from (i + 1)) at id here are less fit
+          within,
+    )
 
     abbrev starts' : List ℕ
     starts' = slice_set starts at (get_or starts at 0 - 1)

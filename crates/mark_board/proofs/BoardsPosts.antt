@@ -1,6 +1,7 @@
 -- What a post on one of the boards changes of all of them.
-use Rattle.std.proofs.Common.{◌≡◌, ◌≢◌, ◌↔◌, ℕ, ◌<◌, ◌⊎◌, List, length, map, get_or, set, true}
-use Rattle.std.proofs.Common.{false, refl, sym, ap, ◌∙◌, inl, inr, get_or-set_other, length-set}
+use Rattle.std.proofs.Common.{◌≡◌, ◌≢◌, ◌↔◌, ℕ, ◌<◌, ◌⊎◌, List, length, map, get_or, set, Bool}
+use Rattle.std.proofs.Common.{true, false, refl, sym, ap, ◌∙◌, inl, inr, get_or-set_other}
+use Rattle.std.proofs.Common.{length-set}
 use Rattle.std.proofs.lemmas.List.{set-get_or}
 use Rattle.std.proofs.lemmas.Bool.{cases_Bool, cases_eq}
 use Rattle.split_tree.specs.SplitTree.{SplitTree, size, subtree_at, IsSplit}
@@ -33,6 +34,14 @@ pub record IsPost (old new : BoardOf) (node : ℕ) (mark : Mark) (answer : Answe
   pub already : (row : ℕ) → IsRowOn old node row → (answer ≡ Already) ↔
       (mark_at old.marks row ≢ Open)
   pub root : (answer ≡ RootMarked) ↔ MarksRoot (tree_on old) old.marks new.marks
+
+-- all boards after a post, with these marks; `new` says that the node had none among those before
+abbrev pub ArePosted : (above : BoardOf) (parts : List BoardOf) (before : BoardsOf)
+    (marks : List Mark) (node : ℕ) (new : Bool) → Type 0
+ArePosted above parts before marks node new =
+    AreBoards above parts
+    × ((boards_of above parts).marks ≡ marks)
+    × (new ≡ true ↔ (mark_at before.marks node ≡ Open))
 
 open_or_not : (mark : Mark) → (mark ≡ Open) ⊎ (mark ≢ Open)
 open_or_not Open = inl refl
@@ -179,14 +188,6 @@ module _ (above : BoardOf) (parts : List BoardOf) (h : AreBoards above parts) (n
   own_row_on : IsRowOn above node row
   own_row_on = rw h.at_top.place_is at
 
-  -- what holds after it
-  abbrev pub AfterTop : Answer → Type 0
-  AfterTop answer =
-      AreBoards new parts
-      × ((boards_of new parts).marks
-      ≡ marks_with (is_new answer) (boards_of above parts).marks node mark)
-      × (is_new answer ≡ true ↔ (mark_at (boards_of above parts).marks node ≡ Open))
-
   top_set : (answer : Answer) → IsPost above new node mark answer →
       new.marks ≡ set above.marks row mark →
       AreBoards new parts
@@ -202,7 +203,9 @@ module _ (above : BoardOf) (parts : List BoardOf) (h : AreBoards above parts) (n
       sym (read_on_top above parts h node row at s) ∙ no_mark answer _ (p.already row own_row_on) ne
 
   -- after a post on the top board the boards have that mark more
-  pub after_top : (answer : Answer) → IsPost above new node mark answer → AfterTop answer
+  pub after_top : (answer : Answer) → IsPost above new node mark answer →
+      ArePosted new parts (boards_of above parts)
+      (marks_with (is_new answer) (boards_of above parts).marks node mark) node (is_new answer)
   after_top Marked p =
       let t = top_set Marked p (p.marks row own_row_on) in
       (t.0, t.1, (λ _. was_open Marked p (λ q. cc), λ _. refl))
@@ -244,8 +247,7 @@ pub in_already : (above : BoardOf) (parts : List BoardOf) (h : AreBoards above p
     (boards : BoardsOf) → boards_of above parts ≡ boards →
     (k node : ℕ) (mark : Mark) (new : BoardOf) →
     IsPostIn above parts k node mark new Already →
-    AreBoards above (set parts k new) × ((boards_of above (set parts k new)).marks ≡ boards.marks)
-    × (false ≡ true ↔ (mark_at boards.marks node ≡ Open))
+    ArePosted above (set parts k new) boards boards.marks node false
 in_already above parts h boards v k node mark new p =
     let r =
     part_already above parts h k node p.place.row mark new p.place.is_place p.place.is_row p.post in
@@ -256,9 +258,7 @@ pub in_marked : (above : BoardOf) (parts : List BoardOf) (h : AreBoards above pa
     (boards : BoardsOf) → boards_of above parts ≡ boards →
     (k node : ℕ) (mark : Mark) (new : BoardOf) →
     IsPostIn above parts k node mark new Marked →
-    AreBoards above (set parts k new)
-    × ((boards_of above (set parts k new)).marks ≡ set boards.marks node mark)
-    × (true ≡ true ↔ (mark_at boards.marks node ≡ Open))
+    ArePosted above (set parts k new) boards (set boards.marks node mark) node true
 in_marked above parts h boards v k node mark new p =
     let r =
     part_marked above parts h k node p.place.row mark new p.place.is_place p.place.is_row p.post in
@@ -278,9 +278,7 @@ pub in_root_marked : (above : BoardOf) (parts : List BoardOf) (h : AreBoards abo
     Refuted →
     ((answer ≡ Already) ↔
     (mark_at above.marks (part_place above.cut above.case.tree part) ≢ Open)) →
-    AreBoards there (set parts k new)
-    × ((boards_of there (set parts k new)).marks ≡ set boards.marks node mark)
-    × (true ≡ true ↔ (mark_at boards.marks node ≡ Open))
+    ArePosted there (set parts k new) boards (set boards.marks node mark) node true
 in_root_marked above parts h boards v k node mark old new p e part place there answer case cut
     place_same marks already =
     let b = h.at_part k p.place.is_place in

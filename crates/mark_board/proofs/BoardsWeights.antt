@@ -53,6 +53,12 @@ not_both missing s l = s
 not_both (cube k) s l = s
 not_both (split v p n) s l = l
 
+-- the open weight under a node, by what all boards together say
+abbrev pub open_at : BoardsOf → ℕ → ℕ
+open_at boards node =
+    open_weight (worth_of boards.case.tree) (refuted_by boards.marks) node
+    (subtree_at boards.case.tree node)
+
 module _ (above : BoardOf) (parts : List BoardOf) (h : AreBoards above parts) where
   -- a node of the top board's own has its row there
   pub own_row : (node : ℕ) (p : IsPlaceFor above.cut above.case.tree node Top) →
@@ -116,21 +122,16 @@ module _ (above : BoardOf) (parts : List BoardOf) (h : AreBoards above parts) wh
       let g : second ≡ suc (node + size b.positive) = omega (arith, b.second_is) in
       rw (b.is, b.at_first, b.at_second, f, g) (sym sum)
 
-  -- the same of what all boards together say
-  abbrev OpenAt : BoardsOf → ℕ → ℕ
-  OpenAt boards node =
-      open_weight (worth_of boards.case.tree) (refuted_by boards.marks) node
-      (subtree_at boards.case.tree node)
-
   -- above the cut, the open weight below an unmarked node is that below its branches
   pub both_open : (boards : BoardsOf) → boards_of above parts ≡ boards →
       (node first second a b : ℕ) (mark : Mark) → AreBranches above.case.tree node first second →
       mark ≡ mark_at (boards_of above parts).marks node → (mark ≡ Refuted → ⊥) →
-      a ≡ OpenAt boards first → b ≡ OpenAt boards second → a + b ≡ OpenAt boards node
+      a ≡ open_at boards first → b ≡ open_at boards second → a + b ≡ open_at boards node
   both_open boards v node first second a b mark branches e ne =
-      subst (λ (x : BoardsOf). a ≡ OpenAt x first → b ≡ OpenAt x second → a + b ≡ OpenAt x node) v
+      subst (λ (x : BoardsOf). a ≡ open_at x first → b ≡ open_at x second → a + b ≡ open_at x node)
+      v
       (λ f g. ap (λ (i : ℕ). i + b) f
-      ∙ (ap (λ (i : ℕ). OpenAt (boards_of above parts) first + i) g
+      ∙ (ap (λ (i : ℕ). open_at (boards_of above parts) first + i) g
       ∙ both_below node first second mark branches e ne))
 
 -- an open weight is at most the total, and so fits

@@ -3,7 +3,7 @@
 ghost use Rattle.std.specs.Prelude.{◌<◌, ◌^◌, ◌-◌};
 
 use crate::devices::{Broken, File, Narrow, Shelf};
-use cube_command::{Counted, FileStore, NoGate, Store, command};
+use cube_command::{Counted, FileStore, NoGate, Source, Store, command};
 use cube_report::Fault;
 use fixtures::bundles::{BOTH_CUBES, OPEN, OPEN_REPORT, REFUTED, REFUTED_REPORT};
 use fixtures::four;
@@ -104,6 +104,43 @@ const FAULTS: &[(&[u8], &[u8])] = &[
 /// How a call of the program ends: its status, its report and its line of errors.
 type Ending<'t> = (u8, &'t [u8], &'t [u8]);
 
+/// The status of the program on these words and this input, with these files, and what it writes as
+/// a report and as errors.
+fn told<R: AllocGlobal + Abort + Threads + Wait + Sync, D: Store, I: Source>(
+    rt: &R,
+    store: &mut D,
+    words: &[&str],
+    input: &mut I,
+) -> (u8, Vec<u8>, Vec<u8>)
+    requires store { D.failures store.old < 2 ^ 64 - 1 }
+    requires input { I.failures input.old < 2 ^ 64 - 1 }
+{
+    let mut output = Vec::new(rt.alloc());
+    let mut errors = Vec::new(rt.alloc());
+    let status = command(
+        rt,
+        store,
+        words,
+        input,
+        &mut Counted::new(&mut output),
+        &mut Counted::new(&mut errors),
+        &NoGate,
+        &NoGate,
+    );
+    (status, output, errors)
+}
+
+/// What the program told on these words is this ending.
+fn is_ending<R: Abort>(rt: &R, words: &[&str], told: (u8, Vec<u8>, Vec<u8>), ending: Ending<'_>) {
+    let (answer, output, errors) = told;
+    let (status, report, line) = ending;
+    assert!(rt; answer == status, "{answer} on {words:?}");
+    assert!(rt;
+        output.as_slice() == report && errors.as_slice() == line,
+        "{words:?}"
+    );
+}
+
 /// The program on these words and this input, with these files, ends so.
 fn ends_with<R: AllocGlobal + Abort + Threads + Wait + Sync, D: Store>(
     rt: &R,
@@ -114,24 +151,8 @@ fn ends_with<R: AllocGlobal + Abort + Threads + Wait + Sync, D: Store>(
 )
     requires { D.failures store.old < 2 ^ 64 - 1 }
 {
-    let (status, report, line) = ending;
-    let mut output = Vec::new(rt.alloc());
-    let mut errors = Vec::new(rt.alloc());
-    let answer = command(
-        rt,
-        store,
-        words,
-        &mut Counted::new(input),
-        &mut Counted::new(&mut output),
-        &mut Counted::new(&mut errors),
-        &NoGate,
-        &NoGate,
-    );
-    assert!(rt; answer == status, "{answer} on {words:?}");
-    assert!(rt;
-        output.as_slice() == report && errors.as_slice() == line,
-        "{words:?}"
-    );
+    let told = told(rt, store, words, &mut Counted::new(input));
+    is_ending(rt, words, told, ending);
 }
 
 /// The program on these words and this input ends so with files in memory, after it has asked for
@@ -306,25 +327,9 @@ fn leaves_input<R: AllocGlobal + Abort + Threads + Wait + Sync>(
 )
     requires { store.failed < 2 ^ 64 - 1 }
 {
-    let (status, report, line) = ending;
     let mut input = Broken::new(REFUTED, 0);
-    let mut output = Vec::new(rt.alloc());
-    let mut errors = Vec::new(rt.alloc());
-    let answer = command(
-        rt,
-        &mut store,
-        words,
-        &mut input,
-        &mut Counted::new(&mut output),
-        &mut Counted::new(&mut errors),
-        &NoGate,
-        &NoGate,
-    );
-    assert!(rt; answer == status, "{answer} on {words:?}");
-    assert!(rt;
-        output.as_slice() == report && errors.as_slice() == line,
-        "{words:?}"
-    );
+    let told = told(rt, &mut store, words, &mut input);
+    is_ending(rt, words, told, ending);
     assert!(rt; input.calls == 0, "{words:?}");
     assert!(rt; store.asked.as_slice() == paths, "{words:?}");
 }
@@ -379,18 +384,8 @@ fn the_input_fails(rt: HostRuntime) -> Result<(), Fail> {
     let calls = REFUTED.len() as u64 / 16 + 2;
     for fails_at in 1..=calls {
         let mut store = Shelf::new(rt.alloc(), ALL_FILES);
-        let mut output = Vec::new(rt.alloc());
-        let mut errors = Vec::new(rt.alloc());
-        let answer = command(
-            &rt,
-            &mut store,
-            &["--proofs", "D"],
-            &mut Broken::new(REFUTED, fails_at),
-            &mut Counted::new(&mut output),
-            &mut Counted::new(&mut errors),
-            &NoGate,
-            &NoGate,
-        );
+        let mut input = Broken::new(REFUTED, fails_at);
+        let (answer, output, errors) = told(&rt, &mut store, &["--proofs", "D"], &mut input);
         assert!(rt; answer == 5 && output.is_empty(), "at {fails_at}");
         assert!(rt; errors.as_slice() == DEVICE, "at {fails_at}");
         assert!(rt; store.asked.is_empty(), "at {fails_at}");
@@ -478,18 +473,7 @@ fn the_errors_fail(rt: HostRuntime) -> Result<(), Fail> {
 fn is_refused<R: AllocGlobal + Abort + Threads + Wait + Sync>(rt: &R, words: &[&str]) {
     let mut store = Shelf::new(rt.alloc(), ALL_FILES);
     let mut input = Broken::new(REFUTED, 0);
-    let mut output = Vec::new(rt.alloc());
-    let mut errors = Vec::new(rt.alloc());
-    let answer = command(
-        rt,
-        &mut store,
-        words,
-        &mut input,
-        &mut Counted::new(&mut output),
-        &mut Counted::new(&mut errors),
-        &NoGate,
-        &NoGate,
-    );
+    let (answer, output, errors) = told(rt, &mut store, words, &mut input);
     assert!(rt;
         answer == 2 && output.is_empty() && !errors.is_empty(),
         "{answer} on {words:?}"

@@ -18,9 +18,18 @@ const HEADER: &[u8] = b"cubeboard: F1 header\n";
 
 /// The cells of `BOTH_CUBES`: the root, and its leaves below it.
 const CELLS: &[&str] = &[
-    "<rect class=\"r\" x=\"0\" y=\"40\" width=\"2048\" height=\"22\"><title>n 0 w 0</title></rect>\n",
-    "<rect class=\"r\" x=\"0\" y=\"64\" width=\"1024\" height=\"22\"><title>a 1 refuted</title></rect>\n",
-    "<rect class=\"r\" x=\"1024\" y=\"64\" width=\"1024\" height=\"22\"><title>a 2 refuted</title></rect>\n",
+    concat!(
+        r#"<rect class="r" x="0" y="40" width="2048" height="22">"#,
+        "<title>n 0 w 0</title></rect>\n"
+    ),
+    concat!(
+        r#"<rect class="r" x="0" y="64" width="1024" height="22">"#,
+        "<title>a 1 refuted</title></rect>\n"
+    ),
+    concat!(
+        r#"<rect class="r" x="1024" y="64" width="1024" height="22">"#,
+        "<title>a 2 refuted</title></rect>\n"
+    ),
 ];
 
 /// The status of the program on these words and this input, and what it writes as a report and as

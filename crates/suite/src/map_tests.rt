@@ -5,7 +5,7 @@ use fixtures::bundles::{BOTH_CUBES, HALF, ONE_CUBE, QUARTER, REJECTED};
 use fixtures::four;
 use fixtures::targets::{cube, inner};
 use mark_board::Boards;
-use std::alloc::Global;
+use std::alloc::{AllocGlobal, Global};
 use std::process::Abort;
 use tree_map::map_of;
 
@@ -89,108 +89,80 @@ fn map(rt: &impl Abort, alloc: Global, bundle: &str, targets: &[Target]) -> Vec<
     map_of(alloc, &boards).expect(rt, "memory")
 }
 
+/// Those boards are drawn with this answer, this open weight, and these cells.
+fn draws<R: AllocGlobal + Abort>(
+    rt: &R,
+    bundle: &str,
+    targets: &[Target],
+    answer: &str,
+    weight: u64,
+    cells: &str,
+) {
+    let text = map(rt, rt.alloc(), bundle, targets);
+    let expected = picture(rt, rt.alloc(), answer, weight, cells);
+    assert_eq!(rt; text.as_slice(), expected.as_bytes());
+}
+
 // The root alone is one cell.
 #[test]
 fn one_leaf(rt: HostRuntime) {
-    let text = map(&rt, rt.alloc(), ONE_LEAF, &[cube(1)]);
-    let expected = picture(
-        &rt,
-        rt.alloc(),
-        "REFUTED",
-        0,
-        cells!(["r", 0, 40, 2048, "a 1 refuted"]),
-    );
-    assert_eq!(rt; text.as_slice(), expected.as_bytes());
+    let cells = cells!(["r", 0, 40, 2048, "a 1 refuted"]);
+    draws(&rt, ONE_LEAF, &[cube(1)], "REFUTED", 0, cells);
 }
 
 // Of two leaves one is refuted; the other, a cube's or a missing one, has no finding.
 #[test]
 fn half_refuted(rt: HostRuntime) {
-    let text = map(&rt, rt.alloc(), BOTH_CUBES, &[cube(1)]);
-    let expected = picture(
-        &rt,
-        rt.alloc(),
-        "OPEN",
-        HALF,
-        cells!(
-            ["p", 0, 40, 2048, "n 0 w 576460752303423488"],
-            ["r", 0, 64, 1024, "a 1 refuted"],
-            ["o", 1024, 64, 1024, "a 2 open"]
-        ),
+    let cells = cells!(
+        ["p", 0, 40, 2048, "n 0 w 576460752303423488"],
+        ["r", 0, 64, 1024, "a 1 refuted"],
+        ["o", 1024, 64, 1024, "a 2 open"]
     );
-    assert_eq!(rt; text.as_slice(), expected.as_bytes());
-    let text = map(&rt, rt.alloc(), ONE_CUBE, &[cube(1)]);
-    let expected = picture(
-        &rt,
-        rt.alloc(),
-        "OPEN",
-        HALF,
-        cells!(
-            ["p", 0, 40, 2048, "n 0 w 576460752303423488"],
-            ["r", 0, 64, 1024, "a 1 refuted"],
-            ["o", 1024, 64, 1024, "m -1 0 open"]
-        ),
+    draws(&rt, BOTH_CUBES, &[cube(1)], "OPEN", HALF, cells);
+    let cells = cells!(
+        ["p", 0, 40, 2048, "n 0 w 576460752303423488"],
+        ["r", 0, 64, 1024, "a 1 refuted"],
+        ["o", 1024, 64, 1024, "m -1 0 open"]
     );
-    assert_eq!(rt; text.as_slice(), expected.as_bytes());
+    draws(&rt, ONE_CUBE, &[cube(1)], "OPEN", HALF, cells);
 }
 
 // Where both leaves are refuted, the root is: all cells have that colour, and no proof of the
 // root's own is told.
 #[test]
 fn both_refuted(rt: HostRuntime) {
-    let text = map(&rt, rt.alloc(), BOTH_CUBES, &[cube(2), cube(1)]);
-    let expected = picture(
-        &rt,
-        rt.alloc(),
-        "REFUTED",
-        0,
-        cells!(
-            ["r", 0, 40, 2048, "n 0 w 0"],
-            ["r", 0, 64, 1024, "a 1 refuted"],
-            ["r", 1024, 64, 1024, "a 2 refuted"]
-        ),
+    let cells = cells!(
+        ["r", 0, 40, 2048, "n 0 w 0"],
+        ["r", 0, 64, 1024, "a 1 refuted"],
+        ["r", 1024, 64, 1024, "a 2 refuted"]
     );
-    assert_eq!(rt; text.as_slice(), expected.as_bytes());
+    draws(&rt, BOTH_CUBES, &[cube(2), cube(1)], "REFUTED", 0, cells);
 }
 
 // A rejected leaf tells the step and the reason, and its weight stays open.
 #[test]
 fn rejected_leaf(rt: HostRuntime) {
-    let text = map(&rt, rt.alloc(), REJECTED, &[cube(1), cube(2)]);
-    let expected = picture(
-        &rt,
-        rt.alloc(),
-        "OPEN",
-        HALF,
-        cells!(
-            ["p", 0, 40, 2048, "n 0 w 576460752303423488"],
-            ["x", 0, 64, 1024, "a 1 rejected 1 unit"],
-            ["r", 1024, 64, 1024, "a 2 refuted"]
-        ),
+    let cells = cells!(
+        ["p", 0, 40, 2048, "n 0 w 576460752303423488"],
+        ["x", 0, 64, 1024, "a 1 rejected 1 unit"],
+        ["r", 1024, 64, 1024, "a 2 refuted"]
     );
-    assert_eq!(rt; text.as_slice(), expected.as_bytes());
+    draws(&rt, REJECTED, &[cube(1), cube(2)], "OPEN", HALF, cells);
 }
 
 // An inner node that is refuted by its own proof covers its leaves, which have no finding.
 #[test]
 fn covered_leaves(rt: HostRuntime) {
-    let text = map(&rt, rt.alloc(), BRANCH, &[inner(1), cube(3)]);
-    let expected = picture(
-        &rt,
-        rt.alloc(),
-        "OPEN",
-        QUARTER,
-        cells!(
-            ["p", 0, 40, 2048, "n 0 w 288230376151711744"],
-            ["r n", 0, 64, 1024, "n 1 0 refuted w 0"],
-            ["c", 0, 88, 512, "a 1 open"],
-            ["c", 512, 88, 512, "a 2 open"],
-            ["p", 1024, 64, 1024, "n -1 0 w 288230376151711744"],
-            ["r", 1024, 88, 512, "a 3 refuted"],
-            ["o", 1536, 88, 512, "a 4 open"]
-        ),
+    let cells = cells!(
+        ["p", 0, 40, 2048, "n 0 w 288230376151711744"],
+        ["r n", 0, 64, 1024, "n 1 0 refuted w 0"],
+        ["c", 0, 88, 512, "a 1 open"],
+        ["c", 512, 88, 512, "a 2 open"],
+        ["p", 1024, 64, 1024, "n -1 0 w 288230376151711744"],
+        ["r", 1024, 88, 512, "a 3 refuted"],
+        ["o", 1536, 88, 512, "a 4 open"]
     );
-    assert_eq!(rt; text.as_slice(), expected.as_bytes());
+    draws(&rt, BRANCH, &[inner(1), cube(3)], "OPEN", QUARTER, cells);
 }
 
 // In the last row a cell stands for all leaves under its node, of which one is rejected here; the

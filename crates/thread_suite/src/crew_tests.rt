@@ -133,6 +133,18 @@ fn gives<R: Abort + Threads + Wait + Sync, G: Gate + Sync>(
     report.as_slice() == wanted
 }
 
+/// Whether a count is this one within some turns.
+fn reaches(count: &AtomicU64, wanted: u64) -> bool {
+    let backoff = Backoff::new();
+    for _ in 0..TURNS {
+        if count.load(Ordering::SeqCst) == wanted {
+            return true;
+        }
+        backoff.snooze();
+    }
+    false
+}
+
 /// Holds back the worker of the first cube until the second one's finding was posted.
 #[derive(Drop)]
 struct Crossing {
@@ -155,16 +167,8 @@ impl Crossing {
 
 impl Gate for Crossing {
     fn before(&self, _worker: u32, target: Target) {
-        if cube_number(target) != 1 {
-            return;
-        }
-        let backoff = Backoff::new();
-        for _ in 0..TURNS {
-            if self.second_posted.load(Ordering::SeqCst) == 1 {
-                self.seen.store(1, Ordering::SeqCst);
-                return;
-            }
-            backoff.snooze();
+        if cube_number(target) == 1 && reaches(&self.second_posted, 1) {
+            self.seen.store(1, Ordering::SeqCst);
         }
     }
 
@@ -232,13 +236,8 @@ impl Gate for Meeting {
         self.workers
             .fetch_or(1u64.wrapping_shl(worker), Ordering::SeqCst);
         self.arrived.fetch_add(1, Ordering::SeqCst);
-        let backoff = Backoff::new();
-        for _ in 0..TURNS {
-            if self.arrived.load(Ordering::SeqCst) == 4 {
-                self.met.fetch_add(1, Ordering::SeqCst);
-                return;
-            }
-            backoff.snooze();
+        if reaches(&self.arrived, 4) {
+            self.met.fetch_add(1, Ordering::SeqCst);
         }
     }
 
@@ -305,16 +304,8 @@ struct Rooted {
 
 impl Gate for Rooted {
     fn before(&self, _worker: u32, target: Target) {
-        if cube_number(target) == 0 {
-            return;
-        }
-        let backoff = Backoff::new();
-        for _ in 0..TURNS {
-            if self.root_posted.load(Ordering::SeqCst) == 1 {
-                self.later.fetch_add(1, Ordering::SeqCst);
-                return;
-            }
-            backoff.snooze();
+        if cube_number(target) != 0 && reaches(&self.root_posted, 1) {
+            self.later.fetch_add(1, Ordering::SeqCst);
         }
     }
 

@@ -1,4 +1,5 @@
-use Rattle.std.proofs.Common.{◌≡◌, ◌+◌, ◌≤◌, ◌∙◌, ap, sym, subst, arith, length, get_or, take, drop}
+use Rattle.std.proofs.Common.{◌≡◌, ◌+◌, ◌<◌, ◌≤◌, ◌∙◌, ap, sym, subst, arith, length, get_or, take}
+use Rattle.std.proofs.Common.{drop}
 use Rattle.std.proofs.Common.{[], true, refl, ℕ}
 use Rattle.std.proofs.lemmas.Bool.{false≢true}
 use Rattle.std.proofs.lemmas.List.{take_all, drop_all, length-set, get_or_default}
@@ -9,26 +10,11 @@ use Rattle.hint_check.specs.Inner.Holders.{slot_of, begin, hits, occurrences}
 use Rattle.hint_check.proofs.HoldersPlaces as places
 use Rattle.hint_check.proofs.holders.put_clause.Goals as goal
 
-pub put-requires-clause-some : goal.put-requires-clause-some
-put-requires-clause-some c =
-    let slots = c.args.slots.now in
-    let clauses = c.args.clauses.now in
-    let same = c.loop-lit.invariant.same_lengths in
-    let within : begin slots clauses (length c.loop-lit.starts) ≤ length c.loop-lit.ids
-    =
-    subst (λ n. begin slots clauses n ≤ length c.loop-lit.ids) (sym same.0)
-    (omega (arith, c.requires.within, same.1)) in
-    places.clause-some slots clauses c.args.place c.lits-lits.result.now c.loop-lit.lit-index
-    c.lit-item.result c.slot-slot.result
-    (c.args.place + 1) c.loop-lit.starts c.loop-lit.ids c.requires.place
-    (subst (λ clause. clause ≡ get_or clauses c.args.place clause) (sym c.lits-lits.ensures)
-    c.index-clauses-place.is)
-    c.loop-lit-test.true c.lit-item.is
-    (c.slot-slot.ensures.value ∙ ap (λ n. slot_of slots n) c.number.ensures.value)
-    (omega (arith, same.0)) within c.loop-lit.invariant.left
-
-pub put-requires-clause-within : goal.put-requires-clause-within
-put-requires-clause-within c =
+-- the slot of a literal has a place left for the id
+room : (c : goal.After-put-arg-in-loop-lit-1) →
+    (0 < get_or c.loop-lit.starts c.slot-slot.result 0)
+    × (get_or c.loop-lit.starts c.slot-slot.result 0 ≤ length c.loop-lit.ids)
+room c =
     let slots = c.args.slots.now in
     let clauses = c.args.clauses.now in
     let same = c.loop-lit.invariant.same_lengths in
@@ -44,6 +30,12 @@ put-requires-clause-within c =
     c.loop-lit-test.true c.lit-item.is
     (c.slot-slot.ensures.value ∙ ap (λ n. slot_of slots n) c.number.ensures.value)
     (omega (arith, same.0)) within c.loop-lit.invariant.left
+
+pub put-requires-clause-some : goal.put-requires-clause-some
+put-requires-clause-some c = (room c).0
+
+pub put-requires-clause-within : goal.put-requires-clause-within
+put-requires-clause-within c = (room c).1
 
 pub loop-lit-init : goal.loop-lit-init
 unfolding has

@@ -1,10 +1,10 @@
-use Rattle.std.proofs.Common.{◌≡◌, ◌∙◌, ap, arith, refl}
+use Rattle.std.proofs.Common.{◌≡◌, ◌+◌, ◌∙◌, ℕ, ap, arith, refl}
 use Rattle.split_tree.specs.declared.node.Target.TheVariants.{Node}
 use Rattle.mark_board.specs.Marking.{refuted_by}
 use Rattle.mark_board.specs.Boards.{boards_of}
 use Rattle.mark_board.proofs.BoardsGathered.{mark_on_top}
 use Rattle.mark_board.proofs.BoardsWeights.{own_is_inner, own_row, not_both, open_there, none_below}
-use Rattle.mark_board.proofs.BoardsWeights.{both_open, open_fits}
+use Rattle.mark_board.proofs.BoardsWeights.{open_at, both_open, open_fits}
 use Rattle.mark_board.proofs.boards.Boards.+open_under.Goals as goal
 
 pub returns-in-Part : goal.returns-in-Part
@@ -54,8 +54,11 @@ unreachable-requires t c =
     rw (← v) at (c.tree.ensures.tree ∙ ap (λ x. x.tree) c.case.ensures) in
     not_both _ i.inner (rw tree at c.in-None.ensures)
 
-pub overflow_add-result : goal.overflow_add-result
-overflow_add-result t c =
+-- the weights under the branches together
+sum : (t : ℕ) → (c : goal.After-open_under-in-Some-2 t) →
+    c.open_under-in-Some.result + c.open_under-in-Some-2.result
+    ≡ open_at c.args.self.now c.args.node
+sum t c =
     let v : boards_of c.self.inside.above c.self.inside.parts.items ≡ c.args.self.now =
     c.self.view_is in
     let i =
@@ -67,34 +70,18 @@ overflow_add-result t c =
     c.mark_of.ensures.mark in
     let tree : c.tree.result.now ≡ c.self.inside.above.case.tree =
     rw (← v) at (c.tree.ensures.tree ∙ ap (λ x. x.tree) c.case.ensures) in
-    let sum =
     both_open c.self.inside.above c.self.inside.parts.items c.self.invariant c.args.self.now v
     c.args.node _ _
     c.open_under-in-Some.result c.open_under-in-Some-2.result c.mark_of.result
     (rw tree at c.in-Some.ensures) e c.in_default-mark_of.not-Refuted c.open_under-in-Some.ensures
-    c.open_under-in-Some-2.ensures in
+    c.open_under-in-Some-2.ensures
+
+pub overflow_add-result : goal.overflow_add-result
+overflow_add-result t c =
     let fits =
     open_fits c.args.self.now.case.tree (refuted_by c.args.self.now.marks) c.args.node c.requires
     (rw c.case.ensures at c.tree.ensures.total) in
-    omega (arith, sum, fits)
+    omega (arith, sum t c, fits)
 
 pub returns : goal.returns
-returns t c =
-    let v : boards_of c.self.inside.above c.self.inside.parts.items ≡ c.args.self.now =
-    c.self.view_is in
-    let i =
-    own_is_inner c.self.inside.above.cut c.self.inside.above.case.tree c.args.node
-    c.in_default.ensures in
-    let e =
-    mark_on_top c.self.inside.above c.self.inside.parts.items c.self.invariant (Node c.args.node)
-    c.args.node c.mark_of.result c.in_default.ensures (refl, i.within, i.inner)
-    c.mark_of.ensures.mark in
-    let tree : c.tree.result.now ≡ c.self.inside.above.case.tree =
-    rw (← v) at (c.tree.ensures.tree ∙ ap (λ x. x.tree) c.case.ensures) in
-    let sum =
-    both_open c.self.inside.above c.self.inside.parts.items c.self.invariant c.args.self.now v
-    c.args.node _ _
-    c.open_under-in-Some.result c.open_under-in-Some-2.result c.mark_of.result
-    (rw tree at c.in-Some.ensures) e c.in_default-mark_of.not-Refuted c.open_under-in-Some.ensures
-    c.open_under-in-Some-2.ensures in
-    sum
+returns t c = sum t c
