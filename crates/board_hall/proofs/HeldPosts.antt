@@ -11,7 +11,7 @@ use Rattle.split_tree.specs.SplitTree.{SplitTree, size, path_at}
 use Rattle.split_tree.specs.Leaves.{IsTargetAt}
 use Rattle.split_tree.specs.declared.node.Target.{Target}
 use Rattle.case_core.specs.Case.{CaseOf}
-use Rattle.case_core.specs.Finding.{IsFinding, HasSection, IsSound}
+use Rattle.case_core.specs.Finding.{IsFinding, HasSection, IsSound, target_of}
 use Rattle.case_core.specs.declared.finding.Finding.{Finding}
 use Rattle.mark_board.specs.declared.mark.Mark.{Mark}
 use Rattle.mark_board.specs.declared.mark.Mark.TheVariants.{Open, Refuted, Rejected}
@@ -239,6 +239,42 @@ owed_none false true b never = absurd (never refl refl)
 owed_none false false b never = refl
 owed_none true after b never = refl
 
+-- a held board after a finding was posted on it, new or not
+pub record FindingHeld (k : CutCase) (old new : BoardOf) (found : Finding) (post : Post)
+    (answer : Answer) : Type 0 where
+  pub home : IsHome k found.node post.board post.row
+  pub real : IsFindingPost k post
+  pub answers : BoardPosted old new post.row (mark_as post.judged) answer
+
+-- by what the board answers
+pub finding_held : (k : CutCase) (known : List Post) (old new : BoardOf) (found : Finding)
+    (post : Post) (node : ℕ) (answer : Answer) → IsBoardOf k post.board known old →
+    post.board < board_count k → found.case.now ≡ k.case → node ≡ found.node →
+    post.judged ≡ found.judged →
+    IsFinding found.case.now (target_of found.leaf found.node) post.judged →
+    IsTargetRow old node post.row →
+    (new.case ≡ old.case) × (new.cut ≡ old.cut) × (new.place ≡ old.place) →
+    ((i : ℕ) → IsRowOn old found.node i →
+    new.marks ≡ marks_after answer old.marks i (mark_as found.judged)) →
+    ((i : ℕ) → IsRowOn old found.node i →
+    (answer ≡ Already) ↔ (mark_at old.marks i ≢ Open)) →
+    ((answer ≡ RootMarked) ↔ MarksRoot (tree_on old) old.marks new.marks) →
+    FindingHeld k old new found post answer
+finding_held k known old new found post node answer is inside case here said finding row same marks
+    already root =
+    let target = target_of found.leaf found.node in
+    let home = home_of k post.board known old is inside found.node node post.row here row in
+    record {
+      home = home;
+      real =
+          finding_post k post.board post.row found.node target post.judged found.case.now case home
+          found.here found.has_section finding
+          (subst (IsSound found.case.now target) (sym said) found.sound);
+      answers =
+          posted_of old new found.node node post.row found.judged post.judged answer here said
+          row.is_row same marks already root;
+    }
+
 abbrev pub IsNew : Posted → Type 0
 IsNew posted.Marked = Unit {0}
 IsNew (posted.RootMarked verdict) = Unit {0}
@@ -431,6 +467,55 @@ module _ (k : CutCase) (known : List Post) (old new : BoardOf) (x : Post)
   )
   part_recorded (part_posted.Already verdict) p me after same none_ e =
       stale k known old new x Already is within p refl none_
+
+abbrev pub part_at : (b row : ℕ) → Post
+part_at b row = record { board = b; row = row; judged = judged_refuted }
+
+-- the held top board after a part was posted on it
+pub record PartHeld (k : CutCase) (known : List Post) (part : ℕ) (old new : BoardOf) (b row : ℕ)
+    (r : PartPosted) : Type 0 where
+  pub on_top : b ≡ parts_in k
+  pub is : IsBoardOf k b known old
+  pub here : row ≡ part_place k.cut k.case.tree part
+  pub within : row < size (tree_at k b)
+  pub answers : BoardPosted old new row (mark_as judged_refuted) (part_posted_answer r)
+  pub unmarked : mark_in known b row ≡ Open
+  pub is_new : part_posted_answer r ≢ Already
+
+-- by what the board answers, where the part has no mark by the posts that are known
+pub part_held : (k : CutCase) (known : List Post) (part : ℕ) (old new : BoardOf) (b row : ℕ)
+    (r : PartPosted) → b ≡ parts_in k → IsBoardOf k (parts_in k) known old → part < parts_in k →
+    row ≡ part_place old.cut old.case.tree part →
+    (new.case ≡ old.case) × (new.cut ≡ old.cut) × (new.place ≡ old.place) →
+    new.marks ≡ marks_after (part_posted_answer r) old.marks
+    (part_place old.cut old.case.tree part) Refuted →
+    ((part_posted_answer r ≡ Already) ↔
+    (mark_at old.marks (part_place old.cut old.case.tree part) ≢ Open)) →
+    ((part_posted_answer r ≡ RootMarked) ↔ MarksRoot (tree_on old) old.marks new.marks) →
+    mark_in known (parts_in k) (part_place k.cut k.case.tree part) ≡ Open →
+    PartHeld k known part old new b row r
+part_held k known part old new b row r top board inside place same marks already root still =
+    let x : Post = part_at b row in
+    let is : IsBoardOf k b known old = subst (λ n. IsBoardOf k n known old) (sym top) board in
+    let here : row ≡ part_place k.cut k.case.tree part =
+    place ∙ (λ i. part_place (is.is_at.cut_is i) (is.is_at.case_is i).tree part) in
+    let within = part_within k b part row top inside here in
+    let answers =
+    part_posted_of old new (part_place old.cut old.case.tree part) row (part_posted_answer r) place
+    same marks already root in
+    let unmarked : mark_in known b row ≡ Open =
+    (λ i. mark_in known (top i) (here i)) ∙ still in
+    record {
+      on_top = top;
+      is = is;
+      here = here;
+      within = within;
+      answers = answers;
+      unmarked = unmarked;
+      is_new =
+          part_not_already k known old new x is within r
+          (part_new k known old new x is within r answers unmarked);
+    }
 
 -- a node's row on a board
 pub row_on : (k : CutCase) (b : ℕ) (posts : List Post) (board : BoardOf) →

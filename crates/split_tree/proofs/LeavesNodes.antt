@@ -156,6 +156,11 @@ few_leaves (split v p n) =
     let a : leaf_count p ≤ size p = few_leaves p in let b : leaf_count n ≤ size n = few_leaves n in
     omega arith
 
+-- a list of the missing leaves' nodes and the cubes are all leaves, of which no more are than nodes
+pub listed_missing : (tree : SplitTree) (listed : List ℕ) → listed ≡ missing_nodes tree →
+    (length listed + cube_count tree ≡ leaf_count tree) × (leaf_count tree ≤ size tree)
+listed_missing tree listed is = rw is (count_leaves tree, few_leaves tree)
+
 -- ---- filling the table of the cubes' nodes
 
 -- the table has the node of each cube's leaf before node `i`

@@ -1,30 +1,24 @@
-use Rattle.std.proofs.Common.{◌≡◌, ◌<◌, ◌≤◌, ◌+◌, ◌-◌, Ok, Err, length, sym, ap, ◌∙◌, arith}
+use Rattle.std.proofs.Common.{◌≡◌, ◌<◌, ◌+◌, ◌-◌, Ok, Err, sym, ◌∙◌, arith}
 use Rattle.std.proofs.lemmas.List.Sorted.{searched}
 use Rattle.split_tree.specs.SplitTree.{missing, size, subtrees, subtree_at}
-use Rattle.split_tree.specs.Leaves.{missing_nodes, cube_count, leaf_count}
-use Rattle.split_tree.proofs.LeavesNodes.{count_leaves, few_leaves, missing_rise, missing_root}
+use Rattle.split_tree.specs.Leaves.{missing_nodes}
+use Rattle.split_tree.proofs.LeavesNodes.{listed_missing, missing_rise, missing_root}
 use Rattle.split_tree.proofs.LeavesNodes.{not_missed}
 use Rattle.split_tree.proofs.tree.Tree.leaf_at.Goals as goal
 
+-- the place of a missing leaf among them is less than the number of all nodes
+place_fits : (c : goal.In-Ok) → c.in-Ok.place < size c.self.inside.nodes
+place_fits c =
+    let missed =
+    listed_missing c.self.inside.nodes c.deref.result.now
+    (c.deref.ensures.value ∙ c.self.invariant.missing_are) in
+    omega (arith, missed.0, missed.1, c.in-Ok.ensures.bound)
+
 pub overflow_cast-result : goal.overflow_cast-result
-overflow_cast-result c =
-    let counted : length (missing_nodes c.self.inside.nodes) + cube_count c.self.inside.nodes
-    ≡ leaf_count c.self.inside.nodes = count_leaves c.self.inside.nodes in
-    let few : leaf_count c.self.inside.nodes ≤ size c.self.inside.nodes =
-    few_leaves c.self.inside.nodes in
-    let listed : length c.deref.result.now ≡ length (missing_nodes c.self.inside.nodes) =
-    ap length (c.deref.ensures.value ∙ c.self.invariant.missing_are) in
-    omega (arith, c.in-Ok.ensures.bound)
+overflow_cast-result c = omega (arith, place_fits c)
 
 pub overflow_add-result : goal.overflow_add-result
-overflow_add-result c =
-    let counted : length (missing_nodes c.self.inside.nodes) + cube_count c.self.inside.nodes
-    ≡ leaf_count c.self.inside.nodes = count_leaves c.self.inside.nodes in
-    let few : leaf_count c.self.inside.nodes ≤ size c.self.inside.nodes =
-    few_leaves c.self.inside.nodes in
-    let listed : length c.deref.result.now ≡ length (missing_nodes c.self.inside.nodes) =
-    ap length (c.deref.ensures.value ∙ c.self.invariant.missing_are) in
-    omega (arith, c.in-Ok.ensures.bound)
+overflow_add-result c = omega (arith, place_fits c)
 
 pub unreachable-requires : goal.unreachable-requires
 unreachable-requires c =
