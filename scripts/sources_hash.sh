@@ -5,7 +5,7 @@ root=$(CDPATH= cd -- "$(dirname -- "$0")/.." && pwd) || exit 1
 cd "$root" || exit 1
 version=$(rt version) || exit 1
 sources() {
-    for name in $(sed -n 's/^\([a-z_][a-z0-9_]*\):.*/\1/p; /^cubeboard:/q' crates.txt); do
+    for name in $(sed -n 's/:.*//p; /^cubeboard$/q' crates.txt); do
         for part in src specs proofs; do
             [ -d "crates/$name/$part" ] && find "crates/$name/$part" -type f
         done
