@@ -87,7 +87,13 @@ single board the findings of a node stand at its own row, and the verdict of a p
 Whenever a board's lock is free, it is the board of exactly what was posted on it: what it marks has no model together with the
 formula, an inner node is marked exactly where its own refutation was posted or both its branches are marked, and its open
 word is the sum of the weights of the leaves under no marked node. Each call answers by what its pass has seen, and a hall that
-is closed gives the boards of all that was posted.""",
+is closed gives the boards of all that was posted.
+
+The laws speak of each state that is `Reached` from a hall's start by the steps of a hall. That a running hall is in such a state at every moment is the rule of its table:
+`InHall` in board_hall/src/rule.rt, whose `holds` says that the table's words, the boards at home and the views of all passes are `Reached`, for the case, the cut and the
+number of passes that the hall was opened with. What a rule means is the kit's word (its crate `atomic_table`): it holds of a new table and between any two atomic
+steps of any threads, since a call may take a step only where the rule holds again after it, and that is proved where the step is taken. `Hall::close` says it of the
+state in which a hall ends.""",
      ["board_hall/laws.rt free_is_whole -",
       "board_hall/laws.rt free_is_whole_of_leaves -",
       "board_hall/opening.rt Hall::open hall count passes",

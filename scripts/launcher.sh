@@ -1,0 +1,52 @@
+#!/bin/sh
+# Tries the launcher in a copy of this folder under a stand-in for the kit that proves nothing and notes on which crate it is called: which crates
+# the launcher builds, when it builds anew, and what it does where it can't. Then it tries wrong launchers, each of which a claim has to refuse. It
+# takes a minute, and no proof. Last, with the word `build`, the launcher of this folder itself builds the program, over the libraries that are
+# proved here but the last, and the first example of README runs through it: a minute or two. The last line counts.
+root=$(CDPATH= cd -- "$(dirname -- "$0")/.." && pwd) || exit 1
+here=$(mktemp -d) || exit 1
+trap 'rm -rf "$here"' EXIT
+passed=0
+failed=0
+name=launcher
+. "$root/scripts/launcher_claims.sh"
+
+copy_folder
+stand_in
+claims
+
+# Wrong launchers: the name, and what `sed` makes of build.py. A launcher that no claim refuses is a failed claim.
+wrong() {
+    copy_folder
+    sed "$2" "$root/scripts/build.py" > "$here/copy/scripts/build.py"
+    if cmp -s "$root/scripts/build.py" "$here/copy/scripts/build.py"; then
+        count "the wrong launcher \"$1\" can be made" 1
+        return
+    fi
+    (is_wrong=1 && failed=0 && claims > "$here/told" 2>&1)
+    [ $? -ne 0 ]
+    count "a launcher with $1 is refused" $?
+}
+wrong "a program among the libraries" 's/^    visit(name, ())$/    visit("own_threads", ()); visit(name, ())/'
+wrong "every crate of crates.txt among the libraries" 's/^    visit(name, ())$/    [visit(it, ()) for it in lines]/'
+wrong "too few libraries" 's/it in lines\[name\] if it in lines\]/it in lines[name][-1:] if it in lines]/'
+wrong "libraries in the order of crates.txt" 's/if all(low.name in self.proved for low in it.lower)//'
+wrong "a stale program" 's/ and file.read_text().strip() == wanted and / and /'
+wrong "a stale library" 's/return file.is_file() and file.read_text().strip() == wanted and/return file.is_file() and (not crate.is_program or file.read_text().strip() == wanted) and/'
+wrong "a hash that leaves out a crate" 's/^    for crate in crates:$/    for crate in crates: \n        if crate.name == "split_tree": sums[crate.name] = ""; continue/'
+wrong "a hash that leaves out the crates below" 's/lower = \[sums\[it.name\] for it in crate.lower\]/lower = []/'
+wrong "a hash that leaves out proofs" 's/("src", "specs", "proofs")\]$/("src", "specs")]/'
+wrong "a hash that leaves out the kit" 's/made = f"{NEEDED}/made = f"/'
+wrong "a program that is left where a crate can't be built" 's/self.made(crate).unlink(missing_ok=True)/pass/'
+wrong "status 0 where a crate can't be built" 's/^FAILED, INTERRUPTED = 70, 130/FAILED, INTERRUPTED = 0, 130/'
+wrong "no word on what failed" 's/^            raise Failure(f"the crate .*/            raise Failure("it could not be built")/'
+wrong "another kit" 's/if self.version != NEEDED:/if False:/'
+wrong "two builds at once" 's/fcntl.flock(lock, fcntl.LOCK_EX.*)/pass/'
+wrong "nothing kept after an interrupt" 's/^    signal.signal(signal.SIGTERM, signal.default_int_handler)/    shutil.rmtree(ROOT \/ "crates\/cubeboard\/out\/rlib", ignore_errors=True)/'
+wrong "silence" 's/^    print(f"cubeboard: {text}", .*/    pass/'
+wrong "what changes while it is proved taken as proved" 's/ and crate.sum() == crate.own//'
+wrong "words that are lost" 's/, \*words\[2:\]\])/])/'
+
+[ "$1" != build ] || build_here
+echo "$name: $passed passed, $failed failed"
+[ "$failed" -eq 0 ]

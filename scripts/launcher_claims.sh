@@ -1,0 +1,252 @@
+# What scripts/launcher.sh claims of a launcher. It has set `root` and `here`; `$here/copy` is the copy whose launcher is tried, and `is_wrong` is set
+# where that is a wrong one, for which the first claim that fails is the end.
+is_wrong=
+
+count() {
+    if [ "$2" -eq 0 ]; then
+        passed=$((passed + 1))
+    else
+        failed=$((failed + 1))
+        echo "$name: $1: this isn't so"
+        [ -z "$is_wrong" ] || exit 1
+    fi
+}
+
+# A copy of this folder without what was built.
+copy_folder() {
+    rm -rf "$here/copy"
+    mkdir "$here/copy"
+    (cd "$root" && tar -c --exclude=out --exclude=.git --exclude=bench --exclude=examples .) | tar -x -C "$here/copy"
+}
+
+# The stand-in: `rt` says which kit it is and where it lies; `rattle` notes the crate that it is to prove, and refuses one whose libraries aren't there.
+stand_in() {
+    mkdir -p "$here/bin" "$here/kit/bin"
+    sed -n 's/^NEEDED = "\(.*\)"/\1/p' "$root/scripts/build.py" > "$here/version"
+    cat > "$here/bin/rt" << 'RT'
+#!/bin/sh
+case $1 in
+    version) cat "$HERE/version" ;;
+    doc) echo "$HERE/kit/START-HERE.md" ;;
+    *) exit 1 ;;
+esac
+RT
+    cat > "$here/kit/bin/rattle" << 'RATTLE'
+#!/bin/sh
+verb=$1
+while [ $# -gt 0 ]; do
+    case $1 in
+        --crate-name) crate=$2 ;;
+        --extern) lower="$lower ${2#*=}" ;;
+        -o) made=$2 ;;
+        src/main.rt) is_program=1 ;;
+    esac
+    shift
+done
+[ "$verb" != check ] || echo "$crate" >> "$HERE/notes"
+if [ "$crate" = "$SLOW" ]; then sleep 2; fi
+if [ "$crate" = "$REFUSED" ]; then echo "a goal of $crate stays open"; exit 1; fi
+for it in $lower; do
+    case $it in */kit/*) ;; *) [ -d "$it" ] || { echo "$it isn't there"; exit 1; } ;; esac
+done
+echo "checked $crate::all, 1 of 1"
+if [ "$verb$is_program" = build1 ]; then echo > "$made"; else mkdir -p "$made"; fi
+RATTLE
+    cat > "$here/kit/bin/rattle-link" << 'LINK'
+#!/bin/sh
+while [ "$1" != -o ]; do shift; done
+printf '#!/bin/sh\necho "$*"\nexit 7\n' > "$2"
+chmod +x "$2"
+LINK
+    chmod +x "$here/bin/rt" "$here/kit/bin/rattle" "$here/kit/bin/rattle-link"
+    PATH=$here/bin:$PATH
+    HERE=$here
+    export HERE PATH
+}
+
+# What a crate of crates.txt stands on, and itself, or what stands on it: `below` or `above`, and the crate. Sorted, a line each.
+reach() {
+    sed 's/#.*//; /^ *$/d' "$here/copy/crates.txt" | awk -v way="$1" -v start="$2" '
+        { split($0, halves, ":"); split(halves[1], head, " "); name = head[1]; n = split(halves[2], words, " ")
+          for (i = 1; i <= n; i++) if (way == "below") edge[name, words[i]] = 1; else edge[words[i], name] = 1
+          crates[name] = 1 }
+        END { found[start] = 1
+              do { more = 0
+                   for (a in found) for (b in crates) if (!(b in found) && (a, b) in edge) { found[b] = 1; more = 1 } } while (more)
+              for (it in found) if (it in crates) print it }' | sort
+}
+
+# Those of its lines that the program stands on: a list, sorted.
+of_program() {
+    reach below cubeboard > "$here/below"
+    comm -12 "$here/below" -
+}
+
+# Calls the launcher: the claim, the status that is wanted, the crates that it has to prove (sorted), and the words.
+call() {
+    claim=$1
+    wanted=$2
+    crates=$3
+    shift 3
+    : > "$here/notes"
+    "$here/copy/cubeboard" "$@" < /dev/null > "$here/out" 2> "$here/err"
+    [ $? -eq "$wanted" ] && [ "$(sort "$here/notes")" = "$crates" ]
+    count "$claim" $?
+}
+
+# Which crates are proved, when and how often.
+claims_of_builds() {
+    all=$(reach below cubeboard)
+    call "the first call proves each crate that the program stands on, and no other" 7 "$all" --workers 2 "a b"
+    [ "$(cat "$here/out")" = "--workers 2 a b" ]
+    count "the program gets the words, and standard output nothing else" $?
+    [ "$(head -n 1 "$here/err" | cut -d ' ' -f 1-6)" = "cubeboard: proving 14 crates and building" ] &&
+        [ "$(grep -c '^cubeboard: proved [0-9]* of 14: [a-z_]* (1 of 1 functions), 0 min$' "$here/err")" -eq 14 ] && [ "$(wc -l < "$here/err")" -eq 15 ]
+    count "standard error gets a line when it begins and one for each crate" $?
+    call "the second call proves nothing" 7 ""
+    [ ! -s "$here/err" ]
+    count "it says nothing" $?
+    for crate in $all; do
+        file=$(find "$here/copy/crates/$crate/proofs" "$here/copy/crates/$crate/src" -type f 2> /dev/null | sort | head -n 1)
+        echo "// more" >> "$file"
+        call "a changed file of $crate" 7 "$(reach above "$crate" | of_program)"
+    done
+    echo "// more" >> "$here/copy/crates/suite/src/lib.rt"
+    call "a changed file of the tests" 7 ""
+    echo "// more" >> "$here/copy/crates/own_threads/src/main.rt"
+    call "a changed file of another program" 7 ""
+}
+
+# On a terminal one line is written over.
+claims_of_terminals() {
+    echo "// on a terminal" >> "$here/copy/crates/cube_report/src/lib.rt"
+    SLOW=bundle_files
+    python3 -c 'import pty, sys; pty.spawn(sys.argv[1:])' "$here/copy/cubeboard" < /dev/null > "$here/out" 2> "$here/err"
+    SLOW=
+    tr '\r' '\n' < "$here/out" | grep -q "proving 12 of 14: bundle_files (0 functions), 0 min" && [ "$(grep -c proved "$here/out")" -le 1 ]
+    count "on a terminal one line is written over" $?
+}
+
+# Whatever order, attributes and further crates crates.txt has.
+claims_of_the_list() {
+    rm -rf "$here/copy/crates/cubeboard/out"
+    mkdir -p "$here/copy/crates/letters/src" "$here/copy/crates/extra/src"
+    echo "//" > "$here/copy/crates/letters/src/lib.rt"
+    echo "//" > "$here/copy/crates/extra/src/lib.rt"
+    sed -i 's/^cnf_text:/cnf_text may_wait=0 : letters/; s/^split_tree:/split_tree: # the tree\n# no crate: /' "$here/copy/crates.txt"
+    sed -i 's/^# no crate: .*//; s/^split_tree: # the tree/split_tree: cnf_text thiserror # the tree/' "$here/copy/crates.txt"
+    { echo "extra: cube_command"; echo "letters:"; } >> "$here/copy/crates.txt"
+    sort -r "$here/copy/crates.txt" > "$here/list"
+    cp "$here/list" "$here/copy/crates.txt"
+    call "lines in another order, with attributes, comments, a crate below and one above" 7 "$(reach below cubeboard)"
+}
+
+# Where it can't be built.
+claims_of_failures() {
+    echo "// once more" >> "$here/copy/crates/hint_check/src/lib.rt"
+    REFUSED=hint_check
+    export REFUSED
+    call "a crate that can't be proved ends the build" 70 "hint_check"
+    grep -q "a goal of hint_check stays open" "$here/err" && grep -q "the crate hint_check could not be built" "$here/err" &&
+        grep -q "crates/cubeboard/out/hint_check.log" "$here/err"
+    count "it says what failed: the last lines, the crate and the log's path" $?
+    REFUSED=
+    call "what was proved before is kept" 7 "$(reach above hint_check | of_program)"
+    REFUSED=cubeboard
+    echo "// once more" >> "$here/copy/crates/cubeboard/src/main.rt"
+    call "a program that can't be proved" 70 "cubeboard"
+    [ ! -e "$here/copy/crates/cubeboard/out/cubeboard" ]
+    count "no program is left that was built from other sources" $?
+    REFUSED=
+    cp "$here/version" "$here/needed"
+    echo "another kit" > "$here/version"
+    call "another kit" 70 ""
+    [ "$(wc -l < "$here/err")" -eq 1 ] && grep -q "$(cat "$here/needed")" "$here/err" && grep -q "another kit" "$here/err"
+    count "one line says which kit is needed, and which one is there" $?
+    mv "$here/bin/rt" "$here/rt"
+    (PATH=$(without_rt) && call "no kit" 70 "") && grep -q "$(cat "$here/needed")" "$here/err" && [ "$(wc -l < "$here/err")" -eq 1 ]
+    count "one line says which kit is needed where none is" $?
+    mv "$here/rt" "$here/bin/rt"
+    cp "$here/needed" "$here/version"
+    sed -i 's/^NEEDED = .*/NEEDED = "a later kit"/' "$here/copy/scripts/build.py"
+    echo "a later kit" > "$here/version"
+    call "with another kit all is proved anew" 7 "$(reach below cubeboard)"
+}
+
+# The path without the folders that have an `rt`.
+without_rt() {
+    echo "$PATH" | tr ':' '\n' | while read -r folder; do [ -x "$folder/rt" ] || printf '%s:' "$folder"; done
+}
+
+# Two calls at once, and one that is interrupted.
+claims_of_calls_at_once() {
+    echo "// at once" >> "$here/copy/crates/cube_report/src/lib.rt"
+    : > "$here/notes"
+    "$here/copy/cubeboard" > /dev/null 2>&1 < /dev/null &
+    first=$!
+    "$here/copy/cubeboard" > /dev/null 2>&1 < /dev/null
+    second=$?
+    wait "$first"
+    [ $? -eq 7 ] && [ "$second" -eq 7 ] && [ "$(sort "$here/notes")" = "$(reach above cube_report | of_program)" ]
+    count "two calls at once build once, and both run the program" $?
+    echo "// interrupted" >> "$here/copy/crates/cube_report/src/lib.rt"
+    : > "$here/notes"
+    SLOW=cube_command
+    export SLOW
+    call_until_slow
+    kill -TERM "$first"
+    wait "$first"
+    [ $? -eq 130 ] && grep -q "interrupted" "$here/err"
+    count "an interrupted call says so, with status 130" $?
+    SLOW=
+    call "what it has proved is kept" 7 "cube_command
+cubeboard"
+    grep -q "proved already: going on from there" "$here/err"
+    count "the next call says that it goes on" $?
+    echo "// slow" >> "$here/copy/crates/cube_command/src/lib.rt"
+    : > "$here/notes"
+    SLOW=cube_command
+    call_until_slow
+    echo "// while it is proved" >> "$here/copy/crates/cube_command/src/lib.rt"
+    wait "$first"
+    [ $? -eq 70 ]
+    count "what changes while it is proved isn't taken as proved" $?
+    SLOW=
+    sed -i '$d' "$here/copy/crates/cube_command/src/lib.rt"
+    call "and it is proved anew, also as it was" 7 "cube_command
+cubeboard"
+}
+
+# Starts the launcher, and goes on once the crate that is slow is being proved.
+call_until_slow() {
+    "$here/copy/cubeboard" > /dev/null 2> "$here/err" < /dev/null &
+    first=$!
+    tries=0
+    until grep -q "$SLOW" "$here/notes" || [ "$tries" -gt 100 ]; do sleep 0.1; tries=$((tries + 1)); done
+}
+
+claims() {
+    REFUSED=
+    SLOW=
+    export REFUSED SLOW
+    sed -n 's/^NEEDED = "\(.*\)"/\1/p' "$root/scripts/build.py" > "$here/version"
+    claims_of_builds
+    claims_of_terminals
+    claims_of_the_list
+    claims_of_calls_at_once
+    claims_of_failures
+}
+
+# The launcher of this folder: without the program and the last library, it has to prove both, and to run README's first example.
+build_here() {
+    PATH=${PATH#"$here/bin:"}
+    out=$root/crates/cubeboard/out
+    rm -rf "$out/cubeboard" "$out/built" "$out/rlib/cube_command.rlib" "$out/rlib/cube_command.sum"
+    "$root/cubeboard" < "$root/examples/pigeons-7-in-6.icnf" > "$here/out" 2> "$here/err"
+    [ $? -eq 0 ] && cmp -s "$here/out" "$root/examples/pigeons-7-in-6.report"
+    is_well=$?
+    [ "$is_well" -eq 0 ] || cat "$here/err"
+    count "the launcher builds the program, and README's first example runs" "$is_well"
+    grep -q "proved .* of .*: cubeboard" "$here/err"
+    count "it has built it itself" $?
+}
