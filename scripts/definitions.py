@@ -320,7 +320,14 @@ class Repository:
             inner = room + "." + name if room else name
             yield from [inner] + list(self.rooms_of(crate, inner))
 
+    def handed_on(self):
+        """The modules that a crate hands on from a lower one, by a line of Lib.antt: where each of them stands."""
+        line = r"(?m)^pub use (Rattle\.\S+?\.(\w+))(?: as (\w+))?$"
+        return {(crate, alias or name): path.split(".") for crate in self.crates
+                for path, name, alias in re.findall(line, read(self.path(crate, "Lib")))}
+
     def read_specs(self):
+        self.handed = self.handed_on()
         self.definitions, self.names = {}, {key: {} for key in self.order}
         comments = r"(?m)^\s*--.*\n|^\s*\n|\s+-- [^\"\n]*$"
         texts = {key: without(read(self.path(*key)), comments) for key in self.order}
@@ -336,6 +343,8 @@ class Repository:
         """What a use line brings: the name, or without one all of the file."""
         if parts[0] != "Rattle":  # the library of the logic
             return Target("word", parts[0], "", name)
+        while parts[2] == "specs" and (parts[1], parts[3]) in self.handed:
+            parts = self.handed[parts[1], parts[3]] + parts[4:]
         crate, rest, room = parts[1], parts[2:], ".".join(parts[3:])
         if rest[0] == "proofs" or crate in self.kit or rest[-1] == "TheConstants":
             return Target("word", crate, "", name) if name else Target("words", crate, rest[-1], None)

@@ -9,9 +9,9 @@ use native.Mathlib.Decide.{ℕ_discrete}
 use mathlib.Core.Option.{some, none, some-ne-none, some-injective}
 use lib.ListN.{get_elem?}
 use Rattle.atomic_table.proofs.Lists.{at_set, at_snoc, set_here, set_else}
-use Rattle.hint_check.specs.declared.Judged.{Judged}
-use Rattle.hint_check.specs.declared.Judged.TheVariants.{Refuted as judged_refuted}
-use Rattle.hint_check.specs.declared.Judged.TheVariants.{Rejected as judged_rejected}
+use Rattle.case_core.specs.Judged.{Judged}
+use Rattle.case_core.specs.Judged.TheVariants.{Refuted as judged_refuted}
+use Rattle.case_core.specs.Judged.TheVariants.{Rejected as judged_rejected}
 use Rattle.split_tree.specs.SplitTree.{subtree_at, IsSplit}
 use Rattle.split_tree.specs.Parts.{top}
 use Rattle.split_tree.proofs.NodesCoding.{some_node}

@@ -5,8 +5,8 @@ use Rattle.std.proofs.Common.{get_or-set_other, refl, sym, ap, ◌∙◌, subst,
 use Rattle.std.proofs.Common.{eq-eqb, ne_eqb}
 use mathlib.Core.Logic.{dite}
 use native.Mathlib.Decide.{ℕ_discrete}
-use Rattle.hint_check.specs.declared.Judged.{Judged}
-use Rattle.hint_check.specs.declared.Judged.TheVariants.{Refuted as judged_refuted}
+use Rattle.case_core.specs.Judged.{Judged}
+use Rattle.case_core.specs.Judged.TheVariants.{Refuted as judged_refuted}
 use Rattle.split_tree.specs.SplitTree.{SplitTree, size, path_at}
 use Rattle.split_tree.specs.Leaves.{IsTargetAt}
 use Rattle.split_tree.specs.declared.node.Target.{Target}
@@ -28,7 +28,7 @@ use Rattle.mark_board.specs.Posting.{IsPostedOn}
 use Rattle.mark_board.specs.Board.{BoardOf, board_tree, board_node, tree_on, worth_on, HasTargets}
 use Rattle.mark_board.specs.Board.{IsRow, IsRowOn, IsTargetRow}
 use Rattle.mark_board.specs.Marking.{marked, open_weight, is_refuted, mark_at, refuted_by}
-use Rattle.cnf_text.specs.Formula.{IsRefuted}
+use Rattle.case_core.specs.Formula.{IsRefuted}
 use Rattle.mark_board.specs.Findings.{mark_as}
 use Rattle.mark_board.specs.TopPlaces.{worth_of, part_place, part_root}
 use Rattle.mark_board.proofs.BoardsMarks.{part_is}

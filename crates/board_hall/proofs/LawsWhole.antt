@@ -4,10 +4,10 @@ use Rattle.std.proofs.Common.{List, get_or, refl, sym, ap, ◌∙◌, subst, inl
 use Rattle.std.proofs.Common.{zero-add}
 use Rattle.std.specs.List.{Contains}
 use Rattle.std.proofs.lemmas.Bool.{and_from}
-use Rattle.cnf_text.specs.Formula.{IsRefuted}
-use Rattle.hint_check.specs.declared.Judged.{Judged}
-use Rattle.hint_check.specs.declared.Judged.TheVariants.{Refuted as judged_refuted}
-use Rattle.hint_check.specs.declared.Judged.TheVariants.{Rejected as judged_rejected}
+use Rattle.case_core.specs.Formula.{IsRefuted}
+use Rattle.case_core.specs.Judged.{Judged}
+use Rattle.case_core.specs.Judged.TheVariants.{Refuted as judged_refuted}
+use Rattle.case_core.specs.Judged.TheVariants.{Rejected as judged_rejected}
 use Rattle.split_tree.specs.SplitTree.{SplitTree, missing, cube, split, size, subtree_at, path_at}
 use Rattle.split_tree.specs.SplitTree.{IsLeaf}
 use Rattle.split_tree.specs.Navigation.{AreBranches}

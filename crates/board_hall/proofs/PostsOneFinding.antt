@@ -1,6 +1,6 @@
 -- A node's mark by real posts is that of its finding.
 use Rattle.std.proofs.Common.{◌≡◌, ◌≢◌, ◌==◌, ℕ, true, List, refl, sym, ap, ◌∙◌, inl, inr, eq-eqb}
-use Rattle.hint_check.specs.declared.Judged.{Judged}
+use Rattle.case_core.specs.Judged.{Judged}
 use Rattle.split_tree.specs.SplitTree.{path_at}
 use Rattle.split_tree.specs.Leaves.{IsTargetAt}
 use Rattle.split_tree.specs.declared.node.Target.{Target}

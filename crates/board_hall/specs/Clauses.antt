@@ -8,7 +8,7 @@ use Rattle.board_hall.specs.declared.view.Post.{Post}
 use Rattle.board_hall.specs.Posts.{parts_in, mark_in, Among, AreReal, board_count, place_of}
 use Rattle.board_hall.specs.Posts.{posts_of, root_by, IsPartPost}
 use Rattle.board_hall.specs.Hall.{HallState, Reached}
-use Rattle.hint_check.specs.declared.Judged.{Judged}
+use Rattle.case_core.specs.Judged.{Judged}
 use Rattle.split_tree.specs.SplitTree.{size}
 use Rattle.split_tree.specs.Leaves.{IsTargetAt}
 use Rattle.split_tree.specs.declared.node.Target.{Target}

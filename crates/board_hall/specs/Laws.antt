@@ -4,8 +4,8 @@ use Rattle.std.specs.Prelude.{slice_index}
 use Rattle.std.specs.List.{Contains, sum_by}
 use mathlib.Core.Option.{some}
 use lib.ListN.{get_elem?}
-use Rattle.cnf_text.specs.Formula.{IsRefuted}
-use Rattle.hint_check.specs.declared.Judged.TheVariants.{Refuted}
+use Rattle.case_core.specs.Formula.{IsRefuted}
+use Rattle.case_core.specs.Judged.TheVariants.{Refuted}
 use Rattle.split_tree.specs.SplitTree.{SplitTree, size, subtree_at, path_at, IsLeaf}
 use Rattle.split_tree.specs.Navigation.{AreBranches, HasBelow}
 use Rattle.split_tree.specs.declared.node.Target.TheVariants.{Node}

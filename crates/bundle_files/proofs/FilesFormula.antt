@@ -7,12 +7,12 @@ use Rattle.std.proofs.Common.{Some, None, subst, if◌then◌else◌}
 use Rattle.std.proofs.lemmas.List.Splits.{length-slice_split}
 use Rattle.std.specs.List.{flat_map, onto_first}
 use Rattle.std.specs.Option.{option_map}
-use Rattle.cnf_text.specs.Literal.{Literal}
-use Rattle.cnf_text.specs.Tokens.{Token, is_line_end, is_blank, is_comment, words, line_tokens}
-use Rattle.cnf_text.specs.Tokens.{lines_from}
-use Rattle.cnf_text.specs.Tokens.{token_lines, joined}
-use Rattle.cnf_text.specs.Formula.{HasNoModel}
-use Rattle.cnf_text.specs.Icnf.{after_header, is_header, symbols_of, clauses_of}
+use Rattle.case_core.specs.Literal.{Literal}
+use Rattle.case_core.specs.Tokens.{Token, is_line_end, is_blank, is_comment, words, line_tokens}
+use Rattle.case_core.specs.Tokens.{lines_from}
+use Rattle.case_core.specs.Tokens.{token_lines, joined}
+use Rattle.case_core.specs.Formula.{HasNoModel}
+use Rattle.case_core.specs.Icnf.{after_header, is_header, symbols_of, clauses_of}
 use Rattle.case_core.specs.Bundle.{lines_of, is_label, line_onto, text_before, icnf_text}
 use Rattle.cube_report.specs.Correct.{IsFormulaOf, IsUnsatisfiable}
 use Rattle.bundle_files.specs.Files.{AreAdded, Held, IsJudgedOf, IsWithProofs, section_text}

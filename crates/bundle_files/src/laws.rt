@@ -1,6 +1,6 @@
 //! What holds of the bundles that are judged, whatever a store holds.
 ghost use Rattle.std.specs.Prelude.{ℕ, List, ◌↔◌};
-ghost use Rattle.cnf_text.specs.Literal.{Literal};
+ghost use Rattle.case_core.specs.Literal.{Literal};
 ghost use Rattle.cube_report.specs.Correct.{IsFormulaOf};
 ghost use Rattle.bundle_files.specs.Files.{Held, IsWithProofs};
 

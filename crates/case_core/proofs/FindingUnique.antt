@@ -4,8 +4,8 @@ use Rattle.std.proofs.Common.{Result, Ok, Err}
 use Rattle.std.specs.Prelude.{IfOk}
 use Rattle.cnf_text.specs.Literal.{Literal}
 use Rattle.cnf_text.specs.Formula.{IsRefuted}
-use Rattle.lrat_text.specs.Proof.{Proof, IsProofOf}
-use Rattle.lrat_text.proofs.ProofUnique.{has_proof}
+use Rattle.hint_check.specs.Proof.{Proof, IsProofOf}
+use Rattle.hint_check.proofs.ProofUnique.{has_proof}
 use Rattle.hint_check.specs.Live.{Live, start}
 use Rattle.hint_check.specs.Judgement.{judged_by, judgement}
 use Rattle.hint_check.specs.declared.Judged.{Judged}

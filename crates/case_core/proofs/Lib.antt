@@ -9,3 +9,9 @@ pub mod SectionsUniqueCase
 mod SectionsUniqueFault
 mod SectionsTotal
 mod BundleLetters
+pub use Rattle.cnf_text.proofs.IcnfUnique
+pub use Rattle.hint_check.proofs.JudgementShort
+pub use Rattle.hint_check.proofs.JudgementSteps
+pub use Rattle.hint_check.proofs.LiveEmpty
+pub use Rattle.hint_check.proofs.ProofUnique
+pub use Rattle.hint_check.proofs.PropagationSteps

@@ -2,7 +2,7 @@
 use Rattle.std.specs.Prelude.{◌≡◌, ◌≢◌, ℕ, List, Option, None, Some}
 use Rattle.cnf_text.specs.Literal.{Literal}
 use Rattle.cnf_text.specs.Formula.{IsRefuted}
-use Rattle.lrat_text.specs.Proof.{Proof, IsProofOf}
+use Rattle.hint_check.specs.Proof.{Proof, IsProofOf}
 use Rattle.hint_check.specs.Judgement.{judgement}
 use Rattle.hint_check.specs.declared.Judged.{Judged}
 use Rattle.hint_check.specs.declared.Judged.TheVariants.{Refuted}

@@ -15,8 +15,8 @@ use Rattle.std.proofs.lemmas.List.Elements.{Contains-append_right, Contains-appe
 use Rattle.std.proofs.lemmas.List.Elements.{Contains-push}
 use Rattle.std.proofs.lemmas.List.Sums.{sum_by-cons}
 use Rattle.std.proofs.lemmas.Grind.{get_or_default_zero}
-use Rattle.split_tree.specs.Leaves.{IsTargetAt}
-use Rattle.split_tree.specs.declared.node.Target.{Target}
+use Rattle.case_core.specs.Leaves.{IsTargetAt}
+use Rattle.case_core.specs.Target.{Target}
 use Rattle.case_core.specs.Case.{CaseOf, SectionOf, proof_for, section_at, same_target}
 use Rattle.case_core.proofs.CaseTables.{same_target-true}
 use Rattle.mark_board.specs.declared.mark.Mark.TheVariants.{Open}

@@ -3,14 +3,14 @@ use Rattle.std.proofs.Common.{◌≡◌, ◌≢◌, ℕ, ◌+◌, ◌<◌, ◌==
 use Rattle.std.proofs.Common.{Some, refl, sym, ap, ◌∙◌, subst, arith, inl, inr, ◌⊎◌}
 use Rattle.std.specs.Prelude.{MatchOption}
 use Rattle.std.proofs.lemmas.Bool.{cases_Bool, eqb-true, eqb-false, eq-eqb, ne_eqb}
-use Rattle.cnf_text.specs.Literal.{Literal}
-use Rattle.lrat_text.specs.Proof.{Proof, IsProofOf}
-use Rattle.hint_check.specs.Judgement.{judgement}
-use Rattle.hint_check.specs.declared.Judged.{Judged}
-use Rattle.split_tree.specs.SplitTree.{size, subtree_at, IsSplit}
-use Rattle.split_tree.specs.Parts.{top}
-use Rattle.split_tree.specs.Leaves.{IsTargetAt, IsPathOf}
-use Rattle.split_tree.specs.declared.node.Target.{Target}
+use Rattle.case_core.specs.Literal.{Literal}
+use Rattle.case_core.specs.Proof.{Proof, IsProofOf}
+use Rattle.case_core.specs.Judgement.{judgement}
+use Rattle.case_core.specs.Judged.{Judged}
+use Rattle.case_core.specs.SplitTree.{size, subtree_at, IsSplit}
+use Rattle.case_core.specs.Parts.{top}
+use Rattle.case_core.specs.Leaves.{IsTargetAt, IsPathOf}
+use Rattle.case_core.specs.Target.{Target}
 use Rattle.case_core.specs.Case.{CaseOf, proof_for}
 use Rattle.case_core.specs.Finding.{HasSection, IsFinding}
 use Rattle.case_core.proofs.CaseTables.{one_target}

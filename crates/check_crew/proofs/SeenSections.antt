@@ -3,10 +3,10 @@ use Rattle.std.proofs.Common.{◌≡◌, ◌≢◌, ℕ, zero, suc, ◌<◌, Lis
 use Rattle.std.proofs.Common.{get_or, sym, ap, ◌∙◌, arith, inl, inr}
 use Rattle.std.proofs.lemmas.Bool.{cases_Bool}
 use Rattle.std.proofs.lemmas.List.{get_or-map, length-map}
-use Rattle.split_tree.specs.Leaves.{HasTarget}
-use Rattle.split_tree.specs.declared.node.Leaf.TheVariants.{Cube}
-use Rattle.split_tree.specs.declared.node.Target.{Target}
-use Rattle.split_tree.specs.declared.node.Target.TheVariants.{Leaf}
+use Rattle.case_core.specs.Leaves.{HasTarget}
+use Rattle.case_core.specs.Leaf.TheVariants.{Cube}
+use Rattle.case_core.specs.Target.{Target}
+use Rattle.case_core.specs.Target.TheVariants.{Leaf}
 use Rattle.case_core.specs.declared.case.Section.{Section}
 use Rattle.case_core.specs.Case.{CaseOf, SectionOf, section_at, targets_of, same_target, proof_for}
 use Rattle.case_core.specs.Case.{AreSections}

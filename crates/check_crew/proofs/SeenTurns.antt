@@ -1,9 +1,9 @@
 -- What a worker has seen after one more section.
 use Rattle.std.proofs.Common.{◌≡◌, ◌≢◌, ℕ, List, [], ◌∷◌, ◌++◌, refl, sym, ap, ◌∙◌, subst, inl, inr}
 use Rattle.std.proofs.lemmas.Bool.{cases_Bool}
-use Rattle.split_tree.specs.Leaves.{IsTargetAt}
-use Rattle.split_tree.specs.declared.node.Target.{Target}
-use Rattle.hint_check.specs.declared.Judged.{Judged}
+use Rattle.case_core.specs.Leaves.{IsTargetAt}
+use Rattle.case_core.specs.Target.{Target}
+use Rattle.case_core.specs.Judged.{Judged}
 use Rattle.case_core.specs.Case.{CaseOf, section_at}
 use Rattle.case_core.specs.Finding.{IsFinding}
 use Rattle.mark_board.specs.declared.mark.Mark.TheVariants.{Open}

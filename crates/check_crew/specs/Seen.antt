@@ -3,9 +3,9 @@
 -- may be answered `Already`, and then the pass has seen the mark.
 use Rattle.std.specs.Prelude.{◌≡◌, ◌≢◌, ℕ, ◌<◌, List, length}
 use Rattle.std.specs.List.{Contains}
-use Rattle.split_tree.specs.Leaves.{IsTargetAt}
-use Rattle.split_tree.specs.declared.node.Target.{Target}
-use Rattle.hint_check.specs.declared.Judged.{Judged}
+use Rattle.case_core.specs.Leaves.{IsTargetAt}
+use Rattle.case_core.specs.Target.{Target}
+use Rattle.case_core.specs.Judged.{Judged}
 use Rattle.case_core.specs.Case.{CaseOf, section_at}
 use Rattle.case_core.specs.Finding.{IsFinding}
 use Rattle.mark_board.specs.declared.mark.Mark.TheVariants.{Open}

@@ -4,8 +4,9 @@ ghost use Rattle.std.specs.Prelude.{◌≡◌, ◌+◌, ◌<◌, ◌≤◌, true
 ghost use Rattle.std.specs.Prelude.{vec_capacity};
 ghost use Rattle.cube_jobs.specs.Jobs as queue;
 ghost use Rattle.cube_jobs.specs.Jobs.{new_pass};
-ghost use Rattle.board_hall.specs.Halls.{shared_of, view_of, IsPassOf, IsNewPass};
+ghost use Rattle.board_hall.specs.Halls.{core_of, shared_of, view_of, IsPassOf, IsNewPass};
 ghost use Rattle.mark_board.specs.Findings.{AreFindings};
+ghost use Rattle.check_crew.specs.Seen.{HaveSeenSections};
 ghost use Rattle.check_crew.specs.Inner.Crew.{IsShiftOf, AreReady, AreNew, HaveSeenClaims};
 
 use crate::fault::CrewFault;
@@ -13,7 +14,7 @@ use crate::gate::Gate;
 use crate::order::long_proofs_first;
 use crate::settings::Settings;
 use crate::worker::{Shift, Site, work};
-use board_hall::{Hall, Pass};
+use board_hall::{Core, Hall, Pass};
 use case_core::Case;
 use cube_jobs::{JobPass, Jobs};
 use mark_board::Boards;
@@ -44,24 +45,49 @@ pub fn conquer<'c, R: Threads + Wait + Sync, G: Gate + Sync>(
     ensures findings { IfOk result (λ boards. AreFindings case.now boards.marks) }
 {
     let workers = settings.workers() as usize;
-    let order = long_proofs_first(alloc, case)?;
     let (hall, passes) = Hall::open(alloc, case, settings.cut(), workers)?;
-    let (jobs, job_passes) = Jobs::fill(rt, alloc, case, workers)?;
-    let site = Site {
-        case,
-        core: hall.core(),
-        jobs: &jobs,
-        order: &order,
-    };
-    let shifts = run_beside(rt, alloc, site, settings.cut(), gate, passes, job_passes)?;
-    let (passes, job_passes) = hand_in(alloc, site, shifts)?;
-    if !jobs.finish(rt, job_passes) {
-        unreachable!()
-    }
+    let passes = examine_all(rt, alloc, case, hall.core(), settings.cut(), gate, passes)?;
     match hall.close(passes) {
         Ok(boards) => Ok(boards),
         Err(_) => unreachable!(),
     }
+}
+
+/// Has a worker for each pass, which claim the sections of the case, examine them and post what
+/// they find. The passes that come back owe nothing, and what was found of each section is among
+/// what one of them has seen.
+fn examine_all<R: Threads + Wait + Sync, G: Gate + Sync>(
+    rt: &R,
+    alloc: Global,
+    case: &Case,
+    core: &Core,
+    cut: u32,
+    gate: &G,
+    passes: Vec<Pass>,
+) -> Result<Vec<Pass>, CrewFault>
+    requires case { case.now ≡ (core_of core.now).case }
+    requires cut { cut ≤ 6 }
+    requires count { (0 < vec_len passes) × (vec_len passes ≤ 32) }
+    requires new { All (IsNewPass (shared_of core.now)) passes.items }
+    ensures count { IfOk result (λ handed. vec_len handed ≡ vec_len passes) }
+    ensures own { IfOk result (λ handed. All (IsPassOf (shared_of core.now)) handed.items) }
+    ensures free { IfOk result (λ handed. All (λ pass. (view_of pass).owes ≡ None) handed.items) }
+    ensures seen { IfOk result (λ handed. HaveSeenSections case.now handed.items) }
+{
+    let order = long_proofs_first(alloc, case)?;
+    let (jobs, job_passes) = Jobs::fill(rt, alloc, case, passes.len())?;
+    let site = Site {
+        case,
+        core,
+        jobs: &jobs,
+        order: &order,
+    };
+    let shifts = run_beside(rt, alloc, site, cut, gate, passes, job_passes)?;
+    let (passes, job_passes) = hand_in(alloc, site, shifts)?;
+    if !jobs.finish(rt, job_passes) {
+        unreachable!()
+    }
+    Ok(passes)
 }
 
 /// Runs a worker for each pass, between the gate's start and its end.

@@ -13,7 +13,7 @@ use Rattle.cube_report.specs.declared.fault.Fault.TheVariants.{Overlap, BadLabel
 use Rattle.cube_report.specs.declared.fault.Fault.TheVariants.{ProofTwice, Device, Thread}
 use Rattle.cube_report.specs.Faults.{IsInputFault}
 use Rattle.cube_report.specs.Correct.{IsOutcome, IsUnsatisfiable}
-use Rattle.tree_map.specs.Picture.{map_text}
+use Rattle.cube_report.specs.Picture.{map_text}
 use Rattle.cube_command.specs.Program.{IsDrawn, IsRefused, IsReported, IsLineWritten, fault_line}
 use Rattle.cube_command.specs.Inner.Telling.{IsFaultWritten, status_of, status_of_answer}
 

@@ -3,7 +3,7 @@ use Rattle.std.specs.Prelude.{◌≡◌, ◌<◌, ℕ, Bool, List, ◌++◌, tru
 use Rattle.std.specs.Prelude.{Some}
 use Rattle.std.specs.Io.KnownBytes.{Appends}
 use Rattle.bundle_files.specs.Files.{Held, Gives, IsBundleOf}
-use Rattle.tree_map.specs.Picture.{map_text}
+use Rattle.cube_report.specs.Picture.{map_text}
 use Rattle.cube_report.specs.declared.fault.Fault.{Fault}
 use Rattle.cube_report.specs.Faults.{fault_text}
 use Rattle.cube_report.specs.Device.{AppendsBeginning}

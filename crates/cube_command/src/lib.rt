@@ -8,8 +8,7 @@ mod telling;
 mod words;
 
 pub use bundle_files::{FileStore, Store};
-pub use check_crew::{Found, Gate, NoGate};
-pub use cube_report::{Counted, Sink, Source};
+pub use cube_report::{Counted, Found, Gate, NoGate, Sink, Source};
 pub use program::command;
 pub use progress::Progress;
 pub use telling::own_words;

@@ -1,14 +1,12 @@
 //! How far a run is, told while its workers judge.
 
 ghost use Rattle.std.specs.Prelude.{◌≡◌, ◌<◌, ◌≤◌, length};
-ghost use Rattle.board_hall.specs.Halls.{view_of};
-ghost use Rattle.check_crew.specs.Seen.{IsTold};
-ghost use Rattle.split_tree.specs.SplitTree.{size};
-ghost use Rattle.split_tree.specs.Parts.{part_nodes};
+ghost use Rattle.cube_report.specs.Halls.{view_of};
+ghost use Rattle.cube_report.specs.Seen.{IsTold};
+ghost use Rattle.cube_report.specs.SplitTree.{size};
+ghost use Rattle.cube_report.specs.Parts.{part_nodes};
 
-use case_core::{Case, Judged, NodeId, Target, Tree};
-use check_crew::{Found, Gate};
-use mark_board::Place;
+use cube_report::{Case, Found, Gate, Judged, NodeId, Place, Target, Tree};
 use std::alloc::{AllocError, Global};
 use std::array;
 use std::io::Eprint;

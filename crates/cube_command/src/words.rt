@@ -8,10 +8,10 @@ ghost use Rattle.cube_command.specs.Words.{progress_word, proofs_word, with_vers
 ghost use Rattle.cube_command.specs.Words.{workers_word};
 ghost use Rattle.cube_command.specs.Inner.Words.{with_numbers, Reads, SaysFlag, SaysNumber};
 
-use check_crew::Settings;
 use clap::builder::ValueParser;
 use clap::error::ErrorKind;
 use clap::{Arg, ArgAction, ArgMatches, Command, Error, value_parser};
+use cube_report::Settings;
 use std::alloc::{AllocError, Global};
 use std::convert::AsStr;
 

@@ -3,9 +3,9 @@ use Rattle.std.proofs.Common.{◌≡◌, ℕ, Bool, true, false, List, [], ◌�
 use Rattle.std.proofs.Common.{append_assoc, arith, refl, sym, ap, ◌∙◌, subst, Option, None, Some}
 use Rattle.std.proofs.Common.{IfSome, Result, Ok, Err, IfOk, IfErr, IsErrAnd, OnErr}
 use Rattle.std.specs.Prelude.{codes}
-use Rattle.cnf_text.specs.Formula.{IsRefuted}
-use Rattle.cnf_text.specs.Icnf.{clauses_of}
-use Rattle.cnf_text.proofs.IcnfUnique.{one_text_of, text_of}
+use Rattle.case_core.specs.Formula.{IsRefuted}
+use Rattle.case_core.specs.Icnf.{clauses_of}
+use Rattle.case_core.proofs.IcnfUnique.{one_text_of, text_of}
 use Rattle.split_tree.specs.SplitTree.{subtrees, total}
 use Rattle.split_tree.specs.Leaves.{missing_nodes, cube_count}
 use Rattle.case_core.specs.Bundle.{icnf_text}

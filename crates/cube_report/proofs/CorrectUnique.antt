@@ -3,10 +3,10 @@ use Rattle.std.proofs.Common.{◌≡◌, ℕ, ◌+◌, ◌<◌, List, refl, sym,
 use Rattle.std.proofs.Common.{Bool, arith}
 use Rattle.std.specs.Prelude.{MatchOption, get_or}
 use Rattle.std.proofs.lemmas.List.{ext_get_or}
-use Rattle.cnf_text.specs.Literal.{Literal}
-use Rattle.lrat_text.specs.Proof.{Proof, IsProofOf}
-use Rattle.lrat_text.proofs.ProofUnique.{has_proof}
-use Rattle.hint_check.specs.Judgement.{judgement}
+use Rattle.case_core.specs.Literal.{Literal}
+use Rattle.case_core.specs.Proof.{Proof, IsProofOf}
+use Rattle.case_core.proofs.ProofUnique.{has_proof}
+use Rattle.case_core.specs.Judgement.{judgement}
 use Rattle.split_tree.specs.SplitTree.{SplitTree, missing, cube, split, size, subtrees, subtree_at}
 use Rattle.split_tree.specs.SplitTree.{path_at}
 use Rattle.split_tree.specs.Leaves.{missing_nodes, IsTargetAt, IsPathOf}

@@ -5,7 +5,7 @@ use Rattle.std.proofs.Common.{inl, inr}
 use Rattle.mark_board.proofs.MarkingLaws.{test_same, test_other}
 use Rattle.std.proofs.lemmas.Bool.{cases_eq}
 use Rattle.std.proofs.lemmas.List.{take_all}
-use Rattle.cnf_text.specs.Literal.{Literal}
+use Rattle.case_core.specs.Literal.{Literal}
 use Rattle.split_tree.specs.SplitTree.{SplitTree, missing, cube, split, size, subtrees, subtree_at}
 use Rattle.split_tree.specs.SplitTree.{path_at, IsSplit, IsLeaf}
 use Rattle.split_tree.specs.Leaves.{missing_nodes, HasLeaf, IsTargetAt, IsPathOf}

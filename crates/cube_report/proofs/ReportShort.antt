@@ -7,24 +7,24 @@ use Rattle.std.specs.List.{enumerate_from}
 use Rattle.std.specs.Ordering.{nat_cmp}
 use Rattle.std.specs.Cmp.{nat_cmp_total}
 use Rattle.std.specs.FinMap as fin
-use Rattle.cnf_text.specs.Literal.{Literal}
-use Rattle.cnf_text.specs.Numbers.{digits_value, decimal, number_of}
-use Rattle.cnf_text.specs.Tokens.{Token, is_blank, is_comment, words, line_tokens, token_lines}
-use Rattle.cnf_text.specs.Icnf.{Item, ClauseItem, spelled, symbols_of, Within, StandsFor}
-use Rattle.cnf_text.specs.Icnf.{after_header}
-use Rattle.lrat_text.specs.Grammar.{Add}
-use Rattle.lrat_text.specs.Proof.{Proof, IsProofOf}
-use Rattle.lrat_text.proofs.ProofUnique.{one_proof, worked_out}
-use Rattle.hint_check.specs.Literals.{has, is_tautology, with_literals, with_literal}
-use Rattle.hint_check.specs.Live.{Live, start}
-use Rattle.hint_check.specs.Propagation.{Conflict, chain, unfalsified, effect_of}
-use Rattle.hint_check.specs.Addition.{resolution_fault, addition_fault, no_literals}
-use Rattle.hint_check.specs.Judgement.{judgement, judged_by}
-use Rattle.hint_check.specs.declared.Judged.TheVariants.{Refuted as judged_refuted}
-use Rattle.hint_check.proofs.PropagationSteps.{chain-forces, chain-falsified}
-use Rattle.hint_check.proofs.JudgementSteps.{judged_from-refuted, judged_from-good, insert-empty}
-use Rattle.hint_check.proofs.JudgementShort.{addition_is}
-use Rattle.hint_check.proofs.LiveEmpty.{start-holds_empty_clause}
+use Rattle.case_core.specs.Literal.{Literal}
+use Rattle.case_core.specs.Numbers.{digits_value, decimal, number_of}
+use Rattle.case_core.specs.Tokens.{Token, is_blank, is_comment, words, line_tokens, token_lines}
+use Rattle.case_core.specs.Icnf.{Item, ClauseItem, spelled, symbols_of, Within, StandsFor}
+use Rattle.case_core.specs.Icnf.{after_header}
+use Rattle.case_core.specs.Grammar.{Add}
+use Rattle.case_core.specs.Proof.{Proof, IsProofOf}
+use Rattle.case_core.proofs.ProofUnique.{one_proof, worked_out}
+use Rattle.case_core.specs.Literals.{has, is_tautology, with_literals, with_literal}
+use Rattle.case_core.specs.Live.{Live, start}
+use Rattle.case_core.specs.Propagation.{Conflict, chain, unfalsified, effect_of}
+use Rattle.case_core.specs.Addition.{resolution_fault, addition_fault, no_literals}
+use Rattle.case_core.specs.Judgement.{judgement, judged_by}
+use Rattle.case_core.specs.Judged.TheVariants.{Refuted as judged_refuted}
+use Rattle.case_core.proofs.PropagationSteps.{chain-forces, chain-falsified}
+use Rattle.case_core.proofs.JudgementSteps.{judged_from-refuted, judged_from-good, insert-empty}
+use Rattle.case_core.proofs.JudgementShort.{addition_is}
+use Rattle.case_core.proofs.LiveEmpty.{start-holds_empty_clause}
 use Rattle.split_tree.specs.SplitTree.{missing}
 use Rattle.split_tree.specs.Leaves.{IsTargetAt, IsPathOf}
 use Rattle.split_tree.specs.declared.node.Leaf.TheVariants.{Cube, Missing}

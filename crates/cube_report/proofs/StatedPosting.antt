@@ -6,10 +6,10 @@ use Rattle.std.proofs.Common.{get_or-set_same, None, Some}
 use Rattle.std.proofs.lemmas.Bool.{cases_Bool, cases_eq}
 use Rattle.std.proofs.lemmas.List.{take-append-drop, drop_more, take_more}
 use Rattle.std.specs.Prelude.{MatchOption}
-use Rattle.cnf_text.specs.Literal.{Literal}
-use Rattle.lrat_text.specs.Proof.{Proof, IsProofOf}
-use Rattle.hint_check.specs.Judgement.{judgement}
-use Rattle.hint_check.specs.declared.Judged.{Judged}
+use Rattle.case_core.specs.Literal.{Literal}
+use Rattle.case_core.specs.Proof.{Proof, IsProofOf}
+use Rattle.case_core.specs.Judgement.{judgement}
+use Rattle.case_core.specs.Judged.{Judged}
 use Rattle.split_tree.specs.SplitTree.{SplitTree, size}
 use Rattle.split_tree.specs.Leaves.{IsTargetAt, IsPathOf, HasTarget}
 use Rattle.split_tree.specs.declared.node.Target.{Target}

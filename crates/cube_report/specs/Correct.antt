@@ -1,8 +1,8 @@
 -- The main statements: what a run says of the bytes of a bundle.
 use Rattle.std.specs.Prelude.{◌≡◌, ℕ, Bool, List, [], ◌++◌, true, codes, if◌then◌else◌}
-use Rattle.cnf_text.specs.Literal.{Literal}
-use Rattle.cnf_text.specs.Formula.{HasNoModel}
-use Rattle.cnf_text.specs.Icnf.{Item, IsTextOf, clauses_of}
+use Rattle.case_core.specs.Literal.{Literal}
+use Rattle.case_core.specs.Formula.{HasNoModel}
+use Rattle.case_core.specs.Icnf.{Item, IsTextOf, clauses_of}
 use Rattle.case_core.specs.Bundle.{icnf_text}
 use Rattle.case_core.specs.Case.{CaseOf}
 use Rattle.case_core.specs.Sections as case_core

@@ -1,6 +1,6 @@
 -- What is said of a case on the way to the report on its bundle.
 use Rattle.std.specs.Prelude.{◌≡◌, ℕ, Bool, List, [], true}
-use Rattle.cnf_text.specs.Formula.{IsRefuted}
+use Rattle.case_core.specs.Formula.{IsRefuted}
 use Rattle.case_core.specs.Case.{CaseOf}
 use Rattle.mark_board.specs.declared.mark.Mark.{Mark}
 use Rattle.mark_board.specs.Marking.{marked, refuted_by}

@@ -1,8 +1,8 @@
 -- The rows of a board of either kind, and what they say of their nodes.
 use Rattle.std.proofs.Common.{◌≡◌, ℕ, ◌+◌, ◌-◌, ◌<◌, ◌≤◌, List, [], get_or, Bool, true, sym, ap}
 use Rattle.std.proofs.Common.{◌∙◌, arith, zero-add}
-use Rattle.cnf_text.specs.Literal.{Literal}
-use Rattle.cnf_text.specs.Formula.{IsRefuted}
+use Rattle.case_core.specs.Literal.{Literal}
+use Rattle.case_core.specs.Formula.{IsRefuted}
 use Rattle.split_tree.specs.SplitTree.{SplitTree, size, subtrees, subtree_at, labels, branch}
 use Rattle.split_tree.specs.SplitTree.{path_at, IsSplit}
 use Rattle.split_tree.specs.Navigation.{HasBelow}

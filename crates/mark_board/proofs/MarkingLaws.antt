@@ -4,8 +4,8 @@ use Rattle.std.proofs.Common.{false, refl, ◌∙◌, inl, inr, arith, get_or, a
 use Rattle.std.proofs.Common.{◌++◌, cond}
 use Rattle.std.proofs.lemmas.Bool.{cases_eq, cases_Bool, and_parts, and_from, or_cases}
 use Rattle.std.proofs.lemmas.Bool.Decides.{nat_tests}
-use Rattle.cnf_text.specs.Literal.{Literal}
-use Rattle.cnf_text.specs.Formula.{IsRefuted}
+use Rattle.case_core.specs.Literal.{Literal}
+use Rattle.case_core.specs.Formula.{IsRefuted}
 use Rattle.split_tree.specs.SplitTree.{SplitTree, missing, cube, split, size, labels, branch}
 use Rattle.split_tree.proofs.LawsRefuting.{both_refuted}
 use Rattle.split_tree.proofs.NodesCoding.{some_node}

@@ -3,16 +3,16 @@ use Rattle.std.proofs.Common.{◌≡◌, ◌≢◌, ℕ, zero, suc, ◌+◌, ◌
 use Rattle.std.proofs.Common.{get_or, set, replicate, Bool, true, false, refl, sym, ap, ◌∙◌, arith}
 use Rattle.std.proofs.Common.{inl, inr, zero-add}
 use Rattle.std.proofs.lemmas.Bool.{cases_eq}
-use Rattle.cnf_text.specs.Literal.{Literal}
-use Rattle.cnf_text.specs.Formula.{IsRefuted}
+use Rattle.case_core.specs.Literal.{Literal}
+use Rattle.case_core.specs.Formula.{IsRefuted}
 use Rattle.split_tree.specs.SplitTree.{SplitTree, size, subtree_at, labels, branch, path_at}
 use Rattle.split_tree.specs.Navigation.{HasBelow}
 use Rattle.split_tree.specs.Leaves.{IsTargetAt}
 use Rattle.split_tree.specs.declared.node.Target.{Target}
 use Rattle.split_tree.proofs.SplitTreeLabels.{below, label_below}
-use Rattle.hint_check.specs.declared.Judged.{Judged}
-use Rattle.hint_check.specs.declared.Judged.TheVariants.{Refuted as judged_refuted}
-use Rattle.hint_check.specs.declared.Judged.TheVariants.{Rejected as judged_rejected}
+use Rattle.case_core.specs.Judged.{Judged}
+use Rattle.case_core.specs.Judged.TheVariants.{Refuted as judged_refuted}
+use Rattle.case_core.specs.Judged.TheVariants.{Rejected as judged_rejected}
 use Rattle.case_core.specs.Case.{CaseOf}
 use Rattle.case_core.specs.Finding.{IsSound}
 use Rattle.mark_board.specs.declared.mark.Mark.{Mark}

@@ -8,7 +8,7 @@ use Rattle.split_tree.specs.Navigation.{AreTotals}
 use Rattle.split_tree.proofs.NodesCoding.{branches_at, some_node}
 use Rattle.split_tree.proofs.SplitTreeLabels.{handed_down, below, inside}
 use Rattle.split_tree.proofs.TablesTotals.{weight_some}
-use Rattle.cnf_text.specs.Literal.{Literal}
+use Rattle.case_core.specs.Literal.{Literal}
 use Rattle.mark_board.specs.declared.mark.Mark.{Mark}
 use Rattle.mark_board.specs.declared.mark.Mark.TheVariants.{Open}
 use Rattle.mark_board.specs.Marking.{whole_weight, AreRefuted, refuted_by}

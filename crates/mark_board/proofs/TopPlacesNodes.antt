@@ -4,7 +4,7 @@ use Rattle.std.proofs.Common.{replicate, get_or, refl, sym, ap, ◌∙◌, arith
 use Rattle.std.proofs.Common.{add-zero, zero-add}
 use Rattle.std.proofs.lemmas.Bool.{cases_lt}
 use Rattle.std.proofs.lemmas.List.{get_or_append_left, get_or-append_right, get_or_read}
-use Rattle.cnf_text.specs.Literal.{Literal}
+use Rattle.case_core.specs.Literal.{Literal}
 use Rattle.split_tree.specs.SplitTree.{SplitTree, missing, cube, split, size, subtree_at, depth_at}
 use Rattle.split_tree.specs.SplitTree.{labels, branch, path_at}
 use Rattle.split_tree.specs.Parts.{top, top_nodes}

@@ -2,14 +2,14 @@
 use Rattle.std.specs.Prelude.{ℕ, ◌≡◌, length, List, MatchOption}
 use Rattle.split_tree.specs.SplitTree.{size}
 use Rattle.split_tree.specs.Leaves.{IsTargetAt, IsPathOf}
-use Rattle.hint_check.specs.declared.Judged.{Judged}
-use Rattle.hint_check.specs.declared.Judged.TheVariants.{Refuted as judged_refuted}
-use Rattle.hint_check.specs.declared.Judged.TheVariants.{Rejected as judged_rejected}
+use Rattle.case_core.specs.Judged.{Judged}
+use Rattle.case_core.specs.Judged.TheVariants.{Refuted as judged_refuted}
+use Rattle.case_core.specs.Judged.TheVariants.{Rejected as judged_rejected}
 use Rattle.mark_board.specs.declared.mark.Mark.{Mark}
 use Rattle.mark_board.specs.declared.mark.Mark.TheVariants.{Refuted, Rejected, Open}
-use Rattle.cnf_text.specs.Literal.{Literal}
-use Rattle.lrat_text.specs.Proof.{Proof, IsProofOf}
-use Rattle.hint_check.specs.Judgement.{judgement}
+use Rattle.case_core.specs.Literal.{Literal}
+use Rattle.case_core.specs.Proof.{Proof, IsProofOf}
+use Rattle.case_core.specs.Judgement.{judgement}
 use Rattle.split_tree.specs.declared.node.Target.{Target}
 use Rattle.case_core.specs.Case.{CaseOf, proof_for}
 use Rattle.mark_board.specs.Marking.{mark_at}

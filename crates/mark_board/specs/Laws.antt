@@ -1,8 +1,8 @@
 -- Laws of marks and open weights.
 use Rattle.std.specs.Prelude.{ℕ, map, ◌+◌, ◌<◌, ◌≡◌, ◌≢◌, ◌⊎◌, ◌↔◌, Bool, true, false, List}
 use Rattle.std.specs.List.{Contains}
-use Rattle.cnf_text.specs.Literal.{Literal}
-use Rattle.cnf_text.specs.Formula.{IsRefuted}
+use Rattle.case_core.specs.Literal.{Literal}
+use Rattle.case_core.specs.Formula.{IsRefuted}
 use Rattle.split_tree.specs.SplitTree.{SplitTree, size, subtree_at, depth_at, IsSplit}
 use Rattle.split_tree.specs.Navigation.{HasBelow, IsParent}
 use Rattle.split_tree.specs.Leaves.{missing_nodes}

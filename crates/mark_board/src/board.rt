@@ -1,7 +1,7 @@
 //! The board of a part of a cut, or the one above the parts.
 
 ghost use Rattle.std.specs.Prelude.{◌≡◌, ◌≢◌, ◌≤◌, ◌<◌, ◌↔◌, ℕ, IfOk, IsTrue, replicate};
-ghost use Rattle.cnf_text.specs.Formula.{IsRefuted};
+ghost use Rattle.case_core.specs.Formula.{IsRefuted};
 ghost use Rattle.split_tree.specs.SplitTree.{size, subtree_at, path_at};
 ghost use Rattle.split_tree.specs.Leaves.{IsTargetAt};
 ghost use Rattle.split_tree.specs.Parts.{top};

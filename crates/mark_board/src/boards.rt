@@ -1,7 +1,7 @@
 //! All boards of a cut of a case together.
 
 ghost use Rattle.std.specs.Prelude.{◌≡◌, ◌≤◌, ◌<◌, ◌↔◌, ℕ, IfOk, IsTrue, []};
-ghost use Rattle.cnf_text.specs.Formula.{IsRefuted};
+ghost use Rattle.case_core.specs.Formula.{IsRefuted};
 ghost use Rattle.split_tree.specs.SplitTree.{size, subtree_at, path_at};
 ghost use Rattle.split_tree.specs.Leaves.{HasTarget, IsTargetAt};
 ghost use Rattle.mark_board.specs.Marking.{marked, open_weight, open_branches, refuted_by, mark_at};

@@ -1,4 +1,4 @@
-use hint_check::Reason;
+use case_core::Reason;
 
 /// How a leaf or an inner node stands by its own finding.
 #[derive(Clone, Copy, Debug, PartialEq, Eq)]

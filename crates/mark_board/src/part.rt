@@ -1,7 +1,7 @@
 //! The board of a part.
 
 ghost use Rattle.std.specs.Prelude.{◌≡◌, ◌≢◌, ◌-◌, ◌<◌, ◌↔◌, ◌+◌, IfOk, IsTrue};
-ghost use Rattle.cnf_text.specs.Formula.{IsRefuted};
+ghost use Rattle.case_core.specs.Formula.{IsRefuted};
 ghost use Rattle.split_tree.specs.SplitTree.{size, subtree_at, path_at};
 ghost use Rattle.split_tree.specs.Navigation.{HasBelow};
 ghost use Rattle.mark_board.specs.Marking.{AreRefuted, marked, open_weight, refuted_by, mark_at};

@@ -1,8 +1,8 @@
 //! The program's words for its workers and its cut, by what a gate sees of them.
 
-use case_core::Target;
 use crossbeam_utils::Backoff;
 use cube_command::{Counted, FileStore, Found, Gate, NoGate, command};
+use cube_report::Target;
 use fixtures::bundles::TURNS;
 use fixtures::four;
 use std::process::Abort;

@@ -4,8 +4,7 @@
 ghost use Rattle.std.specs.Prelude.{◌<◌, ◌^◌, ◌-◌};
 
 use crate::devices::{Broken, Narrow};
-use check_crew::{NoGate, Settings};
-use cube_report::{Counted, Fault, Sink, Source, run_io, run_one};
+use cube_report::{Counted, Fault, NoGate, Settings, Sink, Source, run_io, run_one};
 use fixtures::bundles::{OPEN, OPEN_REPORT, REFUTED, REFUTED_REPORT};
 use std::alloc::Global;
 use std::process::Abort;

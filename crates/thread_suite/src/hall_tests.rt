@@ -1,6 +1,6 @@
 //! A hall: its calls by one pass and by two, and how it is closed.
 ghost use Rattle.std.specs.Prelude.{◌≡◌, ◌≤◌, [], ◌∷◌, None, Some, All};
-ghost use Rattle.split_tree.specs.Leaves.{HasTarget};
+ghost use Rattle.case_core.specs.Leaves.{HasTarget};
 ghost use Rattle.mark_board.specs.Board.{IsPlace};
 ghost use Rattle.mark_board.specs.TopPlaces.{part_count};
 ghost use Rattle.mark_board.specs.VerdictOf.{verdict_of};

@@ -3,7 +3,7 @@ use Rattle.std.proofs.Common.{◌≡◌, ◌==◌, ℕ, suc, ◌+◌, ◌-◌, �
 use Rattle.std.proofs.Common.{false, ◌||◌, inl, inr, refl, sym, ap, ◌∙◌, arith}
 use Rattle.std.proofs.lemmas.Bool.{cases_eq}
 use Rattle.std.specs.Prelude.{codes, is_some}
-use Rattle.cnf_text.specs.Literal.{Literal}
+use Rattle.case_core.specs.Literal.{Literal}
 use Rattle.split_tree.specs.SplitTree.{SplitTree, missing, cube, split, size, subtree_at, path_at}
 use Rattle.split_tree.specs.SplitTree.{IsLeaf, IsSplit}
 use Rattle.split_tree.specs.Leaves.{IsTargetAt, IsPathOf}

@@ -1,9 +1,9 @@
 -- The fields of which texts about nodes are made, as bytes: each begins with a space.
 use Rattle.std.specs.Prelude.{ℕ, Bool, List, ◌++◌, codes, decimal, if◌then◌else◌}
-use Rattle.cnf_text.specs.Literal.{Literal}
-use Rattle.hint_check.specs.declared.Reason.{Reason}
-use Rattle.hint_check.specs.declared.Reason.TheVariants.{Unreadable, Id, Hint, Unit as NotUnit}
-use Rattle.hint_check.specs.declared.Reason.TheVariants.{Empty, Group, Candidate, End}
+use Rattle.case_core.specs.Literal.{Literal}
+use Rattle.case_core.specs.Reason.{Reason}
+use Rattle.case_core.specs.Reason.TheVariants.{Unreadable, Id, Hint, Unit as NotUnit}
+use Rattle.case_core.specs.Reason.TheVariants.{Empty, Group, Candidate, End}
 use Rattle.mark_board.specs.declared.mark.Mark.{Mark}
 use Rattle.mark_board.specs.declared.mark.Mark.TheVariants.{Open, Refuted, Rejected}
 

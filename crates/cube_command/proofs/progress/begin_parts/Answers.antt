@@ -1,5 +1,5 @@
-use Rattle.mark_board.proofs.BoardsGathered.{part_listed}
-use Rattle.mark_board.proofs.TopPlacesParts.{part_read, part_within}
+use Rattle.cube_report.proofs.BoardsGathered.{part_listed}
+use Rattle.cube_report.proofs.TopPlacesParts.{part_read, part_within}
 use Rattle.cube_command.proofs.progress.begin_parts.Goals as goal
 
 pub weight_under-weight-requires : goal.weight_under-weight-requires

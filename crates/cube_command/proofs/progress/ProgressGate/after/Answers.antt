@@ -1,4 +1,4 @@
-use Rattle.mark_board.proofs.BoardsGathered.{target_inside}
+use Rattle.cube_report.proofs.BoardsGathered.{target_inside}
 use Rattle.cube_command.proofs.progress.ProgressGate.after.Goals as goal
 
 pub keep_open-requires : goal.keep_open-requires

@@ -2,7 +2,7 @@ use Rattle.std.proofs.Common.{◌≡◌, ◌-◌, ℕ}
 use Rattle.split_tree.specs.SplitTree.{subtree_at, path_at}
 use Rattle.split_tree.specs.Leaves.{IsTargetAt}
 use Rattle.case_core.specs.Finding.{IsSound, target_of}
-use Rattle.cnf_text.specs.Formula.{IsRefuted}
+use Rattle.case_core.specs.Formula.{IsRefuted}
 use Rattle.mark_board.specs.Marking.{AreRefuted, refuted_by}
 use Rattle.mark_board.specs.Rows.{AreRowsKept}
 use Rattle.mark_board.specs.Posting.{marks_after}

@@ -1,5 +1,5 @@
 use Rattle.std.proofs.Common.{◌≡◌, ℕ, []}
-use Rattle.cnf_text.specs.Formula.{IsRefuted}
+use Rattle.case_core.specs.Formula.{IsRefuted}
 use Rattle.split_tree.specs.SplitTree.{path_at}
 use Rattle.split_tree.specs.Parts.{top}
 use Rattle.split_tree.proofs.NodesCoding.{subtree-root}
