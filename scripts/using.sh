@@ -1,9 +1,10 @@
 #!/bin/sh
 # Runs the commands of docs/USING.md, its indented lines, from top to bottom in an empty folder, and looks whether what the page
 # says of them holds: of the page's example, and from the bundle on of a formula that isn't split, five pigeons in four holes with one
-# empty cube. First without a solver, up to the report without proofs; then each way of the page to solve a leaf where there is what it needs:
-# `cadical` with `--lrat`; any `cadical` and a Rust compiler for bench/tools/drat2lrat.rs, or drat-trim; `cryptominisat5` and that compiler. The
-# others are skipped, also where CI is set: the script isn't part of `./check`. The last line counts.
+# empty cube. First without a solver, up to the report without proofs, and the check of an example whose proofs are there; then each way of the
+# page to solve a leaf where there is what it needs: `cadical` with `--lrat`; any `cadical` and a Rust compiler for bench/tools/drat2lrat.rs, or
+# drat-trim; `cryptominisat5` and that compiler. The others are skipped, also where CI is set: the script isn't part of `./check`. The last line
+# counts.
 root=$(CDPATH= cd -- "$(dirname -- "$0")/.." && pwd) || exit 1
 . "$root/scripts/runs.sh"
 
@@ -21,24 +22,29 @@ block() {
     echo "$status" > "$here/status"
 }
 
-# The bundle and the report without proofs, with the formula, its numbers and the cubes there: whose they are, and how many cubes.
+# The bundle and the report without proofs, with the formula and the cubes there: whose they are, and how many cubes.
 to_the_bundle() {
     block 3.1
     [ "$status" -eq 1 ] && grep -q "^t $2 0 " "$here/out" && grep -q '^o 0$' "$here/out" && [ ! -s "$here/err" ]
     count "$1: the status is 1 and the root is open before there are proofs" $?
 }
 
-# From there to the check, in the same way.
-from_the_bundle() {
-    for step in 4.1 $way 4.7; do block "$step"; done
-    [ "$(grep -c '^cube [0-9]*: status 20$' "$here/out")" -eq "$2" ] && [ "$(ls proofs | wc -l)" -eq "$2" ] && [ ! -s "$here/err" ]
-    count "$1: the solver refutes each leaf" $?
+# The check of the bundle and its folder of proofs: whose they are.
+check() {
     block 5.1
     [ "$(tail -n 2 "$here/out" | tr '\n' ' ')" = "s REFUTED 0 " ] && [ ! -s "$here/err" ]
     count "$1: the last line is s REFUTED and the status 0 with the folder of proofs" $?
     block 5.2
     [ "$status" -eq 0 ] && [ "$(tail -n 1 "$here/out")" = "s REFUTED" ] && [ ! -s "$here/err" ]
     count "$1: so they are with the bundle" $?
+}
+
+# From the bundle to the check, with the formula, its numbers and the cubes there: whose they are, and how many cubes.
+from_the_bundle() {
+    for step in 4.1 $way 4.7; do block "$step"; done
+    [ "$(grep -c '^cube [0-9]*: status 20$' "$here/out")" -eq "$2" ] && [ "$(ls proofs | wc -l)" -eq "$2" ] && [ ! -s "$here/err" ]
+    count "$1: the solver refutes each leaf" $?
+    check "$1"
 }
 
 # Five pigeons, each in one of four holes, and no two in one hole: variable 4 (P - 1) + H says that pigeon P is in hole H.
@@ -143,6 +149,8 @@ awk '
 ' "$root/docs/FORMATS.md" > "$here/labels"
 
 begin "no solver"
+cp -r "$root/examples/van-der-waerden-3-6" "$here/solved" && cd "$here/solved" && grep '^a ' case.icnf > cubes || exit 1
+check "no solver: the folder van-der-waerden-3-6 of examples"
 if takes_lrat; then
     try 4.2 "cadical with --lrat"
 else
