@@ -1,16 +1,16 @@
 #!/bin/sh
 # examples.sh [FOLDER]      makes the examples adders-6 and schur-14-3 from nothing, by the commands of docs/USING.md, in FOLDER, which
 # is made; without it in a folder that is thrown away, and looks whether all bytes are those of examples/. It needs python3, a Rust
-# compiler (1.85 or later) and `cadical`: with that of Debian 12, 1.5.3, the bytes are the same each time. It isn't part of `./check`.
+# compiler (1.85 or later) and `cadical`: with that of Debian 12, 1.5.3, the bytes are the same each time; where one isn't there, both are
+# skipped. It isn't part of `./check`. The last line counts.
 root=$(CDPATH= cd -- "$(dirname -- "$0")/.." && pwd) || exit 1
+. "$root/scripts/runs.sh"
 for tool in python3 rustc cadical; do
     if ! command -v "$tool" > /dev/null 2>&1; then
-        echo "examples: skipped, since there is no $tool"
-        exit 0
+        skip "adders-6 and schur-14-3" "there is no $tool"
+        finish
     fi
 done
-here=$(mktemp -d) || exit 1
-trap 'rm -rf "$here"' EXIT
 made=${1:-$here/examples}
 mkdir -p "$made" && made=$(CDPATH= cd -- "$made" && pwd) || exit 1
 for tool in cubesplit drat2lrat; do
@@ -81,9 +81,9 @@ done
 
 [ $# -eq 0 ] || exit 0
 for name in adders-6 schur-14-3; do
-    if ! diff -r "$root/examples/$name" "$made/$name" > "$here/diff"; then
-        echo "examples: $name has other bytes: $(head -n 1 "$here/diff")"
-        exit 1
-    fi
+    diff -r "$root/examples/$name" "$made/$name" > "$here/diff"
+    same=$?
+    head -n 1 "$here/diff"
+    count "$name has the same bytes" "$same"
 done
-echo "examples: adders-6 and schur-14-3 were made with the same bytes"
+finish

@@ -1,46 +1,97 @@
 #!/bin/sh
-# Draws pictures by the built program: of the examples and of random trees, which have to be those that scripts/draw.py draws of the same
-# cubes and the same report; of a tree whose nodes have each of the colours, which a headless Chromium shows, and a few pixels of which
-# have to have the colours that docs/FORMATS.md says; and of trees of 100,000 cubes and of great depth, which have to be less than 2 MB of XML. Where
-# there is no Chromium, or none that shows a page, the script says so and leaves the pixels out. The last line counts.
+# Draws pictures by the built program: of the examples, of random trees, of trees of 100,000 cubes and of great depth. What is found of their leaves
+# and nodes is known without the program: from the examples' reports, or from how they are made. By that scripts/draw.py draws each picture, and the
+# program's has to be the same, and its report has to say just that, with the answer and the open weight that stand in the picture; where the tree is
+# great the picture has to be less than 2 MB of XML. Then a tree whose nodes have each of the colours: its report, and the colours of its cells, as
+# docs/FORMATS.md says them, by what the picture itself says of its classes. A headless Chromium shows that picture, and a few of its pixels have to
+# have these colours. Where there is no Chromium, or none that shows a page, the pixels are skipped: also where CI is set, since it is a
+# Debian package that brings hundreds of megabytes. The last line counts.
 root=$(CDPATH= cd -- "$(dirname -- "$0")/.." && pwd) || exit 1
 . "$root/scripts/runs.sh"
 build_program
+whole=1152921504606846976
 
-# Draws a bundle's picture by the program, and looks whether scripts/draw.py draws the same by the program's report: the bundle, and further words.
-# The picture is left in $here/drawn.
+# The last two lines of the report that goes with a picture: the open weight and the answer.
+end_of() {
+    sed -n 's/^<text x="8" y="26">\(s [A-Z]*\)$/\1/p; s/^\(w [0-9]*\) of [0-9]*<\/text>$/\1/p' "$1" | sort -r
+}
+
+# Draws a bundle's picture, $here/drawn, and looks whether it is scripts/draw.py's and whether report and status go with it: a file with the lines
+# `a`, `m` and `n` of the report that the bundle has to have, the bundle, and further words.
 same() {
-    bundle=$1
-    shift
+    findings=$1
+    bundle=$2
+    shift 2
     rm -f "$here/drawn"
-    timeout 60 "$program" --map "$here/drawn" "$@" "$bundle" > "$here/report"
-    [ $? -le 1 ] && python3 "$root/scripts/draw.py" "$bundle" "$here/report" | cmp -s - "$here/drawn"
+    run /dev/null --map "$here/drawn" "$@" "$bundle"
+    python3 "$root/scripts/draw.py" "$bundle" "$findings" > "$here/picture" && cmp -s "$here/picture" "$here/drawn" || return 1
+    grep '^[amn] ' "$findings" > "$here/wanted"
+    end_of "$here/picture" >> "$here/wanted"
+    grep '^[amnws] ' "$here/out" | cmp -s - "$here/wanted" || return 1
+    grep -q '^s REFUTED$' "$here/wanted"
+    [ $? -eq "$(cat "$here/status")" ] && [ ! -s "$here/err" ]
 }
 
 # The examples, as bundles and as folders.
 for picture in "$root"/examples/*.svg; do
     example=${picture%.svg}
     if [ -f "$example.icnf" ]; then
-        same "$example.icnf" && cmp -s "$picture" "$here/drawn"
+        same "$example.report" "$example.icnf" && cmp -s "$picture" "$here/drawn"
         count "the picture of $(basename "$example").icnf" $?
     fi
     if [ -d "$example" ]; then
-        same "$example/case.icnf" --proofs "$example/proofs" && cmp -s "$picture" "$here/drawn"
+        same "$example.report" "$example/case.icnf" --proofs "$example/proofs" && cmp -s "$picture" "$here/drawn"
         count "the picture of $(basename "$example")/proofs" $?
     fi
 done
 
 for seed in $(seq 40); do
-    python3 "$root/scripts/random_bundle.py" "$seed" > "$here/random.icnf" && same "$here/random.icnf"
+    python3 "$root/scripts/random_bundle.py" "$seed" "$here/findings" > "$here/random.icnf" && same "$here/findings" "$here/random.icnf"
     count "the picture of the random tree $seed" $?
 done
 
 # The four cubes of two variables, with proofs for the node `1` and the first leaf, and one that names no live clause for the third leaf.
 printf '%s\n' 'p inccnf' '1 2 0' '1 -2 0' '-1 2 0' '-1 -2 0' 'a 1 2 0' 'a 1 -2 0' 'a -1 2 0' 'a -1 -2 0' \
     'l n 1 0' '6 0 5 3 4 0' 'l 1' '7 0 5 6 4 0' 'l 3' '7 0 9 0' > "$here/colours.icnf"
-timeout 60 "$program" --map "$here/colours.svg" "$here/colours.icnf" > "$here/report"
-[ $? -eq 1 ]
-count "a picture of all colours" $?
+printf '%s\n' "t 4 0 $whole" 'a 1 refuted' 'a 2 open' 'a 3 rejected 1 hint' 'a 4 open' 'n 1 0 refuted' 'o -1 0' "w $((whole / 2))" \
+    's OPEN' > "$here/colours.report"
+echo 1 > "$here/one"
+run /dev/null --map "$here/colours.svg" "$here/colours.icnf"
+compare "the report on a tree of all colours" "$here/colours.report" "$here/none" "$here/one"
+
+# The cells of a picture, those of its rectangles that tell of a node: where each is, its width, its colour, that of its edge, and what it tells. The
+# picture's style says what colours a rectangle has, and a class: the last class that names one decides.
+cells() {
+    awk -F '"' '
+        # The colour that the rule of a name gives to a thing, or nothing.
+        function colour(of, what,    rule) {
+            if (!index(style, "}" of "{")) return ""
+            rule = substr(style, index(style, "}" of "{") + length(of) + 1)
+            rule = substr(rule, 1, index(rule, "}"))
+            return match(rule, "[{;]" what ":#[0-9A-F]*") ? substr(rule, RSTART + length(what) + 2, 7) : ""
+        }
+        /^<style>/ { style = $0 }
+        /<title>/ {
+            fill = colour("rect", "fill")
+            edge = colour("rect", "stroke")
+            n = split($2, classes, " ")
+            for (i = 1; i <= n; i++) {
+                if (colour("." classes[i], "fill")) fill = colour("." classes[i], "fill")
+                if (colour("." classes[i], "stroke")) edge = colour("." classes[i], "stroke")
+            }
+            told = $0
+            gsub(/^.*<title>|<.title>.*$/, "", told)
+            print $4, $6, $8, fill, edge, told
+        }
+    ' "$1"
+}
+
+# The root in light blue, `1` in blue with a black edge and `-1` in yellow, and the leaves: blue, grey, red, yellow.
+printf '%s\n' "0 40 2048 #56B4E9 #FFFFFF n 0 w $((whole / 2))" '0 64 1024 #0072B2 #000000 n 1 0 refuted w 0' '0 88 512 #0072B2 #FFFFFF a 1 refuted' \
+    '512 88 512 #BBBBBB #FFFFFF a 2 open' "1024 64 1024 #F0E442 #FFFFFF n -1 0 w $((whole / 2))" '1024 88 512 #D55E00 #FFFFFF a 3 rejected 1 hint' \
+    '1536 88 512 #F0E442 #FFFFFF a 4 open' > "$here/wanted"
+[ -f "$here/colours.svg" ] && cells "$here/colours.svg" | cmp -s - "$here/wanted"
+count "the colours, edges and places of seven cells" $?
 browser=$(command -v chromium || command -v chromium-browser || command -v google-chrome)
 if [ -n "$browser" ]; then
     timeout 60 "$browser" --headless --no-sandbox --disable-gpu --hide-scrollbars --user-data-dir="$here/browser" \
@@ -50,9 +101,9 @@ if [ -s "$here/colours.png" ]; then
     # The root, the nodes `1` and `-1`, and the four leaves.
     python3 "$root/scripts/picture.py" "$here/colours.png" 1024,51,56B4E9 512,75,0072B2 1536,75,F0E442 \
         256,99,0072B2 768,99,BBBBBB 1280,99,D55E00 1792,99,F0E442
-    count "the colours of seven cells" $?
+    count "the pixels of seven cells" $?
 else
-    echo "picture: the pixels are skipped, since there is no Chromium here that shows a page"
+    skip "the pixels of seven cells" "there is no Chromium here that shows a page"
 fi
 
 # A tree of 131,072 cubes that is 17 deep, and one of 2,000 cubes along a path, which is 1,999 deep.
@@ -70,9 +121,9 @@ awk 'BEGIN {
     print "a " front "0"
 }' > "$here/deep.icnf"
 for tree in wide deep; do
-    timeout 60 "$program" --map "$here/$tree.svg" "$here/$tree.icnf" > "$here/report"
-    [ $? -eq 1 ] && [ "$(wc -c < "$here/$tree.svg")" -lt 2000000 ] \
-        && python3 -c 'import sys, xml.etree.ElementTree as tree; tree.parse(sys.argv[1])' "$here/$tree.svg"
+    awk '/^a/ { print "a " ++cubes " open" }' "$here/$tree.icnf" > "$here/findings"
+    same "$here/findings" "$here/$tree.icnf" && [ "$(wc -c < "$here/drawn")" -lt 2000000 ] \
+        && python3 -c 'import sys, xml.etree.ElementTree as tree; tree.parse(sys.argv[1])' "$here/drawn"
     count "a picture of a $tree tree" $?
 done
 finish

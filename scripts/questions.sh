@@ -1,9 +1,11 @@
 #!/bin/sh
 # Runs the commands of docs/FORMATS.md under "Questions to a report" on the report and the bundle of tests/questions, and compares
 # what they print with the file `answers` there, where a line `--` stands between two of them; then on the reports of the examples, and
-# looks whether their answers fit together. The report and the answers were written from the formats. The last line counts.
+# looks whether their answers fit together. The report and the answers were written from the formats; the program has to write that report,
+# too. The last line counts.
 root=$(CDPATH= cd -- "$(dirname -- "$0")/.." && pwd) || exit 1
 . "$root/scripts/runs.sh"
+build_program
 
 # The questions' blocks, each in a file of its own under its number.
 mkdir "$here/page"
@@ -26,12 +28,10 @@ lines_of() {
     ask "$1" | wc -l
 }
 
-# Where the program is built: the report of tests/questions is that of the bundle there.
-program=$root/crates/cubeboard/out/cubeboard
-if [ -x "$program" ]; then
-    timeout 60 "$program" "$root/tests/questions/case.icnf" 2>&1 | cmp -s - "$root/tests/questions/report"
-    count "the report is the bundle's" $?
-fi
+# The report of tests/questions is that of the bundle there, which is open.
+echo 1 > "$here/wanted"
+run /dev/null "$root/tests/questions/case.icnf"
+compare "the report is the bundle's" "$root/tests/questions/report" "$here/none" "$here/wanted"
 
 cp "$root/tests/questions/report" "$root/tests/questions/case.icnf" "$here/run/"
 for number in 1 2 3 4 5 6 7; do

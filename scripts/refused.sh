@@ -4,20 +4,10 @@
 # `cubeboard: F6 memory`, or `cubeboard: F14 thread` where the request was made for the start of a thread, which one worker
 # makes none of. So it has with little room for addresses, and with few threads for the user: there one worker has to give the
 # report where four can't start a thread. Each read that is interrupted, of whatever is read, gives `cubeboard: F13 device`. A
-# test of the reader of proof steps is run with its requests refused, too. It needs a C compiler; where there is none, it says
-# so and tries nothing. A run that hasn't ended after a minute is ended, and fails. The last line counts.
+# test of the reader of proof steps is run with its requests refused, too. Requests and reads need a C compiler; where there is none,
+# they are skipped, or fail where CI is set. A run that hasn't ended after a minute is ended, and fails. The last line counts.
 root=$(CDPATH= cd -- "$(dirname -- "$0")/.." && pwd) || exit 1
 . "$root/scripts/runs.sh"
-compiler=$(c_compiler)
-if [ -z "$compiler" ]; then
-    echo "refused: skipped, since there is no C compiler"
-    exit 0
-fi
-if ! "$compiler" -O1 -shared -fPIC -o "$here/refuse.so" "$root/scripts/refuse.c" -ldl > "$here/log" 2>&1; then
-    cat "$here/log"
-    failed=1
-    finish
-fi
 build_program
 echo "cubeboard: F6 memory" > "$here/memory"
 echo "cubeboard: F14 thread" > "$here/thread"
@@ -57,8 +47,7 @@ requests() {
         request=$((request + 1))
     done
     if [ "$refused" -eq 0 ] || [ "$request" -gt "$limit" ]; then
-        failed=$((failed + 1))
-        echo "refused: $(basename "$base") by $workers workers: $refused requests were refused"
+        fail "$(basename "$base") by $workers workers: $refused requests were refused"
     fi
 }
 
@@ -90,7 +79,7 @@ little_room() {
     base=$root/tests/rows/$1
     room='ulimit -S -s 8192 && ulimit -v "$1"'
     if ! sh -c "$room" sh 1000000 2> /dev/null; then
-        echo "refused: little room for addresses is skipped, since it can't be set here"
+        skip "little room for addresses" "it can't be set here"
         return
     fi
     for kilobytes in 20000 25000 30000 100000 1000000; do
@@ -114,9 +103,9 @@ few_threads() {
     as_another_user
     # timeout can't start what it is to run where the limit is kept.
     if ! $as_other test -x "$program" 2> /dev/null; then
-        echo "refused: few threads for the user are skipped, since no other user can run the program"
+        skip "few threads for the user" "no other user can run the program"
     elif $as_other sh -c "$few && exec timeout 20 true" sh 1 2> /dev/null; then
-        echo "refused: few threads for the user are skipped, since nobody here is bound by such a limit"
+        skip "few threads for the user" "nobody here is bound by such a limit"
     else
         for threads in 1 2 3 4; do
             for workers in 1 2 4; do
@@ -133,41 +122,41 @@ few_threads() {
     as_this_user
 }
 
-for name in two_cubes_refuted missing_leaf_open proof_for_an_inner_node folder_of_proofs folder_with_missing_leaves \
-    second_section_of_a_cube; do
-    for workers in 1 2 4; do
-        requests "$name" "$workers"
-    done
-done
-reads two_cubes_refuted
-reads folder_with_missing_leaves
-little_room two_cubes_refuted
-few_threads two_cubes_refuted
-
 # The reader of proof steps, by a test of the suite that the gate has left: a refused call changes nothing, so the next one gives
 # the step that it would have given.
-tests=$root/crates/suite/out/suite_tests
-if [ -x "$tests" ]; then
+next_step() {
+    tests=$root/crates/suite/out/suite_tests
+    if [ ! -x "$tests" ]; then
+        skip "the test of the next step" "rt ci hasn't built it"
+        return
+    fi
     request=1
     refused=0
     while [ "$request" -le "$limit" ]; do
         rm -f "$here/mark"
-        if timeout 20 env REFUSE="$request" REFUSED_MARK="$here/mark" LD_PRELOAD="$here/refuse.so" \
-            "$tests" lrat_text_tests::step_after_refused_memory > "$here/out" 2> "$here/err"; then
-            passed=$((passed + 1))
-        else
-            failed=$((failed + 1))
-            echo "refused: the next step, request $request: $(tail -n 3 "$here/out")"
-        fi
+        note /dev/null env REFUSE="$request" REFUSED_MARK="$here/mark" LD_PRELOAD="$here/refuse.so" \
+            "$tests" lrat_text_tests::step_after_refused_memory
+        [ "$(cat "$here/status")" = 0 ]
+        count "the next step, request $request" $?
         [ -f "$here/mark" ] || break
         refused=$((refused + 1))
         request=$((request + 1))
     done
-    if [ "$refused" -eq 0 ]; then
-        failed=$((failed + 1))
-        echo "refused: the next step: no request was refused"
-    fi
-else
-    echo "refused: the test of the next step is skipped, since rt ci hasn't built it"
+    [ "$refused" -gt 0 ]
+    count "the next step: $refused requests were refused" $?
+}
+
+if preload refuse "requests for memory, reads that are interrupted and the test of the next step"; then
+    for name in two_cubes_refuted missing_leaf_open proof_for_an_inner_node folder_of_proofs folder_with_missing_leaves \
+        second_section_of_a_cube; do
+        for workers in 1 2 4; do
+            requests "$name" "$workers"
+        done
+    done
+    reads two_cubes_refuted
+    reads folder_with_missing_leaves
+    next_step
 fi
+little_room two_cubes_refuted
+few_threads two_cubes_refuted
 finish

@@ -98,7 +98,7 @@ if command -v script > /dev/null; then
     [ "$(tail -n 1 "$here/err" | tr '\r' '~' | cut -c1-29)" = "~cubeboard: 2 of 2 judged, 2 " ] && cmp -s "$here/run/report" "$root/tests/rows/two_cubes_refuted.out"
     count "progress on a terminal" $?
 else
-    echo "rows: progress on a terminal is skipped, since there is no script here that makes one"
+    skip "progress on a terminal" "there is no script here that makes one" bsdutils
 fi
 
 # Whether the last run told of a device: its name.
@@ -147,7 +147,7 @@ for path in proofs/2.lrat proofs case.icnf; do
     reads=$?
     chmod 000 "$here/run/$path"
     if [ "$reads" -ne 0 ] || $as_other test -r "$here/run/$path"; then
-        echo "rows: $path without rights is skipped, since there is no user here whom rights keep from it"
+        skip "$path without rights" "there is no user here whom rights keep from it"
     else
         run /dev/null --proofs proofs case.icnf
         is_device "$path without rights"
@@ -166,6 +166,8 @@ if [ -w /dev/full ]; then
     echo $? > "$here/status"
     [ "$(cat "$here/status")" = 3 ] && [ ! -s "$here/out" ]
     count "a full device for the error" $?
+else
+    skip "a full device" "there is none here"
 fi
 
 # The examples, as bundles and as folders; the status is the one that goes with the report's last line.

@@ -1,10 +1,17 @@
-# What the scripts share that run the built program. A script that reads this file has set `root`, the repository's folder. Then `$here` is a folder that
-# goes at the script's end, `$here/run` the one that the program runs in, and `$here/out`, `$here/err` and `$here/status` are what the last run left.
+# What the scripts share that run the built program. A script that reads this file has set `root`, the repository's folder. Then `$here` is a
+# folder that goes at the script's end, `$here/run` the one that the program runs in, and `$here/out`, `$here/err` and `$here/status` are what
+# the last run left.
+# A script's last line is `NAME: P passed, F failed, S skipped`, and its status is 0 where no claim failed. Whoever calls a script may set:
+# - CUBEBOARD_PROGRAM, the path of a program that is tried in the place of the built one; the launcher isn't called then (scripts/false_programs.sh);
+# - CUBEBOARD_STOP, so that the script ends at its first claim that fails;
+# - CUBEBOARD_SKIPPED, the path of a file that gets a line for each thing that is skipped (./check counts them);
+# - CI, where it isn't empty: what a Debian package would make run isn't skipped, but fails.
 script=$(basename -- "$0" .sh)
 here=$(mktemp -d) || exit 1
 trap 'rm -rf "$here"' EXIT
 passed=0
 failed=0
+skipped=0
 as_other=
 : > "$here/none"
 mkdir "$here/run"
@@ -14,8 +21,25 @@ count() {
     if [ "$2" -eq 0 ]; then
         passed=$((passed + 1))
     else
-        failed=$((failed + 1))
-        echo "$script: $1: this isn't so$(last_run)"
+        fail "$1: this isn't so$(last_run)"
+    fi
+}
+
+# Counts a claim that fails: what is said of it.
+fail() {
+    failed=$((failed + 1))
+    echo "$script: $1"
+    [ -z "${CUBEBOARD_STOP:-}" ] || finish
+}
+
+# Counts what isn't tried: what it is, why, and, where one would make it run, the Debian package, whose lack fails where CI is set.
+skip() {
+    if [ -n "${3:-}" ] && [ -n "${CI:-}" ]; then
+        fail "$1: not tried, since $2, which isn't skipped where CI is set: install the package $3"
+    else
+        skipped=$((skipped + 1))
+        echo "$script: $1: skipped, since $2"
+        [ -z "${CUBEBOARD_SKIPPED:-}" ] || echo "$script: $1" >> "$CUBEBOARD_SKIPPED"
     fi
 }
 
@@ -26,20 +50,23 @@ last_run() {
 
 # The last line, which counts; the status is 0 where all claims hold.
 finish() {
-    echo "$script: $passed passed, $failed failed"
+    echo "$script: $passed passed, $failed failed, $skipped skipped"
     [ "$failed" -eq 0 ]
     exit $?
 }
 
 # The launcher first, which builds the program where that is needed; all other runs are of the program itself.
 build_program() {
-    "$root/cubeboard" < /dev/null > "$here/out" 2> "$here/err"
-    if [ $? -ne 3 ]; then
-        cat "$here/err"
-        failed=1
-        finish
+    built=${CUBEBOARD_PROGRAM:-$root/crates/cubeboard/out/cubeboard}
+    program=$built
+    if [ -z "${CUBEBOARD_PROGRAM:-}" ]; then
+        "$root/cubeboard" < /dev/null > "$here/out" 2> "$here/err"
+        if [ $? -ne 3 ]; then
+            cat "$here/err"
+            fail "there is no program that refuses an empty bundle, so nothing else is tried"
+            finish
+        fi
     fi
-    program=$root/crates/cubeboard/out/cubeboard
 }
 
 # Runs a command in $here/run, for a minute at most: the input, then the command.
@@ -125,7 +152,7 @@ as_another_user() {
 }
 as_this_user() {
     as_other=
-    program=$root/crates/cubeboard/out/cubeboard
+    program=$built
 }
 
 # The name of a C compiler, if one is here.
@@ -136,4 +163,18 @@ c_compiler() {
             return
         fi
     done
+}
+
+# Makes $here/NAME.so of scripts/NAME.c, which runs preload: NAME, and what needs it, which is skipped where there is no C compiler. The status
+# is 0 where it is made.
+preload() {
+    compiler=$(c_compiler)
+    if [ -z "$compiler" ]; then
+        skip "$2" "there is no C compiler" gcc
+        return 1
+    fi
+    "$compiler" -O1 -shared -fPIC -o "$here/$1.so" "$root/scripts/$1.c" -ldl > "$here/log" 2>&1 && return
+    cat "$here/log"
+    fail "scripts/$1.c: $compiler doesn't compile it"
+    return 1
 }

@@ -1,13 +1,15 @@
 #!/bin/sh
 # Runs the built program on small random bundles, which scripts/soak.awk makes, each by one worker with `--cut 0` and by a random number of
-# workers with a random cut, and looks whether report, standard error and status are the same. So it tries the claim that the report is
-# the same for every number of workers, every cut and every schedule; what the report has to be, the rows say.
+# workers with a random cut, and looks whether report, standard error and status are the same, and of the form that docs/FORMATS.md says
+# (scripts/form.awk): a report with the status of its last line and nothing on standard error, or no report, the status 3 and the line of a
+# fault. So it tries the claim that the report is the same for every number of workers, every cut and every schedule; what the report has to
+# be, the rows say. From 200 runs on, each of the three kinds of answer has to occur: refuted, open and refused.
 #
 #     sh scripts/soak.sh [RUNS [SEED]]
 #
 # Without RUNS it is 10,000 of them. Without SEED it is another one each time; the first line tells it, and it gives the same bundles again
-# with the same awk. A run that hasn't ended after 20 seconds is ended, and differs; so does a status that isn't 0, 1 or 3. Where something
-# differs, the bundle is kept, and a line says where. The last line counts.
+# with the same awk. A run that hasn't ended after 20 seconds is ended, and fails. Where something is wrong, the bundle is kept, and a line
+# says where. The last line counts: a claim for each bundle, and one for the kinds of answer.
 root=$(CDPATH= cd -- "$(dirname -- "$0")/.." && pwd) || exit 1
 runs=${1:-10000}
 seed=${2:-$(($(date +%s) % 1000000 * 1000 + $$ % 1000))}
@@ -20,18 +22,26 @@ echo "soak: seed $seed"
 
 build_program
 
-# Keeps a bundle by its number, and says what was run.
-keep() {
-    mkdir -p "$kept"
-    cp "$here/$1.in" "$kept/"
-    echo "soak: $kept/$1.in differs with $words: status $status, and $one by one worker"
+# The line of each fault of an input, as an extended regular expression.
+number='[1-9][0-9]*'
+fault="cubeboard: F(1 header|2 token, line $number|3 unfinished|4 too large, line $number|5 limit|7 cube $number repeats\
+|8 cubes $number and $number are not of one tree|9 cubes $number and $number overlap|10 bad label, line $number\
+|11 no such leaf, line $number|12 second proof, line $number)"
+
+# Whether the last run, with this status, is of the form that goes with it.
+has_form() {
+    case $1 in
+        0) [ ! -s "$here/err" ] && LC_ALL=C awk -v answer=REFUTED -f "$root/scripts/form.awk" "$here/out" ;;
+        1) [ ! -s "$here/err" ] && LC_ALL=C awk -v answer=OPEN -f "$root/scripts/form.awk" "$here/out" ;;
+        3) [ ! -s "$here/out" ] && [ "$(wc -l < "$here/err")" -eq 1 ] && grep -q -x -E -e "$fault" "$here/err" ;;
+        *) false ;;
+    esac
 }
 
 # Compares the runs of one bundle: its number, and the words of the second one.
 both() {
     number=$1
     shift
-    words=$*
     timeout 20 "$program" --workers 1 --cut 0 < "$here/$number.in" > "$here/one.out" 2> "$here/one.err"
     one=$?
     timeout 20 "$program" "$@" < "$here/$number.in" > "$here/out" 2> "$here/err"
@@ -40,26 +50,31 @@ both() {
         0) refuted=$((refuted + 1)) ;;
         1) open=$((open + 1)) ;;
         3) refused=$((refused + 1)) ;;
-        *) one="$one, which isn't a report's," ;;
     esac
-    if [ "$one" = "$status" ] && cmp -s "$here/one.out" "$here/out" && cmp -s "$here/one.err" "$here/err"; then
-        passed=$((passed + 1))
-    else
-        failed=$((failed + 1))
-        keep "$number"
+    [ "$one" -eq "$status" ] && cmp -s "$here/one.out" "$here/out" && cmp -s "$here/one.err" "$here/err" && has_form "$status"
+    right=$?
+    if [ "$right" -ne 0 ]; then
+        mkdir -p "$kept"
+        cp "$here/$number.in" "$kept/"
     fi
+    echo "$status" > "$here/status"
+    count "$kept/$number.in by $*, where one worker's status is $one" "$right"
     rm "$here/$number.in"
 }
 
 first=1
 while [ "$first" -le "$runs" ]; do
-    count=$((runs - first + 1))
-    [ "$count" -le 500 ] || count=500
-    LC_ALL=C awk -v seed="$seed" -v first="$first" -v count="$count" -v folder="$here" -f "$root/scripts/soak.awk" > "$here/list" || exit 1
+    some=$((runs - first + 1))
+    [ "$some" -le 500 ] || some=500
+    LC_ALL=C awk -v seed="$seed" -v first="$first" -v count="$some" -v folder="$here" -f "$root/scripts/soak.awk" > "$here/list" || exit 1
     while read -r number settings; do
         both "$number" $settings
     done < "$here/list"
-    first=$((first + count))
+    first=$((first + some))
 done
 echo "soak: by one worker: $refuted refuted, $open open, $refused with a fault"
+if [ "$runs" -ge 200 ]; then
+    [ "$refuted" -gt 0 ] && [ "$open" -gt 0 ] && [ "$refused" -gt 0 ]
+    count "each kind of answer occurred" $?
+fi
 finish

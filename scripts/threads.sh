@@ -9,8 +9,8 @@
 #   a pipe that nobody reads. There the status is 5 where the report, or the input, met a failure, and what was written is a
 #   beginning of the report; whether the error could be written changes no status. How a system treats the writer of a pipe that
 #   nobody reads makes no difference: the program takes no signal for it, the write fails, and that is F13.
-# A run that hasn't ended after a minute is ended, and fails. The writes that fail need a C compiler; where there is none, the script
-# says so and leaves them out. The last line counts.
+# A run that hasn't ended after a minute is ended, and fails. The writes that fail need a C compiler; where there is none, they are
+# skipped, or fail where CI is set. The last line counts.
 root=$(CDPATH= cd -- "$(dirname -- "$0")/.." && pwd) || exit 1
 . "$root/scripts/runs.sh"
 printf '0\n' > "$here/zero"
@@ -252,6 +252,8 @@ if [ -w /dev/full ]; then
     echo $? > "$here/status"
     has_left "$here/two" "$here/none" 0 "$here/none"
     count "a full device for the help" $?
+else
+    skip "a full device" "there is none here"
 fi
 
 # Runs with a device on descriptor $1 that takes at most $2 bytes at each write (all, where $2 is 0), and fails with the error $4 at the
@@ -294,13 +296,7 @@ each_write_of_the_error_fails() {
     count "the whole line by $((n - 1)) writes of $1 bytes" $?
 }
 
-compiler=$(c_compiler)
-if [ -z "$compiler" ]; then
-    echo "threads: the writes that fail are skipped, since there is no C compiler"
-elif ! "$compiler" -O1 -shared -fPIC -o "$here/device.so" "$root/scripts/device.c" -ldl > "$here/err" 2>&1; then
-    echo 1 > "$here/status"
-    count "scripts/device.c" 1
-else
+if preload device "the writes that fail"; then
     for error in ENOSPC EINTR; do
         each_write_fails 1 "$error"
         each_write_fails 7 "$error"

@@ -1,17 +1,12 @@
 #!/bin/sh
 # Runs the commands of docs/USING.md, its indented lines, from top to bottom in an empty folder, and looks whether what the page
 # says of them holds: of the page's example, and from the bundle on of a formula that isn't split, five pigeons in four holes with one
-# empty cube. Each way of the page to solve a leaf is tried where there is what it needs: `cadical` with `--lrat`; any `cadical` and a Rust
-# compiler for bench/tools/drat2lrat.rs, or drat-trim; `cryptominisat5` and that compiler. For each way that isn't tried, the script says so.
-# The last line counts.
+# empty cube. First without a solver, up to the report without proofs, and the check of an example whose proofs are there; then each way of the
+# page to solve a leaf where there is what it needs: `cadical` with `--lrat`; any `cadical` and a Rust compiler for bench/tools/drat2lrat.rs, or
+# drat-trim; `cryptominisat5` and that compiler. The others are skipped, also where CI is set: the script isn't part of `./check`. The last line
+# counts.
 root=$(CDPATH= cd -- "$(dirname -- "$0")/.." && pwd) || exit 1
 . "$root/scripts/runs.sh"
-
-# Says why nothing is tried, and ends.
-skip() {
-    echo "using: skipped, since $1"
-    exit 0
-}
 
 # Whether `cadical` takes the page's options and refutes two units.
 takes_lrat() {
@@ -27,20 +22,29 @@ block() {
     echo "$status" > "$here/status"
 }
 
-# From the bundle to the check, with the formula, its numbers and the cubes there: whose they are, and how many cubes.
-from_the_bundle() {
+# The bundle and the report without proofs, with the formula and the cubes there: whose they are, and how many cubes.
+to_the_bundle() {
     block 3.1
     [ "$status" -eq 1 ] && grep -q "^t $2 0 " "$here/out" && grep -q '^o 0$' "$here/out" && [ ! -s "$here/err" ]
     count "$1: the status is 1 and the root is open before there are proofs" $?
-    for step in 4.1 $way 4.7; do block "$step"; done
-    [ "$(grep -c '^cube [0-9]*: status 20$' "$here/out")" -eq "$2" ] && [ "$(ls proofs | wc -l)" -eq "$2" ] && [ ! -s "$here/err" ]
-    count "$1: the solver refutes each leaf" $?
+}
+
+# The check of the bundle and its folder of proofs: whose they are.
+check() {
     block 5.1
     [ "$(tail -n 2 "$here/out" | tr '\n' ' ')" = "s REFUTED 0 " ] && [ ! -s "$here/err" ]
     count "$1: the last line is s REFUTED and the status 0 with the folder of proofs" $?
     block 5.2
     [ "$status" -eq 0 ] && [ "$(tail -n 1 "$here/out")" = "s REFUTED" ] && [ ! -s "$here/err" ]
     count "$1: so they are with the bundle" $?
+}
+
+# From the bundle to the check, with the formula, its numbers and the cubes there: whose they are, and how many cubes.
+from_the_bundle() {
+    for step in 4.1 $way 4.7; do block "$step"; done
+    [ "$(grep -c '^cube [0-9]*: status 20$' "$here/out")" -eq "$2" ] && [ "$(ls proofs | wc -l)" -eq "$2" ] && [ ! -s "$here/err" ]
+    count "$1: the solver refutes each leaf" $?
+    check "$1"
 }
 
 # Five pigeons, each in one of four holes, and no two in one hole: variable 4 (P - 1) + H says that pigeon P is in hole H.
@@ -61,18 +65,28 @@ has() {
     command -v "$1" > /dev/null 2>&1
 }
 
-# The page from top to bottom by one of its ways to solve a leaf: the numbers of the blocks that it takes, and what it is.
-try() {
-    way=$1
+# The page up to the report without proofs, in a folder for the example and in one for the formula that isn't split: who tries it.
+begin() {
     rm -rf "$here/example" "$here/unsplit"
     mkdir "$here/example" "$here/unsplit"
+    cd "$here/unsplit" || exit 1
+    pigeons > formula.cnf
+    echo "a 0" > cubes
+    to_the_bundle "$1: one empty cube" 1
     cd "$here/example" || exit 1
     block 1.1
     [ "$status" -eq 0 ] && [ ! -s "$here/err" ]
-    count "$2: the example: the formula is there" $?
+    count "$1: the example: the formula is there" $?
     block 2.1
     [ "$status" -eq 0 ] && [ ! -s "$here/err" ]
-    count "$2: the example: the cubes are there" $?
+    count "$1: the example: the cubes are there" $?
+    to_the_bundle "$1: the example" 16
+}
+
+# The page from top to bottom by one of its ways to solve a leaf: the numbers of the blocks that it takes, and what it is.
+try() {
+    way=$1
+    begin "$2"
     from_the_bundle "$2: the example" 16
     block 5.3
     [ "$status" -eq 0 ] && grep -q '^n 16 17 0 refuted$' "$here/out" && [ ! -s "$here/err" ]
@@ -97,8 +111,6 @@ try() {
     [ "$status" -eq 0 ] && grep -q '^n 16 17 15 0 refuted$' "$here/out" && [ "$(tail -n 1 "$here/out")" = "s REFUTED" ] && [ ! -s "$here/err" ]
     count "$2: the example: what is left is refuted in the next run" $?
     cd "$here/unsplit" || exit 1
-    pigeons > formula.cnf
-    echo "a 0" > cubes
     variables=20
     clauses=45
     from_the_bundle "$2: one empty cube" 1
@@ -106,8 +118,14 @@ try() {
     count "$2: one empty cube: the solver's input is the formula" $?
 }
 
-has cadical || has cryptominisat5 || skip "there is neither cadical nor cryptominisat5"
 build_program
+# The page calls the launcher in the repository's folder: another program that is tried stands in its place, in a folder of the same things.
+if [ -n "${CUBEBOARD_PROGRAM:-}" ]; then
+    mkdir "$here/root"
+    ln -s "$root"/* "$here/root/"
+    ln -s -f "$program" "$here/root/cubeboard"
+    root=$here/root
+fi
 
 # The page's blocks, each in a file of its own under the number of its part, a full stop, and which one of that part it is.
 mkdir "$here/page"
@@ -118,8 +136,7 @@ awk -v page="$here/page" '
 ' "$root/docs/USING.md"
 blocks=$(ls "$here/page" | tr '\n' ' ')
 if [ "$blocks" != "1.1 2.1 3.1 4.1 4.2 4.3 4.4 4.5 4.6 4.7 5.1 5.2 5.3 5.4 8.1 8.2 8.3 " ]; then
-    echo "using: the page has the blocks $blocks, which this script doesn't know"
-    failed=1
+    fail "the page has the blocks $blocks, which this script doesn't know"
     finish
 fi
 
@@ -131,24 +148,27 @@ awk '
     END { printf "%s", block }
 ' "$root/docs/FORMATS.md" > "$here/labels"
 
+begin "no solver"
+cp -r "$root/examples/van-der-waerden-3-6" "$here/solved" && cd "$here/solved" && grep '^a ' case.icnf > cubes || exit 1
+check "no solver: the folder van-der-waerden-3-6 of examples"
 if takes_lrat; then
     try 4.2 "cadical with --lrat"
 else
-    echo "using: there is no cadical that has --lrat, so that way isn't tried"
+    skip "cadical with --lrat" "there is no cadical that has it"
 fi
 if has cadical && has rustc; then
     try "4.3 4.4" "cadical and drat2lrat"
 else
-    echo "using: there isn't cadical and a Rust compiler, so that way isn't tried"
+    skip "cadical and drat2lrat" "there isn't cadical and a Rust compiler"
 fi
 if has cadical && has drat-trim; then
     try 4.5 "cadical and drat-trim"
 else
-    echo "using: there isn't cadical and drat-trim, so that way isn't tried"
+    skip "cadical and drat-trim" "they aren't both there"
 fi
 if has cryptominisat5 && has rustc; then
     try "4.3 4.6" "cryptominisat5 and drat2lrat"
 else
-    echo "using: there isn't cryptominisat5 and a Rust compiler, so that way isn't tried"
+    skip "cryptominisat5 and drat2lrat" "there isn't cryptominisat5 and a Rust compiler"
 fi
 finish

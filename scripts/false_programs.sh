@@ -1,0 +1,74 @@
+#!/bin/sh
+# Runs each script that tries the program, each that calls `build_program` of scripts/runs.sh, with false programs in the place of the true one.
+# Each script has to fail with each of them, by a claim that doesn't hold of it; that the same claims hold of the true program is what the
+# scripts say by themselves. A script ends at its first claim that fails. The false programs:
+# - `silent` and `done` print nothing, and end with 3 and with 0;
+# - `open` and `refuted` say of every bundle that nothing is refuted, or that all cubes are, in a report of the right form with the right
+#   status and with the picture that goes with it;
+# - `faulty` refuses every bundle by the line of a fault.
+# The last line counts: a claim for each script and each false program.
+root=$(CDPATH= cd -- "$(dirname -- "$0")/.." && pwd) || exit 1
+. "$root/scripts/runs.sh"
+programs="silent done open refuted faulty"
+
+printf '%s\n' '#!/bin/sh' 'exit 3' > "$here/silent"
+printf '%s\n' '#!/bin/sh' 'exit 0' > "$here/done"
+printf '%s\n' '#!/bin/sh' 'echo "cubeboard: F2 token, line 1" >&2' 'exit 3' > "$here/faulty"
+
+# Makes one that says the same of every bundle: its name, what it says of each cube, the lines at its report's end, and its status.
+always() {
+    cat > "$here/$1" << PROGRAM
+#!/bin/sh
+picture=
+while [ \$# -gt 0 ]; do
+    case \$1 in
+        --workers | --cut | --proofs) shift 2 ;;
+        --map) picture=\$2 && shift 2 ;;
+        --*) shift ;;
+        *) break ;;
+    esac
+done
+report=\$(cat -- "\${1:--}" | awk '
+    /^a / { cubes[++n] }
+    END {
+        print "t " n + 0 " 0 1152921504606846976"
+        for (i = 1; i <= n; i++) print "a " i " $2"
+        print "$3"
+    }')
+[ -z "\$picture" ] || echo "\$report" | python3 "$root/scripts/draw.py" "\$1" /dev/stdin > "\$picture"
+echo "\$report"
+exit $4
+PROGRAM
+}
+always open open 'o 0\nw 1152921504606846976\ns OPEN' 1
+always refuted refuted 'w 0\ns REFUTED' 0
+# Some of the scripts run the program as another user, who has to get there.
+for program in $programs; do chmod 755 "$here/$program"; done
+chmod 711 "$here"
+
+# One script with one false program: the script's name, the program's, and the script's words. What is skipped isn't counted here.
+try() {
+    unset CI CUBEBOARD_SKIPPED
+    log=$here/$1.$2
+    CUBEBOARD_PROGRAM=$here/$2 CUBEBOARD_STOP=1 TMPDIR=$here timeout 300 sh "$root/scripts/$1.sh" $3 > "$log" 2>&1
+    [ $? -eq 1 ] && grep -q "^$1: .*: this isn't so" "$log" && tail -n 1 "$log" | grep -q -x "$1: [0-9]* passed, 1 failed, [0-9]* skipped"
+    echo $? > "$log.fails"
+}
+
+scripts=$(grep -l -x 'build_program' "$root"/scripts/*.sh)
+for program in $programs; do
+    for path in $scripts; do
+        name=$(basename "$path" .sh)
+        words=
+        [ "$name" != soak ] || words="200 1"
+        try "$name" "$program" "$words" &
+    done
+    wait
+    for path in $scripts; do
+        log=$here/$(basename "$path" .sh).$program
+        fails=$(cat "$log.fails")
+        count "$(basename "$path") fails with the false program $program" "$fails"
+        [ "$fails" -eq 0 ] || tail -n 3 "$log"
+    done
+done
+finish
