@@ -20,6 +20,7 @@ use Rattle.cube_report.specs.Report.{total_line, cube_lines, missing_lines, node
 use Rattle.cube_report.specs.Report.{weight_line}
 use Rattle.cube_report.specs.Stated.{IsStated}
 use Rattle.cube_report.specs.Correct.{IsCorrect, IsOutcome, SaysRefuted, IsUnsatisfiable, IsFaultOn}
+use Rattle.cube_report.specs.Correct.{IsReportOn}
 
 no_nil : (ys : List ℕ) (b : ℕ) → [] ≡ ys ++ b ∷ [] → ⊥
 no_nil [] b e = cc
@@ -128,6 +129,12 @@ outcome bundle case draws report map answer is stated = record {
   correct = correct bundle case draws report map answer is stated;
   drawn = stated.drawn;
 }
+
+-- what a run writes is the report on the bundle
+pub report_on : (bundle report : List ℕ) (answer : Bool) → IsCorrect bundle report answer →
+    IsReportOn bundle report
+report_on bundle report answer correct =
+    (correct.case, correct.marks, correct.judged, correct.text)
 
 -- what a run answers for bytes is what it answers for the bytes that were read
 pub sound_of : (known : Option (List ℕ)) (read : List ℕ) (result : Result Bool Fault)

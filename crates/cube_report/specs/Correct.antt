@@ -36,6 +36,10 @@ IsReportOn bundle report =
     (case : CaseOf) × (marks : List Mark) × IsJudged bundle case marks
     × (report ≡ report_text case marks)
 
+-- these texts have each report on the bundle
+abbrev pub AllowsReports : (List ℕ → Type 0) → List ℕ → Type 0
+AllowsReports texts bundle = (report : List ℕ) → IsReportOn bundle report → texts report
+
 -- the root of the case that the bundle stands for is marked exactly where the answer is true
 abbrev pub IsAnswerOn : List ℕ → Bool → Type 0
 IsAnswerOn bundle answer =
