@@ -11,8 +11,7 @@ use Rattle.case_core.specs.Literal.{Literal}
 use Rattle.case_core.specs.Tokens.{Token, is_line_end, is_blank, is_comment, words, line_tokens}
 use Rattle.case_core.specs.Tokens.{lines_from}
 use Rattle.case_core.specs.Tokens.{token_lines, joined}
-use Rattle.case_core.specs.Formula.{HasNoModel}
-use Rattle.case_core.specs.Icnf.{after_header, is_header, symbols_of, clauses_of}
+use Rattle.case_core.specs.Icnf.{after_header, is_header, symbols_of}
 use Rattle.case_core.specs.Bundle.{lines_of, is_label, line_onto, text_before, icnf_text}
 use Rattle.cube_report.specs.Correct.{IsFormulaOf, IsUnsatisfiable}
 use Rattle.bundle_files.specs.Files.{AreAdded, Held, IsJudgedOf, IsWithProofs, section_text}
@@ -179,8 +178,6 @@ proofs_keep_formula held folder bundle whole formula with_them =
 pub judged_unsatisfiable : (held : Held) (folder : Option (List ℕ)) (bundle whole : List ℕ)
     → IsJudgedOf held folder bundle whole → IsUnsatisfiable whole → IsUnsatisfiable bundle
 judged_unsatisfiable held None bundle whole same none = subst IsUnsatisfiable same none
-judged_unsatisfiable held (Some folder) bundle whole with_them none = λ items text.
-    let kept =
-    (proofs_keep_formula held folder bundle whole (clauses_of items) with_them).1
-    (items, text, refl) in
-    subst HasNoModel (sym kept.2) (none kept.0 kept.1)
+judged_unsatisfiable held (Some folder) bundle whole with_them none =
+    let kept = (proofs_keep_formula held folder bundle whole none.0 with_them).0 none.1 in
+    (none.0, kept, none.2)

@@ -19,6 +19,10 @@ Held = List ℕ → Option (Option (List ℕ))
 abbrev pub Gives : Held → List ℕ → Option (List ℕ) → Type 0
 Gives held path given = IfSome (held path) (λ known. given ≡ known)
 
+-- what may be written at a path may still be written there
+abbrev pub StaysAllowed : (List ℕ → List ℕ → Type 0) → (List ℕ → List ℕ → Type 0) → Type 0
+StaysAllowed old new = (path bytes : List ℕ) → old path bytes → new path bytes
+
 -- the bundle that is read: that of the file that is asked for, or the input
 abbrev pub IsRead : Held → Option (List ℕ) → Option (List ℕ) → List ℕ → Type 0
 IsRead held None input bundle = IfSome input (λ known. bundle ≡ known)

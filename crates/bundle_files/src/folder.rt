@@ -3,7 +3,7 @@ ghost use Rattle.std.specs.Prelude.{◌≡◌, ◌<◌, ◌^◌, ◌-◌, ◌++�
 ghost use Rattle.std.specs.String.{string_bytes};
 ghost use Rattle.cube_report.specs.Device.{IsReadFault};
 ghost use Rattle.bundle_files.specs.Files.{IsWithProofs, AreLeavesOf, AreAdded, names_from};
-ghost use Rattle.bundle_files.specs.Files.{proof_path};
+ghost use Rattle.bundle_files.specs.Files.{proof_path, StaysAllowed};
 
 use crate::store::Store;
 use case_core::{CaseFault, read_tree};
@@ -33,6 +33,7 @@ pub fn add_proofs<D: Store>(
     requires { D.failures store.old < 2 ^ 64 - 1 }
     // The bundle has got the folder's proofs, and the store holds what it held.
     ensures held { D.held store.new ≡ D.held store.old }
+    ensures allowed { StaysAllowed (D.allows store.old) (D.allows store.new) }
     ensures whole { OnOk result
         (IsWithProofs (D.held store.old) folder.now bundle.old.items bundle.new.items) }
     // A fault is that of a read that failed, or of memory.
@@ -76,6 +77,7 @@ fn add_sections<D: Store>(
 ) -> Result<(), Fault>
     requires { D.failures store.old < 2 ^ 64 - 1 }
     ensures held { D.held store.new ≡ D.held store.old }
+    ensures allowed { StaysAllowed (D.allows store.old) (D.allows store.new) }
     ensures added { OnOk result
         (AreAdded (D.held store.old) folder.now
         (names_from kind.now 1 count) bundle.old.items bundle.new.items) }
@@ -104,6 +106,7 @@ fn add_section<D: Store>(
 ) -> Result<(), Fault>
     requires { D.failures store.old < 2 ^ 64 - 1 }
     ensures held { D.held store.new ≡ D.held store.old }
+    ensures allowed { StaysAllowed (D.allows store.old) (D.allows store.new) }
     ensures added { OnOk result
         (AreAdded (D.held store.old) folder.now (name.now ∷ []) bundle.old.items bundle.new.items) }
     ensures ok { OnOk result (D.failures store.new ≡ D.failures store.old) }

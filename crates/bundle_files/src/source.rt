@@ -2,7 +2,7 @@
 //! folder.
 ghost use Rattle.std.specs.Prelude.{◌≡◌, List, ℕ, ◌<◌, ◌^◌, ◌-◌, ◌+◌, option_map, IfSome, IfOk};
 ghost use Rattle.std.specs.Prelude.{IfErr, OnOk};
-ghost use Rattle.bundle_files.specs.Files.{IsBundleOf, IsRead, IsUnread};
+ghost use Rattle.bundle_files.specs.Files.{IsBundleOf, IsRead, IsUnread, StaysAllowed};
 
 use crate::folder::add_proofs;
 use crate::store::Store;
@@ -24,6 +24,7 @@ pub fn read_judged<D: Store, I: Source>(
     requires store { D.failures store.old < 2 ^ 64 - 1 }
     requires input { I.failures input.old < 2 ^ 64 - 1 }
     ensures held { D.held store.new ≡ D.held store.old }
+    ensures allowed { StaysAllowed (D.allows store.old) (D.allows store.new) }
     ensures bundle { IfOk result
         (λ bundle. (read : List ℕ) × IsBundleOf (D.held store.old)
         (option_map (λ path. path.now) file.entry)
@@ -58,6 +59,7 @@ fn read_bundle<D: Store, I: Source>(
     requires store { D.failures store.old < 2 ^ 64 - 1 }
     requires input { I.failures input.old < 2 ^ 64 - 1 }
     ensures held { D.held store.new ≡ D.held store.old }
+    ensures allowed { StaysAllowed (D.allows store.old) (D.allows store.new) }
     ensures bundle { IfOk result (λ bundle.
         IsRead (D.held store.old) (option_map (λ path. path.now) file.entry)
         (I.remaining input.old) bundle.items) }

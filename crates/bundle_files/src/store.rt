@@ -3,7 +3,7 @@ ghost use Rattle.std.specs.Prelude.{◌≡◌, ◌≢◌, ℕ, List, Some, ◌<�
 ghost use Rattle.std.specs.Prelude.{IfOk, IfErr};
 ghost use Rattle.std.specs.Prelude.{OnOk};
 ghost use Rattle.cube_report.specs.Device.{IsReadFault};
-ghost use Rattle.bundle_files.specs.Files.{Gives, IsFound};
+ghost use Rattle.bundle_files.specs.Files.{Gives, IsFound, StaysAllowed};
 
 use cube_report::{Counted, Fault, read_to_end, write_all};
 use std::fs;
@@ -20,6 +20,9 @@ pub trait Store {
     // How many calls have failed so far.
     ghost failures: { Self → ℕ };
 
+    // Which bytes may be written at which path.
+    ghost allows: { Self → List ℕ → List ℕ → Type 0 };
+
     /// Appends the bytes of the file at this path, and answers whether there is one; where there is
     /// none, nothing changes.
     ///
@@ -29,19 +32,22 @@ pub trait Store {
     fn read(&mut self, path: &str, bytes: &mut Vec<u8>) -> Result<bool, Fault>
         requires { failures self.old < 2 ^ 64 - 1 }
         ensures held { held self.new ≡ held self.old }
+        ensures allowed { StaysAllowed (allows self.old) (allows self.new) }
         ensures found { IfOk result
             (λ there. IsFound (held self.old path.now) bytes.old.items bytes.new.items there) }
         ensures ok { OnOk result (failures self.new ≡ failures self.old) }
         ensures err { IfErr result
             (λ fault. IsReadFault (failures self.old) (failures self.new) fault) };
 
-    /// Makes the file at this path anew, with these bytes; no other file changes.
+    /// Makes the file at this path anew, with these bytes, which have to be allowed there; no other
+    /// file changes. Nothing is known to be allowed after that.
     ///
     /// `Device` where it can't be made or written, and then a beginning of the bytes may lie there;
     /// `Memory` where a growth was refused, and then nothing changes. The count of failed calls,
     /// which has to be below its greatest value, rises by one exactly with `Device`.
     fn write(&mut self, path: &str, bytes: &[u8]) -> Result<(), Fault>
-        requires { failures self.old < 2 ^ 64 - 1 }
+        requires count { failures self.old < 2 ^ 64 - 1 }
+        requires allowed { allows self.old path.now bytes.now }
         ensures written { OnOk result (Gives (held self.new) path.now (Some bytes.now)) }
         ensures elsewhere { (other : List ℕ) → other ≢ path.now
             → held self.new other ≡ held self.old other }
@@ -85,6 +91,8 @@ impl<'a, R: Files> Store for FileStore<'a, R> {
     ghost held = { λ _ _. None };
 
     ghost failures = { λ s. s.failed };
+
+    ghost allows = { λ _ _ _. Unit {0} };
 
     fn read(&mut self, path: &str, bytes: &mut Vec<u8>) -> Result<bool, Fault> {
         match fs::open(self.files, path) {

@@ -12,9 +12,10 @@ use Rattle.cube_report.specs.declared.fault.Fault.TheVariants.{Limit, Memory, Re
 use Rattle.cube_report.specs.declared.fault.Fault.TheVariants.{Overlap, BadLabel, NoSuchLeaf}
 use Rattle.cube_report.specs.declared.fault.Fault.TheVariants.{ProofTwice, Device, Thread}
 use Rattle.cube_report.specs.Faults.{IsInputFault}
-use Rattle.cube_report.specs.Correct.{IsOutcome, IsUnsatisfiable}
+use Rattle.cube_report.specs.Correct.{AllowsReports, IsOutcome, IsUnsatisfiable}
 use Rattle.cube_report.specs.Picture.{map_text}
 use Rattle.cube_command.specs.Program.{IsDrawn, IsRefused, IsReported, IsLineWritten, fault_line}
+use Rattle.cube_command.specs.Program.{AllowsFaults, AllowsPictures, IsPictureOn}
 use Rattle.cube_command.specs.Inner.Telling.{IsFaultWritten, status_of, status_of_answer}
 
 -- ---- the run
@@ -56,6 +57,61 @@ reported held after file folder map input old new read whole text picture draws 
           ∙ ap (λ (b : Bool). if b then map_text outcome.correct.case outcome.correct.marks else [])
           asked) there;
     }
+
+-- ---- what may be written
+
+-- what is drawn where a path for it is asked for is the picture of the bundle
+pub picture_on : (whole text picture path : List ℕ) (map : Option (List ℕ)) (draws answer : Bool)
+    → draws ≡ is_some map → map ≡ Some path → IsOutcome whole draws text picture answer →
+    IsPictureOn whole picture
+picture_on whole text picture path map draws answer asked is outcome = (
+  outcome.correct.case,
+  outcome.correct.marks,
+  outcome.correct.judged,
+  outcome.drawn
+      ∙ ap (λ (b : Bool). if b then map_text outcome.correct.case outcome.correct.marks else [])
+      (asked ∙ ap is_some is),
+)
+
+-- what is allowed for the words is allowed for the request that they make
+pub reports_asked : (texts : List ℕ → Type 0) (held : Held)
+    (file folder asked_file asked_folder input : Option (List ℕ))
+    → file ≡ asked_file → folder ≡ asked_folder
+    → ((read whole : List ℕ) → IsBundleOf held asked_file asked_folder input read whole →
+    AllowsReports texts whole)
+    → (read whole : List ℕ) → IsBundleOf held file folder input read whole →
+    AllowsReports texts whole
+reports_asked texts held file folder asked_file asked_folder input same_file same_folder may read
+    whole bundle = may read whole (rw (same_file, same_folder) at bundle)
+
+pub pictures_asked : (texts : List ℕ → List ℕ → Type 0) (held : Held)
+    (file folder map asked_file asked_folder asked_map input : Option (List ℕ))
+    → file ≡ asked_file → folder ≡ asked_folder → map ≡ asked_map
+    → ((path read whole : List ℕ) → asked_map ≡ Some path →
+    IsBundleOf held asked_file asked_folder input read whole → AllowsPictures (texts path) whole)
+    → (path read whole : List ℕ) → map ≡ Some path →
+    IsBundleOf held file folder input read whole → AllowsPictures (texts path) whole
+pictures_asked texts held file folder map asked_file asked_folder asked_map input same_file
+    same_folder same_map may path read whole is bundle =
+    may path read whole (sym same_map ∙ is) (rw (same_file, same_folder) at bundle)
+
+-- the line of a fault with which a run ended
+pub fault_asked : (texts : List ℕ → Type 0) (held : Held)
+    (file folder asked_file asked_folder input : Option (List ℕ)) (run : Result Bool Fault)
+    → file ≡ asked_file → folder ≡ asked_folder
+    → AllowsFaults texts held asked_file asked_folder input
+    → IfErr run (λ fault. IsInputFault fault → IsRefused held file folder input fault)
+    → IfErr run (λ fault. texts (fault_line fault))
+fault_asked texts held file folder asked_file asked_folder input (Ok answer) same_file same_folder
+    may refused = tt
+fault_asked texts held file folder asked_file asked_folder input (Err fault) same_file same_folder
+    may refused = may fault (λ of_input. rw (same_file, same_folder) at (refused of_input))
+
+-- want of memory may be told of any bundle
+pub memory_asked : (texts : List ℕ → Type 0) (held : Held) (file folder input : Option (List ℕ))
+    → AllowsFaults texts held file folder input → texts (fault_line Memory)
+memory_asked texts held file folder input may =
+    may Memory (λ of_input. absurd (of_input.0 refl))
 
 -- ---- its status
 

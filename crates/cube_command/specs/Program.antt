@@ -3,11 +3,13 @@ use Rattle.std.specs.Prelude.{◌≡◌, ◌<◌, ℕ, Bool, List, ◌++◌, tru
 use Rattle.std.specs.Prelude.{Some}
 use Rattle.std.specs.Io.KnownBytes.{Appends}
 use Rattle.bundle_files.specs.Files.{Held, Gives, IsBundleOf}
+use Rattle.cube_report.specs.Case.{CaseOf}
+use Rattle.cube_report.specs.Mark.{Mark}
 use Rattle.cube_report.specs.Picture.{map_text}
 use Rattle.cube_report.specs.declared.fault.Fault.{Fault}
-use Rattle.cube_report.specs.Faults.{fault_text}
+use Rattle.cube_report.specs.Faults.{IsInputFault, fault_text}
 use Rattle.cube_report.specs.Device.{AppendsBeginning}
-use Rattle.cube_report.specs.Correct.{IsCorrect, IsFaultOn, IsReportOn, IsUnsatisfiable}
+use Rattle.cube_report.specs.Correct.{IsCorrect, IsFaultOn, IsJudged, IsReportOn, IsUnsatisfiable}
 
 -- one of the program's statuses
 abbrev pub IsStatus : ℕ → Type 0
@@ -59,3 +61,23 @@ fault_line fault = codes "cubeboard: " ++ fault_text fault ++ codes "\n"
 abbrev pub IsLineWritten : Option (List ℕ) → Option (List ℕ) → ℕ → ℕ → List ℕ → Type 0
 IsLineWritten old new before after line =
     ((after ≡ before) × Appends old new line) ⊎ ((before < after) × AppendsBeginning old new line)
+
+-- ---- what may be written
+
+-- the picture of the tree of the case that the bundle stands for
+abbrev pub IsPictureOn : List ℕ → List ℕ → Type 0
+IsPictureOn bundle picture =
+    (case : CaseOf) × (marks : List Mark) × IsJudged bundle case marks
+    × (picture ≡ map_text case marks)
+
+-- these texts have each picture of the bundle
+abbrev pub AllowsPictures : (List ℕ → Type 0) → List ℕ → Type 0
+AllowsPictures texts bundle = (picture : List ℕ) → IsPictureOn bundle picture → texts picture
+
+-- These texts have the line of each fault that a run may end with: of the faults of an input, that
+-- of the bundle that the words ask for.
+abbrev pub AllowsFaults : (List ℕ → Type 0) → Held → Option (List ℕ) → Option (List ℕ) →
+    Option (List ℕ) → Type 0
+AllowsFaults texts held file folder input =
+    (fault : Fault) → (IsInputFault fault → IsRefused held file folder input fault)
+    → texts (fault_line fault)

@@ -6,12 +6,13 @@ ghost use Rattle.std.specs.Prelude.{IsErrOf};
 ghost use Rattle.std.specs.Io.KnownBytes.{Appends, Keeps};
 ghost use Rattle.cube_report.specs.Device.{AppendsBeginning, IsReadFault};
 ghost use Rattle.clap.specs.Words.{kind_of};
-ghost use Rattle.bundle_files.specs.Files.{IsAbsent, IsRead};
-ghost use Rattle.cube_report.specs.Correct.{IsUnsatisfiable};
+ghost use Rattle.bundle_files.specs.Files.{IsAbsent, IsBundleOf, IsRead};
+ghost use Rattle.cube_report.specs.Correct.{AllowsReports, IsUnsatisfiable};
 ghost use Rattle.cube_report.specs.Faults.{IsInputFault};
 ghost use Rattle.cube_command.specs.Words.{AreTaken, file_of, folder_of, map_of};
 ghost use Rattle.cube_command.specs.Program.{IsStatus, IsDrawn, IsReported, IsRefused, IsBegun};
-ghost use Rattle.cube_command.specs.Program.{IsLineWritten, fault_line};
+ghost use Rattle.cube_command.specs.Program.{IsLineWritten, fault_line, AllowsFaults};
+ghost use Rattle.cube_command.specs.Program.{AllowsPictures};
 
 use crate::progress::Watched;
 use crate::telling::{tell_fault, tell_run};
@@ -65,6 +66,26 @@ where
     requires input { I.failures input.old < 2 ^ 64 - 1 }
     requires output { O.failures output.old < 2 ^ 64 - 1 }
     requires errors { E.failures errors.old < 2 ^ 64 - 1 }
+
+    // All that is written, also where the call doesn't return. To `output`: the report on the
+    // bundle that is judged.
+    requires reports { (read whole : List ℕ)
+        → IsBundleOf (D.held store.old) (file_of (map S.text words.now))
+        (folder_of (map S.text words.now)) (I.remaining input.old) read whole
+        → AllowsReports (O.allows output.old) whole }
+    // To the file for the picture, and to no other: the picture of that bundle.
+    requires pictures { (path read whole : List ℕ) → map_of (map S.text words.now) ≡ Some path
+        → IsBundleOf (D.held store.old) (file_of (map S.text words.now))
+        (folder_of (map S.text words.now)) (I.remaining input.old) read whole
+        → AllowsPictures (D.allows store.old path) whole }
+    // To `errors`: the line of a fault, which is that bundle's where it is one of the input; or the
+    // parser's text, which no contract knows, where the words can't be taken.
+    requires faults { AllowsFaults (E.allows errors.old) (D.held store.old)
+        (file_of (map S.text words.now)) (folder_of (map S.text words.now))
+        (I.remaining input.old) }
+    requires words { ¬ AreTaken (map S.text words.now)
+        → (text : List ℕ) → E.allows errors.old text }
+
     ensures status { IsStatus result }
 
     // Status 0: the formula of the bundle that was read has no model.
@@ -163,6 +184,15 @@ where
     requires store { D.failures store.old < 2 ^ 64 - 1 }
     requires input { I.failures input.old < 2 ^ 64 - 1 }
     requires output { O.failures output.old < 2 ^ 64 - 1 }
+    requires reports { (read whole : List ℕ)
+        → IsBundleOf (D.held store.old) (option_map (λ text. text.now) request.now.file)
+        (option_map (λ text. text.now) request.now.proofs) (I.remaining input.old) read whole
+        → AllowsReports (O.allows output.old) whole }
+    requires pictures { (path read whole : List ℕ)
+        → option_map (λ text. text.now) request.now.map ≡ Some path
+        → IsBundleOf (D.held store.old) (option_map (λ text. text.now) request.now.file)
+        (option_map (λ text. text.now) request.now.proofs) (I.remaining input.old) read whole
+        → AllowsPictures (D.allows store.old path) whole }
     ensures report { IfOk result
         (IsReported (D.held store.old) (D.held store.new)
         (option_map (λ text. text.now) request.now.file)
@@ -208,6 +238,9 @@ fn write_outcome<D: Store, O: Sink>(
 ) -> Result<(), Fault>
     requires store { D.failures store.old < 2 ^ 64 - 1 }
     requires output { O.failures output.old < 2 ^ 64 - 1 }
+    requires report { O.allows output.old outcome.now.text.items }
+    requires picture { (path : List ℕ) → option_map (λ path. path.now) map ≡ Some path
+        → D.allows store.old path outcome.now.map.items }
     ensures drawn { OnOk result
         (IsDrawn (D.held store.new) (option_map (λ path. path.now) map.entry)
         outcome.now.map.items) }
@@ -238,7 +271,10 @@ fn write_outcome<D: Store, O: Sink>(
 /// The status of words that make no request, after the parser's text, or the line that memory was
 /// refused.
 fn refused<E: Sink>(alloc: Global, errors: &mut E, error: &WordsError) -> u8
-    requires { E.failures errors.old < 2 ^ 64 - 1 }
+    requires errors { E.failures errors.old < 2 ^ 64 - 1 }
+    requires memory { E.allows errors.old (fault_line Fault.Memory) }
+    requires words { kind_of error.now ≢ WordsFault.OutOfMemory
+        → (text : List ℕ) → E.allows errors.old text }
     ensures either { (result ≡ 2) ⊎ (result ≡ 4) }
     ensures usage { kind_of error.now ≡ WordsFault.OutOfMemory → result ≡ 4 }
     ensures memory { result ≡ 4 →

@@ -1,6 +1,7 @@
 //! What went wrong, as a line and as a status.
 
-ghost use Rattle.std.specs.Prelude.{◌≡◌, ◌⊎◌, ◌<◌, ◌^◌, ◌-◌, codes, OnOk, IfOk, IfErr, MatchResult};
+ghost use Rattle.std.specs.Prelude.{◌≡◌, ◌⊎◌, ◌<◌, ◌^◌, ◌-◌, codes, drop, OnOk, IfOk, IfErr};
+ghost use Rattle.std.specs.Prelude.{MatchResult};
 ghost use Rattle.std.specs.String.{string_bytes};
 ghost use Rattle.cube_report.specs.Faults.{IsInputFault};
 ghost use Rattle.cube_command.specs.Program.{IsLineWritten, fault_line};
@@ -14,7 +15,9 @@ use std::io::ErrorKind;
 
 /// The status of a run, after a line that says what went wrong, if anything did.
 pub fn tell_run<E: Sink>(alloc: Global, errors: &mut E, run: Result<bool, Fault>) -> u8
-    requires { E.failures errors.old < 2 ^ 64 - 1 }
+    requires errors { E.failures errors.old < 2 ^ 64 - 1 }
+    requires fault { IfErr run (λ fault. E.allows errors.old (fault_line fault)) }
+    requires memory { E.allows errors.old (fault_line Fault.Memory) }
     ensures told { MatchResult run
         (λ answer. (result ≡ status_of_answer answer) × (errors.new ≡ errors.old))
         (λ fault. IsFaultWritten fault result (E.contents errors.old) (E.contents errors.new)
@@ -30,7 +33,9 @@ pub fn tell_run<E: Sink>(alloc: Global, errors: &mut E, run: Result<bool, Fault>
 /// Says what went wrong, and answers the status. Where the line of a fault of the input finds no
 /// memory, it is want of memory that is told.
 pub fn tell_fault<E: Sink>(alloc: Global, errors: &mut E, fault: Fault) -> u8
-    requires { E.failures errors.old < 2 ^ 64 - 1 }
+    requires errors { E.failures errors.old < 2 ^ 64 - 1 }
+    requires fault { E.allows errors.old (fault_line fault) }
+    requires memory { E.allows errors.old (fault_line Fault.Memory) }
     ensures told { IsFaultWritten fault result (E.contents errors.old) (E.contents errors.new)
         (E.failures errors.old) (E.failures errors.new) }
 {
@@ -52,6 +57,8 @@ pub fn tell_fault<E: Sink>(alloc: Global, errors: &mut E, fault: Fault) -> u8
 fn tell_input<E: Sink>(alloc: Global, errors: &mut E, fault: Fault) -> u8
     requires errors { E.failures errors.old < 2 ^ 64 - 1 }
     requires input { IsInputFault fault }
+    requires fault { E.allows errors.old (fault_line fault) }
+    requires memory { E.allows errors.old (fault_line Fault.Memory) }
     ensures told { IsFaultWritten fault result (E.contents errors.old) (E.contents errors.new)
         (E.failures errors.old) (E.failures errors.new) }
 {
@@ -73,7 +80,8 @@ fn line_of(alloc: Global, fault: Fault) -> Result<String, AllocError>
 
 /// Writes a line, as far as the device takes it.
 fn tell<E: Sink>(errors: &mut E, line: &[u8])
-    requires { E.failures errors.old < 2 ^ 64 - 1 }
+    requires errors { E.failures errors.old < 2 ^ 64 - 1 }
+    requires line { E.allows errors.old line.now }
     ensures { IsLineWritten (E.contents errors.old) (E.contents errors.new) (E.failures errors.old)
         (E.failures errors.new) line.now }
 {
@@ -104,7 +112,10 @@ fn status_of(fault: Fault) -> u8
 /// The words after the program's name, or the status where they can't be read, after a line on
 /// `errors`. The kit's reader gives the words once: so `main` calls this first, and hands them on.
 pub fn own_words<R: Env + AllocGlobal, E: Sink>(rt: &R, errors: &mut E) -> Result<Vec<String>, u8>
-    requires { E.failures errors.old < 2 ^ 64 - 1 }
+    requires errors { E.failures errors.old < 2 ^ 64 - 1 }
+    // The lines that it may write.
+    requires words { E.allows errors.old (codes "cubeboard: a word is no text\n") }
+    requires memory { E.allows errors.old (fault_line Fault.Memory) }
     ensures ok { OnOk result (errors.new ≡ errors.old) }
     ensures err { IfErr result (λ status.
         ((status ≡ 2) × IsLineWritten (E.contents errors.old) (E.contents errors.new)
@@ -114,7 +125,7 @@ pub fn own_words<R: Env + AllocGlobal, E: Sink>(rt: &R, errors: &mut E) -> Resul
         (E.failures errors.old) (E.failures errors.new)
         (fault_line Fault.Memory))) }
 {
-    let mut words = match env::args(rt) {
+    let words = match env::args(rt) {
         Ok(words) => words,
         Err(error) if error.kind() != ErrorKind::OutOfMemory => {
             tell(errors, b"cubeboard: a word is no text\n");
@@ -122,16 +133,26 @@ pub fn own_words<R: Env + AllocGlobal, E: Sink>(rt: &R, errors: &mut E) -> Resul
         }
         Err(_) => return Err(tell_memory(errors)),
     };
-    let _program = words.next();
     match words.collect(rt.alloc()) {
-        Ok(words) => Ok(words),
+        Ok(words) => Ok(after_name(words)),
         Err(_) => Err(tell_memory(errors)),
     }
 }
 
+/// The words of a call after the first one, which is the program's name.
+fn after_name(mut words: Vec<String>) -> Vec<String>
+    ensures { result.items ≡ drop 1 words.items }
+{
+    if !words.is_empty() {
+        let _name = words.remove(0);
+    }
+    words
+}
+
 /// Says that memory was refused, and answers the status.
 fn tell_memory<E: Sink>(errors: &mut E) -> u8
-    requires { E.failures errors.old < 2 ^ 64 - 1 }
+    requires errors { E.failures errors.old < 2 ^ 64 - 1 }
+    requires memory { E.allows errors.old (fault_line Fault.Memory) }
     ensures status { result ≡ 4 }
     ensures told { IsLineWritten (E.contents errors.old) (E.contents errors.new)
         (E.failures errors.old)

@@ -4,8 +4,7 @@ use Rattle.std.proofs.Common.{append_assoc, arith, refl, sym, ap, ◌∙◌, sub
 use Rattle.std.proofs.Common.{IfSome, Result, Ok, Err, IfOk, IfErr, IsErrAnd, OnErr}
 use Rattle.std.specs.Prelude.{codes}
 use Rattle.case_core.specs.Formula.{IsRefuted}
-use Rattle.case_core.specs.Icnf.{clauses_of}
-use Rattle.case_core.proofs.IcnfUnique.{one_text_of, text_of}
+use Rattle.case_core.proofs.IcnfUnique.{text_of}
 use Rattle.split_tree.specs.SplitTree.{subtrees, total}
 use Rattle.split_tree.specs.Leaves.{missing_nodes, cube_count}
 use Rattle.case_core.specs.Bundle.{icnf_text}
@@ -20,6 +19,7 @@ use Rattle.cube_report.specs.Report.{total_line, cube_lines, missing_lines, node
 use Rattle.cube_report.specs.Report.{weight_line}
 use Rattle.cube_report.specs.Stated.{IsStated}
 use Rattle.cube_report.specs.Correct.{IsCorrect, IsOutcome, SaysRefuted, IsUnsatisfiable, IsFaultOn}
+use Rattle.cube_report.specs.Correct.{IsReportOn}
 
 no_nil : (ys : List ℕ) (b : ℕ) → [] ≡ ys ++ b ∷ [] → ⊥
 no_nil [] b e = cc
@@ -99,12 +99,9 @@ told (Err e) P fault h p = subst P (sym h) p
 -- the formula of a case that is refuted without any literal has no model, and it is the bundle's
 pub unsatisfiable : (bundle : List ℕ) (case : CaseOf) → IsCaseOf bundle case →
     IsRefuted case.formula [] → IsUnsatisfiable bundle
-unsatisfiable bundle case is refuted items text =
-    let one : items ≡ is.items =
-    one_text_of (icnf_text bundle) items is.items text
-    (text_of (icnf_text bundle) is.items is.text) in
-    let same : clauses_of items ≡ case.formula = ap clauses_of one ∙ sym is.formula in
-    rw same (rw append-nil at refuted)
+unsatisfiable bundle case is refuted =
+    let text = text_of (icnf_text bundle) is.items is.text in
+    (case.formula, (is.items, text, is.formula), rw append-nil at refuted)
 
 -- what is said of the case that a bundle stands for is what a run on the bundle promises
 pub correct : (bundle : List ℕ) (case : CaseOf) (draws : Bool) (report map : List ℕ)
@@ -128,6 +125,12 @@ outcome bundle case draws report map answer is stated = record {
   correct = correct bundle case draws report map answer is stated;
   drawn = stated.drawn;
 }
+
+-- what a run writes is the report on the bundle
+pub report_on : (bundle report : List ℕ) (answer : Bool) → IsCorrect bundle report answer →
+    IsReportOn bundle report
+report_on bundle report answer correct =
+    (correct.case, correct.marks, correct.judged, correct.text)
 
 -- what a run answers for bytes is what it answers for the bytes that were read
 pub sound_of : (known : Option (List ℕ)) (read : List ℕ) (result : Result Bool Fault)

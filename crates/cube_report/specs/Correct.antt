@@ -20,10 +20,10 @@ abbrev pub IsFormulaOf : List ℕ → List (List Literal) → Type 0
 IsFormulaOf bundle formula =
     (items : List Item) × IsTextOf (icnf_text bundle) items × (formula ≡ clauses_of items)
 
--- the clauses of the bundle's iCNF text have no model together
+-- the bundle has a formula, and that formula has no model
 abbrev pub IsUnsatisfiable : List ℕ → Type 0
 IsUnsatisfiable bundle =
-    (items : List Item) → IsTextOf (icnf_text bundle) items → HasNoModel (clauses_of items)
+    (formula : List (List Literal)) × IsFormulaOf bundle formula × HasNoModel formula
 
 -- the bundle stands for this case, whose nodes' findings have these marks
 pub record IsJudged (bundle : List ℕ) (case : CaseOf) (marks : List Mark) : Type 0 where
@@ -35,6 +35,10 @@ abbrev pub IsReportOn : List ℕ → List ℕ → Type 0
 IsReportOn bundle report =
     (case : CaseOf) × (marks : List Mark) × IsJudged bundle case marks
     × (report ≡ report_text case marks)
+
+-- these texts have each report on the bundle
+abbrev pub AllowsReports : (List ℕ → Type 0) → List ℕ → Type 0
+AllowsReports texts bundle = (report : List ℕ) → IsReportOn bundle report → texts report
 
 -- the root of the case that the bundle stands for is marked exactly where the answer is true
 abbrev pub IsAnswerOn : List ℕ → Bool → Type 0

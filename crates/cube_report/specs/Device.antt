@@ -14,6 +14,10 @@ CountsFailures before after result =
 abbrev pub AppendsBeginning : Option (List ℕ) → Option (List ℕ) → List ℕ → Type 0
 AppendsBeginning old new text = (n : ℕ) × (n ≤ length text) × Appends old new (take n text)
 
+-- these are the bytes that a reader has left, as far as they are known
+abbrev pub IsLeft : Option (List ℕ) → List ℕ → Type 0
+IsLeft left bytes = IfSome left (λ known. bytes ≡ known)
+
 -- some bytes grew by what a reader had left, where that is known
 abbrev pub IsReadOf : Option (List ℕ) → List ℕ → List ℕ → Type 0
 IsReadOf left old new = (read : List ℕ) × (new ≡ old ++ read) × IfSome left (λ known. read ≡ known)

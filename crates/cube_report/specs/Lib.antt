@@ -3,8 +3,10 @@ pub mod Device
 pub mod Report
 pub mod Correct
 pub mod Stated
+pub use Rattle.case_core.specs.Case
 pub use Rattle.check_crew.specs.Halls
 pub use Rattle.check_crew.specs.Seen
+pub use Rattle.mark_board.specs.declared.mark.Mark
 pub use Rattle.split_tree.specs.Parts
 pub use Rattle.split_tree.specs.SplitTree
 pub use Rattle.tree_map.specs.Picture

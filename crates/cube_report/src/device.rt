@@ -1,5 +1,5 @@
 //! Readers and writers that count their failed calls.
-ghost use Rattle.std.specs.Prelude.{◌≡◌, ℕ, List, Option, ◌<◌, ◌^◌, ◌-◌, length, IfOk};
+ghost use Rattle.std.specs.Prelude.{◌≡◌, ℕ, List, Option, ◌<◌, ◌^◌, ◌-◌, length, drop, IfOk};
 ghost use Rattle.std.specs.Io.{ReadsAtMost, WritesAtMost};
 ghost use Rattle.std.specs.Io.KnownBytes.{ReadConsumes, WriteAppends};
 ghost use Rattle.cube_report.specs.Device.{CountsFailures};
@@ -26,6 +26,10 @@ pub trait Source {
 }
 
 /// What can be written to, with the number of calls that failed.
+///
+/// A sink takes no text but those that it allows. What a call ensures is said of the calls that
+/// return; what a write asks for holds wherever something is written, so also on a way that never
+/// returns.
 pub trait Sink {
     // The bytes that the writer holds, where they are known.
     ghost contents: { Self → Option (List ℕ) };
@@ -33,18 +37,24 @@ pub trait Sink {
     // How many calls have failed so far.
     ghost failures: { Self → ℕ };
 
-    /// Writes a beginning of `bytes`, and answers how many it took. A write that takes none of some
-    /// bytes fails. The count of failed calls, which has to be below its greatest value, rises by
-    /// one exactly where the call fails.
+    // Which texts may be written next, each as a whole.
+    ghost allows: { Self → List ℕ → Type 0 };
+
+    /// Writes a beginning of `bytes`, which have to be a text that is allowed, and answers how many
+    /// it took: then the rest may be written. Of other texts, and after a failed call, nothing is
+    /// known to be allowed. A write that takes none of some bytes fails. The count of failed calls,
+    /// which has to be below its greatest value, rises by one exactly where the call fails.
     fn write(&mut self, bytes: &[u8]) -> io::Result<usize>
-        requires { failures self.old < 2 ^ 64 - 1 }
+        requires count { failures self.old < 2 ^ 64 - 1 }
+        requires allowed { allows self.old bytes.now }
         ensures bound { WritesAtMost result bytes.now }
         ensures bytes { WriteAppends (contents self.old) (contents self.new) result bytes.now }
         ensures takes { IfOk result (λ n. 0 < length bytes.now → 0 < n) }
+        ensures rest { IfOk result (λ n. allows self.new (drop n bytes.now)) }
         ensures count { CountsFailures (failures self.old) (failures self.new) result };
 }
 
-/// A reader or a writer, and how many of its calls have failed.
+/// A reader or a writer, and how many of its calls have failed. As a sink it allows each text.
 #[derive(Drop)]
 pub struct Counted<T> {
     inner: T,
@@ -79,6 +89,8 @@ impl<T: Write> Sink for Counted<T> {
     ghost contents = { λ s. T.contents s.inner };
 
     ghost failures = { λ s. s.failed };
+
+    ghost allows = { λ _ _. Unit {0} };
 
     fn write(&mut self, bytes: &[u8]) -> io::Result<usize> {
         match self.inner.write(bytes) {

@@ -7,11 +7,12 @@ ghost use Rattle.std.specs.Io.KnownBytes.{Keeps, Appends};
 ghost use Rattle.split_tree.specs.SplitTree.{size};
 ghost use Rattle.mark_board.specs.declared.mark.Mark.TheVariants.{Open};
 ghost use Rattle.cube_report.specs.Faults.{IsInputFault};
-ghost use Rattle.cube_report.specs.Device.{AppendsBeginning, IsReadFault, IsReadOf};
+ghost use Rattle.cube_report.specs.Device.{AppendsBeginning, IsLeft, IsReadFault, IsReadOf};
 ghost use Rattle.cube_report.specs.Stated.{IsStated};
 ghost use Rattle.mark_board.specs.Findings.{AreFindings};
 ghost use Rattle.cube_report.specs.Correct.{IsReportOn, IsAnswerOn, IsCorrect, IsOutcome};
 ghost use Rattle.cube_report.specs.Correct.{IsFaultOn, IsUnsatisfiable, SaysRefuted, map_if};
+ghost use Rattle.cube_report.specs.Correct.{AllowsReports};
 
 use crate::device::{Sink, Source};
 use crate::fault::Fault;
@@ -204,7 +205,9 @@ pub fn run<T: Threads + Wait + Sync, G: Gate + Sync>(
 /// Reads a bundle to the reader's end, and writes the report on it, which workers find as `run`
 /// says; answers whether the formula is refuted.
 ///
-/// Nothing is written before all is read and judged. A read of 0 bytes is the reader's end.
+/// Nothing but that report is written, whether the call returns or not. A read of 0 bytes is the
+/// reader's end.
+///
 /// `Device` where a read or a write failed in this call, and where a write failed, a beginning of
 /// the report was written.
 pub fn run_io<T: Threads + Wait + Sync, R: Source, W: Sink, G: Gate + Sync>(
@@ -217,6 +220,9 @@ pub fn run_io<T: Threads + Wait + Sync, R: Source, W: Sink, G: Gate + Sync>(
 ) -> Result<bool, Fault>
     requires reader { R.failures reader.old < 2 ^ 64 - 1 }
     requires writer { W.failures writer.old < 2 ^ 64 - 1 }
+    // Nothing may be written but the report on what is read.
+    requires allowed { (input : List ℕ) → IsLeft (R.remaining reader.old) input
+        → AllowsReports (W.allows writer.old) input }
 
     // What is written is the report on what was read, and the answer tells whether it says refuted:
     // both of one case.
@@ -258,8 +264,8 @@ pub fn run_io<T: Threads + Wait + Sync, R: Source, W: Sink, G: Gate + Sync>(
 
 /// Writes the report on a bundle that is handed over, which workers find as `run` says; answers
 /// whether the formula is refuted. The bundle's bytes are kept where they are while it is judged.
-/// Nothing is written before all is judged. `Device` where a write failed in this call, and then a
-/// beginning of the report was written.
+/// Nothing but that report is written, whether the call returns or not. `Device` where a write
+/// failed in this call, and then a beginning of the report was written.
 pub fn write_report<T: Threads + Wait + Sync, W: Sink, G: Gate + Sync>(
     rt: &T,
     alloc: Global,
@@ -269,7 +275,9 @@ pub fn write_report<T: Threads + Wait + Sync, W: Sink, G: Gate + Sync>(
     gate: &G,
 ) -> Result<bool, Fault>
     // One more failed write can be counted.
-    requires { W.failures writer.old < 2 ^ 64 - 1 }
+    requires count { W.failures writer.old < 2 ^ 64 - 1 }
+    // Nothing may be written but the report on the bundle.
+    requires allowed { AllowsReports (W.allows writer.old) bundle.items }
     // What is written is the report on the bundle, and the answer tells whether it says refuted.
     ensures correct { IfOk result (λ answer. (text : List ℕ)
         × IsCorrect bundle.items text answer
@@ -344,7 +352,9 @@ pub fn read_to_end<R: Source>(reader: &mut R, bytes: &mut Vec<u8>) -> Result<(),
 /// was written.
 pub fn write_all<W: Sink>(writer: &mut W, text: &[u8]) -> Result<(), Fault>
     // One more failed write can be counted.
-    requires { W.failures writer.old < 2 ^ 64 - 1 }
+    requires count { W.failures writer.old < 2 ^ 64 - 1 }
+    // The text may be written.
+    requires allowed { W.allows writer.old text.now }
     // The text was written, and nothing failed.
     ensures ok { OnOk result (Appends (W.contents writer.old) (W.contents writer.new) text.now) }
     ensures same { OnOk result (W.failures writer.new ≡ W.failures writer.old) }

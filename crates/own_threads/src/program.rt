@@ -3,8 +3,9 @@
 ghost use Rattle.std.specs.Prelude.{◌≡◌, ◌≢◌, ◌⊎◌, ◌↔◌, ◌<◌, ◌^◌, ◌-◌, ℕ, List, true};
 ghost use Rattle.std.specs.Prelude.{if◌then◌else◌, IfOk, IfErr, OnOk, IfSome, IsErrOf};
 ghost use Rattle.std.specs.Io.KnownBytes.{Keeps, Appends};
-ghost use Rattle.cube_report.specs.Correct.{IsCorrect, IsFaultOn, IsUnsatisfiable};
-ghost use Rattle.cube_report.specs.Device.{IsReadFault};
+ghost use Rattle.cube_report.specs.Correct.{AllowsReports, IsCorrect, IsFaultOn};
+ghost use Rattle.cube_report.specs.Correct.{IsUnsatisfiable};
+ghost use Rattle.cube_report.specs.Device.{IsLeft, IsReadFault};
 ghost use Rattle.cube_report.specs.Faults.{IsInputFault};
 
 use crate::report::outcome_of;
@@ -14,7 +15,7 @@ use std::sync::Wait;
 use std::thread::Threads;
 
 /// Reads a bundle to the input's end, and writes the report on it; answers whether the formula is
-/// refuted. Nothing is written before all is read and judged.
+/// refuted. Nothing but that report is written, whether the call returns or not.
 pub fn check<R: Threads + Wait + Sync, I: Source, O: Sink>(
     rt: &R,
     alloc: Global,
@@ -23,6 +24,9 @@ pub fn check<R: Threads + Wait + Sync, I: Source, O: Sink>(
 ) -> Result<bool, Fault>
     requires input { I.failures input.old < 2 ^ 64 - 1 }
     requires output { O.failures output.old < 2 ^ 64 - 1 }
+    // Nothing may be written but the report on what is read.
+    requires allowed { (bundle : List ℕ) → IsLeft (I.remaining input.old) bundle
+        → AllowsReports (O.allows output.old) bundle }
     // What is written is the report on what was read, and the answer is that of its last line.
     ensures correct { IfOk result (λ answer. IfSome (I.remaining input.old) (λ bundle.
         (text : List ℕ) × IsCorrect bundle text answer

@@ -8,6 +8,10 @@ loop-done-preserved g c =
     search rules in record {
       in_range = search rules;
       held = search rules;
+      allowed =
+          λ path bytes may.
+          c.in_ok-add_section.ensures.allowed path bytes
+          (c.loop-done.invariant.allowed path bytes may);
       same = search rules;
       added =
           one_further (g.D.Store.held c.args.store.now) _ c.args.folder.now c.args.kind.now _ _ _ _

@@ -1,7 +1,39 @@
 use Rattle.cube_command.proofs.WordsRequests.{nothing_asked, nothing_taken}
 use Rattle.cube_command.proofs.ProgramRuns.{device_run, fault_run, memory_run, sound_run}
+use Rattle.cube_command.proofs.ProgramRuns.{fault_asked, memory_asked, pictures_asked}
+use Rattle.cube_command.proofs.ProgramRuns.{reports_asked}
 use Rattle.std.proofs.Common.{◌≡◌, arith}
 use Rattle.cube_command.proofs.program.command.Goals as goal
+
+pub run_request-run-requires-clause-reports : goal.run_request-run-requires-clause-reports
+run_request-run-requires-clause-reports g c = λ κs within.
+    reports_asked (g.O.Sink.allows c.args.output.now) (g.D.Store.held c.args.store.now) _ _ _ _
+    (g.I.Source.remaining c.args.input.now)
+    c.in-Ok.ensures.file c.in-Ok.ensures.proofs c.requires.reports
+
+pub run_request-run-requires-clause-pictures : goal.run_request-run-requires-clause-pictures
+run_request-run-requires-clause-pictures g c = λ κs within.
+    pictures_asked (g.D.Store.allows c.args.store.now) (g.D.Store.held c.args.store.now) _ _ _ _ _
+    _ (g.I.Source.remaining c.args.input.now)
+    c.in-Ok.ensures.file c.in-Ok.ensures.proofs c.in-Ok.ensures.map c.requires.pictures
+
+pub tell_run-requires-clause-fault : goal.tell_run-requires-clause-fault
+tell_run-requires-clause-fault g c =
+    fault_asked (g.E.Sink.allows c.args.errors.now) (g.D.Store.held c.args.store.now) _ _ _ _
+    (g.I.Source.remaining c.args.input.now) c.run_request-run.result
+    c.in-Ok.ensures.file c.in-Ok.ensures.proofs c.requires.faults c.run_request-run.ensures.fault
+
+pub tell_run-requires-clause-memory : goal.tell_run-requires-clause-memory
+tell_run-requires-clause-memory g c =
+    memory_asked (g.E.Sink.allows c.args.errors.now) _ _ _ _ c.requires.faults
+
+pub refused-requires-clause-memory : goal.refused-requires-clause-memory
+refused-requires-clause-memory g c =
+    memory_asked (g.E.Sink.allows c.args.errors.now) _ _ _ _ c.requires.faults
+
+pub refused-requires-clause-words : goal.refused-requires-clause-words
+refused-requires-clause-words g c =
+    λ other. c.requires.words (λ taken. other (c.in-Err.ensures.refused taken))
 
 pub returns-in-Ok-clause-sound : goal.returns-in-Ok-clause-sound
 returns-in-Ok-clause-sound g c = λ zero.

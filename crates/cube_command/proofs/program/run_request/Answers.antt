@@ -1,7 +1,8 @@
 use Rattle.std.proofs.Common.{List, ℕ, option_map, Bor}
 use Rattle.cube_report.specs.Faults.{IsInputFault}
 use Rattle.cube_command.specs.Program.{IsRefused}
-use Rattle.cube_command.proofs.ProgramRuns.{reported, some_mapped}
+use Rattle.cube_report.proofs.CorrectReports.{report_on}
+use Rattle.cube_command.proofs.ProgramRuns.{picture_on, reported, some_mapped}
 use Rattle.cube_command.proofs.WordsRequests.{handed_on}
 use Rattle.cube_command.proofs.program.run_request.Goals as goal
 
@@ -24,6 +25,26 @@ returns-in_err-outcome-clause-fault g c =
 
 pub write_outcome-requires-clause-store : goal.write_outcome-requires-clause-store
 write_outcome-requires-clause-store g c = rw c.in_ok-bundle.ensures.ok.0 c.requires.store
+
+pub write_outcome-requires-clause-report : goal.write_outcome-requires-clause-report
+write_outcome-requires-clause-report g c =
+    let bundle = c.in_ok-bundle.ensures.bundle in
+    c.requires.reports bundle.0 c.in_ok-bundle.bundle.items bundle.1
+    c.in_ok-outcome.outcome.text.items
+    (report_on _ _ _ c.in_ok-outcome.ensures.outcome.correct)
+
+pub write_outcome-requires-clause-picture : goal.write_outcome-requires-clause-picture
+write_outcome-requires-clause-picture g c = λ path is.
+    let bundle = c.in_ok-bundle.ensures.bundle in
+    c.in_ok-bundle.ensures.allowed path c.in_ok-outcome.outcome.map.items
+    (c.requires.pictures path bundle.0 c.in_ok-bundle.bundle.items is bundle.1
+    c.in_ok-outcome.outcome.map.items
+    (picture_on c.in_ok-bundle.bundle.items c.in_ok-outcome.outcome.text.items
+    c.in_ok-outcome.outcome.map.items path _ c.is_some-draws.result
+    c.in_ok-outcome.outcome.refuted
+    (some_mapped (λ (text : Bor (List ℕ)). text.now) c.args.request.now.map c.is_some-draws.result
+    c.is_some-draws.ensures)
+    is c.in_ok-outcome.ensures.outcome))
 
 pub returns-clause-report : goal.returns-clause-report
 returns-clause-report g c =

@@ -1,6 +1,11 @@
-use Rattle.std.proofs.Common.{◌∙◌, List, ℕ, inl, subst}
+use Rattle.std.proofs.Common.{◌∙◌, List, ℕ, inl, subst, sym}
 use Rattle.cube_command.specs.Program.{IsLineWritten}
 use Rattle.cube_command.proofs.telling.tell_input.Goals as goal
+
+pub tell-requires-clause-line : goal.tell-requires-clause-line
+tell-requires-clause-line g c =
+    subst (g.E.Sink.allows c.args.errors.now) (sym (c.as_bytes.ensures.value ∙ c.in-Ok.ensures))
+    c.requires.fault
 
 pub returns-in-Ok : goal.returns-in-Ok
 returns-in-Ok g c = record {

@@ -17,6 +17,5 @@ pub returns-clause-sound : goal.returns-clause-sound
 returns-clause-sound g c = λ says.
     let copied = c.in_ok-to_vec.ensures.items_if_clones_equal (λ x y e. e) in
     subst IsUnsatisfiable copied
-    (λ formula stands.
-    c.in_ok-outcome.ensures.outcome.correct.sound
-    (outcome_says _ _ _ c.in_ok-outcome.ensures.outcome.correct says) formula stands)
+    (c.in_ok-outcome.ensures.outcome.correct.sound
+    (outcome_says _ _ _ c.in_ok-outcome.ensures.outcome.correct says))

@@ -1,4 +1,4 @@
-use Rattle.std.proofs.Common.{◌≡◌, ◌≤◌, ◌-◌, length, take}
+use Rattle.std.proofs.Common.{◌≡◌, ◌≤◌, ◌-◌, length, take, drop}
 use Rattle.std.specs.Io.KnownBytes.{Appends}
 use Rattle.cube_report.proofs.engine.write_all.Given as goal
 
@@ -8,6 +8,7 @@ invariant-loop-done g l = record {
   in_range : l.done ≤ length l.text;
   written : Appends (g.W.Sink.contents l.initial.writer) (g.W.Sink.contents l.writer)
       (take l.done l.text);
+  allowed : g.W.Sink.allows l.writer (drop l.done l.text);
 }
 
 abbrev pub decreases-loop-done : goal.decreases-loop-done
