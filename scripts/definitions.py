@@ -45,6 +45,18 @@ What the program and `run_io` have written where something fails, which files th
      ["cube_command/program.rt command status quiet elsewhere undrawn nothing beginning usage unread taken none memory device failed broken",
       "cube_command/telling.rt own_words ok err",
       "cube_report/engine.rt run_io nothing beginning device"]),
+    ("Nothing else is written, also by a call that never returns", """
+A call that may wait need not return, and then its clauses on what it has written say nothing. So each write asks for its leave: a text has to be one that the outlet
+allows, and `command` and `run_io` are proved for all outlets that allow the report on the bundle that is judged, its picture at the path of `--map` and nowhere else,
+the line of a fault that this bundle has, the lines of want of memory, of a thread or of a device, and where the words can't be taken the parser's text. Whatever they
+write is one of these, and after a report nothing is known to be allowed. That the program's own outlets allow each text changes nothing: `command` can't ask which they are.""",
+     ["cube_command/program.rt command reports pictures faults words",
+      "cube_command/telling.rt own_words words memory",
+      "cube_report/engine.rt run_io allowed",
+      "cube_report/engine.rt write_report allowed",
+      "cube_report/device.rt Sink::write allowed rest",
+      "bundle_files/store.rt Store::read allowed",
+      "bundle_files/store.rt Store::write allowed"]),
     ("bundle_files: the bundle that is judged", """
 It is the file's or the input's, with the proofs of a folder added for the leaves of its tree, in order and each under its own label.""",
      ["bundle_files/source.rt read_judged held bundle ok err kept",
@@ -129,7 +141,8 @@ numbers.
 From the second claim on, a list has only what no claim before it has listed, so that each definition is read once.
 Lines are counted without blank lines and comments, and one that is broken for its width
 counts once. A type counts with its constructors and fields. What a call asks of
-its caller counts with its clauses.
+its caller counts with its clauses, but for the leave to write, `allows`: the outlets of the program allow each text, so there no definition can change what
+is asked. The claim on what is written has it.
 
 Not among the definitions are:
 
@@ -461,10 +474,15 @@ class Repository:
         place, owner, *names = line.split()
         own = [clause for clause in self.clauses if "%s/%s" % clause[:2] == place and clause.owner == owner]
         for name in names:
-            if not any(clause.name == name and clause.kind != "requires" for clause in own):
+            if not any(clause.name == name and (clause.kind != "requires" or is_leave(clause)) for clause in own):
                 told = "without a name" if name == "-" else name
                 raise Problem("crates/%s: %s has no clause %s" % (place.replace("/", "/src/"), owner, told))
-        return [clause for clause in own if clause.kind == "requires" or clause.name in names]
+        return [clause for clause in own if clause.name in names or clause.kind == "requires" and not is_leave(clause)]
+
+
+def is_leave(clause):
+    """Whether a clause says what an outlet allows to be written."""
+    return clause.kind == "requires" and re.search(r"\b[aA]llows", clause.text)
 
 
 # ---- the document
