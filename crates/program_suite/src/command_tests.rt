@@ -1,6 +1,6 @@
 //! The program on words, streams and files: each expected report is written by hand from the
 //! formats.
-ghost use Rattle.std.specs.Prelude.{◌<◌, ◌^◌, ◌-◌};
+ghost use Rattle.std.specs.Prelude.{◌<◌, ◌^◌, ◌-◌, ℕ, List};
 
 use crate::devices::{Broken, File, Narrow, Shelf};
 use cube_command::{Counted, FileStore, NoGate, Source, Store, command};
@@ -114,6 +114,7 @@ fn told<R: AllocGlobal + Abort + Threads + Wait + Sync, D: Store, I: Source>(
 ) -> (u8, Vec<u8>, Vec<u8>)
     requires store { D.failures store.old < 2 ^ 64 - 1 }
     requires input { I.failures input.old < 2 ^ 64 - 1 }
+    requires allowed { (path bytes : List ℕ) → D.allows store.old path bytes }
 {
     let mut output = Vec::new(rt.alloc());
     let mut errors = Vec::new(rt.alloc());
@@ -149,7 +150,8 @@ fn ends_with<R: AllocGlobal + Abort + Threads + Wait + Sync, D: Store>(
     input: &[u8],
     ending: Ending<'_>,
 )
-    requires { D.failures store.old < 2 ^ 64 - 1 }
+    requires store { D.failures store.old < 2 ^ 64 - 1 }
+    requires allowed { (path bytes : List ℕ) → D.allows store.old path bytes }
 {
     let told = told(rt, store, words, &mut Counted::new(input));
     is_ending(rt, words, told, ending);

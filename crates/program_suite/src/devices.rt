@@ -79,6 +79,8 @@ impl Sink for Narrow {
 
     ghost failures = { λ s. s.failed };
 
+    ghost allows = { λ _ _. Unit {0} };
+
     fn write(&mut self, bytes: &[u8]) -> io::Result<usize> {
         self.calls = self.calls.wrapping_add(1);
         let Some(first) = bytes.first() else {
@@ -160,6 +162,8 @@ impl<'t> Store for Shelf<'t> {
     ghost held = { λ _ _. None };
 
     ghost failures = { λ s. s.failed };
+
+    ghost allows = { λ _ _ _. Unit {0} };
 
     fn read(&mut self, path: &str, bytes: &mut Vec<u8>) -> Result<bool, Fault> {
         self.calls = self.calls.wrapping_add(1);

@@ -1,7 +1,7 @@
 //! Reports and faults of bundles, and runs over streams in memory: each expected report is written
 //! by hand from the formats.
 
-ghost use Rattle.std.specs.Prelude.{◌<◌, ◌^◌, ◌-◌};
+ghost use Rattle.std.specs.Prelude.{◌<◌, ◌^◌, ◌-◌, ℕ, List};
 
 use crate::devices::{Broken, Narrow};
 use cube_report::{Counted, Fault, NoGate, Settings, Sink, Source, run_io, run_one};
@@ -21,6 +21,7 @@ fn run_by_two<R: Abort + Threads + Wait + Sync, I: Source, O: Sink>(
 ) -> Result<bool, Fault>
     requires reader { I.failures reader.old < 2 ^ 64 - 1 }
     requires writer { O.failures writer.old < 2 ^ 64 - 1 }
+    requires allowed { (text : List ℕ) → O.allows writer.old text }
 {
     let settings = Settings::new(2, 1).expect(rt, "no settings");
     run_io(rt, alloc, reader, writer, settings, &NoGate)
