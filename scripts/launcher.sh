@@ -34,7 +34,7 @@ wrong "libraries in the order of crates.txt" 's/if all(low.name in self.proved f
 wrong "a stale program" 's/ and file.read_text().strip() == wanted and / and /'
 wrong "a stale library" 's/return file.is_file() and file.read_text().strip() == wanted and/return file.is_file() and (not crate.is_program or file.read_text().strip() == wanted) and/'
 wrong "a hash that leaves out a crate" 's/^    for crate in crates:$/    for crate in crates: \n        if crate.name == "split_tree": sums[crate.name] = ""; continue/'
-wrong "a hash that leaves out the crates below" 's/lower = \[sums\[it.name\] for it in crate.lower\]/lower = []/'
+wrong "a hash that leaves out the crates below" 's/crate.own, lower = crate.sum(), .*/crate.own, lower = crate.sum(), []/'
 wrong "a hash that leaves out proofs" 's/("src", "specs", "proofs")\]$/("src", "specs")]/'
 wrong "a hash that leaves out the kit" 's/made = f"{NEEDED}/made = f"/'
 wrong "a program that is left where a crate can't be built" 's/self.made(crate).unlink(missing_ok=True)/pass/'
