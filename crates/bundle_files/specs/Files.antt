@@ -2,6 +2,7 @@
 -- that a folder has for its leaves.
 use Rattle.std.specs.Prelude.{◌≡◌, ℕ, zero, suc, ◌+◌, Bool, List, [], ◌∷◌, ◌++◌, map, length, codes}
 use Rattle.std.specs.Prelude.{decimal, Option, None, Some, IfSome, is_some, unwrap_or, ◌⊎◌}
+use Rattle.std.specs.Prelude.{true, false}
 use Rattle.std.specs.List.{All, flat_map}
 use Rattle.case_core.specs.SplitTree.{SplitTree}
 use Rattle.case_core.specs.Leaves.{missing_nodes, cube_count}
@@ -84,6 +85,15 @@ pub record IsBundleOf (held : Held) (file folder input : Option (List ℕ)) (rea
   pub is_judged : IsJudgedOf held folder read whole
 
 -- ---- what single calls do
+
+-- what lies at a path, where it is known what lies there
+abbrev pub held_if : Bool → Option (List ℕ) → Option (Option (List ℕ))
+held_if false lies = None
+held_if true lies = Some lies
+
+-- a file that was opened: it lies there, and its bytes are what is left to read
+abbrev pub IsOpened : Option (List ℕ) → Option (List ℕ) → Type 0
+IsOpened lies remaining = (bytes : List ℕ) × (lies ≡ Some bytes) × (remaining ≡ Some bytes)
 
 -- reading a path appended the bytes of its file, or nothing where there is none
 abbrev pub IsFound : Option (Option (List ℕ)) → List ℕ → List ℕ → Bool → Type 0

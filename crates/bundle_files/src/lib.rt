@@ -4,10 +4,12 @@
 
 mod folder;
 mod laws;
+mod opener;
 mod source;
 mod store;
 
 pub use folder::add_proofs;
 pub use laws::proofs_keep_formula;
+pub use opener::{Opener, SystemFiles};
 pub use source::read_judged;
 pub use store::{FileStore, Store};

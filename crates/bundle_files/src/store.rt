@@ -5,10 +5,9 @@ ghost use Rattle.std.specs.Prelude.{OnOk};
 ghost use Rattle.cube_report.specs.Device.{IsReadFault};
 ghost use Rattle.bundle_files.specs.Files.{Gives, IsFound, StaysAllowed};
 
+use crate::opener::Opener;
 use cube_report::{Counted, Fault, read_to_end, write_all};
-use std::fs;
 use std::io::ErrorKind;
-use std::rt::Files;
 
 /// What can be read by its path, FILE and a folder's proofs alike, and what is written by its path.
 /// The proofs' paths, the order of the leaves and the label lines are made above it, so they stand
@@ -58,28 +57,35 @@ pub trait Store {
             (λ fault. IsReadFault (failures self.old) (failures self.new) fault) };
 }
 
-/// The files of a system, and how many calls on them have failed. What they hold is not known to a
-/// contract.
+/// Files by their paths, and how many calls on them have failed. It opens them by an opener, and
+/// reads them to their ends and writes them itself.
 #[derive(Drop)]
-pub struct FileStore<'a, R> {
-    files: &'a R,
+pub struct FileStore<F> {
+    opener: F,
     failed: u64,
 }
 
-impl<'a, R> FileStore<'a, R> {
-    /// The files of this system, with no failed call yet.
-    pub fn new(files: &'a R) -> FileStore<'a, R>
+impl<F> FileStore<F> {
+    /// The files that this opener opens, with no failed call yet.
+    pub fn new(opener: F) -> FileStore<F>
+        ensures opener { result.opener ≡ opener }
         ensures none { result.failed ≡ 0 }
     {
-        FileStore { files, failed: 0 }
+        FileStore { opener, failed: 0 }
     }
-}
 
-impl<'a, R: Files> FileStore<'a, R> {
+    /// The opener.
+    pub fn opener(&self) -> &F
+        ensures { result.now ≡ self.now.opener }
+    {
+        &self.opener
+    }
+
     /// A fault of the device, which is counted.
     fn broken(&mut self) -> Fault
         requires { self.old.failed < 2 ^ 64 - 1 }
         ensures fault { result ≡ Fault.Device }
+        ensures opener { self.new.opener ≡ self.old.opener }
         ensures count { self.new.failed ≡ self.old.failed + 1 }
     {
         self.failed += 1;
@@ -87,15 +93,17 @@ impl<'a, R: Files> FileStore<'a, R> {
     }
 }
 
-impl<'a, R: Files> Store for FileStore<'a, R> {
-    ghost held = { λ _ _. None };
+impl<F: Opener> Store for FileStore<F> {
+    ghost use Rattle.bundle_files.specs.Files.{held_if};
+
+    ghost held = { λ s path. held_if (F.knows s.opener) (F.files s.opener path) };
 
     ghost failures = { λ s. s.failed };
 
     ghost allows = { λ _ _ _. Unit {0} };
 
     fn read(&mut self, path: &str, bytes: &mut Vec<u8>) -> Result<bool, Fault> {
-        match fs::open(self.files, path) {
+        match self.opener.open(path) {
             Ok(file) => match read_to_end(&mut Counted::new(file), bytes) {
                 Ok(()) => Ok(true),
                 Err(Fault::Memory) => Err(Fault::Memory),
@@ -110,11 +118,16 @@ impl<'a, R: Files> Store for FileStore<'a, R> {
     }
 
     fn write(&mut self, path: &str, bytes: &[u8]) -> Result<(), Fault> {
-        match fs::create(self.files, path) {
-            Ok(file) => match write_all(&mut Counted::new(file), bytes) {
-                Ok(()) => Ok(()),
-                Err(_) => Err(self.broken()),
-            },
+        match self.opener.create(path) {
+            Ok(file) => {
+                let mut made = Counted::new(file);
+                let result = write_all(&mut made, bytes);
+                self.opener.close(path, made.into_inner());
+                match result {
+                    Ok(()) => Ok(()),
+                    Err(_) => Err(self.broken()),
+                }
+            }
             Err(error) => match error.kind() {
                 ErrorKind::OutOfMemory => Err(Fault::Memory),
                 _ => Err(self.broken()),

@@ -7,7 +7,7 @@ mod progress;
 mod telling;
 mod words;
 
-pub use bundle_files::{FileStore, Store};
+pub use bundle_files::{FileStore, Opener, Store, SystemFiles};
 pub use cube_report::{Counted, Found, Gate, NoGate, Sink, Source};
 pub use program::command;
 pub use progress::Progress;

@@ -69,6 +69,13 @@ impl<T> Counted<T> {
     {
         Counted { inner, failed: 0 }
     }
+
+    /// The reader or the writer itself.
+    pub fn into_inner(self) -> T
+        ensures { result ≡ self.inner }
+    {
+        self.inner
+    }
 }
 
 impl<T: Read> Source for Counted<T> {

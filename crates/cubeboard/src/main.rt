@@ -1,7 +1,7 @@
 //! `cubeboard` checks refutations made by cube-and-conquer and prints a report.
 #![tactic(auto)]
 
-use cube_command::{Counted, FileStore, NoGate, Progress, command, own_words};
+use cube_command::{Counted, FileStore, NoGate, Progress, SystemFiles, command, own_words};
 use std::io::IsTerminal;
 use std::process::ExitCode;
 
@@ -10,7 +10,7 @@ fn main(rt: HostRuntime) -> ExitCode {
     let status = match own_words(&rt, &mut errors) {
         Ok(words) => command(
             &rt,
-            &mut FileStore::new(&rt),
+            &mut FileStore::new(SystemFiles::new(&rt)),
             &words,
             &mut Counted::new(rt.stdin()),
             &mut Counted::new(rt.stdout()),

@@ -1,7 +1,7 @@
 //! The program's words for its workers and its cut, by what a gate sees of them.
 
 use crossbeam_utils::Backoff;
-use cube_command::{Counted, FileStore, Found, Gate, NoGate, command};
+use cube_command::{Counted, FileStore, Found, Gate, NoGate, SystemFiles, command};
 use cube_report::Target;
 use fixtures::bundles::TURNS;
 use fixtures::four;
@@ -33,7 +33,7 @@ fn status_beside<R: Files + AllocGlobal + Abort + Threads + Wait + Sync, G: Gate
     let mut errors = Vec::new(rt.alloc());
     command(
         rt,
-        &mut FileStore::new(rt),
+        &mut FileStore::new(SystemFiles::new(rt)),
         words,
         &mut Counted::new(bundle.as_bytes()),
         &mut Counted::new(&mut output),

@@ -3,7 +3,7 @@
 ghost use Rattle.std.specs.Prelude.{◌<◌, ◌^◌, ◌-◌, ℕ, List};
 
 use crate::devices::{Broken, File, Narrow, Shelf};
-use cube_command::{Counted, FileStore, NoGate, Source, Store, command};
+use cube_command::{Counted, FileStore, NoGate, Source, Store, SystemFiles, command};
 use cube_report::Fault;
 use fixtures::bundles::{BOTH_CUBES, OPEN, OPEN_REPORT, REFUTED, REFUTED_REPORT};
 use fixtures::four;
@@ -161,7 +161,7 @@ fn ends_with<R: AllocGlobal + Abort + Threads + Wait + Sync, D: Store>(
 /// these paths.
 fn asks_for<R: AllocGlobal + Abort + Threads + Wait + Sync>(
     rt: &R,
-    mut store: Shelf<'_>,
+    mut store: FileStore<Shelf<'_>>,
     words: &[&str],
     input: &[u8],
     ending: Ending<'_>,
@@ -170,13 +170,13 @@ fn asks_for<R: AllocGlobal + Abort + Threads + Wait + Sync>(
     requires { store.failed < 2 ^ 64 - 1 }
 {
     ends_with(rt, &mut store, words, input, ending);
-    assert!(rt; store.asked.as_slice() == paths, "{words:?}");
+    assert!(rt; store.opener().asked.as_slice() == paths, "{words:?}");
 }
 
 #[test]
 fn statuses(rt: HostRuntime) -> Result<(), Fail> {
     for (bundle, status, report) in [(REFUTED, 0, REFUTED_REPORT), (OPEN, 1, OPEN_REPORT)] {
-        let store = Shelf::new(rt.alloc(), ALL_FILES);
+        let store = FileStore::new(Shelf::new(rt.alloc(), ALL_FILES));
         asks_for(&rt, store, &[], bundle, (status, report, b""), b"");
     }
     Ok(())
@@ -185,7 +185,7 @@ fn statuses(rt: HostRuntime) -> Result<(), Fail> {
 #[test]
 fn faults(rt: HostRuntime) -> Result<(), Fail> {
     for (bundle, line) in FAULTS {
-        let store = Shelf::new(rt.alloc(), ALL_FILES);
+        let store = FileStore::new(Shelf::new(rt.alloc(), ALL_FILES));
         asks_for(&rt, store, &[], bundle, (3, b"", line), b"");
     }
     Ok(())
@@ -196,10 +196,10 @@ fn faults(rt: HostRuntime) -> Result<(), Fail> {
 fn faults_with_a_folder(rt: HostRuntime) -> Result<(), Fail> {
     for (bundle, line) in FAULTS {
         let ending = (3, b"".as_slice(), *line);
-        let store = Shelf::new(rt.alloc(), ALL_FILES);
+        let store = FileStore::new(Shelf::new(rt.alloc(), ALL_FILES));
         asks_for(&rt, store, &["--proofs", "D"], bundle, ending, b"");
         let files = [("FILE", *bundle), ("D/1.lrat", b"x".as_slice())];
-        let store = Shelf::new(rt.alloc(), &files);
+        let store = FileStore::new(Shelf::new(rt.alloc(), &files));
         let words = ["--proofs", "D", "FILE"];
         asks_for(&rt, store, &words, REFUTED, ending, b"FILE\n");
     }
@@ -215,7 +215,7 @@ fn a_limit(rt: HostRuntime) -> Result<(), Fail> {
         bundle.extend_from_slice(b" 1")?;
     }
     bundle.extend_from_slice(b" 0\n")?;
-    let store = Shelf::new(rt.alloc(), ALL_FILES);
+    let store = FileStore::new(Shelf::new(rt.alloc(), ALL_FILES));
     let ending = (3, b"".as_slice(), b"cubeboard: F5 limit\n".as_slice());
     asks_for(&rt, store, &["--proofs", "D"], &bundle, ending, b"");
     Ok(())
@@ -246,7 +246,7 @@ fn with_files<R: Files + AllocGlobal + Abort + Threads + Wait + Sync>(rt: &R) {
         (no_file.as_slice(), BUNDLE, 5, b"", DEVICE),
         (folder.as_slice(), BUNDLE, 5, b"", DEVICE),
     ] {
-        let mut store = FileStore::new(rt);
+        let mut store = FileStore::new(SystemFiles::new(rt));
         ends_with(rt, &mut store, words, input, (status, report, line));
     }
 }
@@ -261,7 +261,7 @@ fn proofs_of_a_folder(rt: HostRuntime) -> Result<(), Fail> {
         (&[], 1, BARE_REPORT),
     ] {
         let ending = (status, report, b"".as_slice());
-        let store = Shelf::new(rt.alloc(), files);
+        let store = FileStore::new(Shelf::new(rt.alloc(), files));
         asks_for(&rt, store, &["--proofs", "D"], MIXED, ending, PROOF_PATHS);
     }
     Ok(())
@@ -271,9 +271,9 @@ fn proofs_of_a_folder(rt: HostRuntime) -> Result<(), Fail> {
 #[test]
 fn no_folder(rt: HostRuntime) -> Result<(), Fail> {
     let ending = (1, BARE_REPORT, b"".as_slice());
-    let store = Shelf::new(rt.alloc(), ALL_FILES);
+    let store = FileStore::new(Shelf::new(rt.alloc(), ALL_FILES));
     asks_for(&rt, store, &[], MIXED, ending, b"");
-    let store = Shelf::new(rt.alloc(), ALL_FILES);
+    let store = FileStore::new(Shelf::new(rt.alloc(), ALL_FILES));
     asks_for(&rt, store, &["FILE"], b"", ending, b"FILE\n");
     Ok(())
 }
@@ -291,7 +291,7 @@ fn lines_without_an_end(rt: HostRuntime) -> Result<(), Fail> {
         four!("a 1 0\na -1 0").as_bytes(),
         four!("a 1 0\na -1 0\nc a comment").as_bytes(),
     ] {
-        let store = Shelf::new(rt.alloc(), &files);
+        let store = FileStore::new(Shelf::new(rt.alloc(), &files));
         let paths = b"D/1.lrat\nD/2.lrat\n";
         asks_for(
             &rt,
@@ -311,7 +311,7 @@ fn lines_without_an_end(rt: HostRuntime) -> Result<(), Fail> {
 fn a_proof_in_both_places(rt: HostRuntime) -> Result<(), Fail> {
     let line: &[u8] = b"cubeboard: F12 second proof, line 13\n";
     let files = [("D/2.lrat", b"6 0 5 1 2 0\n".as_slice())];
-    let store = Shelf::new(rt.alloc(), &files);
+    let store = FileStore::new(Shelf::new(rt.alloc(), &files));
     let paths = b"D/1.lrat\nD/2.lrat\n";
     let input = BOTH_CUBES.as_bytes();
     asks_for(&rt, store, &["--proofs", "D"], input, (3, b"", line), paths);
@@ -322,7 +322,7 @@ fn a_proof_in_both_places(rt: HostRuntime) -> Result<(), Fail> {
 /// asked for these paths, and reads no input.
 fn leaves_input<R: AllocGlobal + Abort + Threads + Wait + Sync>(
     rt: &R,
-    mut store: Shelf<'_>,
+    mut store: FileStore<Shelf<'_>>,
     words: &[&str],
     ending: Ending<'_>,
     paths: &[u8],
@@ -333,7 +333,7 @@ fn leaves_input<R: AllocGlobal + Abort + Threads + Wait + Sync>(
     let told = told(rt, &mut store, words, &mut input);
     is_ending(rt, words, told, ending);
     assert!(rt; input.calls == 0, "{words:?}");
-    assert!(rt; store.asked.as_slice() == paths, "{words:?}");
+    assert!(rt; store.opener().asked.as_slice() == paths, "{words:?}");
 }
 
 // FILE is asked for first, and the input isn't read.
@@ -345,7 +345,7 @@ fn a_file_in_place_of_the_input(rt: HostRuntime) -> Result<(), Fail> {
         (&["FILE", "--proofs", "D"], 0, ALL_REPORT, all_paths),
         (&["--proofs=D", "FILE"], 0, ALL_REPORT, all_paths),
     ] {
-        let store = Shelf::new(rt.alloc(), ALL_FILES);
+        let store = FileStore::new(Shelf::new(rt.alloc(), ALL_FILES));
         leaves_input(&rt, store, words, (status, report, b""), paths);
     }
     Ok(())
@@ -355,7 +355,7 @@ fn a_file_in_place_of_the_input(rt: HostRuntime) -> Result<(), Fail> {
 #[test]
 fn no_file(rt: HostRuntime) -> Result<(), Fail> {
     for words in [["FILE"].as_slice(), &["--proofs", "D", "FILE"]] {
-        let store = Shelf::new(rt.alloc(), WITHOUT_M1);
+        let store = FileStore::new(Shelf::new(rt.alloc(), WITHOUT_M1));
         leaves_input(&rt, store, words, (5, b"", DEVICE), b"FILE\n");
     }
     Ok(())
@@ -372,7 +372,7 @@ fn a_file_fails(rt: HostRuntime) -> Result<(), Fail> {
         (5, b"FILE\nD/1.lrat\nD/2.lrat\nD/m1.lrat\nD/m2.lrat\n"),
     ] {
         for (fault, status, line) in [(Fault::Device, 5, DEVICE), (Fault::Memory, 4, MEMORY)] {
-            let store = Shelf::failing(rt.alloc(), ALL_FILES, fails_at, fault);
+            let store = FileStore::new(Shelf::failing(rt.alloc(), ALL_FILES, fails_at, fault));
             let words = ["--proofs", "D", "FILE"];
             leaves_input(&rt, store, &words, (status, b"", line), paths);
         }
@@ -385,12 +385,12 @@ fn a_file_fails(rt: HostRuntime) -> Result<(), Fail> {
 fn the_input_fails(rt: HostRuntime) -> Result<(), Fail> {
     let calls = REFUTED.len() as u64 / 16 + 2;
     for fails_at in 1..=calls {
-        let mut store = Shelf::new(rt.alloc(), ALL_FILES);
+        let mut store = FileStore::new(Shelf::new(rt.alloc(), ALL_FILES));
         let mut input = Broken::new(REFUTED, fails_at);
         let (answer, output, errors) = told(&rt, &mut store, &["--proofs", "D"], &mut input);
         assert!(rt; answer == 5 && output.is_empty(), "at {fails_at}");
         assert!(rt; errors.as_slice() == DEVICE, "at {fails_at}");
-        assert!(rt; store.asked.is_empty(), "at {fails_at}");
+        assert!(rt; store.opener().asked.is_empty(), "at {fails_at}");
     }
     Ok(())
 }
@@ -407,7 +407,7 @@ fn output_fails_at<R: AllocGlobal + Abort + Threads + Wait + Sync>(
     let no_words: [&str; 0] = [];
     let answer = command(
         rt,
-        &mut Shelf::new(rt.alloc(), &[]),
+        &mut FileStore::new(Shelf::new(rt.alloc(), &[])),
         &no_words,
         &mut Counted::new(REFUTED),
         &mut output,
@@ -442,7 +442,7 @@ fn errors_fail_at<R: AllocGlobal + Abort + Threads + Wait + Sync>(
     let mut errors = Narrow::new(rt.alloc(), fails_at);
     let answer = command(
         rt,
-        &mut Shelf::new(rt.alloc(), &[]),
+        &mut FileStore::new(Shelf::new(rt.alloc(), &[])),
         words,
         &mut Counted::new(input),
         &mut Counted::new(&mut output),
@@ -473,14 +473,17 @@ fn the_errors_fail(rt: HostRuntime) -> Result<(), Fail> {
 /// The program on these words ends with status 2, no report and a text of errors, and reads
 /// nothing.
 fn is_refused<R: AllocGlobal + Abort + Threads + Wait + Sync>(rt: &R, words: &[&str]) {
-    let mut store = Shelf::new(rt.alloc(), ALL_FILES);
+    let mut store = FileStore::new(Shelf::new(rt.alloc(), ALL_FILES));
     let mut input = Broken::new(REFUTED, 0);
     let (answer, output, errors) = told(rt, &mut store, words, &mut input);
     assert!(rt;
         answer == 2 && output.is_empty() && !errors.is_empty(),
         "{answer} on {words:?}"
     );
-    assert!(rt; store.asked.is_empty() && input.calls == 0, "{words:?}");
+    assert!(rt;
+        store.opener().asked.is_empty() && input.calls == 0,
+        "{words:?}"
+    );
 }
 
 #[test]
@@ -523,7 +526,7 @@ fn ends_of_the_ranges(rt: HostRuntime) -> Result<(), Fail> {
         ["--workers", "1", "--cut", "0"],
         ["--cut", "6", "--workers", "32"],
     ] {
-        let store = Shelf::new(rt.alloc(), ALL_FILES);
+        let store = FileStore::new(Shelf::new(rt.alloc(), ALL_FILES));
         let ending = (0, REFUTED_REPORT, b"".as_slice());
         asks_for(&rt, store, &words, REFUTED, ending, b"");
     }

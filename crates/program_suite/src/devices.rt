@@ -1,11 +1,13 @@
 //! A reader, a writer and files in memory that count their calls, and fail at one of them.
-ghost use Rattle.std.specs.Prelude.{None, Some, ◌≡◌, ◌<◌, ◌+◌, ◌^◌, ◌-◌, IfErr};
-ghost use Rattle.cube_report.specs.Device.{IsReadFault};
+ghost use Rattle.std.specs.Prelude.{Some, true, ◌≡◌, map, option_map};
+ghost use Rattle.std.specs.String.{string_bytes};
+ghost use Rattle.program_suite.specs.Shelf.{bytes_at, lies_at};
 
-use cube_command::{Sink, Source, Store};
+use cube_command::{Opener, Sink, Source};
 use cube_report::Fault;
 use std::alloc::Global;
 use std::io;
+use std::io::{ErrorKind, Read};
 
 /// A reader of 16 bytes a call that fails at one of its calls, counted from 1, with the fault that
 /// a signal makes; at none where that is 0.
@@ -98,7 +100,10 @@ impl Sink for Narrow {
 pub type File<'t> = (&'t str, &'t [u8]);
 
 /// The bytes of the file at this path, if there is one.
-fn bytes_at<'t>(files: &'t [File<'t>], path: &str) -> Option<&'t [u8]> {
+fn bytes_at<'t>(files: &'t [File<'t>], path: &str) -> Option<&'t [u8]>
+    ensures { option_map (λ bytes. bytes.now) result
+        ≡ bytes_at (map (λ file. (file.0.now, file.1.now)) files.now) path.now }
+{
     for (place, bytes) in files {
         if *place == path {
             return Some(bytes);
@@ -107,89 +112,147 @@ fn bytes_at<'t>(files: &'t [File<'t>], path: &str) -> Option<&'t [u8]> {
     None
 }
 
-/// These files and no others. One of its calls fails, counted from 1, after it has appended a byte;
-/// none does where that is 0.
+/// A file that is read, 16 bytes a call; one that is broken fails behind its first byte.
+#[derive(Drop)]
+pub struct Pages<'t> {
+    left: &'t [u8],
+    is_broken: bool,
+    is_begun: bool,
+}
+
+impl<'t> Read for Pages<'t> {
+    ghost remaining = { λ s. Some s.left.now };
+
+    fn read(&mut self, buffer: &mut [u8]) -> io::Result<usize> {
+        if self.is_broken && self.is_begun {
+            return Err(io::Error::from(ErrorKind::Other));
+        }
+        self.is_begun = true;
+        let most = if self.is_broken { 1 } else { 16 };
+        let count = self.left.len().min(buffer.len()).min(most);
+        let (now, later) = self.left.split_at(count);
+        buffer[..count].copy_from_slice(now);
+        self.left = later;
+        Ok(count)
+    }
+}
+
+/// A file that was made: its path and its bytes.
+#[derive(Drop)]
+struct Made {
+    path: String,
+    bytes: Vec<u8>,
+}
+
+/// These files, and one more that may be made; no others. One of its calls fails, counted from 1:
+/// with `Device` where a byte of the file was read, and with `Memory` before it; none does where
+/// that is 0.
 #[derive(Drop)]
 pub struct Shelf<'t> {
+    alloc: Global,
     files: &'t [File<'t>],
+    made: Option<Made>,
     /// Each path that was asked for, in order, and a line end behind it.
     pub asked: Vec<u8>,
-    /// Each path that was written to, in order, and a line end and the bytes behind it.
-    pub written: Vec<u8>,
     calls: u64,
     fails_at: u64,
     fault: Fault,
-    failed: u64,
 }
 
 impl<'t> Shelf<'t> {
     /// These files, no call of which fails.
-    pub fn new(alloc: Global, files: &'t [File<'t>]) -> Shelf<'t>
-        ensures none { result.failed ≡ 0 }
-    {
+    pub fn new(alloc: Global, files: &'t [File<'t>]) -> Shelf<'t> {
         Shelf::failing(alloc, files, 0, Fault::Device)
     }
 
     /// These files, where this call fails with this fault, `Memory` or `Device`.
-    pub fn failing(alloc: Global, files: &'t [File<'t>], fails_at: u64, fault: Fault) -> Shelf<'t>
-        ensures none { result.failed ≡ 0 }
-    {
+    pub fn failing(alloc: Global, files: &'t [File<'t>], fails_at: u64, fault: Fault) -> Shelf<'t> {
         Shelf {
+            alloc,
             files,
+            made: None,
             asked: Vec::new(alloc),
-            written: Vec::new(alloc),
             calls: 0,
             fails_at,
             fault,
-            failed: 0,
         }
     }
 
-    /// The fault of a call that fails; `Device` is counted.
-    fn fail(&mut self) -> Fault
-        requires { self.old.failed < 2 ^ 64 - 1 }
-        ensures { IsReadFault self.old.failed self.new.failed result }
-    {
-        if self.fault == Fault::Memory {
-            return Fault::Memory;
+    /// The path and the bytes of the file that was made, if one was.
+    pub fn made(&self) -> Option<(&str, &[u8])> {
+        match &self.made {
+            Some(made) => Some((made.path.as_str(), made.bytes.as_slice())),
+            None => None,
         }
-        self.failed += 1;
-        Fault::Device
+    }
+
+    /// Counts a call, and answers whether it is the one that fails.
+    fn fails(&mut self) -> bool
+        ensures same { (self.new.files ≡ self.old.files) × (self.new.made ≡ self.old.made) }
+    {
+        self.calls = self.calls.wrapping_add(1);
+        self.calls == self.fails_at
     }
 }
 
-impl<'t> Store for Shelf<'t> {
-    ghost held = { λ _ _. None };
+impl<'t> Opener for Shelf<'t> {
+    type Opened = Pages<'t>;
 
-    ghost failures = { λ s. s.failed };
+    type Made = Vec<u8>;
 
-    ghost allows = { λ _ _ _. Unit {0} };
+    ghost knows = { λ _. true };
 
-    fn read(&mut self, path: &str, bytes: &mut Vec<u8>) -> Result<bool, Fault> {
-        self.calls = self.calls.wrapping_add(1);
+    ghost files = { λ s path.
+        lies_at (option_map (λ made. (string_bytes made.path, made.bytes.items)) s.made)
+        (map (λ file. (file.0.now, file.1.now)) s.files.now) path };
+
+    ghost makes = { λ s path. option_map (λ made. string_bytes made.path) s.made ≡ Some path };
+
+    fn open(&mut self, path: &str) -> io::Result<Pages<'t>> {
         self.asked.extend_from_slice(path.as_bytes())?;
         self.asked.push(b'\n')?;
-        if self.calls == self.fails_at {
-            bytes.push(b'0')?;
-            return Err(self.fail());
+        let is_broken = self.fails();
+        if is_broken && self.fault == Fault::Memory {
+            return Err(io::Error::from(ErrorKind::OutOfMemory));
+        }
+        if let Some(made) = &self.made
+            && made.path.as_str() == path
+        {
+            return Err(io::Error::from(ErrorKind::PermissionDenied));
         }
         match bytes_at(self.files, path) {
-            Some(found) => {
-                bytes.extend_from_slice(found)?;
-                Ok(true)
-            }
-            None => Ok(false),
+            Some(left) => Ok(Pages {
+                left,
+                is_broken,
+                is_begun: false,
+            }),
+            None if is_broken => Err(io::Error::from(ErrorKind::PermissionDenied)),
+            None => Err(io::Error::from(ErrorKind::NotFound)),
         }
     }
 
-    fn write(&mut self, path: &str, bytes: &[u8]) -> Result<(), Fault> {
-        self.calls = self.calls.wrapping_add(1);
-        if self.calls == self.fails_at {
-            return Err(self.fail());
+    fn create(&mut self, path: &str) -> io::Result<Vec<u8>> {
+        if self.fails() {
+            return Err(io::Error::from(match self.fault {
+                Fault::Memory => ErrorKind::OutOfMemory,
+                _ => ErrorKind::PermissionDenied,
+            }));
         }
-        self.written.extend_from_slice(path.as_bytes())?;
-        self.written.push(b'\n')?;
-        self.written.extend_from_slice(bytes)?;
-        Ok(())
+        if let Some(made) = &self.made
+            && made.path.as_str() != path
+        {
+            return Err(io::Error::from(ErrorKind::PermissionDenied));
+        }
+        self.made = Some(Made {
+            path: String::from_str(self.alloc, path)?,
+            bytes: Vec::new(self.alloc),
+        });
+        Ok(Vec::new(self.alloc))
+    }
+
+    fn close(&mut self, path: &str, file: Vec<u8>) {
+        if let Some(made) = &mut self.made {
+            made.bytes = file;
+        }
     }
 }

@@ -3,7 +3,7 @@
 ghost use Rattle.std.specs.Prelude.{◌≡◌, ◌<◌, ◌^◌, ◌-◌};
 
 use crate::devices::{Narrow, Shelf};
-use cube_command::{Counted, NoGate, command};
+use cube_command::{Counted, FileStore, NoGate, command};
 use cube_report::Fault;
 use fixtures::bundles::{BOTH_CUBES, BOTH_CUBES_REPORT};
 use std::process::Abort;
@@ -36,7 +36,7 @@ const CELLS: &[&str] = &[
 /// errors.
 fn status_with<R: AllocGlobal + Abort + Threads + Wait + Sync>(
     rt: &R,
-    store: &mut Shelf<'_>,
+    store: &mut FileStore<Shelf<'_>>,
     words: &[&str],
     input: &[u8],
     output: &mut Narrow,
@@ -63,23 +63,21 @@ fn status_with<R: AllocGlobal + Abort + Threads + Wait + Sync>(
 #[test]
 fn a_picture(rt: HostRuntime) {
     for words in [["--map", "tree.svg"].as_slice(), &["--map=tree.svg"], &[]] {
-        let mut store = Shelf::new(rt.alloc(), &[]);
+        let mut store = FileStore::new(Shelf::new(rt.alloc(), &[]));
         let mut output = Narrow::new(rt.alloc(), 0);
         let input = BOTH_CUBES.as_bytes();
         let (status, errors) = status_with(&rt, &mut store, words, input, &mut output);
         assert!(rt; status == 0 && errors.is_empty(), "{words:?}");
         assert!(rt; output.written.as_slice() == BOTH_CUBES_REPORT, "{words:?}");
-        let written = String::from_utf8(store.written).expect(&rt, "no text");
-        assert!(rt;
-            written.starts_with("tree.svg\n<svg ") == (words.len() > 0),
-            "{words:?}"
-        );
-        assert!(rt;
-            written.ends_with("</svg>\n") == (words.len() > 0),
-            "{words:?}"
-        );
+        let Some((path, bytes)) = store.opener().made() else {
+            assert!(rt; words.is_empty(), "{words:?}");
+            continue;
+        };
+        assert!(rt; !words.is_empty() && path == "tree.svg", "{words:?}");
+        let written = str::from_utf8(bytes).expect(&rt, "no text");
+        assert!(rt; written.starts_with("<svg ") && written.ends_with("</svg>\n"));
         for cell in CELLS {
-            assert!(rt; written.contains(cell) == (words.len() > 0), "{words:?}");
+            assert!(rt; written.contains(cell), "{words:?}");
         }
     }
 }
@@ -90,31 +88,31 @@ fn a_picture(rt: HostRuntime) {
 fn no_picture(rt: HostRuntime) {
     let words = ["--map", "tree.svg"].as_slice();
     for (fault, wanted, line) in [(Fault::Device, 5, DEVICE), (Fault::Memory, 4, MEMORY)] {
-        let mut store = Shelf::failing(rt.alloc(), &[], 1, fault);
+        let mut store = FileStore::new(Shelf::failing(rt.alloc(), &[], 1, fault));
         let mut output = Narrow::new(rt.alloc(), 0);
         let input = BOTH_CUBES.as_bytes();
         let (status, errors) = status_with(&rt, &mut store, words, input, &mut output);
         assert_eq!(rt; status, wanted);
         assert!(rt; output.written.is_empty() && errors.as_slice() == line);
-        assert!(rt; store.written.is_empty());
+        assert!(rt; store.opener().made().is_none());
     }
-    let mut store = Shelf::new(rt.alloc(), &[]);
+    let mut store = FileStore::new(Shelf::new(rt.alloc(), &[]));
     let mut output = Narrow::new(rt.alloc(), 0);
     let (status, errors) = status_with(&rt, &mut store, words, b"p cnf 1 1\n", &mut output);
     assert_eq!(rt; status, 3);
     assert!(rt; errors.as_slice() == HEADER);
-    assert!(rt; output.written.is_empty() && store.written.is_empty());
+    assert!(rt; output.written.is_empty() && store.opener().made().is_none());
 }
 
 // The picture is written before the report: it is there where the report can't be written.
 #[test]
 fn a_picture_without_a_report(rt: HostRuntime) {
-    let mut store = Shelf::new(rt.alloc(), &[]);
+    let mut store = FileStore::new(Shelf::new(rt.alloc(), &[]));
     let mut output = Narrow::new(rt.alloc(), 1);
     let input = BOTH_CUBES.as_bytes();
     let words = ["--map", "tree.svg"].as_slice();
     let (status, errors) = status_with(&rt, &mut store, words, input, &mut output);
     assert_eq!(rt; status, 5);
     assert!(rt; output.written.is_empty() && errors.as_slice() == DEVICE);
-    assert!(rt; !store.written.is_empty());
+    assert!(rt; store.opener().made().is_some());
 }

@@ -1,7 +1,7 @@
 //! What the program tells of a run while it goes on. The lines are written by hand from how the
 //! bundles are made and from how the clock goes.
 
-use cube_command::{Counted, FileStore, NoGate, Progress, command};
+use cube_command::{Counted, FileStore, NoGate, Progress, SystemFiles, command};
 use fixtures::bundles::{FOUR_CUBES, FOUR_CUBES_REPORT};
 use fixtures::four;
 use std::fmt::Display;
@@ -95,7 +95,7 @@ fn tells<R: Files + AllocGlobal + Abort + Threads + Wait + Sync>(
     let mut errors = Vec::new(rt.alloc());
     let status = command(
         rt,
-        &mut FileStore::new(rt),
+        &mut FileStore::new(SystemFiles::new(rt)),
         words,
         &mut Counted::new(bundle.as_bytes()),
         &mut Counted::new(&mut output),

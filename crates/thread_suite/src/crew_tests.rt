@@ -3,7 +3,7 @@
 ghost use Rattle.std.specs.Prelude.{◌≡◌};
 
 use crate::cases::case;
-use case_core::{Leaf, Target};
+use case_core::{Case, Leaf, Target};
 use check_crew::{Found, Gate, NoGate, Settings, conquer};
 use crossbeam_utils::Backoff;
 use cube_report::{run, run_one};
@@ -12,7 +12,7 @@ use fixtures::bundles::{
     ROOT, TURNS,
 };
 use fixtures::{four, halves};
-use std::alloc::Global;
+use std::alloc::{AllocError, Global};
 use std::process::Abort;
 use std::sync::Wait;
 use std::sync::atomic::{AtomicU64, Ordering};
@@ -381,5 +381,63 @@ fn long_proofs_first(rt: HostRuntime) {
         assert_eq!(rt; gate.before.load(Ordering::SeqCst), order);
         assert_eq!(rt; gate.after.load(Ordering::SeqCst), order);
         assert_eq!(rt; gate.workers.load(Ordering::SeqCst), 0);
+    }
+}
+
+/// Counts the calls: four bits for each section's cube, the root's lowest.
+#[derive(Drop)]
+struct Tally {
+    started: AtomicU64,
+    before: AtomicU64,
+    after: AtomicU64,
+    ended: AtomicU64,
+}
+
+/// One in the four bits of the target's cube.
+fn one_of(target: Target) -> u64 {
+    1u64.wrapping_shl(cube_number(target).wrapping_mul(4))
+}
+
+impl Gate for Tally {
+    fn start(&self, _alloc: Global, _case: &Case, _cut: u32) -> Result<(), AllocError> {
+        self.started.fetch_add(1, Ordering::SeqCst);
+        Ok(())
+    }
+
+    fn before(&self, _worker: u32, target: Target) {
+        self.before.fetch_add(one_of(target), Ordering::SeqCst);
+    }
+
+    fn after(&self, _worker: u32, found: &Found<'_>) {
+        self.after.fetch_add(one_of(found.target), Ordering::SeqCst);
+    }
+
+    fn end(&self) {
+        self.ended.fetch_add(1, Ordering::SeqCst);
+    }
+}
+
+// Whatever the number of workers, each section is examined once and told once, between one start and
+// one end.
+#[test]
+fn each_section_is_told_once(rt: HostRuntime) {
+    for workers in [1, 2, 4, 32] {
+        for (bundle, report, once) in [
+            (FOUR_CUBES, FOUR_CUBES_REPORT, 0x11110),
+            (ROOT_AND_LEAVES, ROOT_AND_LEAVES_REPORT, 0x111),
+        ] {
+            let gate = Tally {
+                started: AtomicU64::new(0),
+                before: AtomicU64::new(0),
+                after: AtomicU64::new(0),
+                ended: AtomicU64::new(0),
+            };
+            let settings = settings(&rt, workers, 1);
+            assert!(rt; gives(&rt, rt.alloc(), bundle, settings, &gate, report));
+            assert_eq!(rt; gate.started.load(Ordering::SeqCst), 1);
+            assert_eq!(rt; gate.before.load(Ordering::SeqCst), once);
+            assert_eq!(rt; gate.after.load(Ordering::SeqCst), once);
+            assert_eq!(rt; gate.ended.load(Ordering::SeqCst), 1);
+        }
     }
 }

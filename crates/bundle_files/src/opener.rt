@@ -1,0 +1,99 @@
+//! What opens files and makes them, and what of that a contract can tell.
+
+ghost use Rattle.std.specs.Prelude.{◌≡◌, ◌≢◌, ℕ, List, [], Bool, true, Option, None, Some, IfOk};
+ghost use Rattle.std.specs.Prelude.{IfErr, OnOk};
+ghost use Rattle.std.specs.IoError.{error_kind};
+ghost use Rattle.bundle_files.specs.Files.{IsOpened};
+
+use std::io::{ErrorKind, Read, Write};
+use std::rt::Files;
+use std::{fs, io};
+
+/// What opens files for reading and makes files anew, by their paths, and does nothing else: what is
+/// read of them and written to them goes by the files that it hands out.
+pub trait Opener {
+    /// A file that was opened, which is read from its beginning.
+    type Opened: Read + Drop;
+
+    /// A file that was made, which is written.
+    type Made: Write + Drop;
+
+    // Whether it is known what lies at the paths.
+    ghost knows: { Self → Bool };
+
+    // Where that is known, what lies at each path: no file, or a file with these bytes.
+    ghost files: { Self → List ℕ → Option (List ℕ) };
+
+    // That a file at this path was made and isn't closed.
+    ghost makes: { Self → List ℕ → Type 0 };
+
+    /// Opens the file at this path for reading. A fault of the kind `NotFound` says that there is
+    /// none, and one of the kind `OutOfMemory` that memory was refused; nothing changes.
+    fn open(&mut self, path: &str) -> io::Result<Self::Opened>
+        ensures knows { knows self.new ≡ knows self.old }
+        ensures files { files self.new ≡ files self.old }
+        ensures opened { IfOk result (λ file. knows self.old ≡ true
+            → IsOpened (files self.old path.now) (Self.Opened.remaining file)) }
+        ensures absent { IfErr result (λ error. knows self.old ≡ true
+            → error_kind error ≡ ErrorKind.NotFound → files self.old path.now ≡ None) };
+
+    /// Makes the file at this path anew, with no bytes yet; no other file changes. A fault of the
+    /// kind `OutOfMemory` says that memory was refused, and then nothing changes.
+    fn create(&mut self, path: &str) -> io::Result<Self::Made>
+        ensures knows { knows self.new ≡ knows self.old }
+        ensures elsewhere { (other : List ℕ) → other ≢ path.now
+            → files self.new other ≡ files self.old other }
+        ensures makes { OnOk result (makes self.new path.now) }
+        ensures empty { IfOk result (λ file. knows self.old ≡ true
+            → Self.Made.contents file ≡ Some []) }
+        ensures nothing { IfErr result (λ error. error_kind error ≡ ErrorKind.OutOfMemory
+            → files self.new ≡ files self.old) };
+
+    /// Closes the file that was made at this path: what was written to it lies there.
+    fn close(&mut self, path: &str, file: Self::Made)
+        requires makes { makes self.old path.now }
+        ensures knows { knows self.new ≡ knows self.old }
+        ensures elsewhere { (other : List ℕ) → other ≢ path.now
+            → files self.new other ≡ files self.old other }
+        ensures there { knows self.old ≡ true
+            → files self.new path.now ≡ Self.Made.contents file };
+}
+
+/// The files of a system. What they hold is not known to a contract.
+#[derive(Clone, Copy)]
+pub struct SystemFiles<'a, R> {
+    files: &'a R,
+}
+
+impl<'a, R> SystemFiles<'a, R> {
+    /// The files of this system.
+    pub fn new(files: &'a R) -> SystemFiles<'a, R>
+        ensures { result.files.now ≡ files.now }
+    {
+        SystemFiles { files }
+    }
+}
+
+impl<'a, R: Files> Opener for SystemFiles<'a, R> {
+    type Opened = R::File;
+
+    type Made = R::File;
+
+    ghost use Rattle.std.specs.Prelude.{false, None};
+
+    ghost knows = { λ _. false };
+
+    ghost files = { λ _ _. None };
+
+    ghost makes = { λ _ _. Unit {0} };
+
+    fn open(&mut self, path: &str) -> io::Result<R::File> {
+        fs::open(self.files, path)
+    }
+
+    fn create(&mut self, path: &str) -> io::Result<R::File> {
+        fs::create(self.files, path)
+    }
+
+    fn close(&mut self, _path: &str, _file: R::File) {}
+}
