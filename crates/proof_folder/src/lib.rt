@@ -1,0 +1,10 @@
+//! A case whose sections came from files, one file a leaf: which case the bundle with all of them
+//! stands for, and what its findings are.
+#![tactic(auto)]
+
+mod laws;
+
+pub use laws::{
+    added_sections_make_a_case, findings_with_leaves, findings_without_line_ends,
+    line_end_keeps_proof,
+};
