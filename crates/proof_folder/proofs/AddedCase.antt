@@ -12,7 +12,7 @@ use Rattle.case_core.specs.Case.{CaseOf, SectionOf, proof_for, section_at, same_
 use Rattle.case_core.specs.Sections.{IsCaseOf, AreLabelled, AreSectionsOf}
 use Rattle.case_core.proofs.CaseTables.{sections_more, none_before, none_from}
 use Rattle.std.specs.List.{onto_first}
-use Rattle.proof_folder.specs.Added.{AreEnds, IsAlmost, AreAlmost, LeafFile, text_of}
+use Rattle.proof_folder.specs.Added.{AreEnds, IsAlmost, AreAlmost, LeafFile, section_text}
 use Rattle.proof_folder.specs.Added.{texts_of, section_of, sections_of, MayBeAdded, MayAllBeAdded}
 use Rattle.proof_folder.specs.Added.{IsCaseWith}
 use Rattle.proof_folder.proofs.AddedLines.{lines_more, before_label, label_begun, almost_header}
@@ -106,7 +106,7 @@ below name proof = (108 ∷ 32 ∷ name) ++ 10 ∷ proof
 
 -- what a file adds: a line end, a label line, and its bytes
 added_text : (bundle name proof : List ℕ)
-    → bundle ++ text_of name (Some proof) ≡ bundle ++ 10 ∷ below name proof
+    → bundle ++ section_text name (Some proof) ≡ bundle ++ 10 ∷ below name proof
 added_text bundle name proof =
     ap (λ (t : List ℕ). bundle ++ 10 ∷ 108 ∷ 32 ∷ t) (append_assoc name (10 ∷ []) proof)
 
@@ -198,7 +198,7 @@ module _ (bundle name proof : List ℕ) (case : CaseOf) (target : Target) (is : 
   }
 
   -- the bundle with the file stands for the case with its section
-  pub one_added : IsCaseWith (bundle ++ text_of name (Some proof)) case (section ∷ [])
+  pub one_added : IsCaseWith (bundle ++ section_text name (Some proof)) case (section ∷ [])
   one_added =
       subst (λ (t : List ℕ). IsCaseWith t case (section ∷ []))
       (sym (added_text bundle name proof)) one_more
@@ -253,7 +253,7 @@ then_added bundle case first others one whole two = record {
 leaf_added : (bundle : List ℕ) (case : CaseOf) (name : List ℕ) (target : Target)
     (proof : Option (List ℕ)) → IsCaseOf bundle case
     → ((text : List ℕ) → proof ≡ Some text → MayBeAdded case.tree case.sections name target text)
-    → IsCaseWith (bundle ++ text_of name proof) case (section_of target proof)
+    → IsCaseWith (bundle ++ section_text name proof) case (section_of target proof)
 leaf_added bundle case name target None is may =
     subst (λ (t : List ℕ). IsCaseWith t case []) (sym (append-nil bundle))
     (none_added bundle case is)
@@ -268,13 +268,13 @@ all_added [] bundle case is may =
     (none_added bundle case is)
 all_added (leaf ∷ leaves) bundle case is may =
     let one = leaf_added bundle case leaf.name leaf.target leaf.proof is may.0 in
-    let here : List ℕ = bundle ++ text_of leaf.name leaf.proof in
+    let here : List ℕ = bundle ++ section_text leaf.name leaf.proof in
     let rest =
     all_added leaves here one.whole one.is
     (subst (λ (tree : SplitTree). MayAllBeAdded tree one.whole.sections leaves) (sym one.tree)
     (may_almost case.tree (case.sections ++ section_of leaf.target leaf.proof) one.whole.sections
     leaves one.sections may.1)) in
     then_added here case (section_of leaf.target leaf.proof) (sections_of leaves) one
-    (bundle ++ (text_of leaf.name leaf.proof ++ texts_of leaves))
+    (bundle ++ (section_text leaf.name leaf.proof ++ texts_of leaves))
     (subst (λ (t : List ℕ). IsCaseWith t one.whole (sections_of leaves))
-    (append_assoc bundle (text_of leaf.name leaf.proof) (texts_of leaves)) rest)
+    (append_assoc bundle (section_text leaf.name leaf.proof) (texts_of leaves)) rest)

@@ -1,6 +1,7 @@
--- The findings of sections whose proofs have line ends behind them.
+-- The sections and the findings of targets where sections are added, and where proofs have line
+-- ends behind them.
 use Rattle.std.proofs.Common.{◌≡◌, sym, subst, ℕ, List, [], ◌∷◌, Option, None, Some, inl, inr}
-use Rattle.std.proofs.Common.{MatchOption, true, false}
+use Rattle.std.proofs.Common.{MatchOption, true, false, ◌++◌, refl}
 use Rattle.std.proofs.lemmas.Bool.{cases_Bool}
 use Rattle.case_core.specs.Literal.{Literal}
 use Rattle.case_core.specs.Proof.{Proof, IsProofOf}
@@ -15,14 +16,35 @@ use Rattle.mark_board.specs.Findings.{AreFindings, mark_as}
 use Rattle.proof_folder.specs.Added.{IsAlmost, AreAlmost}
 use Rattle.proof_folder.proofs.AddedLines.{almost_proof}
 
+-- ---- sections behind others
+
+-- the section of a target is the first one for it
+pub proof_first : (one other : List SectionOf) (target : Target) (text : List ℕ)
+    → proof_for one target ≡ Some text → proof_for (one ++ other) target ≡ Some text
+proof_first [] other target text is = absurd (cc)
+proof_first (s ∷ one) other target text is = elim (cases_Bool (same_target s.target target)) [
+  | inl same ↦ rw same (rw same at is)
+  | inr apart ↦ rw apart (proof_first one other target text (rw apart at is))
+]
+
+pub proof_second : (one other : List SectionOf) (target : Target)
+    → proof_for one target ≡ None → proof_for (one ++ other) target ≡ proof_for other target
+proof_second [] other target none = refl
+proof_second (s ∷ one) other target none = elim (cases_Bool (same_target s.target target)) [
+  | inl same ↦ let clash : Some s.proof ≡ None = rw same at none in absurd (cc)
+  | inr apart ↦ rw apart (proof_second one other target (rw apart at none))
+]
+
+-- ---- sections with line ends behind them
+
 -- no text, or texts that differ by line ends alone
-abbrev AlmostTexts : Option (List ℕ) → Option (List ℕ) → Type 0
+abbrev pub AlmostTexts : Option (List ℕ) → Option (List ℕ) → Type 0
 AlmostTexts None None = Unit {0}
 AlmostTexts (Some text) (Some longer) = IsAlmost text longer
 AlmostTexts None (Some longer) = ⊥
 AlmostTexts (Some text) None = ⊥
 
-almost_for : (one other : List SectionOf) (target : Target) → AreAlmost one other →
+pub almost_for : (one other : List SectionOf) (target : Target) → AreAlmost one other →
     AlmostTexts (proof_for one target) (proof_for other target)
 almost_for [] [] target almost = tt
 almost_for [] (y ∷ other) target almost = absurd almost

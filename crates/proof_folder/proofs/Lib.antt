@@ -1,5 +1,8 @@
 pub mod AddedLines
-pub mod AddedLabels
-pub mod AddedCase
-pub mod AddedMarks
-pub mod AddedFindings
+mod AddedLabels
+mod AddedCase
+mod AddedMarks
+mod GivenNames
+pub mod GivenLeaves
+mod GivenCase
+pub mod GivenFindings

@@ -1,21 +1,12 @@
 -- Sections that are added to a bundle, each below the label line of a leaf.
 use Rattle.case_core.specs.Leaves.{HasTarget}
-use Rattle.std.specs.Prelude.{MatchOption, false}
-use Rattle.case_core.specs.Literal.{Literal}
-use Rattle.case_core.specs.Proof.{Proof, IsProofOf}
-use Rattle.case_core.specs.Judgement.{judgement}
-use Rattle.mark_board.specs.declared.mark.Mark.{Mark}
-use Rattle.mark_board.specs.declared.mark.Mark.TheVariants.{Open}
-use Rattle.mark_board.specs.Marking.{mark_at}
-use Rattle.mark_board.specs.Findings.{mark_as}
-use Rattle.case_core.specs.Leaves.{IsTargetAt, IsPathOf}
 use Rattle.std.specs.Prelude.{◌≡◌, ℕ, List, [], ◌∷◌, ◌++◌, codes, Option, None, Some}
 use Rattle.case_core.specs.Tokens.{words}
 use Rattle.case_core.specs.SplitTree.{SplitTree}
 use Rattle.case_core.specs.Target.{Target}
 use Rattle.case_core.specs.Bundle.{lines_of, labels_of}
 use Rattle.case_core.specs.Label.{label_name, IsTargetOf}
-use Rattle.case_core.specs.Case.{CaseOf, SectionOf, proof_for, same_target}
+use Rattle.case_core.specs.Case.{CaseOf, SectionOf, proof_for}
 use Rattle.case_core.specs.Sections.{IsCaseOf}
 
 -- none of the text's lines is a label line
@@ -46,13 +37,13 @@ pub record LeafFile : Type 0 where
   pub proof : Option (List ℕ)
 
 -- what a leaf adds to a bundle: nothing, or a line end, its label line, and its proof
-abbrev pub text_of : List ℕ → Option (List ℕ) → List ℕ
-text_of name None = []
-text_of name (Some proof) = codes "\nl " ++ name ++ codes "\n" ++ proof
+abbrev pub section_text : List ℕ → Option (List ℕ) → List ℕ
+section_text name None = []
+section_text name (Some proof) = codes "\nl " ++ name ++ codes "\n" ++ proof
 
 abbrev pub texts_of : List LeafFile → List ℕ
 texts_of [] = []
-texts_of (leaf ∷ leaves) = text_of leaf.name leaf.proof ++ texts_of leaves
+texts_of (leaf ∷ leaves) = section_text leaf.name leaf.proof ++ texts_of leaves
 
 -- the section of a leaf that has a file
 abbrev pub section_of : Target → Option (List ℕ) → List SectionOf
@@ -88,28 +79,3 @@ pub record IsCaseWith (bundle : List ℕ) (case : CaseOf) (added : List SectionO
   pub formula : whole.formula ≡ case.formula
   pub tree : whole.tree ≡ case.tree
   pub sections : AreAlmost (case.sections ++ added) whole.sections
-
--- the mark at the node of a leaf's target is that of the leaf's file: open where there is none
-abbrev pub IsMarkBy : List (List Literal) → SplitTree → List Mark → LeafFile → Type 0
-IsMarkBy formula tree marks leaf = (node : ℕ) → IsTargetAt tree node leaf.target →
-    MatchOption leaf.proof (mark_at marks node ≡ Open) (λ text. (path : List Literal)
-    (proof : Proof) → IsPathOf tree leaf.target path → IsProofOf text proof
-    → mark_at marks node ≡ mark_as (judgement formula path proof))
-
--- so it is of each of these leaves that has no section in the case
-abbrev pub AreLeafMarks : CaseOf → List Mark → List LeafFile → Type 0
-AreLeafMarks case marks [] = Unit {0}
-AreLeafMarks case marks (leaf ∷ leaves) =
-    (proof_for case.sections leaf.target ≡ None → IsMarkBy case.formula case.tree marks leaf)
-    × AreLeafMarks case marks leaves
-
--- none of the leaves is this target
-abbrev pub IsNoneOf : List LeafFile → Target → Type 0
-IsNoneOf [] target = Unit {0}
-IsNoneOf (leaf ∷ leaves) target =
-    (same_target leaf.target target ≡ false) × IsNoneOf leaves target
-
--- no two of the leaves with files are one target
-abbrev pub AreApart : List LeafFile → Type 0
-AreApart [] = Unit {0}
-AreApart (leaf ∷ leaves) = (proof_for (sections_of leaves) leaf.target ≡ None) × AreApart leaves

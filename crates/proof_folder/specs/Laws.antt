@@ -1,21 +1,22 @@
--- Laws of sections that a folder adds.
-use Rattle.std.specs.Prelude.{◌≡◌, ◌↔◌, ℕ, List, [], ◌∷◌, ◌++◌}
+-- Laws of sections that are added to a bundle.
+use Rattle.std.specs.Prelude.{◌≡◌, ◌<◌, ◌^◌, ◌↔◌, ℕ, List, [], ◌∷◌, ◌++◌, codes}
+use Rattle.std.specs.List.{Contains}
 use Rattle.case_core.specs.Proof.{Proof, IsProofOf}
+use Rattle.case_core.specs.Tokens.{words}
+use Rattle.case_core.specs.SplitTree.{SplitTree}
+use Rattle.case_core.specs.Leaves.{HasLeaf}
+use Rattle.case_core.specs.Leaf.{Leaf}
+use Rattle.case_core.specs.Target.TheVariants.{Leaf as Named}
+use Rattle.case_core.specs.Bundle.{lines_of}
+use Rattle.case_core.specs.Label.{label_name, IsTargetOf}
 use Rattle.case_core.specs.Case.{CaseOf, SectionOf}
 use Rattle.case_core.specs.Sections.{IsCaseOf}
 use Rattle.mark_board.specs.declared.mark.Mark.{Mark}
 use Rattle.mark_board.specs.Findings.{AreFindings}
 use Rattle.proof_folder.specs.Added.{LeafFile, texts_of, sections_of, MayAllBeAdded, IsCaseWith}
-use Rattle.proof_folder.specs.Added.{AreAlmost, AreLeafMarks, IsNoneOf, AreApart}
-use Rattle.std.specs.Prelude.{None, length}
-use Rattle.case_core.specs.SplitTree.{size}
-use Rattle.case_core.specs.Leaves.{IsTargetAt}
-use Rattle.case_core.specs.Target.{Target}
-use Rattle.case_core.specs.Case.{proof_for}
-use Rattle.case_core.specs.Finding.{HasSection}
-use Rattle.mark_board.specs.declared.mark.Mark.TheVariants.{Open}
-use Rattle.mark_board.specs.Marking.{mark_at}
-use Rattle.mark_board.specs.Findings.{IsMarkOf}
+use Rattle.proof_folder.specs.Added.{AreAlmost}
+use Rattle.proof_folder.specs.Given.{Given, name_of, number_of, leaves_of, files_of, HasFewLeaves}
+use Rattle.proof_folder.specs.Given.{MayBeGiven, AreMarksBy, IsJudgedAs}
 
 -- a line end behind a text changes nothing of its proof
 abbrev pub LineEndKeepsProof : Type 0
@@ -35,18 +36,33 @@ FindingsWithoutLineEnds = (case whole : CaseOf) (sections : List SectionOf) (mar
     → AreFindings (record { formula = case.formula; tree = case.tree; sections = sections }) marks
     → AreFindings whole marks
 
--- where targets with a section in the case have the marks of their findings, and leaves those of
--- their files, each node has the mark of its finding in the case with the leaves' sections
+-- marks that are right where proofs are given for leaves are those of the findings of the case with
+-- these proofs as sections behind its own
 abbrev pub FindingsWithLeaves : Type 0
-FindingsWithLeaves = (case : CaseOf) (leaves : List LeafFile) (marks : List Mark)
-    → length marks ≡ size case.tree
-    → ((node : ℕ) (target : Target) → IsTargetAt case.tree node target → HasSection case target
-    → IsMarkOf case target (mark_at marks node))
-    → ((node : ℕ) (target : Target) → IsTargetAt case.tree node target
-    → proof_for case.sections target ≡ None → IsNoneOf leaves target → mark_at marks node ≡ Open)
-    → AreApart leaves → AreLeafMarks case marks leaves
+FindingsWithLeaves =
+    (bundle : List ℕ) (case : CaseOf) (given : Given) (marks : List Mark) → IsCaseOf bundle case
+    → AreMarksBy case given marks
     → AreFindings (record {
       formula = case.formula;
       tree = case.tree;
-      sections = case.sections ++ sections_of leaves;
+      sections = case.sections ++ sections_of (files_of given case.tree);
     }) marks
+
+-- a leaf's name is one line, and behind an l and a space it names the leaf
+abbrev pub NamesNameLeaves : Type 0
+NamesNameLeaves = (tree : SplitTree) (leaf : Leaf) → HasLeaf tree leaf → number_of leaf < 2 ^ 64
+    → (lines_of (name_of leaf) ≡ name_of leaf ∷ [])
+    × IsTargetOf tree (label_name (words (codes "l " ++ name_of leaf))) (Named leaf)
+
+-- the leaves of a case's tree in order are all leaves of the tree
+abbrev pub LeavesAreAll : Type 0
+LeavesAreAll = (bundle : List ℕ) (case : CaseOf) (leaf : Leaf) → IsCaseOf bundle case
+    → HasLeaf case.tree leaf → Contains (leaves_of case.tree) leaf
+
+-- Where a bundle stands for a case, and marks are right where proofs are given for its leaves, the
+-- bundle with these proofs as sections behind it stands for a case whose findings have these marks.
+abbrev pub JudgedWithLeaves : Type 0
+JudgedWithLeaves =
+    (bundle : List ℕ) (case : CaseOf) (given : Given) (marks : List Mark) → IsCaseOf bundle case
+    → HasFewLeaves case.tree → MayBeGiven case given → AreMarksBy case given marks
+    → IsJudgedAs (bundle ++ texts_of (files_of given case.tree)) case marks
