@@ -25,6 +25,8 @@ pub record HasCubes (tree : SplitTree) : Type 0 where
       (1 ≤ k) × (k ≤ cube_count tree)
   pub each : (k : ℕ) → 1 ≤ k → k ≤ cube_count tree →
       (i : ℕ) × (i < size tree) × (subtree_at tree i ≡ cube k)
+  pub once : (i j k : ℕ) → i < size tree → j < size tree → subtree_at tree i ≡ cube k →
+      subtree_at tree j ≡ cube k → i ≡ j
 
 -- the tree of a case has them
 pub cubes_of_case : (bundle : List ℕ) (case : CaseOf) → IsCaseOf bundle case → HasCubes case.tree
@@ -34,6 +36,7 @@ cubes_of_case bundle case is =
       numbered = λ i k h s. let r = leaves.numbered i k h s in
           (r.0, omega (arith, r.1, leaves.count));
       each = λ k some few. leaves.each k some (omega (arith, few, leaves.count));
+      once = leaves.once;
     }
 
 -- ---- each leaf is among them

@@ -6,3 +6,4 @@ mod GivenNames
 pub mod GivenLeaves
 mod GivenCase
 pub mod GivenFindings
+pub mod GivenFound

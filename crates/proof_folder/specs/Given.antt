@@ -1,6 +1,6 @@
 -- Proofs that are given for leaves, beside those that stand in a case.
 use Rattle.std.specs.Prelude.{◌≡◌, ◌<◌, ◌+◌, ◌^◌, ℕ, zero, suc, List, [], ◌∷◌, ◌++◌, codes, decimal}
-use Rattle.std.specs.Prelude.{length, map, Option, None, Some, MatchOption, is_some}
+use Rattle.std.specs.Prelude.{length, map, Option, None, Some, MatchOption, is_some, IfSome}
 use Rattle.case_core.specs.Literal.{Literal}
 use Rattle.case_core.specs.Proof.{Proof, IsProofOf}
 use Rattle.case_core.specs.Judgement.{judgement}
@@ -86,6 +86,26 @@ pub record AreMarksBy (case : CaseOf) (given : Given) (marks : List Mark) : Type
   pub leaves : (node : ℕ) (leaf : Leaf) → IsLeafAt case.tree node leaf →
       proof_for case.sections (Named leaf) ≡ None →
       IsMarkBy case leaf (given leaf) (mark_at marks node)
+
+-- This is given for a leaf: it is what is known to lie there, may be given, and by it a leaf without
+-- a section has this mark.
+pub record IsGivenFor (known : Option (Option (List ℕ))) (case : CaseOf) (leaf : Leaf)
+    (mark : Mark) (given : Option (List ℕ)) : Type 0 where
+  pub held : IfSome known (λ held. given ≡ held)
+  pub plain : (text : List ℕ) → given ≡ Some text → labels_of text ≡ []
+  pub free : (text : List ℕ) → given ≡ Some text → proof_for case.sections (Named leaf) ≡ None
+  pub mark_is : proof_for case.sections (Named leaf) ≡ None → IsMarkBy case leaf given mark
+
+-- the marks of a case's nodes where each leaf was judged by itself, by what was given for it
+pub record AreFoundApart (known : Leaf → Option (Option (List ℕ))) (case : CaseOf)
+    (marks : List Mark) : Type 0 where
+  pub long : length marks ≡ size case.tree
+  pub sections : (node : ℕ) (target : Target) → IsTargetAt case.tree node target →
+      HasSection case target → IsMarkOf case target (mark_at marks node)
+  pub nodes : (node : ℕ) → IsTargetAt case.tree node (Node node) →
+      IsMarkOf case (Node node) (mark_at marks node)
+  pub leaves : (node : ℕ) (leaf : Leaf) → IsLeafAt case.tree node leaf →
+      (given : Option (List ℕ)) × IsGivenFor (known leaf) case leaf (mark_at marks node) given
 
 -- The bundle stands for a case with the same formula, the same tree and sections of the same inner
 -- nodes, whose nodes' findings have these marks.

@@ -1,5 +1,5 @@
 -- Laws of sections that are added to a bundle.
-use Rattle.std.specs.Prelude.{◌≡◌, ◌<◌, ◌^◌, ◌↔◌, ℕ, List, [], ◌∷◌, ◌++◌, codes}
+use Rattle.std.specs.Prelude.{◌≡◌, ◌<◌, ◌^◌, ◌↔◌, ℕ, List, [], ◌∷◌, ◌++◌, codes, Option, IfSome}
 use Rattle.std.specs.List.{Contains}
 use Rattle.case_core.specs.Proof.{Proof, IsProofOf}
 use Rattle.case_core.specs.Tokens.{words}
@@ -16,7 +16,7 @@ use Rattle.mark_board.specs.Findings.{AreFindings}
 use Rattle.proof_folder.specs.Added.{LeafFile, texts_of, sections_of, MayAllBeAdded, IsCaseWith}
 use Rattle.proof_folder.specs.Added.{AreAlmost}
 use Rattle.proof_folder.specs.Given.{Given, name_of, number_of, leaves_of, files_of, HasFewLeaves}
-use Rattle.proof_folder.specs.Given.{MayBeGiven, AreMarksBy, IsJudgedAs}
+use Rattle.proof_folder.specs.Given.{MayBeGiven, AreMarksBy, AreFoundApart, IsJudgedAs}
 
 -- a line end behind a text changes nothing of its proof
 abbrev pub LineEndKeepsProof : Type 0
@@ -66,3 +66,12 @@ JudgedWithLeaves =
     (bundle : List ℕ) (case : CaseOf) (given : Given) (marks : List Mark) → IsCaseOf bundle case
     → HasFewLeaves case.tree → MayBeGiven case given → AreMarksBy case given marks
     → IsJudgedAs (bundle ++ texts_of (files_of given case.tree)) case marks
+
+-- Where each leaf was judged by itself, by what was given for it, all of that together may be
+-- given, and the marks are right for it.
+abbrev pub GivenOneByOne : Type 0
+GivenOneByOne = (bundle : List ℕ) (case : CaseOf) (known : Leaf → Option (Option (List ℕ)))
+    (marks : List Mark) → IsCaseOf bundle case → AreFoundApart known case marks
+    → (given : Given)
+    × ((leaf : Leaf) → HasLeaf case.tree leaf → IfSome (known leaf) (λ held. given leaf ≡ held))
+    × MayBeGiven case given × AreMarksBy case given marks

@@ -3,6 +3,7 @@
 ghost use Rattle.proof_folder.specs.Laws.{AddedMakeACase, LineEndKeepsProof};
 ghost use Rattle.proof_folder.specs.Laws.{FindingsWithoutLineEnds, FindingsWithLeaves};
 ghost use Rattle.proof_folder.specs.Laws.{NamesNameLeaves, LeavesAreAll, JudgedWithLeaves};
+ghost use Rattle.proof_folder.specs.Laws.{GivenOneByOne};
 
 /// A line end behind a proof's text changes nothing of the proof.
 pub fn line_end_keeps_proof()
@@ -42,4 +43,10 @@ pub fn findings_with_leaves()
 /// case's sections and for these proofs are those of its findings.
 pub fn judged_with_leaves()
     ensures { JudgedWithLeaves }
+{}
+
+/// What was given for the leaves of a case one by one, where each leaf was judged by itself, is
+/// given for all of them together.
+pub fn given_one_by_one()
+    ensures { GivenOneByOne }
 {}
