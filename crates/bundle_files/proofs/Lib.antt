@@ -1,2 +1,3 @@
 pub mod FilesFormula
 mod FilesSections
+mod FilesApart
