@@ -115,7 +115,8 @@ by_given held folder bundle case given marks is few held_there may are =
     }
 
 pub judged_apart : (held : Held) (folder bundle : List ℕ) (case : CaseOf) (marks : List Mark)
-    → IsCaseOf bundle case → HasFewLeaves case.tree → AreFoundApart (held_for held folder) case marks
+    → IsCaseOf bundle case → HasFewLeaves case.tree
+    → AreFoundApart (held_for held folder) case marks
     → IsJudgedApart held folder bundle case marks
 judged_apart held folder bundle case marks is few are =
     let cubes = cubes_of_case bundle case is in

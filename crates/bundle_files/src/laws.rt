@@ -13,10 +13,10 @@ pub fn proofs_keep_formula()
         → IsFormulaOf whole formula ↔ IsFormulaOf bundle formula }
 {}
 
-/// The proofs of a folder may be judged one by one, beside the case of the bundle that they are for:
-/// where none of them has a label line or is for a leaf with a section, marks that are right for the
-/// case's sections and for these proofs are those of the findings of the bundle with the proofs, and
-/// what is written of the case by these marks is what a run on that bundle promises.
+/// The proofs of a folder may be judged one by one, beside the case of the bundle that they are
+/// for: where none of them has a label line or is for a leaf with a section, marks that are right
+/// for the case's sections and for these proofs are those of the findings of the bundle with the
+/// proofs, and what is written of the case by these marks is what a run on that bundle promises.
 pub fn proofs_judged_apart()
     ensures { ProofsJudgedApart }
 {}

@@ -3,7 +3,8 @@ use Rattle.std.proofs.Common.{◌≡◌, ◌∙◌, ap, ap₂, refl, sym, subst,
 use Rattle.std.proofs.Common.{Bool, List, [], ◌∷◌, ◌++◌, ◌||◌, if◌then◌else◌, codes, length}
 use Rattle.std.proofs.Common.{true, false}
 use Rattle.case_core.specs.Literal.{Literal}
-use Rattle.split_tree.specs.SplitTree.{SplitTree, missing, cube, split, size, total, subtrees, path_at}
+use Rattle.split_tree.specs.SplitTree.{SplitTree, missing, cube, split, size, total, subtrees}
+use Rattle.split_tree.specs.SplitTree.{path_at}
 use Rattle.split_tree.specs.Leaves.{cube_count, missing_nodes}
 use Rattle.case_core.specs.Case.{CaseOf, SectionOf}
 use Rattle.mark_board.specs.declared.mark.Mark.{Mark}
@@ -82,7 +83,8 @@ module _ (formula others : List (List Literal)) (tree : SplitTree) (one other : 
   cells_same (suc level) left node covered (split v p n) =
       ap₂ (λ (x y : List ℕ). x ++ y)
       (ap₂ (λ (x y : List ℕ). x ++ y) (cell_same (suc level) left node covered (split v p n))
-      (cells_same level left (suc node) (covered || marked (refuted_by marks) node (split v p n)) p))
+      (cells_same level left (suc node)
+      (covered || marked (refuted_by marks) node (split v p n)) p))
       (cells_same level (left + 2 ^ level) (suc (node + size p))
       (covered || marked (refuted_by marks) node (split v p n)) n)
 

@@ -111,7 +111,8 @@ added_text bundle name proof =
     ap (λ (t : List ℕ). bundle ++ 10 ∷ 108 ∷ 32 ∷ t) (append_assoc name (10 ∷ []) proof)
 
 added_lines : (bundle name proof : List ℕ) → lines_of name ≡ name ∷ [] →
-    lines_of (bundle ++ 10 ∷ below name proof) ≡ lines_of bundle ++ (108 ∷ 32 ∷ name) ∷ lines_of proof
+    lines_of (bundle ++ 10 ∷ below name proof)
+    ≡ lines_of bundle ++ (108 ∷ 32 ∷ name) ∷ lines_of proof
 added_lines bundle name proof one_line =
     lines_more bundle (below name proof)
     ∙ ap (λ (l : List (List ℕ)). lines_of bundle ++ l)

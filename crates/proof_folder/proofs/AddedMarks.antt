@@ -65,9 +65,11 @@ almost_for (x ∷ one) (y ∷ other) target almost =
 mark_almost : (tree : SplitTree) (formula : List (List Literal)) (target : Target) (mark : Mark)
     (one other : Option (List ℕ)) → AlmostTexts one other
     → MatchOption one (mark ≡ Open) (λ text. (path : List Literal) (proof : Proof) →
-    IsPathOf tree target path → IsProofOf text proof → mark ≡ mark_as (judgement formula path proof))
+    IsPathOf tree target path → IsProofOf text proof
+    → mark ≡ mark_as (judgement formula path proof))
     → MatchOption other (mark ≡ Open) (λ text. (path : List Literal) (proof : Proof) →
-    IsPathOf tree target path → IsProofOf text proof → mark ≡ mark_as (judgement formula path proof))
+    IsPathOf tree target path → IsProofOf text proof
+    → mark ≡ mark_as (judgement formula path proof))
 mark_almost tree formula target mark None None almost is = is
 mark_almost tree formula target mark None (Some longer) almost is = absurd almost
 mark_almost tree formula target mark (Some text) None almost is = absurd almost
@@ -93,7 +95,8 @@ pub findings_without_line_ends : (case whole : CaseOf) (sections : List SectionO
 findings_without_line_ends case whole sections marks formula tree almost are =
     findings_almost whole.formula whole.tree sections whole.sections marks almost
     (subst (λ (f : List (List Literal)).
-    AreFindings (record { formula = f; tree = whole.tree; sections = sections }) marks) (sym formula)
+    AreFindings (record { formula = f; tree = whole.tree; sections = sections }) marks)
+    (sym formula)
     (subst (λ (t : SplitTree).
     AreFindings (record { formula = case.formula; tree = t; sections = sections }) marks) (sym tree)
     are))

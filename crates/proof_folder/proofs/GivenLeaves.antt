@@ -1,6 +1,7 @@
 -- The leaves of a tree in order, and the sections of the proofs that are given for them.
 use Rattle.std.proofs.Common.{◌≡◌, ◌∙◌, sym, ap, refl, subst, ℕ, zero, suc, ◌+◌, ◌-◌, ◌<◌, ◌≤◌}
-use Rattle.std.proofs.Common.{◌^◌, true, false, List, [], ◌∷◌, ◌++◌, length, map, arith, Option, None}
+use Rattle.std.proofs.Common.{◌^◌, true, false, List, [], ◌∷◌, ◌++◌, length, map, arith, Option}
+use Rattle.std.proofs.Common.{None}
 use Rattle.std.proofs.Common.{Some, ◌⊎◌, inl, inr, slice_index}
 use Rattle.std.specs.List.{AllByRecursion, Contains}
 use Rattle.std.proofs.lemmas.Bool.{cases_Bool, cases_eq, ne_eqb}
@@ -50,7 +51,8 @@ among_first leaf [] other is = absurd is
 among_first leaf (x ∷ one) other (inl here) = inl here
 among_first leaf (x ∷ one) other (inr there) = inr (among_first leaf one other there)
 
-among_second : (leaf : Leaf) (one other : List Leaf) → IsAmong leaf other → IsAmong leaf (one ++ other)
+among_second : (leaf : Leaf) (one other : List Leaf) → IsAmong leaf other →
+    IsAmong leaf (one ++ other)
 among_second leaf [] other is = is
 among_second leaf (x ∷ one) other is = inr (among_second leaf one other is)
 
@@ -127,7 +129,8 @@ abbrev pub AreOthers : List Leaf → Type 0
 AreOthers [] = Unit {0}
 AreOthers (leaf ∷ leaves) = AllByRecursion (IsOther leaf) leaves × AreOthers leaves
 
-no_cubes : (k number count : ℕ) → AllByRecursion (IsOther (Cube k)) (leaves_from (λ n. Missing n) number count)
+no_cubes : (k number count : ℕ) →
+    AllByRecursion (IsOther (Cube k)) (leaves_from (λ n. Missing n) number count)
 no_cubes k number zero = tt
 no_cubes k number (suc count) = (refl, no_cubes k (suc number) count)
 
@@ -194,7 +197,8 @@ module _ (given : Given) where
   given_for leaves = sections_of (map (file_of given) leaves)
 
   -- an inner node has none of these sections
-  pub none_of_node : (leaves : List Leaf) (node : ℕ) → proof_for (given_for leaves) (Node node) ≡ None
+  pub none_of_node : (leaves : List Leaf) (node : ℕ) →
+      proof_for (given_for leaves) (Node node) ≡ None
   none_of_node [] node = refl
   none_of_node (leaf ∷ leaves) node =
       past_one (Node node) (Named leaf) (given leaf) (given_for leaves) refl

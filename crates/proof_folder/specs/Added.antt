@@ -22,7 +22,8 @@ AreEnds (byte ∷ bytes) = (byte ≡ 10) × AreEnds bytes
 abbrev pub IsAlmost : List ℕ → List ℕ → Type 0
 IsAlmost text longer = (ends : List ℕ) × AreEnds ends × (longer ≡ text ++ ends)
 
--- sections of the same targets in the same order, whose proofs differ by line ends behind them alone
+-- sections of the same targets in the same order, whose proofs differ by line ends behind them at
+-- most
 abbrev pub AreAlmost : List SectionOf → List SectionOf → Type 0
 AreAlmost [] [] = Unit {0}
 AreAlmost (one ∷ sections) (other ∷ others) =

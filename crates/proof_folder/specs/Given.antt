@@ -87,8 +87,8 @@ pub record AreMarksBy (case : CaseOf) (given : Given) (marks : List Mark) : Type
       proof_for case.sections (Named leaf) ≡ None →
       IsMarkBy case leaf (given leaf) (mark_at marks node)
 
--- This is given for a leaf: it is what is known to lie there, may be given, and by it a leaf without
--- a section has this mark.
+-- This is given for a leaf: it is what is known to lie there, may be given, and by it a leaf
+-- without a section has this mark.
 pub record IsGivenFor (known : Option (Option (List ℕ))) (case : CaseOf) (leaf : Leaf)
     (mark : Mark) (given : Option (List ℕ)) : Type 0 where
   pub held : IfSome known (λ held. given ≡ held)

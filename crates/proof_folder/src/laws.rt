@@ -1,4 +1,5 @@
-//! Laws of sections that are added to a bundle. Each function does nothing: its contract is the law.
+//! Laws of sections that are added to a bundle. Each function does nothing: its contract is the
+//! law.
 
 ghost use Rattle.proof_folder.specs.Laws.{AddedMakeACase, LineEndKeepsProof};
 ghost use Rattle.proof_folder.specs.Laws.{FindingsWithoutLineEnds, FindingsWithLeaves};
