@@ -80,10 +80,13 @@ The answer is the tree of the cubes, no two of which clash, or it is the first c
      ["split_tree/tree.rt build tree fit total fault"]),
     ("case_core: the case of a bundle, and what is found of a target", """
 The case is the one that the bundle stands for, or the fault is its first one. What is found of a target is the
-judgement of its section, and the type of a finding keeps that a refuted target has no model with the formula.""",
+judgement of its section, or, for a leaf without one, of the text that is handed in, and the type of a finding keeps that
+a refuted target has no model with the formula.""",
      ["case_core/bundle.rt read_bundle ok only err",
       "case_core/finding.rt examine -",
-      "case_core/finding.rt Finding here only has_section is sound"]),
+      "case_core/finding.rt examine_text -",
+      "case_core/bundle.rt has_label_line -",
+      "case_core/finding.rt Finding here only may_be is sound"]),
     ("mark_board: marks, open weight and open branches", """
 A post marks the node of its finding and no other. Marks, open weight and open branches are the definition's, by all
 nodes' marks. A refuted target has no model with its path, and where the root is marked the formula has none. On a
@@ -109,6 +112,7 @@ state in which a hall ends.""",
      ["board_hall/laws.rt free_is_whole -",
       "board_hall/laws.rt free_is_whole_of_leaves -",
       "board_hall/opening.rt Hall::open hall count passes",
+      "board_hall/opening.rt Hall::open_for_proofs_elsewhere hall count passes",
       "board_hall/hall.rt Hall::post own stays posted back",
       "board_hall/hall.rt Hall::post_part own stays posted",
       "board_hall/hall.rt Hall::mark_of own stays nothing mark",

@@ -16,6 +16,7 @@ use Rattle.board_hall.specs.declared.view.Post.{Post}
 use Rattle.board_hall.specs.Posts.{tree_at, is_at, mark_by, mark_in, root_by, AreReal}
 use Rattle.board_hall.specs.Inner.Plays.{Hand}
 use Rattle.board_hall.specs.Clauses.{without, HasPosted, MarksRootOf, Becomes, PartBecomes, SeesOwn}
+use Rattle.board_hall.specs.Clauses.{HasSectionAt}
 use Rattle.board_hall.specs.Inner.Held.{HasGiven, MakesRoot, IsNoted, Recorded, PartRecorded}
 use Rattle.board_hall.proofs.PostsLists.{of_cases, is_itself}
 use Rattle.board_hall.proofs.PlaysHands.{seen_more}
@@ -125,7 +126,7 @@ module _ (k : CutCase) (x : Post) (b : ℕ) (v : View) (me mid after : Hand) (is
     makes_root m = record { was = sym was_root ∙ m.was; is = sym is_root ∙ m.is }
 
   -- what a post on a held board recorded is what the clause of `post` says
-  pub becomes : (mark_in after.0.seen x.board x.row ≢ Open →
+  pub becomes : (mark_in after.0.seen x.board x.row ≢ Open → HasSectionAt k x →
       mark_in after.0.seen x.board x.row ≡ mark_as x.judged) → (r : Posted) →
       Recorded k x r me mid → Becomes k x r v after.0
   becomes settles posted.Marked e =
@@ -138,16 +139,19 @@ module _ (k : CutCase) (x : Post) (b : ℕ) (v : View) (me mid after : Hand) (is
   )
   becomes settles posted.TopMarked e =
       (has_posted None e.0, owes_is None e.0, marks_root None e.0 e.1, e.2)
-  becomes settles (posted.Already f) e = (
-    record {
-      posts =
-          ap (λ (m : Hand). m.0.posts) given.after_is ∙ (ap (λ (m : Hand). m.0.posts) e.0 ∙ posts);
-      owes = ap (λ (m : Hand). m.0.owes) given.after_is ∙ (ap (λ (m : Hand). m.0.owes) e.0 ∙ owes);
-    },
-    settles (λ o.
-        e.1 (sym (seen_is x.row ∙ (λ i. mark_in (ap (λ (m : Hand). m.0.known) e.0 i) x.board x.row))
-        ∙ o)),
-  )
+  becomes settles (posted.Already f) e =
+      let marked : mark_in after.0.seen x.board x.row ≢ Open =
+      λ o.
+      e.1 (sym (seen_is x.row ∙ (λ i. mark_in (ap (λ (m : Hand). m.0.known) e.0 i) x.board x.row))
+      ∙ o) in (
+        record {
+          posts =
+              ap (λ (m : Hand). m.0.posts) given.after_is ∙ (ap (λ (m : Hand). m.0.posts) e.0 ∙ posts);
+          owes = ap (λ (m : Hand). m.0.owes) given.after_is ∙ (ap (λ (m : Hand). m.0.owes) e.0 ∙ owes);
+        },
+        marked,
+        settles marked,
+      )
 
   -- what a part's post recorded is what the clause of `post_part` says
   pub part_becomes : (r : PartPosted) → PartRecorded k x r me mid → PartBecomes k x r v after.0

@@ -151,9 +151,9 @@ rebase k b place board above is e f g = record {
   long = is.long ∙ (λ i. size (board_tree (sym f i) (sym e i).tree (g i)));
 }
 
-module _ (posts : List Post) (above : BoardOf) (parts : List BoardOf) where
+module _ (e : Bool) (posts : List Post) (above : BoardOf) (parts : List BoardOf) where
   abbrev k : CutCase
-  k = record { case = above.case; cut = above.cut }
+  k = record { case = above.case; cut = above.cut; elsewhere = e }
 
   module _ (low : above.cut ≤ 6) (count : length parts ≡ parts_in k)
       (top : IsBoardOf k (parts_in k) posts above)
@@ -257,8 +257,13 @@ pub together : (k : CutCase) (posts : List Post) (above : BoardOf) (parts : List
     ≡ part_mark (root_by k part (mark_in posts part)))
     → AreBoards above parts × HoldPosts k posts (boards_together above parts)
 together k posts above parts low count top each settled =
-    let here : CutCase = record { case = above.case; cut = above.cut } in
-    let same : here ≡ k = (λ i. record { case = top.is_at.case_is i; cut = top.is_at.cut_is i }) in
+    let here : CutCase =
+    record { case = above.case; cut = above.cut; elsewhere = k.elsewhere } in
+    let same : here ≡ k = (λ i. record {
+      case = top.is_at.case_is i;
+      cut = top.is_at.cut_is i;
+      elsewhere = k.elsewhere;
+    }) in
     let low' : above.cut ≤ 6 = subst (λ (z : CutCase). z.cut ≤ 6) (sym same) low in
     let count' : length parts ≡ parts_in here = count ∙ (λ i. parts_in (sym same i)) in
     let top' : IsBoardOf here (parts_in here) posts above =
@@ -273,7 +278,7 @@ together k posts above parts low count top each settled =
     subst (λ (z : CutCase). (part : ℕ) → part < parts_in z →
     mark_in posts (parts_in z) (part_place z.cut z.case.tree part)
     ≡ part_mark (root_by z part (mark_in posts part))) (sym same) settled in (
-      are_boards posts above parts low' count' top' each' settled',
+      are_boards k.elsewhere posts above parts low' count' top' each' settled',
       subst (λ z. HoldPosts z posts (boards_together above parts)) same
-          (hold posts above parts low' count' top' each' settled'),
+          (hold k.elsewhere posts above parts low' count' top' each' settled'),
     )

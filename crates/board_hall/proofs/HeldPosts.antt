@@ -11,7 +11,7 @@ use Rattle.split_tree.specs.SplitTree.{SplitTree, size, path_at}
 use Rattle.split_tree.specs.Leaves.{IsTargetAt}
 use Rattle.split_tree.specs.declared.node.Target.{Target}
 use Rattle.case_core.specs.Case.{CaseOf}
-use Rattle.case_core.specs.Finding.{IsFinding, HasSection, IsSound, target_of}
+use Rattle.case_core.specs.Finding.{IsFinding, HasSection, MayBeFound, IsSound, target_of}
 use Rattle.case_core.specs.declared.finding.Finding.{Finding}
 use Rattle.mark_board.specs.declared.mark.Mark.{Mark}
 use Rattle.mark_board.specs.declared.mark.Mark.TheVariants.{Open, Refuted, Rejected}
@@ -215,9 +215,10 @@ on_top_only k b e =
 -- Findings as posts.
 pub finding_post : (k : CutCase) (b row node : ℕ) (target : Target) (judged : Judged)
     (case : CaseOf) → case ≡ k.case → IsHome k node b row → IsTargetAt case.tree node target →
-    HasSection case target → IsFinding case target judged
+    MayBeFound case target → (k.elsewhere ≡ false → HasSection case target)
+    → IsFinding case target judged
     → IsSound case target judged → IsFindingPost k record { board = b; row = row; judged = judged }
-finding_post k b row node target judged case e home here section is sound =
+finding_post k b row node target judged case e home here may section is sound =
     let there : IsTargetAt k.case.tree (node_of k b row) target =
     subst (λ (p : CaseOf × ℕ). IsTargetAt p.0.tree p.1 target) (λ i. (e i, sym home.is_row.here i))
     here in record {
@@ -226,7 +227,10 @@ finding_post k b row node target judged case e home here section is sound =
       has_targets = home.has_targets;
       target = target;
       here = there;
-      has_section = subst (λ c. HasSection c target) e section;
+      may = record {
+        here_alone = λ alone. subst (λ c. HasSection c target) e (section alone);
+        may_be = subst (λ c. MayBeFound c target) e may;
+      };
       is = subst (λ c. IsFinding c target judged) e is;
       sound =
           λ refuted. subst (λ c. IsSound c target judged) e sound refuted
@@ -249,8 +253,9 @@ pub record FindingHeld (k : CutCase) (old new : BoardOf) (found : Finding) (post
 -- by what the board answers
 pub finding_held : (k : CutCase) (known : List Post) (old new : BoardOf) (found : Finding)
     (post : Post) (node : ℕ) (answer : Answer) → IsBoardOf k post.board known old →
-    post.board < board_count k → found.case.now ≡ k.case → node ≡ found.node →
-    post.judged ≡ found.judged →
+    post.board < board_count k → found.case.now ≡ k.case →
+    (k.elsewhere ≡ false → HasSection found.case.now (target_of found.leaf found.node)) →
+    node ≡ found.node → post.judged ≡ found.judged →
     IsFinding found.case.now (target_of found.leaf found.node) post.judged →
     IsTargetRow old node post.row →
     (new.case ≡ old.case) × (new.cut ≡ old.cut) × (new.place ≡ old.place) →
@@ -260,7 +265,8 @@ pub finding_held : (k : CutCase) (known : List Post) (old new : BoardOf) (found 
     (answer ≡ Already) ↔ (mark_at old.marks i ≢ Open)) →
     ((answer ≡ RootMarked) ↔ MarksRoot (tree_on old) old.marks new.marks) →
     FindingHeld k old new found post answer
-finding_held k known old new found post node answer is inside case here said finding row same marks
+finding_held k known old new found post node answer is inside case section here said finding row same
+    marks
     already root =
     let target = target_of found.leaf found.node in
     let home = home_of k post.board known old is inside found.node node post.row here row in
@@ -268,7 +274,7 @@ finding_held k known old new found post node answer is inside case here said fin
       home = home;
       real =
           finding_post k post.board post.row found.node target post.judged found.case.now case home
-          found.here found.has_section finding
+          found.here found.may_be section finding
           (subst (IsSound found.case.now target) (sym said) found.sound);
       answers =
           posted_of old new found.node node post.row found.judged post.judged answer here said

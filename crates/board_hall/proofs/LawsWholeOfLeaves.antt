@@ -69,7 +69,7 @@ none_inner k posts names real b row few within is p =
           let node : ℕ = node_of k x.board x.row in
           let same : f.target ≡ Node node =
           one_target k.case.tree node f.target (Node node) f.here (refl, there.0, there.1) in
-          names node (subst (HasSection k.case) same f.has_section)
+          names node (subst (HasSection k.case) same (f.may.may_be node same))
       | inr of_part ↦
           let on_top : (x.board == parts_in k) ≡ true =
           eq-eqb x.board (parts_in k) of_part.1.on_top in

@@ -1,12 +1,14 @@
 -- What the clauses of a hall's calls say.
-use Rattle.std.specs.Prelude.{◌≡◌, ◌<◌, ℕ, List, ◌∷◌, ◌++◌, Some, ◌⊎◌, ◌==◌, if◌then◌else◌, All}
+use Rattle.std.specs.Prelude.{◌≡◌, ◌≢◌, ◌<◌, ℕ, List, ◌∷◌, ◌++◌, Some, ◌⊎◌, ◌==◌, if◌then◌else◌, All}
 use Rattle.std.specs.Prelude.{true, false, length, [], None}
 use Rattle.mark_board.specs.declared.mark.Mark.TheVariants.{Open}
 use Rattle.board_hall.specs.declared.view.View.{View}
 use Rattle.board_hall.specs.declared.view.CutCase.{CutCase}
 use Rattle.board_hall.specs.declared.view.Post.{Post}
 use Rattle.board_hall.specs.Posts.{parts_in, mark_in, Among, AreReal, board_count, place_of}
-use Rattle.board_hall.specs.Posts.{posts_of, root_by, IsPartPost}
+use Rattle.board_hall.specs.Posts.{posts_of, root_by, IsPartPost, node_of}
+use Rattle.case_core.specs.Finding.{HasSection, target_of}
+use Rattle.case_core.specs.declared.finding.Finding.{Finding}
 use Rattle.board_hall.specs.Hall.{HallState, Reached}
 use Rattle.case_core.specs.Judged.{Judged}
 use Rattle.split_tree.specs.SplitTree.{size}
@@ -86,10 +88,21 @@ pub record IsVerdictOf (k : CutCase) (part : ℕ) (verdict : PartVerdict) : Type
   pub part_is : (verdict_of verdict).part ≡ part
   pub within : part < parts_in k
 
+-- where all proofs stand in the case, the finding's target has its section there
+abbrev pub IsOfSection : CutCase → Finding → Type 0
+IsOfSection k finding =
+    k.elsewhere ≡ false → HasSection finding.case.now (target_of finding.leaf finding.node)
+
+-- the target at the row of x's board has a section
+abbrev pub HasSectionAt : CutCase → Post → Type 0
+HasSectionAt k x =
+    (target : Target) × IsTargetAt k.case.tree (node_of k x.board x.row) target
+    × HasSection k.case target
+
 -- What a pass posted and owes after a post, by the answer. Where the target had a finding, the pass
--- posted nothing, and has seen that the target has the mark of the finding that it handed in. No
--- other mark can stand there: a node has one target, a target one path and one section, and so one
--- judgement.
+-- posted nothing, and has seen that it has a mark. Where the target has a section, that is the mark
+-- of the finding that it handed in: no other can stand there, since a node has one target, a target
+-- one path and one section, and so one judgement.
 abbrev pub Becomes : CutCase → Post → Posted → View → View → Type 0
 Becomes k x posted.Marked v w =
     HasPosted x v w × (w.owes ≡ None) × (MarksRootOf k x (mark_in w.seen x.board) → ⊥)
@@ -100,7 +113,8 @@ Becomes k x posted.TopMarked v w =
     HasPosted x v w × (w.owes ≡ None) × MarksRootOf k x (mark_in w.seen x.board)
     × (x.board ≡ parts_in k)
 Becomes k x (posted.Already finding) v w =
-    PostsNothing v w × (mark_in w.seen x.board x.row ≡ mark_as x.judged)
+    PostsNothing v w × (mark_in w.seen x.board x.row ≢ Open)
+    × (HasSectionAt k x → mark_in w.seen x.board x.row ≡ mark_as x.judged)
 
 -- the finding of a node was posted on the node's board, or came back
 pub record IsPosted (k : CutCase) (node : ℕ) (judged : Judged) (result : Posted) (v w : View)

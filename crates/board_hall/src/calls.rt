@@ -11,6 +11,7 @@ ghost use Rattle.case_core.specs.FindingOf.{finding_of};
 ghost use Rattle.board_hall.specs.Posts.{open_by, mark_in};
 ghost use Rattle.board_hall.specs.Halls.{core_of, shared_of, view_of, IsPassOf};
 ghost use Rattle.board_hall.specs.Clauses.{board_number, IsHome, IsVerdictOf, Stays, SeesOwn};
+ghost use Rattle.board_hall.specs.Clauses.{IsOfSection};
 ghost use Rattle.board_hall.specs.Clauses.{PostsNothing, IsPosted, IsPartPosted, IsMarkSeen};
 
 use crate::held::owed_by;
@@ -76,6 +77,7 @@ impl Core {
         // A finding of the table's case, by a pass of the table that owes nothing.
         requires of { case.now ≡ (core_of self.now).case }
         requires case { (finding_of finding).case ≡ case.now }
+        requires section { IsOfSection (core_of self.now) finding }
         requires own { IsPassOf (shared_of self.now) pass.old }
         requires free { (view_of pass.old).owes ≡ None }
         // The pass stays one of the table, and has seen all that it had seen.

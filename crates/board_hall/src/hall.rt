@@ -32,6 +32,7 @@ impl<'c> Hall<'c> {
     ghost use Rattle.board_hall.specs.Posts.{open_by, mark_in};
     ghost use Rattle.board_hall.specs.Halls.{shared_of, hall_of, view_of, IsPassOf};
     ghost use Rattle.board_hall.specs.Clauses.{board_number, IsVerdictOf, Stays, SeesOwn};
+    ghost use Rattle.board_hall.specs.Clauses.{IsOfSection};
     ghost use Rattle.board_hall.specs.Clauses.{PostsNothing, IsPosted, IsPartPosted, IsMarkSeen};
 
     /// Its case.
@@ -52,6 +53,7 @@ impl<'c> Hall<'c> {
     pub fn post<R: Wait>(&self, rt: &R, pass: &mut Pass, finding: Finding<'c>) -> Posted<'c>
         // A finding of the hall's case, by a pass of the hall that owes nothing.
         requires case { (finding_of finding).case ≡ (hall_of self.now).of.case }
+        requires section { IsOfSection (hall_of self.now).of finding }
         requires own { IsPassOf (hall_of self.now) pass.old }
         requires free { (view_of pass.old).owes ≡ None }
         // The pass stays one of the hall, and has seen all that it had seen.

@@ -5,7 +5,7 @@ ghost use Rattle.board_hall.specs.Posts.{parts_in, IsPartPost};
 ghost use Rattle.board_hall.specs.Hall.{IsBoardOf};
 ghost use Rattle.board_hall.specs.Inner.Plays.{OwedIsOpen};
 ghost use Rattle.board_hall.specs.Halls.{core_of};
-ghost use Rattle.board_hall.specs.Clauses.{IsHome, IsPostOf, IsVerdictOf};
+ghost use Rattle.board_hall.specs.Clauses.{IsHome, IsPostOf, IsVerdictOf, IsOfSection};
 ghost use Rattle.board_hall.specs.Inner.Held.{Recorded, PartRecorded, owed_after};
 ghost use Rattle.mark_board.specs.Posting.{GivesBack};
 ghost use Rattle.board_hall.specs.declared.view.Post.{Post};
@@ -38,6 +38,7 @@ impl Core {
     ) -> Posted<'c>
         requires own { seat.old.table_id ≡ self.now.table.shared.table_id }
         requires case { finding.case.now ≡ (core_of self.now).case }
+        requires section { IsOfSection (core_of self.now) finding }
         requires home { (row : ℕ) × IsHome (core_of self.now) finding.node number row }
         requires holds { (seat.old.me.0.held ≡ Some number) × (seat.old.me.0.owes ≡ None) }
         requires board { IsBoardOf (core_of self.now) number seat.old.me.0.known board.old }

@@ -1,11 +1,11 @@
 //! How a hall is opened.
 
-ghost use Rattle.std.specs.Prelude.{◌≡◌, ◌+◌, ◌≤◌, ◌<◌, [], IfOk, All, vec_len, length};
+ghost use Rattle.std.specs.Prelude.{◌≡◌, ◌+◌, ◌≤◌, ◌<◌, [], true, IfOk, All, vec_len, length};
 ghost use Rattle.mark_board.specs.Board.{IsPlace};
 ghost use Rattle.mark_board.specs.TopPlaces.{part_count};
 ghost use Rattle.board_hall.specs.Posts.{board_count, place_of};
 ghost use Rattle.board_hall.specs.Hall.{newcomer};
-ghost use Rattle.board_hall.specs.Terms.{cut_case};
+ghost use Rattle.board_hall.specs.Terms.{cut_case, cut_case_as};
 ghost use Rattle.board_hall.specs.Halls.{core_of, shared_of, hall_of, IsNewPass};
 ghost use Rattle.board_hall.specs.Inner.Opening.{IsOpened};
 
@@ -32,18 +32,20 @@ fn with_board(
     alloc: Global,
     case: &Case,
     cut: u32,
+    elsewhere: bool,
     place: Place,
     opened: Opened,
 ) -> Result<Opened, AllocError>
     requires cut { cut ≤ 6 }
     requires place { IsPlace cut case.now.tree place }
-    requires next { (length opened.slots.items < board_count (cut_case case.now cut))
-        × (place_of (cut_case case.now cut) (length opened.slots.items) ≡ place) }
-    requires opened { IsOpened (cut_case case.now cut) (length opened.slots.items)
+    requires next { (length opened.slots.items < board_count (cut_case_as elsewhere case.now cut))
+        × (place_of (cut_case_as elsewhere case.now cut) (length opened.slots.items) ≡ place) }
+    requires opened { IsOpened (cut_case_as elsewhere case.now cut) (length opened.slots.items)
         opened.words.items opened.slots.items }
     ensures count { IfOk result (λ o. length o.slots.items ≡ length opened.slots.items + 1) }
     ensures opened { IfOk result
-        (λ o. IsOpened (cut_case case.now cut) (length o.slots.items) o.words.items o.slots.items) }
+        (λ o. IsOpened (cut_case_as elsewhere case.now cut) (length o.slots.items) o.words.items
+        o.slots.items) }
 {
     let board = Board::new(alloc, case, cut, place)?;
     let Opened {
@@ -56,12 +58,20 @@ fn with_board(
     Ok(Opened { words, slots })
 }
 
-/// All boards: each part's, and the one above the parts.
-fn all_boards(alloc: Global, case: &Case, cut: u32, parts: u32) -> Result<Opened, AllocError>
+/// All boards: each part's, and the one above the parts; leaves may have their proofs `elsewhere`
+/// or not.
+fn all_boards(
+    alloc: Global,
+    case: &Case,
+    cut: u32,
+    elsewhere: bool,
+    parts: u32,
+) -> Result<Opened, AllocError>
     requires cut { cut ≤ 6 }
     requires parts { parts ≡ part_count cut case.now.tree }
     ensures { IfOk result
-        (λ o. IsOpened (cut_case case.now cut) (board_count (cut_case case.now cut)) o.words.items
+        (λ o. IsOpened (cut_case_as elsewhere case.now cut)
+        (board_count (cut_case_as elsewhere case.now cut)) o.words.items
         o.slots.items) }
 {
     let mut opened = Opened {
@@ -69,9 +79,9 @@ fn all_boards(alloc: Global, case: &Case, cut: u32, parts: u32) -> Result<Opened
         slots: Vec::new(alloc),
     };
     for part in 0..parts {
-        opened = with_board(alloc, case, cut, Place::Part(part), opened)?;
+        opened = with_board(alloc, case, cut, elsewhere, Place::Part(part), opened)?;
     }
-    with_board(alloc, case, cut, Place::Top, opened)
+    with_board(alloc, case, cut, elsewhere, Place::Top, opened)
 }
 
 impl Core {
@@ -111,13 +121,57 @@ impl<'c> Hall<'c> {
         ensures count { IfOk result (λ r. vec_len r.1 ≡ passes) }
         ensures passes { IfOk result (λ r. All (IsNewPass (hall_of r.0)) r.1.items) }
     {
+        Hall::open_as(alloc, case, cut, passes, false)
+    }
+
+    /// Opens a hall that also takes findings of leaves without a section, by proofs that the case
+    /// doesn't hold. Such a finding is sound, and nothing else is said of it. As `open` it asks for
+    /// a cut from 0 to 6, and for 1 to 64 passes. `AllocError` where a growth was refused.
+    pub fn open_for_proofs_elsewhere(
+        alloc: Global,
+        case: &'c Case,
+        cut: u32,
+        passes: usize,
+    ) -> Result<(Hall<'c>, Vec<Pass>), AllocError>
+        // A cut, and a number of passes.
+        requires cut { cut ≤ 6 }
+        requires passes { (0 < passes) × (passes ≤ 64) }
+        // A hall of this case and cut, with as many passes, each of them new.
+        ensures hall { IfOk result
+            (λ r. ((hall_of r.0).of ≡ cut_case_as true case.now cut)
+            × ((hall_of r.0).passes ≡ passes)) }
+        ensures count { IfOk result (λ r. vec_len r.1 ≡ passes) }
+        ensures passes { IfOk result (λ r. All (IsNewPass (hall_of r.0)) r.1.items) }
+    {
+        Hall::open_as(alloc, case, cut, passes, true)
+    }
+
+    /// A hall with no posts, where leaves may have their proofs `elsewhere` or not.
+    fn open_as(
+        alloc: Global,
+        case: &'c Case,
+        cut: u32,
+        passes: usize,
+        elsewhere: bool,
+    ) -> Result<(Hall<'c>, Vec<Pass>), AllocError>
+        // A cut, and a number of passes.
+        requires cut { cut ≤ 6 }
+        requires passes { (0 < passes) × (passes ≤ 64) }
+        // A hall of this case and cut, with as many passes, each of them new.
+        ensures hall { IfOk result
+            (λ r. ((hall_of r.0).of ≡ cut_case_as elsewhere case.now cut)
+            × ((hall_of r.0).passes ≡ passes)) }
+        ensures count { IfOk result (λ r. vec_len r.1 ≡ passes) }
+        ensures passes { IfOk result (λ r. All (IsNewPass (hall_of r.0)) r.1.items) }
+    {
         let roots = case.tree().parts(alloc, cut)?;
-        let Opened { words, slots } = all_boards(alloc, case, cut, roots.len() as u32)?;
+        let Opened { words, slots } = all_boards(alloc, case, cut, elsewhere, roots.len() as u32)?;
         let room = Vec::with_capacity(alloc, roots.len())?;
         let terms = Terms {
             case: Snapshot::of(case),
             cut,
             passes,
+            elsewhere,
         };
         let (table, first) = match Table::new(alloc, words.as_slice(), slots, &terms) {
             Ok(made) => made,

@@ -1,3 +1,4 @@
 pub mod FilesFormula
 mod FilesSections
 mod FilesOpened
+mod FilesApart

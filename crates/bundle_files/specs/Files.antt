@@ -9,6 +9,7 @@ use Rattle.case_core.specs.Leaves.{missing_nodes, cube_count}
 use Rattle.case_core.specs.Case.{CaseOf}
 use Rattle.case_core.specs.Sections.{IsCaseOf, IsFaultOf}
 use Rattle.case_core.specs.declared.fault.CaseFault.{CaseFault}
+use Rattle.proof_folder.specs.Added.{section_text}
 use Rattle.cube_report.specs.declared.fault.Fault.{Fault}
 use Rattle.cube_report.specs.declared.fault.Fault.TheVariants.{Memory, Device}
 
@@ -51,12 +52,6 @@ AreLeavesOf bundle names =
 -- the path of a leaf's proof
 abbrev pub proof_path : List ℕ → List ℕ → List ℕ
 proof_path folder name = folder ++ codes "/" ++ name ++ codes ".lrat"
-
--- what a leaf with this name adds to a bundle: nothing, or a line end, its label line, and its
--- proof
-abbrev pub section_text : List ℕ → Option (List ℕ) → List ℕ
-section_text name None = []
-section_text name (Some proof) = codes "\nl " ++ name ++ codes "\n" ++ proof
 
 -- Leaves with these names were added, in this order: each whose file is there, with the file's
 -- bytes as its proof.

@@ -9,7 +9,7 @@ mod source;
 mod store;
 
 pub use folder::add_proofs;
-pub use laws::proofs_keep_formula;
+pub use laws::{proofs_judged_apart, proofs_keep_formula};
 pub use opener::{Opener, SystemFiles};
 pub use source::read_judged;
 pub use store::{FileStore, Store};

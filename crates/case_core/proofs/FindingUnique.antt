@@ -1,6 +1,9 @@
 -- A judgement of a proof from a target's path is the finding of the target.
 use Rattle.std.proofs.Common.{◌≡◌, ◌≢◌, ℕ, List, Option, None, Some, refl, sym, ◌∙◌, ap, subst}
 use Rattle.std.proofs.Common.{Result, Ok, Err}
+use Rattle.split_tree.specs.declared.node.Leaf.{Leaf}
+use Rattle.split_tree.specs.declared.node.Target.TheVariants.{Leaf as Named, Node}
+use Rattle.case_core.specs.Finding.{IsFoundBy, MayBeFound}
 use Rattle.std.specs.Prelude.{IfOk}
 use Rattle.cnf_text.specs.Literal.{Literal}
 use Rattle.cnf_text.specs.Formula.{IsRefuted}
@@ -96,3 +99,34 @@ one_finding case target path first second of has one two =
     let there = some_of (proof_for case.sections target) has in
     let proof = has_proof there.0 in
     one path there.0 proof.0 of there.1 proof.1 ∙ sym (two path there.0 proof.0 of there.1 proof.1)
+
+-- a target that stands at one node alone has one path there
+once_there : (case : CaseOf) (target : Target) (node : ℕ)
+    → ((i : ℕ) → IsTargetAt case.tree i target → i ≡ node) → (i j : ℕ) → IsTargetAt case.tree i target
+    → IsTargetAt case.tree j target → i ≡ j
+once_there case target node only i j a b = only i a ∙ sym (only j b)
+
+-- the judgement of a text from a target's path is what is found by that text
+pub found_by : (case : CaseOf) (target : Target) (text : List ℕ) (judged : Judged) (node : ℕ)
+    → ((i : ℕ) → IsTargetAt case.tree i target → i ≡ node) → IsJudgement case target text judged
+    → IsFoundBy case target text judged × IsSound case target judged
+found_by case target text judged node only j = (
+  λ path proof of of_text.
+      j.is proof of_text
+      ∙ ap (λ p. judgement case.formula p proof)
+      (one_path case target j.path path (once_there case target node only) j.of_target of),
+  λ refuted path of.
+      subst (λ (p : List Literal). IsRefuted case.formula p)
+      (one_path case target j.path path (once_there case target node only) j.of_target of)
+      (j.refuted refuted),
+)
+
+-- of a target without a section nothing is said of a section
+pub none_found : (case : CaseOf) (target : Target) (judged : Judged)
+    → proof_for case.sections target ≡ None → IsFinding case target judged
+none_found case target judged none path text proof of is of_text =
+    let clash : Some text ≡ None = sym is ∙ none in absurd (cc)
+
+-- on boards of any case a leaf may be found
+pub leaf_may : (case : CaseOf) (leaf : Leaf) → MayBeFound case (Named leaf)
+leaf_may case leaf node same = absurd (cc)

@@ -15,3 +15,4 @@ pub use Rattle.hint_check.proofs.JudgementSteps
 pub use Rattle.hint_check.proofs.LiveEmpty
 pub use Rattle.hint_check.proofs.ProofUnique
 pub use Rattle.hint_check.proofs.PropagationSteps
+pub use Rattle.split_tree.proofs.LeavesPaths

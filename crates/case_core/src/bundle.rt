@@ -1,6 +1,7 @@
 //! The reader of bundles: an iCNF text, and behind it sections, each below a label line.
 
-ghost use Rattle.std.specs.Prelude.{◌≡◌, List, MatchResult, ◌≤◌, ◌+◌, length, take, map, ◌<◌, ◌≢◌};
+ghost use Rattle.std.specs.Prelude.{◌≡◌, ◌↔◌, List, [], MatchResult, ◌≤◌, ◌+◌, length, take, map};
+ghost use Rattle.std.specs.Prelude.{◌<◌, ◌≢◌, false};
 ghost use Rattle.std.specs.Prelude.{OnOk, IfOk, IfErr, IfSome, MatchOption, count_by};
 ghost use Rattle.cnf_text.specs.Tokens.{is_line_end};
 ghost use Rattle.cnf_text.specs.Icnf.{Item, Within, IsFileOf};
@@ -69,6 +70,16 @@ fn cut(text: &[u8]) -> (&[u8], Option<&[u8]>)
             return (text, None);
         };
         rest = next;
+    }
+}
+
+/// Whether a line of the text is a label line.
+pub fn has_label_line(text: &[u8]) -> bool
+    ensures { (result ≡ false) ↔ (labels_of text.now ≡ []) }
+{
+    match cut(text) {
+        (_, Some(_)) => true,
+        (_, None) => false,
     }
 }
 

@@ -4,7 +4,8 @@ ghost use Rattle.std.specs.Prelude.{◌≡◌, ℕ, IfOk, MatchOption, None};
 ghost use Rattle.split_tree.specs.Leaves.{HasTarget, IsTargetAt};
 ghost use Rattle.split_tree.specs.SplitTree.{SplitTree};
 ghost use Rattle.case_core.specs.Case.{proof_for};
-ghost use Rattle.case_core.specs.Finding.{IsFinding, HasSection, IsSound, target_of};
+ghost use Rattle.case_core.specs.Finding.{IsFinding, HasSection, MayBeFound, IsFoundBy, IsSound};
+ghost use Rattle.case_core.specs.Finding.{target_of};
 ghost use Rattle.case_core.specs.Inner.Finding.{IsJudgement, IsTargetAt-prop};
 
 use crate::case::Case;
@@ -12,7 +13,8 @@ use hint_check::{Checker, Judged, Scratch};
 use split_tree::{Leaf, NodeId, Target};
 use std::alloc::{AllocError, Global};
 
-/// The judgement of a target's section in its case. Only `examine` and `examine_with` make one.
+/// The judgement of a target's section in its case, or of a proof that the case doesn't hold, for a
+/// leaf without a section. Only `examine`, `examine_with` and `examine_text` make one.
 ///
 /// It keeps a leaf or the number of an inner node, and the number of the node at which its target
 /// stands: so it is small, can be moved, and a board finds its row without a search.
@@ -26,7 +28,7 @@ pub struct Finding<'c> {
     judged: Judged,
     pub ghost here: { IsTargetAt case.now.tree node (target_of leaf node) } by { IsTargetAt-prop _ _ _ },
     pub ghost only: { (i : ℕ) → IsTargetAt case.now.tree i (target_of leaf node) → i ≡ node },
-    pub ghost has_section: { HasSection case.now (target_of leaf node) },
+    pub ghost may_be: { MayBeFound case.now (target_of leaf node) },
     pub ghost is: { IsFinding case.now (target_of leaf node) judged },
     pub ghost sound: { IsSound case.now (target_of leaf node) judged },
 }
@@ -110,6 +112,31 @@ pub fn examine_with<'c>(
         node,
         judged,
     }))
+}
+
+/// Judges a proof that the case doesn't hold, for a leaf of its tree that has no section there.
+/// `AllocError` where a growth was refused.
+pub fn examine_text<'c>(
+    alloc: Global,
+    scratch: &mut Scratch,
+    case: &'c Case,
+    leaf: Leaf,
+    proof: &[u8],
+) -> Result<Finding<'c>, AllocError>
+    requires leaf { HasTarget case.now.tree (Target.Leaf leaf) }
+    requires none { proof_for case.now.sections (Target.Leaf leaf) ≡ None }
+    ensures { IfOk result (λ finding. (finding.case.now ≡ case.now)
+        × (target_of finding.leaf finding.node ≡ Target.Leaf leaf)
+        × IsFoundBy case.now (Target.Leaf leaf) proof.now finding.judged) }
+{
+    let judged = judge(alloc, scratch, case, Target::Leaf(leaf), proof)?;
+    let node = case.tree().node_of_target(Target::Leaf(leaf)).number();
+    Ok(Finding {
+        case,
+        leaf: Some(leaf),
+        node,
+        judged,
+    })
 }
 
 /// The leaf of a target, or `None` where it is an inner node.

@@ -35,6 +35,11 @@ use Rattle.check_crew.specs.Inner.Order.{IsOrder}
 use Rattle.check_crew.specs.Seen.{HasSeen, HaveSeenSections}
 use Rattle.check_crew.specs.Inner.Crew.{HasSeenTurn, HaveSeenClaims}
 use Rattle.check_crew.proofs.SeenMarks.{open_or_not, marked_more, real_mark, home_of}
+use Rattle.check_crew.proofs.SeenMarks.{marked_section, marked_node}
+use Rattle.case_core.specs.Finding.{HasSection}
+use Rattle.case_core.specs.Target.TheVariants.{Node}
+use Rattle.board_hall.specs.Clauses.{IsHome}
+use Rattle.std.proofs.Common.{false}
 
 contains_from_times : (place : ℕ) (xs : List ℕ) → 0 < times place xs → Contains xs place
 contains_from_times place [] some_times = absurd (omega arith)
@@ -102,36 +107,66 @@ module _ (hall : HallOf) (passes : List Pass) (boards : BoardsOf)
       (All-contains (IsPassOf hall) passes pass own some.1).1 in
       seen_marked own pass some.1 node (some.2 node (rw (of_hall, section.target_is) at))
 
-  -- where the finding of each section was seen, each node has the mark of its finding
-  pub are_findings : All (IsPassOf hall) passes → HaveSeenSections hall.of.case passes
-      → AreFindings hall.of.case boards.marks
-  are_findings own seen = record {
-    long = gathered.hold.long;
-    each = λ node target at. is_mark node target at (proof_for hall.of.case.sections target) refl;
-  }
+  -- where the finding of each section was seen, a target that has a mark only where it has a section
+  -- has the mark of its finding
+  mark_where : All (IsPassOf hall) passes → HaveSeenSections hall.of.case passes
+      → (node : ℕ) (target : Target) → IsTargetAt hall.of.case.tree node target
+      → ((board row : ℕ) → IsHome hall.of node board row
+      → mark_in (posts_of gathered.state.views) board row ≢ Open → HasSection hall.of.case target)
+      → IsMarkOf hall.of.case target (mark_at boards.marks node)
+  mark_where own seen node target at only =
+      is_mark (proof_for hall.of.case.sections target) refl
     where
-      is_mark : (node : ℕ) (target : Target) → IsTargetAt hall.of.case.tree node target →
-          (proof : Option (List ℕ)) → proof_for hall.of.case.sections target ≡ proof →
+      is_mark : (proof : Option (List ℕ)) → proof_for hall.of.case.sections target ≡ proof →
           IsMarkOf hall.of.case target (mark_at boards.marks node)
-      is_mark node target at proof e =
+      is_mark proof e =
           let posts : List Post = posts_of gathered.state.views in
           let home = home_of hall.of node (target_inside hall.of.case.tree node target at) in
           let mark : mark_at boards.marks node ≡ mark_in posts home.0 home.1 =
           gathered.hold.marks node home.0 home.1 home.2 in
           elim (open_or_not (mark_in posts home.0 home.1)) [
-            | inl none ↦ open_mark node target at proof e (mark ∙ none)
+            | inl none ↦ open_mark proof e (mark ∙ none)
             | inr some ↦ rw mark
-                (real_mark hall.of posts gathered.real node home.0 home.1 target home.2 at some)
+                (real_mark hall.of posts gathered.real node home.0 home.1 target home.2 at
+                (only home.0 home.1 home.2 some) some)
           ]
         where
-          open_mark : (node : ℕ) (target : Target) → IsTargetAt hall.of.case.tree node target →
-              (proof : Option (List ℕ)) → proof_for hall.of.case.sections target ≡ proof
+          open_mark : (proof : Option (List ℕ)) → proof_for hall.of.case.sections target ≡ proof
               → mark_at boards.marks node ≡ Open →
               IsMarkOf hall.of.case target (mark_at boards.marks node)
-          open_mark node target at None e none = rw e none
-          open_mark node target at (Some proof) e none =
+          open_mark None e none = rw e none
+          open_mark (Some proof) e none =
               let section = section_of_proof hall.of.case.sections target proof e in
               absurd (section_marked own seen node section.0 target at section.1 none)
+
+  -- where the finding of each section was seen, a target with a section has the mark of its finding
+  pub section_mark : All (IsPassOf hall) passes → HaveSeenSections hall.of.case passes
+      → (node : ℕ) (target : Target) → IsTargetAt hall.of.case.tree node target
+      → HasSection hall.of.case target → IsMarkOf hall.of.case target (mark_at boards.marks node)
+  section_mark own seen node target at has =
+      mark_where own seen node target at (λ board row home some. has)
+
+  -- and so has each inner node, also where leaves have their proofs elsewhere
+  pub node_mark : All (IsPassOf hall) passes → HaveSeenSections hall.of.case passes
+      → (node number : ℕ) → IsTargetAt hall.of.case.tree node (Node number)
+      → IsMarkOf hall.of.case (Node number) (mark_at boards.marks node)
+  node_mark own seen node number at =
+      mark_where own seen node (Node number) at
+      (λ board row home some.
+      marked_node hall.of (posts_of gathered.state.views) gathered.real node board row number home
+      at some)
+
+  -- where no proof is elsewhere, each node has the mark of its finding
+  pub are_findings : hall.of.elsewhere ≡ false → All (IsPassOf hall) passes
+      → HaveSeenSections hall.of.case passes → AreFindings hall.of.case boards.marks
+  are_findings alone own seen = record {
+    long = gathered.hold.long;
+    each = λ node target at.
+        mark_where own seen node target at
+        (λ board row home some.
+        marked_section hall.of (posts_of gathered.state.views) alone gathered.real node board row
+        target home at some);
+  }
 
 -- where each turn was claimed by some pass, the finding of each section was seen
 pub sections_seen : (case : CaseOf) (order : List ℕ) (passes : List Pass)

@@ -11,6 +11,7 @@ use Rattle.case_core.specs.SplitTree.{size, subtree_at, IsSplit}
 use Rattle.case_core.specs.Parts.{top}
 use Rattle.case_core.specs.Leaves.{IsTargetAt, IsPathOf}
 use Rattle.case_core.specs.Target.{Target}
+use Rattle.case_core.specs.Target.TheVariants.{Node}
 use Rattle.case_core.specs.Case.{CaseOf, proof_for}
 use Rattle.case_core.specs.Finding.{HasSection, IsFinding}
 use Rattle.case_core.proofs.CaseTables.{one_target}
@@ -80,9 +81,9 @@ finding_mark case target judged has is = of_section (proof_for case.sections tar
 -- a node's mark by posts that are real is that of its target's finding
 pub real_mark : (k : CutCase) (posts : List Post) → AreReal k posts →
     (node board row : ℕ) (target : Target) → IsHome k node board row →
-    IsTargetAt k.case.tree node target
+    IsTargetAt k.case.tree node target → HasSection k.case target
     → mark_in posts board row ≢ Open → IsMarkOf k.case target (mark_in posts board row)
-real_mark k posts real node board row target home at marked =
+real_mark k posts real node board row target home at has marked =
     let there = marked_among posts board row marked in let post : Post = there.0 in
     elim (real post there.1) [
       | inl finding ↦
@@ -91,8 +92,45 @@ real_mark k posts real node board row target home at marked =
           ∙ (ap (λ (r : ℕ). node_of k board r) there.3 ∙ home.is_row.here) in
           let same : finding.target ≡ target =
           one_target k.case.tree node finding.target target (rw here at finding.here) at in
-          rw there.4 (finding_mark k.case target post.judged (rw same at finding.has_section)
-          (rw same at finding.is))
+          rw there.4 (finding_mark k.case target post.judged has (rw same at finding.is))
+      | inr of_part ↦ absurd
+          (no_part_here k node board row of_part.0 post home of_part.1 there.2 there.3)
+    ]
+
+-- an inner node with a mark has a section
+pub marked_node : (k : CutCase) (posts : List Post) → AreReal k posts →
+    (node board row number : ℕ) → IsHome k node board row →
+    IsTargetAt k.case.tree node (Node number)
+    → mark_in posts board row ≢ Open → HasSection k.case (Node number)
+marked_node k posts real node board row number home at marked =
+    let there = marked_among posts board row marked in let post : Post = there.0 in
+    elim (real post there.1) [
+      | inl finding ↦
+          let here : node_of k post.board post.row ≡ node =
+          ap (λ (b : ℕ). node_of k b post.row) there.2
+          ∙ (ap (λ (r : ℕ). node_of k board r) there.3 ∙ home.is_row.here) in
+          let same : finding.target ≡ Node number =
+          one_target k.case.tree node finding.target (Node number) (rw here at finding.here) at in
+          subst (HasSection k.case) same (finding.may.may_be number same)
+      | inr of_part ↦ absurd
+          (no_part_here k node board row of_part.0 post home of_part.1 there.2 there.3)
+    ]
+
+-- where all proofs stand in the case, a target with a mark has a section
+pub marked_section : (k : CutCase) (posts : List Post) → k.elsewhere ≡ false → AreReal k posts →
+    (node board row : ℕ) (target : Target) → IsHome k node board row →
+    IsTargetAt k.case.tree node target
+    → mark_in posts board row ≢ Open → HasSection k.case target
+marked_section k posts alone real node board row target home at marked =
+    let there = marked_among posts board row marked in let post : Post = there.0 in
+    elim (real post there.1) [
+      | inl finding ↦
+          let here : node_of k post.board post.row ≡ node =
+          ap (λ (b : ℕ). node_of k b post.row) there.2
+          ∙ (ap (λ (r : ℕ). node_of k board r) there.3 ∙ home.is_row.here) in
+          let same : finding.target ≡ target =
+          one_target k.case.tree node finding.target target (rw here at finding.here) at in
+          subst (HasSection k.case) same (finding.may.here_alone alone)
       | inr of_part ↦ absurd
           (no_part_here k node board row of_part.0 post home of_part.1 there.2 there.3)
     ]

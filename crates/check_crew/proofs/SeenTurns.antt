@@ -5,7 +5,7 @@ use Rattle.case_core.specs.Leaves.{IsTargetAt}
 use Rattle.case_core.specs.Target.{Target}
 use Rattle.case_core.specs.Judged.{Judged}
 use Rattle.case_core.specs.Case.{CaseOf, section_at}
-use Rattle.case_core.specs.Finding.{IsFinding}
+use Rattle.case_core.specs.Finding.{HasSection, IsFinding}
 use Rattle.mark_board.specs.declared.mark.Mark.TheVariants.{Open}
 use Rattle.mark_board.specs.declared.posted.Posted.{Posted}
 use Rattle.mark_board.specs.declared.posted.Posted.TheVariants.{Marked, RootMarked, TopMarked}
@@ -62,7 +62,7 @@ posted_seen k node judged result before after same posted = record {
     by_answer Marked becomes = rw becomes.0.mark (never_open posted.post.judged)
     by_answer (RootMarked verdict) becomes = rw becomes.0.mark (never_open posted.post.judged)
     by_answer TopMarked becomes = rw becomes.0.mark (never_open posted.post.judged)
-    by_answer (Already finding) becomes = rw becomes.1 (never_open posted.post.judged)
+    by_answer (Already finding) becomes = becomes.1
 
 -- the section at a place, where its target's finding was seen
 pub section_seen : (case : CaseOf) (v : View) (place node : ℕ) (target : Target) →
@@ -74,11 +74,12 @@ section_seen case v place node target same is only seen other at =
 
 told_by : (v : View) (case : CaseOf) (node : ℕ) (target : Target) (judged : Judged) (place : Place)
     (weight : ℕ) → case ≡ v.of.case → AreReal v.of v.seen
-    → IsTargetAt v.of.case.tree node target → IsFinding v.of.case target judged → HasSeen v node
+    → IsTargetAt v.of.case.tree node target → HasSection v.of.case target
+    → IsFinding v.of.case target judged → HasSeen v node
     → IsPlaceFor v.of.cut v.of.case.tree node place →
     weight ≡ open_by v.of (board_number v.of place) (mark_in v.seen (board_number v.of place)) →
     IsTold v case target node judged place weight
-told_by v case node target judged place weight same real here is seen at weight_is =
+told_by v case node target judged place weight same real here has is seen at weight_is =
     let one =
     one_board v.of node (board_number v.of place) at.row seen.board seen.row
     (place_home v.of node place at) seen.home in
@@ -88,7 +89,7 @@ told_by v case node target judged place weight same real here is seen at weight_
       is = rw same is;
       seen = seen;
       mark =
-          rw same (real_mark v.of v.seen real node seen.board seen.row target seen.home here
+          rw same (real_mark v.of v.seen real node seen.board seen.row target seen.home here has
           seen.marked);
       place_is = one;
       weight_is = weight_is ∙ ap (λ (b : ℕ). open_by v.of b (mark_in v.seen b)) one;
@@ -97,10 +98,11 @@ told_by v case node target judged place weight same real here is seen at weight_
 -- what a gate is told
 pub told : (k : CutCase) (v : View) (case : CaseOf) (node : ℕ) (target : Target) (judged : Judged)
     (place : Place) (weight : ℕ) → v.of ≡ k → case ≡ k.case → AreReal k v.seen
-    → IsTargetAt k.case.tree node target → IsFinding k.case target judged → HasSeen v node
+    → IsTargetAt k.case.tree node target → HasSection k.case target
+    → IsFinding k.case target judged → HasSeen v node
     → IsPlaceFor k.cut k.case.tree node place →
     weight ≡ open_by k (board_number k place) (mark_in v.seen (board_number k place)) →
     IsTold v case target node judged place weight
-told k v case node target judged place weight same of real here is seen at weight_is =
+told k v case node target judged place weight same of real here has is seen at weight_is =
     told_by v case node target judged place weight (of ∙ ap (λ (c : CutCase). c.case) (sym same))
-    (rw same real) (rw same here) (rw same is) seen (rw same at) (rw same weight_is)
+    (rw same real) (rw same here) (rw same has) (rw same is) seen (rw same at) (rw same weight_is)

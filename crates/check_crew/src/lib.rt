@@ -5,6 +5,8 @@
 mod crew;
 mod fault;
 mod gate;
+mod leaf_proofs;
+mod leaves;
 mod order;
 mod settings;
 mod worker;
@@ -12,4 +14,6 @@ mod worker;
 pub use crew::conquer;
 pub use fault::CrewFault;
 pub use gate::{Found, Gate, NoGate};
+pub use leaf_proofs::{LeafProofs, ReadFault};
+pub use leaves::Examined;
 pub use settings::Settings;

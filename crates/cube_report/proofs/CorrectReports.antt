@@ -1,6 +1,6 @@
 -- What a report says of the formula.
 use Rattle.std.proofs.Common.{◌≡◌, ℕ, Bool, true, false, List, [], ◌∷◌, ◌++◌, length, append-nil}
-use Rattle.std.proofs.Common.{append_assoc, arith, refl, sym, ap, ◌∙◌, subst, Option, None, Some}
+use Rattle.std.proofs.Common.{append_assoc, arith, refl, sym, ◌∙◌, subst, Option, None, Some}
 use Rattle.std.proofs.Common.{IfSome, Result, Ok, Err, IfOk, IfErr, IsErrAnd, OnErr}
 use Rattle.std.specs.Prelude.{codes}
 use Rattle.case_core.specs.Formula.{IsRefuted}

@@ -17,3 +17,12 @@ pub record IsStated (case : CaseOf) (draws : Bool) (report map : List ℕ) (answ
   pub drawn : map ≡ map_if draws case marks
   pub refuted : answer ≡ marked (refuted_by marks) 0 case.tree
   pub sound : answer ≡ true → IsRefuted case.formula []
+
+-- What is written of a case by some marks, whatever they are the marks of: the report, the answer
+-- that goes with it, and the picture where one is drawn.
+pub record IsWrittenBy (case : CaseOf) (marks : List Mark) (draws : Bool) (report map : List ℕ)
+    (answer : Bool) : Type 0 where
+  pub text : report ≡ report_text case marks
+  pub drawn : map ≡ map_if draws case marks
+  pub refuted : answer ≡ marked (refuted_by marks) 0 case.tree
+  pub sound : answer ≡ true → IsRefuted case.formula []

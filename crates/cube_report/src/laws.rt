@@ -2,6 +2,7 @@
 
 ghost use Rattle.std.specs.Prelude.{◌≡◌, ℕ, Bool, List, codes};
 ghost use Rattle.cube_report.specs.Correct.{IsReportOn, IsAnswerOn};
+ghost use Rattle.cube_report.specs.Laws.{SameReport, WrittenIsStated};
 
 /// A bundle has one report at most.
 pub fn one_report()
@@ -21,4 +22,16 @@ pub fn one_answer()
 pub fn a_short_report()
     ensures { IsReportOn (codes "p inccnf\n1 0\n-1 0\nl m1\n3 0 1 2 0\n")
         (codes "t 0 1 1152921504606846976\nm 1 0 refuted\nw 0\ns REFUTED\n") }
+{}
+
+/// Report and picture look at the sections of inner nodes alone: two cases with the same tree, in
+/// which the same inner nodes have sections, have the same ones by the same marks.
+pub fn same_report()
+    ensures { SameReport }
+{}
+
+/// What is written of one case by some marks is stated of another with the same formula and tree,
+/// in which the same inner nodes have sections, where these marks are those of its findings.
+pub fn written_is_stated()
+    ensures { WrittenIsStated }
 {}

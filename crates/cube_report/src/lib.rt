@@ -14,6 +14,6 @@ pub use engine::{
     Outcome, judge_bundle, read_to_end, run, run_io, run_one, write_all, write_report,
 };
 pub use fault::Fault;
-pub use laws::{a_short_report, one_answer, one_report};
+pub use laws::{a_short_report, one_answer, one_report, same_report, written_is_stated};
 pub use mark_board::Place;
 pub use report::report_of;

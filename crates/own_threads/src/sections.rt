@@ -3,7 +3,7 @@
 ghost use Rattle.std.specs.Prelude.{◌≡◌, ◌<◌, None, length, IfOk, OnOk};
 ghost use Rattle.case_core.specs.FindingOf.{finding_of};
 ghost use Rattle.board_hall.specs.Halls.{core_of, shared_of, view_of, IsPassOf, IsNewPass};
-ghost use Rattle.board_hall.specs.Clauses.{Stays};
+ghost use Rattle.board_hall.specs.Clauses.{Stays, IsOfSection};
 ghost use Rattle.check_crew.specs.Seen.{HasSeen, HasSeenSection};
 ghost use Rattle.own_threads.specs.Inner.Sections.{IsReady, HasPostedFrom};
 
@@ -104,6 +104,7 @@ fn post_section<R: Wait>(
 fn post<'c, R: Wait>(rt: &R, case: &'c Case, core: &Core, pass: &mut Pass, finding: Finding<'c>)
     requires case { case.now ≡ (core_of core.now).case }
     requires finding { (finding_of finding).case ≡ case.now }
+    requires section { IsOfSection (core_of core.now) finding }
     requires own { IsPassOf (shared_of core.now) pass.old }
     requires free { (view_of pass.old).owes ≡ None }
     ensures own { IsPassOf (shared_of core.now) pass.new }

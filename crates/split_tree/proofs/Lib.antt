@@ -8,7 +8,7 @@ pub mod NodesCoding
 mod NodesEnds
 pub mod SplitTreeLabels
 pub mod NavigationSteps
-mod LeavesPaths
+pub mod LeavesPaths
 pub mod TablesTotals
 pub mod PartsTop
 pub mod TablesParents

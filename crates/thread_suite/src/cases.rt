@@ -2,7 +2,7 @@
 ghost use Rattle.std.specs.Prelude.{◌≡◌, IfSome, MatchOption, None};
 ghost use Rattle.case_core.specs.Case.{proof_for};
 ghost use Rattle.case_core.specs.Sections.{IsCaseOf};
-ghost use Rattle.case_core.specs.Finding.{IsFinding};
+ghost use Rattle.case_core.specs.Finding.{HasSection, IsFinding, target_of};
 
 use case_core::{Case, Finding, Target, examine, read_bundle};
 use fixtures::targets::has_target;
@@ -26,6 +26,8 @@ pub fn finding_of<'c>(
     ensures case { IfSome result (λ finding. finding.case.now ≡ case.now) }
     ensures found { MatchOption result (proof_for case.now.sections target ≡ None)
         (λ finding. IsFinding case.now target finding.judged) }
+    ensures section { IfSome result (λ finding.
+        HasSection finding.case.now (target_of finding.leaf finding.node)) }
 {
     let asked = target;
     assert!(rt; has_target(case.tree(), asked));

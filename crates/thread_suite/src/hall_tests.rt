@@ -1,6 +1,7 @@
 //! A hall: its calls by one pass and by two, and how it is closed.
 ghost use Rattle.std.specs.Prelude.{◌≡◌, ◌≤◌, [], ◌∷◌, None, Some, All};
 ghost use Rattle.case_core.specs.Leaves.{HasTarget};
+ghost use Rattle.case_core.specs.Finding.{HasSection, target_of};
 ghost use Rattle.mark_board.specs.Board.{IsPlace};
 ghost use Rattle.mark_board.specs.TopPlaces.{part_count};
 ghost use Rattle.mark_board.specs.VerdictOf.{verdict_of};
@@ -79,7 +80,8 @@ pub fn hall_for_two<'c>(
 
 /// The finding of a target.
 fn finding<'c>(rt: &impl Abort, alloc: Global, case: &'c Case, target: Target) -> Finding<'c>
-    ensures { result.case.now ≡ case.now }
+    ensures case { result.case.now ≡ case.now }
+    ensures section { HasSection result.case.now (target_of result.leaf result.node) }
 {
     finding_of(rt, alloc, case, target).expect(rt, "no finding")
 }

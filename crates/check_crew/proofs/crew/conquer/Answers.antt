@@ -23,6 +23,7 @@ returns-clause-findings g c =
     subst (λ (of : HallOf). All (IsPassOf of) c.in_ok-passes.passes.items) c.core.ensures
     c.in_ok-passes.ensures.own in
     subst (λ (case : CaseOf). AreFindings case c.in-Ok.boards.marks) of_case
-    (are_findings hall c.in_ok-passes.passes.items c.in-Ok.boards c.in-Ok.ensures.boards own
+    (are_findings hall c.in_ok-passes.passes.items c.in-Ok.boards c.in-Ok.ensures.boards
+    (ap (λ (k : CutCase). k.elsewhere) c.in_ok-hall.ensures.hall.0) own
     (subst (λ (case : CaseOf). HaveSeenSections case c.in_ok-passes.passes.items) (sym of_case)
     c.in_ok-passes.ensures.seen))

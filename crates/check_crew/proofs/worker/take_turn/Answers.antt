@@ -36,7 +36,8 @@ after-requires g c =
     (told (core_of c.args.site.core.now) (view_of c.open_weight-weight.new.pass)
     c.args.site.case.now c.in-Some.finding.node _ c.in-Some.finding.judged c.place_of-board.result
     c.open_weight-weight.result own.1 c.requires.case own.2
-    (rw (same, found.2) at c.in-Some.finding.here) (rw (sym c.requires.case) found.3)
+    (rw (same, found.2) at c.in-Some.finding.here) (rw (sym c.requires.case) found.0)
+    (rw (sym c.requires.case) found.3)
     (seen_stays _ _ c.open_weight-weight.ensures.stays c.in-Some.finding.node c.post.ensures.seen)
     (rw (c.requires.case, c.node-node.ensures.value) at c.place_of-board.ensures)
     c.open_weight-weight.ensures.weight)
@@ -54,3 +55,8 @@ returns-clause-seen g c =
     section_seen c.args.site.case.now (view_of c.open_weight-weight.new.pass) c.args.place
     c.in-Some.finding.node _ of_case here.is (rw (same, found.2) at c.in-Some.finding.only)
     (seen_stays _ _ c.open_weight-weight.ensures.stays c.in-Some.finding.node c.post.ensures.seen)
+
+pub post-requires-clause-section : goal.post-requires-clause-section
+post-requires-clause-section g c =
+    let found = rw c.in-Some.is at c.in_ok-finding.ensures in
+    λ alone. rw (found.1, found.2) found.0

@@ -22,4 +22,5 @@ returns-clause-findings g c =
     subst (λ (case : CaseOf). HaveSeenSections case passes) (sym of_case)
     c.in_ok-passes.ensures.seen in
     subst (λ (case : CaseOf). AreFindings case boards.marks) of_case
-    (are_findings hall passes boards c.in-Ok.ensures.boards own seen)
+    (are_findings hall passes boards c.in-Ok.ensures.boards
+    (ap (λ (k : CutCase). k.elsewhere) c.in_ok-hall.ensures.hall.0) own seen)

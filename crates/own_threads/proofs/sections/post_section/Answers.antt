@@ -33,3 +33,9 @@ returns-clause-seen g c =
     section_seen c.args.case.now (view_of c.post.new.pass) c.args.place c.in-Some.finding.node _
     of_case here.is only
     c.post.ensures.seen
+
+-- the section that was examined is one of the case
+pub post-requires-clause-section : goal.post-requires-clause-section
+post-requires-clause-section g c =
+    let found = rw c.in-Some.is at c.in_ok-finding.ensures in
+    λ alone. rw (found.1, found.2) found.0

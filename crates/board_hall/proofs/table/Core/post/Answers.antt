@@ -1,7 +1,7 @@
 use Rattle.std.proofs.Common.{◌≡◌, ◌≢◌, ◌<◌, ℕ, List, sym, ap, ◌∙◌, subst}
 use Rattle.split_tree.specs.SplitTree.{size}
 use Rattle.case_core.specs.Case.{CaseOf}
-use Rattle.case_core.specs.Finding.{target_of, HasSection, IsFinding}
+use Rattle.case_core.specs.Finding.{target_of, IsFinding}
 use Rattle.split_tree.specs.Leaves.{IsTargetAt}
 use Rattle.split_tree.specs.declared.node.Target.{Target}
 use Rattle.mark_board.specs.declared.mark.Mark.TheVariants.{Open}
@@ -12,7 +12,8 @@ use Rattle.board_hall.specs.declared.view.Post.{Post}
 use Rattle.board_hall.specs.Posts.{mark_in}
 use Rattle.board_hall.specs.Inner.Plays.{Hand}
 use Rattle.board_hall.specs.Halls.{core_of}
-use Rattle.board_hall.specs.Clauses.{SeesOwn}
+use Rattle.board_hall.specs.Clauses.{SeesOwn, HasSectionAt}
+use Rattle.case_core.proofs.CaseTables.{one_target}
 use Rattle.board_hall.proofs.ClausesCalls.{keeps, saw, becomes}
 use Rattle.board_hall.proofs.PostsOneFinding.{one_mark}
 use Rattle.board_hall.proofs.table.Core.post.Goals as goal
@@ -53,12 +54,16 @@ returns-clause-posted g c =
     let f = c.args.finding in let of : f.case.now ≡ k.case = c.requires.case ∙ c.requires.of in
     let target : Target = target_of f.leaf f.node in
     let seen : List Post = c.give.new.seat.me.0.seen in
-    let settles : mark_in seen rec.0.board rec.0.row ≢ Open →
-    mark_in seen rec.0.board rec.0.row ≡ mark_as rec.0.judged = λ marked.
-    one_mark k seen s.1 f.node rec.0.board rec.0.row target f.judged rec.1.home
-    (subst (λ (z : CaseOf). IsTargetAt z.tree f.node target) of f.here)
-    (subst (λ (z : CaseOf). HasSection z target) of f.has_section)
-    (subst (λ (z : CaseOf). IsFinding z target f.judged) of f.is) marked
+    let settles : mark_in seen rec.0.board rec.0.row ≢ Open → HasSectionAt k rec.0 →
+    mark_in seen rec.0.board rec.0.row ≡ mark_as rec.0.judged = λ marked has.
+    let there : IsTargetAt k.case.tree f.node has.0 =
+    subst (λ (n : ℕ). IsTargetAt k.case.tree n has.0) rec.1.home.is_row.here has.1 in
+    let same : target ≡ has.0 =
+    one_target k.case.tree f.node target has.0
+    (subst (λ (z : CaseOf). IsTargetAt z.tree f.node target) of f.here) there in
+    one_mark k seen s.1 f.node rec.0.board rec.0.row has.0 f.judged rec.1.home there has.2
+    (subst (λ (t : Target). IsFinding k.case t f.judged) same
+    (subst (λ (z : CaseOf). IsFinding z target f.judged) of f.is)) marked
     ∙ ap mark_as (sym rec.1.judged_is) in record {
       post = rec.0;
       is_post = rec.1;

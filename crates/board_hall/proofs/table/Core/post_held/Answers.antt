@@ -17,7 +17,7 @@ returns-in-Already-clause-recorded c =
     record { board = c.args.number; row = c.row_of.result; judged = c.judged.result } in
     let held =
     finding_held k me.0.known c.args.board.now c.post-answer.new.self c.args.finding x
-    c.node.result (posted_answer c.post-answer.result) r.board r.home.1.inside r.case
+    c.node.result (posted_answer c.post-answer.result) r.board r.home.1.inside r.case r.section
     c.node.ensures.value c.judged.ensures.value c.judged.ensures.is c.row_of.ensures e.same e.marks
     e.already e.root in (
       x,
@@ -35,7 +35,7 @@ overflow_sub-covered c =
     record { board = c.args.number; row = c.row_of.result; judged = c.judged.result } in
     let held =
     finding_held k me.0.known c.args.board.now c.post-answer.new.self c.args.finding x
-    c.node.result (posted_answer c.post-answer.result) r.board r.home.1.inside r.case
+    c.node.result (posted_answer c.post-answer.result) r.board r.home.1.inside r.case r.section
     c.node.ensures.value c.judged.ensures.value c.judged.ensures.is c.row_of.ensures e.same e.marks
     e.already e.root in
     let is_new = new_of c.post-answer.result c.in_default.not-Already in
@@ -53,7 +53,7 @@ note-requires c =
     record { board = c.args.number; row = c.row_of.result; judged = c.judged.result } in
     let held =
     finding_held k me.0.known c.args.board.now c.post-answer.new.self c.args.finding x
-    c.node.result (posted_answer c.post-answer.result) r.board r.home.1.inside r.case
+    c.node.result (posted_answer c.post-answer.result) r.board r.home.1.inside r.case r.section
     c.node.ensures.value c.judged.ensures.value c.judged.ensures.is c.row_of.ensures e.same e.marks
     e.already e.root in
     let is_new = new_of c.post-answer.result c.in_default.not-Already in
@@ -85,7 +85,7 @@ returns c =
     record { board = c.args.number; row = c.row_of.result; judged = c.judged.result } in
     let held =
     finding_held k me.0.known c.args.board.now c.post-answer.new.self c.args.finding x
-    c.node.result (posted_answer c.post-answer.result) r.board r.home.1.inside r.case
+    c.node.result (posted_answer c.post-answer.result) r.board r.home.1.inside r.case r.section
     c.node.ensures.value c.judged.ensures.value c.judged.ensures.is c.row_of.ensures e.same e.marks
     e.already e.root in
     let is_new = new_of c.post-answer.result c.in_default.not-Already in

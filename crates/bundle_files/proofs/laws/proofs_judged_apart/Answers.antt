@@ -1,0 +1,5 @@
+use Rattle.bundle_files.proofs.FilesApart.{judged_apart}
+use Rattle.bundle_files.proofs.laws.proofs_judged_apart.Goals as goal
+
+pub returns : goal.returns
+returns c = judged_apart

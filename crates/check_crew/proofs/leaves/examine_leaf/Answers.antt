@@ -1,0 +1,45 @@
+use Rattle.std.proofs.Common.{rules, ◌≡◌, ℕ, List, [], true, false, None, ap, sym, ◌∙◌, subst}
+use Rattle.case_core.specs.Leaves.{IsTargetAt}
+use Rattle.case_core.specs.Target.{Target}
+use Rattle.case_core.specs.Target.TheVariants.{Leaf as Named}
+use Rattle.case_core.specs.Judged.{Judged}
+use Rattle.case_core.specs.Bundle.{labels_of}
+use Rattle.case_core.specs.Case.{CaseOf, proof_for}
+use Rattle.case_core.specs.Finding.{IsFoundBy, target_of}
+use Rattle.board_hall.specs.declared.view.CutCase.{CutCase}
+use Rattle.board_hall.specs.Halls.{core_of, view_of}
+use Rattle.check_crew.specs.LeafProofs.{HasSeenAs}
+use Rattle.check_crew.proofs.LeavesSeen.{read_there, as_stays, posted_as, found_at}
+use Rattle.check_crew.proofs.leaves.examine_leaf.Goals as goal
+
+pub returns-in-RootMarked-clause-examined : goal.returns-in-RootMarked-clause-examined
+returns-in-RootMarked-clause-examined g c =
+    let k : CutCase = core_of c.args.core.now in
+    let leaf : Target = Named c.args.leaf in
+    let finding = c.in_ok-finding.finding in
+    let found = c.in_ok-finding.ensures in
+    let bytes : List ℕ = c.read.new.bytes.items in
+    let there : c.in_ok-read.field-0 ≡ true = search rules in
+    let free : proof_for c.args.case.now.sections leaf ≡ None = search rules in
+    let plain : labels_of bytes ≡ [] =
+    subst (λ (t : List ℕ). labels_of t ≡ []) c.deref.ensures.value
+    (c.has_label_line.ensures.0 c.if-has_label_line.false) in
+    let by_text : IsFoundBy c.args.case.now leaf bytes c.judged-judged.result =
+    subst (λ (j : Judged). IsFoundBy c.args.case.now leaf bytes j) (sym c.judged-judged.ensures.value)
+    (subst (λ (t : List ℕ). IsFoundBy c.args.case.now leaf t finding.judged) c.deref-2.ensures.value
+    found.2) in
+    let here : IsTargetAt k.case.tree finding.node leaf =
+    subst (λ (t : Target). IsTargetAt k.case.tree finding.node t) found.1
+    (subst (λ (z : CaseOf). IsTargetAt z.tree finding.node (target_of finding.leaf finding.node))
+    (found.0 ∙ c.requires.case) finding.here) in
+    let seen : HasSeenAs (view_of c.post_part.new.pass) leaf c.judged-judged.result =
+    as_stays (view_of c.post.new.pass) (view_of c.post_part.new.pass) leaf c.judged-judged.result
+    c.post_part.ensures.stays
+    (subst (λ (j : Judged). HasSeenAs (view_of c.post.new.pass) leaf j)
+    (sym c.judged-judged.ensures.value)
+    (posted_as k finding.node leaf finding.judged _ _ (view_of c.post.new.pass)
+    c.post.ensures.own.1 here tt c.in-RootMarked.ensures.posted)) in
+    found_at _ k c.args.case.now (view_of c.post_part.new.pass) c.args.leaf c.judged-judged.result
+    bytes c.post_part.ensures.own.1 c.requires.case
+    (read_there _ bytes c.in_ok-read.field-0 c.in_ok-read.ensures.found there) plain free by_text
+    seen

@@ -1,0 +1,61 @@
+-- What is read of the proofs that don't stand in a case, and what a worker has found of one.
+use Rattle.std.specs.Prelude.{◌≡◌, ℕ, ◌+◌, Bool, List, [], ◌⊎◌, ◌++◌, Option, None, Some, IfSome}
+use Rattle.std.specs.Prelude.{is_some, unwrap_or}
+use Rattle.case_core.specs.Leaves.{IsTargetAt}
+use Rattle.case_core.specs.Leaf.{Leaf}
+use Rattle.case_core.specs.Target.{Target}
+use Rattle.case_core.specs.Target.TheVariants.{Leaf as Named}
+use Rattle.case_core.specs.Judged.{Judged}
+use Rattle.case_core.specs.Bundle.{labels_of}
+use Rattle.case_core.specs.Case.{CaseOf, proof_for}
+use Rattle.case_core.specs.Finding.{IsFoundBy}
+use Rattle.mark_board.specs.Findings.{mark_as}
+use Rattle.board_hall.specs.declared.view.View.{View}
+use Rattle.board_hall.specs.Posts.{mark_in}
+use Rattle.board_hall.specs.Clauses.{IsHome}
+use Rattle.check_crew.specs.declared.leaf_proofs.ReadFault.{ReadFault}
+use Rattle.check_crew.specs.declared.leaf_proofs.ReadFault.TheVariants.{Memory, Device}
+use Rattle.check_crew.specs.declared.leaves.Examined.{Examined}
+use Rattle.check_crew.specs.declared.leaves.Examined.TheVariants.{Absent, Found, Other}
+
+-- what was read is what is known to lie there: nothing, or these bytes
+abbrev pub IsRead : Option (Option (List ℕ)) → List ℕ → Bool → Type 0
+IsRead known bytes there =
+    (given : Option (List ℕ)) × IfSome known (λ held. given ≡ held)
+    × (there ≡ is_some given) × (bytes ≡ unwrap_or given [])
+
+-- want of memory without a failed read, or a fault of the device with one
+abbrev pub IsReadFault : ℕ → ℕ → ReadFault → Type 0
+IsReadFault before after fault =
+    ((fault ≡ Memory) × (after ≡ before)) ⊎ ((fault ≡ Device) × (after ≡ before + 1))
+
+-- what was given for a leaf is what is known to lie there
+abbrev pub IsGiven : Option (Option (List ℕ)) → Option (List ℕ) → Type 0
+IsGiven known given = IfSome known (λ held. given ≡ held)
+
+-- the mark of this judgement is among what was seen, at the node of the target
+pub record HasSeenAs (v : View) (target : Target) (judged : Judged) : Type 0 where
+  pub node : ℕ
+  pub here : IsTargetAt v.of.case.tree node target
+  pub board : ℕ
+  pub row : ℕ
+  pub home : IsHome v.of node board row
+  pub is : mark_in v.seen board row ≡ mark_as judged
+
+-- The proof of a leaf that was read: it has no label line, the leaf has no section, and this is the
+-- judgement of its bytes, which stands at the leaf by what was seen.
+pub record IsFoundAt (known : Option (Option (List ℕ))) (v : View) (leaf : Leaf) (judged : Judged)
+    : Type 0 where
+  pub text : List ℕ
+  pub given : IsGiven known (Some text)
+  pub plain : labels_of text ≡ []
+  pub free : proof_for v.of.case.sections (Named leaf) ≡ None
+  pub found : IsFoundBy v.of.case (Named leaf) text judged
+  pub seen : HasSeenAs v (Named leaf) judged
+
+-- what became of a leaf: there is no proof for it, or this was found of it; of one that the run
+-- can't judge by itself nothing is said
+abbrev pub IsExamined : Option (Option (List ℕ)) → View → Leaf → Examined → Type 0
+IsExamined known v leaf Absent = IsGiven known None
+IsExamined known v leaf (Found judged) = IsFoundAt known v leaf judged
+IsExamined known v leaf Other = Unit {0}
