@@ -26,7 +26,7 @@ import sys
 import threading
 import time
 
-NEEDED = "rattle-kit-13b logic dac8208d650f15bf"
+NEEDED = "rattle-kit-13f logic dac8208d650f15bf"
 ROOT = pathlib.Path(__file__).resolve().parent.parent
 FAILED, INTERRUPTED = 70, 130
 # What a first call has taken, as scripts/first_call.py measured it.

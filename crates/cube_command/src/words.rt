@@ -31,7 +31,7 @@ pub struct Request<'a> {
 }
 
 /// The version, and the identity of the kit that proved it, as `rt version` prints it.
-const VERSION: &str = "0.1.0 (proved by rattle-kit-13b logic dac8208d650f15bf)";
+const VERSION: &str = "0.1.0 (proved by rattle-kit-13f logic dac8208d650f15bf)";
 
 /// What `--help` says below the words.
 const FORMATS: &str = "\
