@@ -2,3 +2,4 @@ pub mod FilesFormula
 mod FilesSections
 mod FilesOpened
 mod FilesApart
+mod JudgingRuns

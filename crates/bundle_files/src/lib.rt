@@ -3,12 +3,14 @@
 #![tactic(auto)]
 
 mod folder;
+mod judge;
 mod laws;
 mod opener;
 mod source;
 mod store;
 
 pub use folder::add_proofs;
+pub use judge::judge_given;
 pub use laws::{proofs_judged_apart, proofs_keep_formula};
 pub use opener::{Opener, SystemFiles};
 pub use source::read_judged;

@@ -1,30 +1,24 @@
 -- What a worker has seen after it posted the finding of a leaf's proof.
-use Rattle.std.proofs.Common.{◌≡◌, ◌≢◌, ℕ, true, List, [], ◌∷◌, ◌++◌, Option, None, Some, Bool, refl, sym}
-use Rattle.std.proofs.Common.{ap, ◌∙◌, subst, inl, inr, is_some, unwrap_or, append_assoc, append-nil}
+use Rattle.std.proofs.Common.{◌≡◌, ℕ, true, List, [], ◌++◌, Option, None, Some, Bool, refl, sym, ap}
+use Rattle.std.proofs.Common.{◌∙◌, subst, is_some, unwrap_or, append_assoc, append-nil}
 use Rattle.std.specs.Prelude.{IfSome}
-use Rattle.std.proofs.lemmas.Bool.{cases_Bool}
-use Rattle.case_core.specs.Leaves.{IsTargetAt}
 use Rattle.case_core.specs.Leaf.{Leaf}
+use Rattle.case_core.specs.Leaves.{IsTargetAt}
 use Rattle.case_core.specs.Target.{Target}
 use Rattle.case_core.specs.Target.TheVariants.{Leaf as Named}
 use Rattle.case_core.specs.Judged.{Judged}
 use Rattle.case_core.specs.Bundle.{labels_of}
 use Rattle.case_core.specs.Case.{CaseOf, proof_for}
 use Rattle.case_core.specs.Finding.{IsFoundBy}
-use Rattle.case_core.specs.declared.finding.Finding.{Finding}
-use Rattle.mark_board.specs.declared.mark.Mark.TheVariants.{Open}
-use Rattle.mark_board.specs.Findings.{mark_as}
-use Rattle.mark_board.specs.declared.posted.Posted.{Posted}
-use Rattle.mark_board.specs.declared.posted.Posted.TheVariants as posted
 use Rattle.board_hall.specs.declared.view.CutCase.{CutCase}
 use Rattle.board_hall.specs.declared.view.Post.{Post}
 use Rattle.board_hall.specs.declared.view.View.{View}
-use Rattle.board_hall.specs.Posts.{mark_in, is_at}
-use Rattle.board_hall.specs.Clauses.{Stays, IsPosted, Becomes, IsHome, HasPosted}
-use Rattle.board_hall.proofs.PostsLists.{never_open}
+use Rattle.board_hall.specs.Clauses.{Stays}
 use Rattle.check_crew.specs.LeafProofs.{IsRead, IsGiven, HasSeenAs, IsFoundAt, IsExamined}
 use Rattle.check_crew.specs.declared.leaves.Examined.{Examined}
 use Rattle.check_crew.specs.declared.leaves.Examined.TheVariants.{Absent, Found, Other}
+use Rattle.check_crew.specs.Seen.{HasSeenMark}
+use Rattle.check_crew.proofs.SeenPosted.{mark_stays}
 
 -- what was read, where there is a proof
 pub read_there : (known : Option (Option (List ℕ))) (bytes : List ℕ) (there : Bool) →
@@ -36,15 +30,6 @@ read_there known bytes there read is = of (read.0) read.1 (sym read.2 ∙ is) re
     of None given_is some text = absurd (cc)
     of (Some proof) given_is some text =
         subst (λ (t : List ℕ). IsGiven known (Some t)) (sym text) given_is
-
--- a row that is marked keeps its mark
-mark_kept : (posts more : List Post) (board row : ℕ) → mark_in posts board row ≢ Open →
-    mark_in (posts ++ more) board row ≡ mark_in posts board row
-mark_kept [] more board row marked = absurd (marked refl)
-mark_kept (post ∷ posts) more board row marked = elim (cases_Bool (is_at post board row)) [
-  | inl here ↦ rw here refl
-  | inr other ↦ rw other (mark_kept posts more board row (rw other at marked))
-]
 
 -- a pass is its own later one
 pub stays_same : (v : View) → Stays v v
@@ -74,43 +59,17 @@ pub as_stays : (before after : View) (target : Target) (judged : Judged) → Sta
 as_stays before after target judged stays seen = record {
   node = seen.node;
   here = rw stays.of_same seen.here;
-  board = seen.board;
-  row = seen.row;
-  home = rw stays.of_same seen.home;
-  is =
-      ap (λ (l : List Post). mark_in l seen.board seen.row) stays.seen
-      ∙ mark_kept before.seen stays.more seen.board seen.row
-      (rw seen.is (never_open judged))
-      ∙ seen.is;
+  mark = mark_stays before after seen.node judged stays seen.mark;
 }
 
--- an answer that gives no finding back
-abbrev pub IsNew : Posted → Type 0
-IsNew posted.Marked = Unit {0}
-IsNew (posted.RootMarked verdict) = Unit {0}
-IsNew posted.TopMarked = Unit {0}
-IsNew (posted.Already finding) = ⊥
-
-has_posted : (k : CutCase) (x : Post) (result : Posted) (before after : View) → IsNew result →
-    Becomes k x result before after → HasPosted x before after
-has_posted k x posted.Marked before after new becomes = becomes.0
-has_posted k x (posted.RootMarked verdict) before after new becomes = becomes.0
-has_posted k x posted.TopMarked before after new becomes = becomes.0
-has_posted k x (posted.Already finding) before after new becomes = absurd new
-
--- what was posted is seen
-pub posted_as : (k : CutCase) (node : ℕ) (target : Target) (judged : Judged) (result : Posted)
-    (before after : View) → after.of ≡ k → IsTargetAt k.case.tree node target → IsNew result
-    → IsPosted k node judged result before after → HasSeenAs after target judged
-posted_as k node target judged result before after same here new is =
-    let has = has_posted k is.post result before after new is.becomes in record {
-      node = node;
-      here = rw same here;
-      board = is.post.board;
-      row = is.post.row;
-      home = rw same is.is_post.home;
-      is = has.mark ∙ ap mark_as is.is_post.judged_is;
-    }
+-- a mark that was seen at a target's node
+pub seen_as : (k : CutCase) (v : View) (node : ℕ) (target : Target) (judged : Judged) → v.of ≡ k →
+    IsTargetAt k.case.tree node target → HasSeenMark v node judged → HasSeenAs v target judged
+seen_as k v node target judged same here seen = record {
+  node = node;
+  here = rw same here;
+  mark = seen;
+}
 
 -- what was found of the leaf's proof
 pub found_at : (known : Option (Option (List ℕ))) (k : CutCase) (case : CaseOf) (v : View)

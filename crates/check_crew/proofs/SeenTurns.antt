@@ -5,7 +5,7 @@ use Rattle.case_core.specs.Leaves.{IsTargetAt}
 use Rattle.case_core.specs.Target.{Target}
 use Rattle.case_core.specs.Judged.{Judged}
 use Rattle.case_core.specs.Case.{CaseOf, section_at}
-use Rattle.case_core.specs.Finding.{HasSection, IsFinding}
+use Rattle.case_core.specs.Finding.{IsFinding}
 use Rattle.mark_board.specs.declared.mark.Mark.TheVariants.{Open}
 use Rattle.mark_board.specs.declared.posted.Posted.{Posted}
 use Rattle.mark_board.specs.declared.posted.Posted.TheVariants.{Marked, RootMarked, TopMarked}
@@ -13,13 +13,13 @@ use Rattle.mark_board.specs.declared.posted.Posted.TheVariants.{Already}
 use Rattle.board_hall.specs.declared.view.CutCase.{CutCase}
 use Rattle.board_hall.specs.declared.view.Post.{Post}
 use Rattle.board_hall.specs.declared.view.View.{View}
-use Rattle.board_hall.specs.Posts.{mark_in, is_at, open_by, AreReal}
+use Rattle.board_hall.specs.Posts.{mark_in, is_at, open_by}
 use Rattle.board_hall.specs.Clauses.{Stays, IsPosted, Becomes, board_number}
 use Rattle.board_hall.proofs.PostsLists.{never_open}
 use Rattle.mark_board.specs.declared.place.Place.{Place}
 use Rattle.mark_board.specs.Boards.{IsPlaceFor}
-use Rattle.check_crew.specs.Seen.{HasSeen, HasSeenSection, IsTold}
-use Rattle.check_crew.proofs.SeenMarks.{real_mark, one_board, place_home}
+use Rattle.check_crew.specs.Seen.{HasSeen, HasSeenMark, HasSeenSection, IsTold}
+use Rattle.check_crew.proofs.SeenMarks.{one_board, place_home}
 
 -- a row that is marked stays so
 mark_in-stays : (posts more : List Post) (board row : ℕ) → mark_in posts board row ≢ Open →
@@ -73,13 +73,13 @@ section_seen case v place node target same is only seen other at =
     subst (HasSeen v) (sym (only other (rw (same, is) at at))) seen
 
 told_by : (v : View) (case : CaseOf) (node : ℕ) (target : Target) (judged : Judged) (place : Place)
-    (weight : ℕ) → case ≡ v.of.case → AreReal v.of v.seen
-    → IsTargetAt v.of.case.tree node target → HasSection v.of.case target
-    → IsFinding v.of.case target judged → HasSeen v node
+    (weight : ℕ) → case ≡ v.of.case
+    → IsTargetAt v.of.case.tree node target
+    → IsFinding v.of.case target judged → HasSeenMark v node judged
     → IsPlaceFor v.of.cut v.of.case.tree node place →
     weight ≡ open_by v.of (board_number v.of place) (mark_in v.seen (board_number v.of place)) →
     IsTold v case target node judged place weight
-told_by v case node target judged place weight same real here has is seen at weight_is =
+told_by v case node target judged place weight same here is seen at weight_is =
     let one =
     one_board v.of node (board_number v.of place) at.row seen.board seen.row
     (place_home v.of node place at) seen.home in
@@ -88,21 +88,19 @@ told_by v case node target judged place weight same real here has is seen at wei
       here = rw same here;
       is = rw same is;
       seen = seen;
-      mark =
-          rw same (real_mark v.of v.seen real node seen.board seen.row target seen.home here has
-          seen.marked);
       place_is = one;
       weight_is = weight_is ∙ ap (λ (b : ℕ). open_by v.of b (mark_in v.seen b)) one;
     }
 
 -- what a gate is told
 pub told : (k : CutCase) (v : View) (case : CaseOf) (node : ℕ) (target : Target) (judged : Judged)
-    (place : Place) (weight : ℕ) → v.of ≡ k → case ≡ k.case → AreReal k v.seen
-    → IsTargetAt k.case.tree node target → HasSection k.case target
-    → IsFinding k.case target judged → HasSeen v node
+    (place : Place) (weight : ℕ) → v.of ≡ k → case ≡ k.case
+    → IsTargetAt case.tree node target
+    → IsFinding case target judged → HasSeenMark v node judged
     → IsPlaceFor k.cut k.case.tree node place →
     weight ≡ open_by k (board_number k place) (mark_in v.seen (board_number k place)) →
     IsTold v case target node judged place weight
-told k v case node target judged place weight same of real here has is seen at weight_is =
-    told_by v case node target judged place weight (of ∙ ap (λ (c : CutCase). c.case) (sym same))
-    (rw same real) (rw same here) (rw same has) (rw same is) seen (rw same at) (rw same weight_is)
+told k v case node target judged place weight same of here is seen at weight_is =
+    let there : case ≡ v.of.case = of ∙ ap (λ (c : CutCase). c.case) (sym same) in
+    told_by v case node target judged place weight there
+    (rw there at here) (rw there at is) seen (rw same at) (rw same weight_is)

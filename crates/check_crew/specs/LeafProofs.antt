@@ -9,14 +9,16 @@ use Rattle.case_core.specs.Judged.{Judged}
 use Rattle.case_core.specs.Bundle.{labels_of}
 use Rattle.case_core.specs.Case.{CaseOf, proof_for}
 use Rattle.case_core.specs.Finding.{IsFoundBy}
-use Rattle.mark_board.specs.Findings.{mark_as}
 use Rattle.board_hall.specs.declared.view.View.{View}
-use Rattle.board_hall.specs.Posts.{mark_in}
-use Rattle.board_hall.specs.Clauses.{IsHome}
+use Rattle.check_crew.specs.Seen.{HasSeenMark}
 use Rattle.check_crew.specs.declared.leaf_proofs.ReadFault.{ReadFault}
 use Rattle.check_crew.specs.declared.leaf_proofs.ReadFault.TheVariants.{Memory, Device}
 use Rattle.check_crew.specs.declared.leaves.Examined.{Examined}
 use Rattle.check_crew.specs.declared.leaves.Examined.TheVariants.{Absent, Found, Other}
+
+-- what is known of the proofs that lie elsewhere: where it is, no proof or these bytes for each leaf
+abbrev pub Known : Type 0
+Known = Leaf → Option (Option (List ℕ))
 
 -- what was read is what is known to lie there: nothing, or these bytes
 abbrev pub IsRead : Option (Option (List ℕ)) → List ℕ → Bool → Type 0
@@ -37,10 +39,7 @@ IsGiven known given = IfSome known (λ held. given ≡ held)
 pub record HasSeenAs (v : View) (target : Target) (judged : Judged) : Type 0 where
   pub node : ℕ
   pub here : IsTargetAt v.of.case.tree node target
-  pub board : ℕ
-  pub row : ℕ
-  pub home : IsHome v.of node board row
-  pub is : mark_in v.seen board row ≡ mark_as judged
+  pub mark : HasSeenMark v node judged
 
 -- The proof of a leaf that was read: it has no label line, the leaf has no section, and this is the
 -- judgement of its bytes, which stands at the leaf by what was seen.

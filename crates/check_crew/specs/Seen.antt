@@ -10,7 +10,7 @@ use Rattle.case_core.specs.Case.{CaseOf, section_at}
 use Rattle.case_core.specs.Finding.{IsFinding}
 use Rattle.mark_board.specs.declared.mark.Mark.TheVariants.{Open}
 use Rattle.mark_board.specs.declared.place.Place.{Place}
-use Rattle.mark_board.specs.Findings.{IsMarkOf}
+use Rattle.mark_board.specs.Findings.{mark_as}
 use Rattle.board_hall.specs.declared.pass.Pass.{Pass}
 use Rattle.board_hall.specs.declared.view.View.{View}
 use Rattle.board_hall.specs.Posts.{mark_in, open_by}
@@ -35,15 +35,21 @@ abbrev pub HaveSeenSections : CaseOf → List Pass → Type 0
 HaveSeenSections case passes = (place : ℕ) → place < length case.sections
     → (pass : Pass) × Contains passes pass × HasSeenSection (view_of pass) place
 
--- What a gate is told of a section. The target stands at this node and is judged so, the posts that
--- were seen hold this finding, and by them the board at this place, on which it is posted, has this
--- open weight.
+-- this judgement's mark is among what was seen, at this node
+pub record HasSeenMark (v : View) (node : ℕ) (judged : Judged) : Type 0 where
+  pub board : ℕ
+  pub row : ℕ
+  pub home : IsHome v.of node board row
+  pub is : mark_in v.seen board row ≡ mark_as judged
+
+-- What a gate is told of a section, or of a leaf's proof. The target stands at this node; it is
+-- judged so, by its section where it has one; by the posts that were seen the node has the mark of
+-- this judgement, and the board at this place, on which it is posted, has this open weight.
 pub record IsTold (v : View) (case : CaseOf) (target : Target) (node : ℕ) (judged : Judged)
     (place : Place) (weight : ℕ) : Type 0 where
   pub same : case ≡ v.of.case
   pub here : IsTargetAt case.tree node target
   pub is : IsFinding case target judged
-  pub seen : HasSeen v node
-  pub mark : IsMarkOf case target (mark_in v.seen seen.board seen.row)
+  pub seen : HasSeenMark v node judged
   pub place_is : board_number v.of place ≡ seen.board
   pub weight_is : weight ≡ open_by v.of seen.board (mark_in v.seen seen.board)

@@ -46,7 +46,10 @@ pub fn conquer<'c, R: Threads + Wait + Sync, G: Gate + Sync>(
 {
     let workers = settings.workers() as usize;
     let (hall, passes) = Hall::open(alloc, case, settings.cut(), workers)?;
-    let passes = examine_all(rt, alloc, case, hall.core(), settings.cut(), gate, passes)?;
+    gate.start(alloc, case, settings.cut(), 0)?;
+    let examined = examine_all(rt, alloc, case, hall.core(), gate, passes);
+    gate.end();
+    let passes = examined?;
     match hall.close(passes) {
         Ok(boards) => Ok(boards),
         Err(_) => unreachable!(),
@@ -56,17 +59,15 @@ pub fn conquer<'c, R: Threads + Wait + Sync, G: Gate + Sync>(
 /// Has a worker for each pass, which claim the sections of the case, examine them and post what
 /// they find. The passes that come back owe nothing, and what was found of each section is among
 /// what one of them has seen.
-fn examine_all<R: Threads + Wait + Sync, G: Gate + Sync>(
+pub(crate) fn examine_all<R: Threads + Wait + Sync, G: Gate + Sync>(
     rt: &R,
     alloc: Global,
     case: &Case,
     core: &Core,
-    cut: u32,
     gate: &G,
     passes: Vec<Pass>,
 ) -> Result<Vec<Pass>, CrewFault>
     requires case { case.now ≡ (core_of core.now).case }
-    requires cut { cut ≤ 6 }
     requires count { (0 < vec_len passes) × (vec_len passes ≤ 32) }
     requires new { All (IsNewPass (shared_of core.now)) passes.items }
     ensures count { IfOk result (λ handed. vec_len handed ≡ vec_len passes) }
@@ -82,49 +83,12 @@ fn examine_all<R: Threads + Wait + Sync, G: Gate + Sync>(
         jobs: &jobs,
         order: &order,
     };
-    let shifts = run_beside(rt, alloc, site, cut, gate, passes, job_passes)?;
+    let shifts = run_all(rt, alloc, site, gate, passes, job_passes)?;
     let (passes, job_passes) = hand_in(alloc, site, shifts)?;
     if !jobs.finish(rt, job_passes) {
         unreachable!()
     }
     Ok(passes)
-}
-
-/// Runs a worker for each pass, between the gate's start and its end.
-fn run_beside<R: Threads + Wait + Sync, G: Gate + Sync>(
-    rt: &R,
-    alloc: Global,
-    site: Site<'_>,
-    cut: u32,
-    gate: &G,
-    passes: Vec<Pass>,
-    job_passes: Vec<JobPass>,
-) -> Result<Vec<Shift>, CrewFault>
-    requires cut { cut ≤ 6 }
-    requires ready { AreReady site.case.now (shared_of site.core.now) site.jobs.now site.order.now }
-    requires count { (0 < vec_len passes) × (vec_len passes ≤ 32) }
-    requires pairs { vec_len job_passes ≡ vec_len passes }
-    requires new { AreNew (shared_of site.core.now) site.jobs.now passes.items job_passes.items }
-    ensures count { IfOk result (λ shifts. vec_len shifts ≡ vec_len passes) }
-    ensures kept { IfOk result (λ shifts. All (IsShiftOf (shared_of site.entry.core.now)
-        site.entry.jobs.now site.entry.order.now) shifts.items) }
-{
-    let Site {
-        case,
-        core,
-        jobs,
-        order,
-    } = site;
-    gate.start(alloc, case, cut)?;
-    let site = Site {
-        case,
-        core,
-        jobs,
-        order,
-    };
-    let shifts = run_all(rt, alloc, site, gate, passes, job_passes);
-    gate.end();
-    shifts
 }
 
 /// Runs a worker for each pass, the last pass's in the calling thread.

@@ -9,16 +9,17 @@ use case_core::{Case, Judged, NodeId, Target};
 use mark_board::Place;
 use std::alloc::{AllocError, Global};
 
-/// What a worker found of a section, and what the boards said when it had posted that.
+/// What a worker found of a section, or of a leaf's proof that lies elsewhere, and what the boards
+/// said when it had posted that.
 #[derive(Drop)]
 pub struct Found<'a> {
     /// The case of the run.
     pub case: &'a Case,
-    /// The target of the section.
+    /// The target of the section, or the leaf of the proof.
     pub target: Target,
     /// The node at which the target stands.
     pub node: NodeId,
-    /// What is said of the section's proof.
+    /// What is said of the proof.
     pub judged: Judged,
     /// The place of the board on which findings of this node are posted.
     pub place: Place,
@@ -31,16 +32,23 @@ pub struct Found<'a> {
 /// Called by a run, and by each worker beside each of its jobs. The workers of a run share one
 /// gate.
 pub trait Gate {
-    /// Once, before the first worker starts: the case of the run, and the depth at which its tree
-    /// is cut, from 0 to 6. Where it answers `AllocError`, the run ends as it does where a growth
-    /// is refused.
-    fn start(&self, _alloc: Global, _case: &Case, _cut: u32) -> Result<(), AllocError>
+    /// Once, before the first worker starts: the case of the run, the depth at which its tree is
+    /// cut, from 0 to 6, and how many proofs are known to lie elsewhere, beside the case's sections.
+    /// Where it answers `AllocError`, the run ends as it does where a growth is refused.
+    fn start(
+        &self,
+        _alloc: Global,
+        _case: &Case,
+        _cut: u32,
+        _elsewhere: u64,
+    ) -> Result<(), AllocError>
         requires { _cut ≤ 6 }
     {
         Ok(())
     }
 
-    /// Before the worker of this number, from 0, examines the target's section.
+    /// Before the worker of this number, from 0, examines the target's section, or the proof that
+    /// lies elsewhere for a leaf.
     fn before(&self, worker: u32, target: Target);
 
     /// After what this worker found, and a part that it then owed, were posted.

@@ -1,17 +1,20 @@
-//! What a worker does with a leaf whose proof doesn't stand in the case.
+//! What a worker does of leaves whose proofs don't stand in the case.
 
-ghost use Rattle.std.specs.Prelude.{◌≡◌, ◌<◌, ◌^◌, ◌-◌, [], None, Some, true, All, IfOk, IfErr};
-ghost use Rattle.std.specs.Prelude.{IfSome, OnOk};
+ghost use Rattle.std.specs.Prelude.{◌≡◌, ◌<◌, ◌^◌, ◌-◌, [], true, None, All, IfOk, IfErr, IfSome};
+ghost use Rattle.std.specs.Prelude.{OnOk};
+ghost use Rattle.case_core.specs.Leaf.{Leaf};
 ghost use Rattle.case_core.specs.Leaves.{HasTarget};
-ghost use Rattle.board_hall.specs.Halls.{core_of, shared_of, view_of, IsPassOf};
+ghost use Rattle.board_hall.specs.Halls.{core_of, shared_of, view_of, IsPassOf, IsNewPass};
 ghost use Rattle.board_hall.specs.Clauses.{Stays};
 ghost use Rattle.check_crew.specs.LeafProofs.{IsExamined, IsReadFault};
+ghost use Rattle.check_crew.specs.Inner.Apart.{IsLeafShiftOf};
 
+use crate::gate::Gate;
 use crate::leaf_proofs::{LeafProofs, ReadFault};
+use crate::worker::{post, tell};
 use board_hall::{Core, Pass};
-use case_core::{Case, Finding, Judged, Leaf, Scratch, Target, examine_text, has_label_line};
-use mark_board::Posted;
-use std::alloc::{AllocError, Global};
+use case_core::{Case, Judged, Leaf, Scratch, Target, examine_text, has_label_line};
+use std::alloc::Global;
 use std::sync::Wait;
 use std::sync::atomic::{AtomicU64, Ordering};
 
@@ -27,13 +30,41 @@ pub enum Examined {
     Other,
 }
 
+/// A leaf, and what became of it.
+#[derive(Clone, Copy, Debug)]
+pub(crate) struct ExaminedLeaf {
+    pub(crate) leaf: Leaf,
+    pub(crate) examined: Examined,
+}
+
+/// What a worker over leaves begins with: its number, its pass, and what it reads proofs by.
+#[derive(Drop)]
+pub(crate) struct LeafJob<P> {
+    pub(crate) worker: u32,
+    pub(crate) pass: Pass,
+    pub(crate) proofs: P,
+}
+
+/// What it hands back when it ends: what it began with, what became of the leaves that it took, and
+/// the fault that stopped it, if one did.
+#[derive(Drop)]
+pub(crate) struct LeafShift<P> {
+    pub(crate) pass: Pass,
+    pub(crate) proofs: P,
+    pub(crate) examined: Vec<ExaminedLeaf>,
+    pub(crate) fault: Option<ReadFault>,
+}
+
 /// Reads the proof of a leaf, judges it, and posts what is found, and then the part that is owed,
-/// if any. The bytes are dropped by the next call.
-pub(crate) fn examine_leaf<R: Wait, P: LeafProofs>(
+/// if any; the gate is called beside it where there is a proof. The bytes are dropped by the next
+/// call.
+fn examine_leaf<R: Wait, G: Gate, P: LeafProofs>(
     rt: &R,
     alloc: Global,
     case: &Case,
     core: &Core,
+    gate: &G,
+    worker: u32,
     proofs: &mut P,
     scratch: &mut Scratch,
     bytes: &mut Vec<u8>,
@@ -58,53 +89,30 @@ pub(crate) fn examine_leaf<R: Wait, P: LeafProofs>(
 {
     let asked = leaf;
     let placed = leaf;
+    let announced = leaf;
+    let told = leaf;
     if !proofs.read(asked, bytes)? {
         return Ok(Examined::Absent);
     }
     if has_label_line(bytes) || case.proof_for(Target::Leaf(placed)).is_some() {
         return Ok(Examined::Other);
     }
+    gate.before(worker, Target::Leaf(announced));
     let finding = examine_text(alloc, scratch, case, leaf, bytes)?;
+    let node = finding.node();
     let judged = finding.judged();
-    match core.post(rt, case, pass, finding) {
-        Posted::Already(_) => Ok(Examined::Other),
-        Posted::RootMarked(verdict) => {
-            let _ = core.post_part(rt, case, pass, verdict);
-            Ok(Examined::Found(judged))
-        }
-        Posted::Marked | Posted::TopMarked => Ok(Examined::Found(judged)),
+    if !post(rt, case, core, pass, finding) {
+        return Ok(Examined::Other);
     }
+    tell(case, core, gate, worker, pass, Target::Leaf(told), node, judged);
+    Ok(Examined::Found(judged))
 }
 
-/// A leaf, and what became of it.
-#[derive(Clone, Copy, Debug)]
-pub struct ExaminedLeaf {
-    /// The leaf.
-    pub leaf: Leaf,
-    /// What became of it.
-    pub examined: Examined,
-}
-
-/// The leaf whose turn it is, from 0: the cubes in their order and then the missing leaves. `None`
-/// behind the last.
-fn leaf_at(case: &Case, turn: u64) -> Option<Leaf>
+/// The leaf of an order whose turn it is, from 0, where the tree has it. `None` behind the last.
+fn leaf_at(case: &Case, order: &[Leaf], turn: u64) -> Option<Leaf>
     ensures { IfSome result (λ leaf. HasTarget case.now.tree (Target.Leaf leaf)) }
 {
-    let cubes = u64::from(case.tree().cube_count());
-    let missing = u64::from(case.tree().missing_count());
-    if turn < cubes {
-        return leaf_there(case, Leaf::Cube(turn as u32 + 1));
-    }
-    if turn - cubes < missing {
-        return leaf_there(case, Leaf::Missing((turn - cubes) as u32 + 1));
-    }
-    None
-}
-
-/// The leaf, if the tree has it.
-fn leaf_there(case: &Case, leaf: Leaf) -> Option<Leaf>
-    ensures { IfSome result (λ leaf. HasTarget case.now.tree (Target.Leaf leaf)) }
-{
+    let leaf = *order.get(turn as usize)?;
     let asked = leaf;
     if case.tree().has_leaf(asked) {
         Some(leaf)
@@ -115,11 +123,14 @@ fn leaf_there(case: &Case, leaf: Leaf) -> Option<Leaf>
 
 /// Takes turns, which the workers count in `next`, and examines their leaves, until none is left or
 /// a fault comes. It takes bytes and scratch of its own, which it drops at the end.
-pub(crate) fn examine_leaves<R: Wait, P: LeafProofs>(
+fn examine_leaves<R: Wait, G: Gate, P: LeafProofs>(
     rt: &R,
     alloc: Global,
     case: &Case,
     core: &Core,
+    gate: &G,
+    worker: u32,
+    order: &[Leaf],
     next: &AtomicU64,
     proofs: &mut P,
     pass: &mut Pass,
@@ -134,7 +145,6 @@ pub(crate) fn examine_leaves<R: Wait, P: LeafProofs>(
     ensures held { P.held proofs.new ≡ P.held proofs.old }
     ensures own { IsPassOf (shared_of core.now) pass.new }
     ensures owes { (view_of pass.new).owes ≡ None }
-    ensures stays { Stays (view_of pass.old) (view_of pass.new) }
     ensures examined { OnOk result (All (λ one. IsExamined (P.held proofs.old one.leaf)
         (view_of pass.new) one.leaf one.examined) examined.new.items) }
     ensures ok { OnOk result (P.failures proofs.new ≡ P.failures proofs.old) }
@@ -145,7 +155,7 @@ pub(crate) fn examine_leaves<R: Wait, P: LeafProofs>(
     let mut bytes = Vec::new(alloc);
     for _ in rt.forever() {
         let turn = next.fetch_add(1, Ordering::SeqCst);
-        let Some(leaf) = leaf_at(case, turn) else {
+        let Some(leaf) = leaf_at(case, order, turn) else {
             return Ok(());
         };
         let asked = leaf;
@@ -154,6 +164,8 @@ pub(crate) fn examine_leaves<R: Wait, P: LeafProofs>(
             alloc,
             case,
             core,
+            gate,
+            worker,
             proofs,
             &mut scratch,
             &mut bytes,
@@ -166,4 +178,53 @@ pub(crate) fn examine_leaves<R: Wait, P: LeafProofs>(
         })?;
     }
     unreachable!()
+}
+
+/// Does a worker's part of the leaves.
+pub(crate) fn work_leaves<R: Wait, G: Gate, P: LeafProofs>(
+    rt: &R,
+    alloc: Global,
+    case: &Case,
+    core: &Core,
+    gate: &G,
+    order: &[Leaf],
+    next: &AtomicU64,
+    job: LeafJob<P>,
+) -> LeafShift<P>
+    requires case { case.now ≡ (core_of core.now).case }
+    requires elsewhere { (core_of core.now).elsewhere ≡ true }
+    requires new { IsNewPass (shared_of core.now) job.pass }
+    requires fresh { P.failures job.proofs ≡ 0 }
+    ensures held { P.held result.proofs ≡ P.held job.proofs }
+    ensures shift { IsLeafShiftOf (shared_of core.now) (P.held result.proofs)
+        (P.failures result.proofs) result.pass result.examined.items result.fault }
+{
+    let LeafJob {
+        worker,
+        mut pass,
+        mut proofs,
+    } = job;
+    let mut examined = Vec::new(alloc);
+    let fault = match examine_leaves(
+        rt,
+        alloc,
+        case,
+        core,
+        gate,
+        worker,
+        order,
+        next,
+        &mut proofs,
+        &mut pass,
+        &mut examined,
+    ) {
+        Ok(()) => None,
+        Err(fault) => Some(fault),
+    };
+    LeafShift {
+        pass,
+        proofs,
+        examined,
+        fault,
+    }
 }

@@ -2,9 +2,12 @@
 //! on the boards.
 #![tactic(auto)]
 
+mod compare;
 mod crew;
+mod elsewhere;
 mod fault;
 mod gate;
+mod leaf_order;
 mod leaf_proofs;
 mod leaves;
 mod order;
@@ -12,6 +15,7 @@ mod settings;
 mod worker;
 
 pub use crew::conquer;
+pub use elsewhere::conquer_leaves;
 pub use fault::CrewFault;
 pub use gate::{Found, Gate, NoGate};
 pub use leaf_proofs::{LeafProofs, ReadFault};

@@ -1,16 +1,18 @@
 //! What one worker does.
 
-ghost use Rattle.std.specs.Prelude.{◌≡◌, ◌<◌, None, length, OnOk};
+ghost use Rattle.std.specs.Prelude.{◌≡◌, ◌<◌, None, length, IsTrue, OnOk};
 ghost use Rattle.case_core.specs.FindingOf.{finding_of};
+ghost use Rattle.case_core.specs.Finding.{HasSection, IsFinding, target_of};
+ghost use Rattle.case_core.specs.Leaves.{IsTargetAt};
 ghost use Rattle.cube_jobs.specs.Jobs.{new_pass};
 ghost use Rattle.board_hall.specs.Halls.{core_of, shared_of, view_of, IsPassOf, IsNewPass};
-ghost use Rattle.board_hall.specs.Clauses.{Stays, IsOfSection};
-ghost use Rattle.check_crew.specs.Seen.{HasSeen, HasSeenSection};
+ghost use Rattle.board_hall.specs.Clauses.{Stays, PostsNothing, IsOfSection};
+ghost use Rattle.check_crew.specs.Seen.{HasSeenMark, HasSeenSection};
 ghost use Rattle.check_crew.specs.Inner.Crew.{IsShiftOf, AreReady};
 
 use crate::gate::{Found, Gate};
 use board_hall::{Core, Pass};
-use case_core::{Case, Finding, Scratch, examine_with};
+use case_core::{Case, Finding, Judged, NodeId, Scratch, Target, examine_with};
 use cube_jobs::{JobPass, Jobs};
 use mark_board::Posted;
 use std::alloc::{AllocError, Global};
@@ -74,8 +76,65 @@ fn take_turn<R: Wait, G: Gate>(
     };
     let node = finding.node();
     let judged = finding.judged();
+    let _ = post(rt, case, core, pass, finding);
+    tell(case, core, gate, worker, pass, target, node, judged);
+    Ok(())
+}
+
+/// Posts a finding, and then the part that is owed, if any; answers whether its target had none.
+pub(crate) fn post<'c, R: Wait>(
+    rt: &R,
+    case: &'c Case,
+    core: &Core,
+    pass: &mut Pass,
+    finding: Finding<'c>,
+) -> bool
+    requires case { case.now ≡ (core_of core.now).case }
+    requires finding { (finding_of finding).case ≡ case.now }
+    requires section { IsOfSection (core_of core.now) finding }
+    requires own { IsPassOf (shared_of core.now) pass.old }
+    requires free { (view_of pass.old).owes ≡ None }
+    ensures own { IsPassOf (shared_of core.now) pass.new }
+    ensures free { (view_of pass.new).owes ≡ None }
+    ensures stays { Stays (view_of pass.old) (view_of pass.new) }
+    // A section's finding has been seen then, whoever posted it.
+    ensures section { HasSection case.now (target_of finding.entry.leaf finding.entry.node)
+        → HasSeenMark (view_of pass.new) (finding_of finding.entry).node
+        (finding_of finding.entry).judged }
+    ensures new { IsTrue result → HasSeenMark (view_of pass.new) (finding_of finding.entry).node
+        (finding_of finding.entry).judged }
+{
+    match core.post(rt, case, pass, finding) {
+        Posted::Already(_) => false,
+        Posted::RootMarked(verdict) => {
+            let _ = core.post_part(rt, case, pass, verdict);
+            true
+        }
+        Posted::Marked | Posted::TopMarked => true,
+    }
+}
+
+/// Tells the gate what was found of a target, and has been seen on its board.
+pub(crate) fn tell<G: Gate>(
+    case: &Case,
+    core: &Core,
+    gate: &G,
+    worker: u32,
+    pass: &mut Pass,
+    target: Target,
+    node: NodeId,
+    judged: Judged,
+)
+    requires case { case.now ≡ (core_of core.now).case }
+    requires here { IsTargetAt case.now.tree node target }
+    requires is { IsFinding case.now target judged }
+    requires own { IsPassOf (shared_of core.now) pass.old }
+    requires seen { HasSeenMark (view_of pass.old) node judged }
+    ensures own { IsPassOf (shared_of core.now) pass.new }
+    ensures stays { Stays (view_of pass.old) (view_of pass.new) }
+    ensures nothing { PostsNothing (view_of pass.old) (view_of pass.new) }
+{
     let board = core.place_of(case, node);
-    post(rt, case, core, pass, finding);
     let weight = core.open_weight(pass, board);
     let found = Found {
         case,
@@ -87,24 +146,6 @@ fn take_turn<R: Wait, G: Gate>(
         pass,
     };
     gate.after(worker, &found);
-    Ok(())
-}
-
-/// Posts a finding, and then the part that is owed, if any.
-fn post<'c, R: Wait>(rt: &R, case: &'c Case, core: &Core, pass: &mut Pass, finding: Finding<'c>)
-    requires case { case.now ≡ (core_of core.now).case }
-    requires finding { (finding_of finding).case ≡ case.now }
-    requires section { IsOfSection (core_of core.now) finding }
-    requires own { IsPassOf (shared_of core.now) pass.old }
-    requires free { (view_of pass.old).owes ≡ None }
-    ensures own { IsPassOf (shared_of core.now) pass.new }
-    ensures free { (view_of pass.new).owes ≡ None }
-    ensures stays { Stays (view_of pass.old) (view_of pass.new) }
-    ensures seen { HasSeen (view_of pass.new) (finding_of finding.entry).node }
-{
-    if let Posted::RootMarked(verdict) = core.post(rt, case, pass, finding) {
-        let _ = core.post_part(rt, case, pass, verdict);
-    }
 }
 
 /// Claims turns, examines their sections on one scratch and posts what is found, until no turn is

@@ -205,13 +205,19 @@ fn share_of(open: u64, total: u64) -> u64 {
 }
 
 impl<'a, R: Clock + Eprint> Gate for Progress<'a, R> {
-    fn start(&self, alloc: Global, case: &Case, cut: u32) -> Result<(), AllocError> {
+    fn start(
+        &self,
+        alloc: Global,
+        case: &Case,
+        cut: u32,
+        elsewhere: u64,
+    ) -> Result<(), AllocError> {
         let tree = case.tree();
         let roots = tree.parts(alloc, cut)?;
         begin_parts(&self.parts, tree, cut, &roots);
         self.total.store(tree.total(), Ordering::SeqCst);
-        self.sections
-            .store(case.sections().len() as u64, Ordering::SeqCst);
+        let proofs = (case.sections().len() as u64).saturating_add(elsewhere);
+        self.sections.store(proofs, Ordering::SeqCst);
         self.told_at.store(self.now(), Ordering::SeqCst);
         Ok(())
     }
@@ -240,10 +246,16 @@ pub(crate) struct Watched<'a, G, W> {
 }
 
 impl<'a, G: Gate, W: Gate> Gate for Watched<'a, G, W> {
-    fn start(&self, alloc: Global, case: &Case, cut: u32) -> Result<(), AllocError> {
-        self.gate.start(alloc, case, cut)?;
+    fn start(
+        &self,
+        alloc: Global,
+        case: &Case,
+        cut: u32,
+        elsewhere: u64,
+    ) -> Result<(), AllocError> {
+        self.gate.start(alloc, case, cut, elsewhere)?;
         if self.is_asked {
-            return self.watch.start(alloc, case, cut);
+            return self.watch.start(alloc, case, cut, elsewhere);
         }
         Ok(())
     }

@@ -2,13 +2,18 @@
 
 ghost use Rattle.std.specs.Prelude.{Bool, false, List, replicate, ◌≡◌, ◌≢◌, ◌↔◌, ◌⊎◌, ℕ, ◌<◌, ◌^◌};
 ghost use Rattle.std.specs.Prelude.{◌-◌, ◌+◌, true, IfOk, IfErr, OnOk, OnErr, IfSome, IsErrOf};
+ghost use Rattle.std.specs.Prelude.{All, vec_len};
 ghost use Rattle.std.specs.Io.{StartsWith};
 ghost use Rattle.std.specs.Io.KnownBytes.{Keeps, Appends};
 ghost use Rattle.split_tree.specs.SplitTree.{size};
 ghost use Rattle.mark_board.specs.declared.mark.Mark.TheVariants.{Open};
 ghost use Rattle.cube_report.specs.Faults.{IsInputFault};
 ghost use Rattle.cube_report.specs.Device.{AppendsBeginning, IsLeft, IsReadFault, IsReadOf};
-ghost use Rattle.cube_report.specs.Stated.{IsStated};
+ghost use Rattle.cube_report.specs.Stated.{IsStated, IsWrittenBy};
+ghost use Rattle.case_core.specs.Leaf.{Leaf};
+ghost use Rattle.mark_board.specs.declared.mark.Mark.{Mark};
+ghost use Rattle.proof_folder.specs.Given.{AreFoundApart};
+ghost use Rattle.check_crew.specs.LeafProofs.{Known};
 ghost use Rattle.mark_board.specs.Findings.{AreFindings};
 ghost use Rattle.cube_report.specs.Correct.{IsReportOn, IsAnswerOn, IsCorrect, IsOutcome};
 ghost use Rattle.cube_report.specs.Correct.{IsFaultOn, IsUnsatisfiable, SaysRefuted, map_if};
@@ -18,7 +23,7 @@ use crate::device::{Sink, Source};
 use crate::fault::Fault;
 use crate::report::report_of;
 use case_core::{Case, Scratch, examine_with, read_bundle, take_bundle};
-use check_crew::{CrewFault, Gate, Settings, conquer};
+use check_crew::{CrewFault, Gate, LeafProofs, Settings, conquer, conquer_leaves};
 use mark_board::Boards;
 use std::alloc::{AllocError, Global};
 use std::sync::Wait;
@@ -81,11 +86,10 @@ fn picture_by(alloc: Global, boards: &Boards<'_>, draws: bool) -> Result<Vec<u8>
     Ok(Vec::new(alloc))
 }
 
-/// The report by the boards' own marks, which are those of the findings, whether it says refuted,
-/// and the picture where one is drawn.
-fn outcome_by(alloc: Global, boards: &Boards<'_>, draws: bool) -> Result<Outcome, AllocError>
-    requires { AreFindings boards.now.case boards.now.marks }
-    ensures { IfOk result (λ outcome. IsStated boards.now.case draws
+/// The report by the boards' own marks, whether it says refuted, and the picture where one is
+/// drawn.
+fn written_by(alloc: Global, boards: &Boards<'_>, draws: bool) -> Result<Outcome, AllocError>
+    ensures { IfOk result (λ outcome. IsWrittenBy boards.now.case boards.now.marks draws
         outcome.text.items outcome.map.items outcome.refuted) }
 {
     let text = report_of(alloc, boards)?;
@@ -95,6 +99,15 @@ fn outcome_by(alloc: Global, boards: &Boards<'_>, draws: bool) -> Result<Outcome
         map,
         refuted: boards.root_marked(),
     })
+}
+
+/// The same where the marks are those of the findings.
+fn outcome_by(alloc: Global, boards: &Boards<'_>, draws: bool) -> Result<Outcome, AllocError>
+    requires { AreFindings boards.now.case boards.now.marks }
+    ensures { IfOk result (λ outcome. IsStated boards.now.case draws
+        outcome.text.items outcome.map.items outcome.refuted) }
+{
+    written_by(alloc, boards, draws)
 }
 
 /// The report on a case, and whether it says refuted, by this thread.
@@ -144,6 +157,48 @@ pub fn judge_bundle<T: Threads + Wait + Sync, G: Gate + Sync>(
 {
     let case = take_bundle(alloc, bundle)?;
     Ok(outcome_with(rt, alloc, &case, settings, gate, draws)?)
+}
+
+/// What is written of a case by the marks that a run with proofs elsewhere gives it, as
+/// `conquer_leaves` says, which has one of `proofs` for each worker; or `None` where the run has to
+/// be made with all proofs in one bundle. `Memory` or `Thread` may stand in the place of any other
+/// answer but the outer fault, which says that a read failed and gives what met that.
+pub fn judge_apart<
+    T: Threads + Wait + Sync,
+    G: Gate + Sync,
+    P: LeafProofs + Send + Drop,
+>(
+    rt: &T,
+    alloc: Global,
+    case: &Case,
+    settings: Settings,
+    gate: &G,
+    draws: bool,
+    proofs: Vec<P>,
+) -> Result<Result<Option<Outcome>, Fault>, P>
+    requires workers { vec_len proofs ≡ settings.workers }
+    requires fresh { All (λ one. P.failures one ≡ 0) proofs.items }
+    // What is written is by marks that are right for the case's sections and for what lies
+    // elsewhere for its leaves.
+    ensures apart { (known : Known)
+        → All (λ one. (leaf : Leaf) → P.held one leaf ≡ known leaf) proofs.items
+        → IfOk result (λ run. IfOk run (λ some. IfSome some (λ outcome.
+        (marks : List Mark) × AreFoundApart known case.now marks
+        × IsWrittenBy case.now marks draws outcome.text.items outcome.map.items
+        outcome.refuted))) }
+    ensures fault { IfOk result (λ run. IfErr run
+        (λ fault. (fault ≡ Fault.Memory) ⊎ (fault ≡ Fault.Thread))) }
+    ensures failed { IfErr result (λ one. P.failures one ≡ 1) }
+{
+    match conquer_leaves(rt, alloc, case, settings, gate, proofs)? {
+        Ok(Some(boards)) => match written_by(alloc, &boards, draws) {
+            Ok(outcome) => Ok(Ok(Some(outcome))),
+            Err(_) => Ok(Err(Fault::Memory)),
+        },
+        Ok(None) => Ok(Ok(None)),
+        Err(CrewFault::Memory) => Ok(Err(Fault::Memory)),
+        Err(CrewFault::Thread) => Ok(Err(Fault::Thread)),
+    }
 }
 
 /// The report on a bundle, and whether it says refuted, by this thread.

@@ -8,10 +8,10 @@ mod laws;
 mod report;
 
 pub use case_core::{Case, Judged, NodeId, Target, Tree};
-pub use check_crew::{Found, Gate, NoGate, Settings};
+pub use check_crew::{Found, Gate, LeafProofs, NoGate, ReadFault, Settings};
 pub use device::{Counted, Sink, Source};
 pub use engine::{
-    Outcome, judge_bundle, read_to_end, run, run_io, run_one, write_all, write_report,
+    Outcome, judge_apart, judge_bundle, read_to_end, run, run_io, run_one, write_all, write_report,
 };
 pub use fault::Fault;
 pub use laws::{a_short_report, one_answer, one_report, same_report, written_is_stated};

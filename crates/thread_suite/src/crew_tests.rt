@@ -399,7 +399,13 @@ fn one_of(target: Target) -> u64 {
 }
 
 impl Gate for Tally {
-    fn start(&self, _alloc: Global, _case: &Case, _cut: u32) -> Result<(), AllocError> {
+    fn start(
+        &self,
+        _alloc: Global,
+        _case: &Case,
+        _cut: u32,
+        _elsewhere: u64,
+    ) -> Result<(), AllocError> {
         self.started.fetch_add(1, Ordering::SeqCst);
         Ok(())
     }

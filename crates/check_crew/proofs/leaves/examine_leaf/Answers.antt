@@ -9,22 +9,30 @@ use Rattle.case_core.specs.Finding.{IsFoundBy, target_of}
 use Rattle.board_hall.specs.declared.view.CutCase.{CutCase}
 use Rattle.board_hall.specs.Halls.{core_of, view_of}
 use Rattle.check_crew.specs.LeafProofs.{HasSeenAs}
-use Rattle.check_crew.proofs.LeavesSeen.{read_there, as_stays, posted_as, found_at}
+use Rattle.check_crew.specs.Seen.{HasSeenMark}
+use Rattle.check_crew.proofs.LeavesSeen.{read_there, as_stays, seen_as, found_at}
 use Rattle.check_crew.proofs.leaves.examine_leaf.Goals as goal
 
-pub returns-in-RootMarked-clause-examined : goal.returns-in-RootMarked-clause-examined
-returns-in-RootMarked-clause-examined g c =
+pub tell-requires-clause-is : goal.tell-requires-clause-is
+tell-requires-clause-is g c =
+    let found = c.in_ok-finding.ensures in
+    rw (found.0, found.1) at c.judged-judged.ensures.is
+
+pub returns-clause-examined : goal.returns-clause-examined
+returns-clause-examined g c =
     let k : CutCase = core_of c.args.core.now in
     let leaf : Target = Named c.args.leaf in
     let finding = c.in_ok-finding.finding in
     let found = c.in_ok-finding.ensures in
     let bytes : List ℕ = c.read.new.bytes.items in
+    let judged : Judged = c.judged-judged.result in
     let there : c.in_ok-read.field-0 ≡ true = search rules in
     let free : proof_for c.args.case.now.sections leaf ≡ None = search rules in
+    let new : c.post.result ≡ true = search rules in
     let plain : labels_of bytes ≡ [] =
     subst (λ (t : List ℕ). labels_of t ≡ []) c.deref.ensures.value
     (c.has_label_line.ensures.0 c.if-has_label_line.false) in
-    let by_text : IsFoundBy c.args.case.now leaf bytes c.judged-judged.result =
+    let by_text : IsFoundBy c.args.case.now leaf bytes judged =
     subst (λ (j : Judged). IsFoundBy c.args.case.now leaf bytes j) (sym c.judged-judged.ensures.value)
     (subst (λ (t : List ℕ). IsFoundBy c.args.case.now leaf t finding.judged) c.deref-2.ensures.value
     found.2) in
@@ -32,14 +40,13 @@ returns-in-RootMarked-clause-examined g c =
     subst (λ (t : Target). IsTargetAt k.case.tree finding.node t) found.1
     (subst (λ (z : CaseOf). IsTargetAt z.tree finding.node (target_of finding.leaf finding.node))
     (found.0 ∙ c.requires.case) finding.here) in
-    let seen : HasSeenAs (view_of c.post_part.new.pass) leaf c.judged-judged.result =
-    as_stays (view_of c.post.new.pass) (view_of c.post_part.new.pass) leaf c.judged-judged.result
-    c.post_part.ensures.stays
-    (subst (λ (j : Judged). HasSeenAs (view_of c.post.new.pass) leaf j)
-    (sym c.judged-judged.ensures.value)
-    (posted_as k finding.node leaf finding.judged _ _ (view_of c.post.new.pass)
-    c.post.ensures.own.1 here tt c.in-RootMarked.ensures.posted)) in
-    found_at _ k c.args.case.now (view_of c.post_part.new.pass) c.args.leaf c.judged-judged.result
-    bytes c.post_part.ensures.own.1 c.requires.case
+    let mark : HasSeenMark (view_of c.post.new.pass) finding.node judged =
+    subst (λ (j : Judged). HasSeenMark (view_of c.post.new.pass) finding.node j)
+    (sym c.judged-judged.ensures.value) (c.post.ensures.new new) in
+    let seen : HasSeenAs (view_of c.tell.new.pass) leaf judged =
+    as_stays (view_of c.post.new.pass) (view_of c.tell.new.pass) leaf judged c.tell.ensures.stays
+    (seen_as k (view_of c.post.new.pass) finding.node leaf judged c.post.ensures.own.1 here mark) in
+    found_at _ k c.args.case.now (view_of c.tell.new.pass) c.args.leaf judged
+    bytes c.tell.ensures.own.1 c.requires.case
     (read_there _ bytes c.in_ok-read.field-0 c.in_ok-read.ensures.found there) plain free by_text
     seen

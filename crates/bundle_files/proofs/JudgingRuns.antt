@@ -1,0 +1,57 @@
+-- What is said of a bundle and a folder's proofs on the way to the program's report.
+use Rattle.std.proofs.Common.{◌≡◌, ◌≢◌, ◌<◌, ◌+◌, ◌^◌, ◌⊎◌, ℕ, List, [], ◌++◌, Bool, Option, None, Some, refl}
+use Rattle.std.proofs.Common.{sym, ap, ◌∙◌, subst, inl, inr, arith, append-nil}
+use Rattle.std.proofs.lemmas.List.Elements.{All-nil}
+use Rattle.case_core.specs.Sections.{IsCaseOf, IsFaultOf}
+use Rattle.case_core.specs.declared.fault.CaseFault.{CaseFault}
+use Rattle.case_core.specs.declared.fault.CaseFault.TheVariants as case
+use Rattle.case_core.specs.Case.{CaseOf}
+use Rattle.cube_report.specs.Mark.{Mark}
+use Rattle.cube_report.specs.declared.fault.Fault.{Fault}
+use Rattle.cube_report.specs.declared.fault.Fault.TheVariants.{Memory, Device}
+use Rattle.cube_report.specs.Faults.{IsInputFault, fault_of_case}
+use Rattle.cube_report.specs.Stated.{IsWrittenBy}
+use Rattle.proof_folder.specs.Given.{HasFewLeaves, AreFoundApart}
+use Rattle.bundle_files.specs.Files.{Held, AreAdded, AreLeavesOf, IsWithProofs}
+use Rattle.bundle_files.specs.Laws.{held_for}
+use Rattle.bundle_files.proofs.FilesApart.{judged_apart}
+use Rattle.bundle_files.specs.Judging.{IsOutcomeOf, IsRefusedOf}
+
+-- a bundle with a fault has no proofs added
+faulty_alone : (held : Held) (folder bundle : List ℕ) (kind : CaseFault) → IsFaultOf bundle kind →
+    IsWithProofs held folder bundle bundle
+faulty_alone held folder bundle kind is = (
+  [],
+  inr (kind, is, refl),
+  record {
+    leaves = [];
+    named = refl;
+    files = All-nil _;
+    text = sym (append-nil bundle);
+  },
+)
+
+-- the fault of a bundle is that of the bundle with the folder's proofs
+pub refused_alone : (held : Held) (folder bundle : List ℕ) (kind : CaseFault)
+    → (kind ≢ case.Memory → IsFaultOf bundle kind) → IsInputFault (fault_of_case kind) →
+    IsRefusedOf held (Some folder) bundle (fault_of_case kind)
+refused_alone held folder bundle kind first input =
+    let is : IsFaultOf bundle kind = first (λ e. input.0 (ap fault_of_case e)) in record {
+      whole = bundle;
+      is_judged = faulty_alone held folder bundle kind is;
+      first = (kind, refl, is);
+    }
+
+-- what is written by marks that are right for a folder's proofs is what a run on the bundle with
+-- these proofs promises
+pub apart_outcome : (held : Held) (folder bundle : List ℕ) (case : CaseOf) (marks : List Mark)
+    (draws : Bool) (report map : List ℕ) (answer : Bool) → IsCaseOf bundle case
+    → HasFewLeaves case.tree → AreFoundApart (held_for held folder) case marks
+    → IsWrittenBy case marks draws report map answer →
+    IsOutcomeOf held (Some folder) bundle draws report map answer
+apart_outcome held folder bundle case marks draws report map answer is few apart written =
+    let judged = judged_apart held folder bundle case marks is few apart in record {
+      whole = judged.whole;
+      is_judged = judged.with_proofs;
+      outcome = judged.outcome draws report map answer written;
+    }

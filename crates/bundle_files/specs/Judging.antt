@@ -1,0 +1,25 @@
+-- What is said of a bundle that was read, with the proofs of the folder that is asked for.
+use Rattle.std.specs.Prelude.{◌≡◌, ◌≢◌, ◌+◌, ◌⊎◌, ℕ, Bool, List, Option}
+use Rattle.bundle_files.specs.Files.{Held, IsJudgedOf}
+use Rattle.cube_report.specs.declared.fault.Fault.{Fault}
+use Rattle.cube_report.specs.declared.fault.Fault.TheVariants.{Device}
+use Rattle.cube_report.specs.Correct.{IsOutcome, IsFaultOn}
+
+-- what is written is what a run on the bundle with the folder's proofs promises
+pub record IsOutcomeOf (held : Held) (folder : Option (List ℕ)) (read : List ℕ) (draws : Bool)
+    (report map : List ℕ) (answer : Bool) : Type 0 where
+  pub whole : List ℕ
+  pub is_judged : IsJudgedOf held folder read whole
+  pub outcome : IsOutcome whole draws report map answer
+
+-- the bundle with the folder's proofs has this fault, its first
+pub record IsRefusedOf (held : Held) (folder : Option (List ℕ)) (read : List ℕ) (fault : Fault)
+    : Type 0 where
+  pub whole : List ℕ
+  pub is_judged : IsJudgedOf held folder read whole
+  pub first : IsFaultOn whole fault
+
+-- a fault of the device with one more failed call, or another one without
+abbrev pub IsJudgingFault : ℕ → ℕ → Fault → Type 0
+IsJudgingFault before after fault =
+    ((fault ≢ Device) × (after ≡ before)) ⊎ ((fault ≡ Device) × (after ≡ before + 1))

@@ -1,0 +1,54 @@
+-- What the workers over leaves hand back, all together.
+use Rattle.std.proofs.Common.{◌≡◌, ◌≢◌, ℕ, ◌+◌, List, [], ◌∷◌, ◌++◌, All, Option, None, Some, refl, sym}
+use Rattle.std.proofs.Common.{ap, ◌∙◌, subst, Bool, false, is_some, inl, inr, arith}
+use Rattle.std.specs.Prelude.{MatchOption}
+use Rattle.std.specs.List.{Contains}
+use Rattle.std.proofs.lemmas.List.Elements.{All-weaker, Contains-append_left}
+use Rattle.case_core.specs.Leaf.{Leaf}
+use Rattle.case_core.specs.Case.{CaseOf}
+use Rattle.board_hall.specs.declared.pass.Pass.{Pass}
+use Rattle.board_hall.specs.declared.view.CutCase.{CutCase}
+use Rattle.board_hall.specs.Halls.{HallOf, view_of}
+use Rattle.check_crew.specs.LeafProofs.{Known, IsExamined, IsReadFault}
+use Rattle.check_crew.specs.declared.leaf_proofs.ReadFault.{ReadFault}
+use Rattle.check_crew.specs.declared.leaf_proofs.ReadFault.TheVariants.{Memory, Device}
+use Rattle.check_crew.specs.declared.leaves.ExaminedLeaf.{ExaminedLeaf}
+use Rattle.check_crew.specs.Seen.{HaveSeenSections}
+use Rattle.check_crew.specs.Inner.Apart.{IsLeafShiftOf, IsListOf}
+
+-- where no fault is, there is none
+pub no_fault : (fault : Option ReadFault) → is_some fault ≡ false → fault ≡ None
+no_fault None is = refl
+no_fault (Some fault) is = absurd (cc)
+
+-- a fault of the device is one failed read
+pub device_failed : (fault : Option ReadFault) (failures : ℕ)
+    → MatchOption fault (failures ≡ 0) (IsReadFault 0 failures) → fault ≡ Some Device →
+    failures ≡ 1
+device_failed None failures of is = absurd (cc)
+device_failed (Some Memory) failures of is = absurd (cc)
+device_failed (Some Device) failures (inl of) is = absurd (cc)
+device_failed (Some Device) failures (inr of) is = of.1
+
+-- one pass more takes nothing away
+pub sections_more : (case : CaseOf) (passes : List Pass) (pass : Pass) →
+    HaveSeenSections case passes → HaveSeenSections case (passes ++ pass ∷ [])
+sections_more case passes pass seen place within =
+    let some = seen place within in
+    (some.0, Contains-append_left passes (pass ∷ []) some.0 some.1, some.2)
+
+-- the list of a worker that no fault stopped
+pub list_of : (hall : HallOf) (held known : Known) (failures : ℕ) (pass : Pass)
+    (examined : List ExaminedLeaf) (fault : Option ReadFault)
+    → IsLeafShiftOf hall held failures pass examined fault → fault ≡ None
+    → ((leaf : Leaf) → held leaf ≡ known leaf) → IsListOf known hall.of.case examined
+list_of hall held known failures pass examined fault shift none same = record {
+  view = view_of pass;
+  of_case = ap (λ (k : CutCase). k.case) shift.own.1;
+  all =
+      All-weaker (λ one. IsExamined (held one.leaf) (view_of pass) one.leaf one.examined)
+      (λ one. IsExamined (known one.leaf) (view_of pass) one.leaf one.examined)
+      (λ one.
+      subst (λ (k : Option (Option (List ℕ))). IsExamined k (view_of pass) one.leaf one.examined)
+      (same one.leaf)) examined (shift.each none);
+}

@@ -1,0 +1,387 @@
+//! A run whose leaves have their proofs elsewhere: one proof of each worker is in memory at a time.
+
+ghost use Rattle.std.specs.Prelude.{◌≡◌, ◌+◌, ◌*◌, ◌<◌, ◌≤◌, ◌≢◌, ℕ, true, None, Some, All, IfOk};
+ghost use Rattle.std.specs.Prelude.{IfErr, IfSome, List, Option, vec_len, MatchOption};
+ghost use Rattle.case_core.specs.Leaf.{Leaf};
+ghost use Rattle.board_hall.specs.Halls.{core_of, hall_of, shared_of, view_of, IsPassOf, IsNewPass};
+ghost use Rattle.board_hall.specs.Terms.{cut_case_as};
+ghost use Rattle.proof_folder.specs.Given.{AreFoundApart};
+ghost use Rattle.check_crew.specs.Seen.{HaveSeenSections};
+ghost use Rattle.case_core.specs.Leaves.{IsLeafAt};
+ghost use Rattle.check_crew.specs.LeafProofs.{Known, IsReadFault};
+ghost use Rattle.check_crew.specs.Inner.Apart.{IsLeafShiftOf, IsListOf, IsRightAt};
+
+use crate::compare::has_right_marks;
+use crate::crew::examine_all;
+use crate::fault::CrewFault;
+use crate::gate::Gate;
+use crate::leaf_order::leaves_in_order;
+use crate::leaf_proofs::{LeafProofs, ReadFault};
+use crate::leaves::{ExaminedLeaf, LeafJob, LeafShift, work_leaves};
+use crate::settings::Settings;
+use board_hall::{Core, Hall, Pass};
+use case_core::{Case, Leaf};
+use mark_board::Boards;
+use std::alloc::{AllocError, Global};
+use std::sync::Wait;
+use std::sync::atomic::AtomicU64;
+use std::thread;
+use std::thread::Threads;
+
+/// The boards of `case` at the cut of `settings` with the findings of its sections, as `conquer`
+/// makes them, and of its leaves by proofs that lie elsewhere. Each worker has one of `proofs`, by
+/// which it reads the proof of a leaf when the leaf's turn comes, judges it and drops it; the
+/// leaves of longer proofs come first. All of `proofs` tell of the same proofs, and there is one
+/// for each worker. The case's own sections are examined before them.
+///
+/// `None` where the run has to be made with all proofs in one bundle: where the proof of a leaf has
+/// a label line, or the leaf has a section, too. The gate is called as `conquer` says, beside each
+/// section and beside each proof that is there.
+///
+/// An outer fault says that a read failed, and gives what met that; it stands before each other
+/// answer. All workers that were started are joined before it answers.
+pub fn conquer_leaves<
+    'c,
+    R: Threads + Wait + Sync,
+    G: Gate + Sync,
+    P: LeafProofs + Send + Drop,
+>(
+    rt: &R,
+    alloc: Global,
+    case: &'c Case,
+    settings: Settings,
+    gate: &G,
+    proofs: Vec<P>,
+) -> Result<Result<Option<Boards<'c>>, CrewFault>, P>
+    // One for each worker, with no failed read yet.
+    requires workers { vec_len proofs ≡ settings.workers }
+    requires fresh { All (λ one. P.failures one ≡ 0) proofs.items }
+    // Where they know what lies there, the marks are those of the sections' findings, and of each
+    // leaf by what lies there for it.
+    ensures apart { (known : Known)
+        → All (λ one. (leaf : Leaf) → P.held one leaf ≡ known leaf) proofs.items
+        → IfOk result (λ run. IfOk run (λ some. IfSome some (λ boards.
+        (boards.case ≡ case.now) × (boards.cut ≡ settings.cut)
+        × AreFoundApart known case.now boards.marks))) }
+    // What comes back has met a failed read.
+    ensures failed { IfErr result (λ one. P.failures one ≡ 1) }
+{
+    match run_leaves(rt, alloc, case, settings, gate, proofs) {
+        Ok(run) => close_leaves(alloc, run),
+        Err(fault) => Ok(Err(fault)),
+    }
+}
+
+/// A hall after its workers have ended: the passes of those over sections, and what those over
+/// leaves hand back.
+#[derive(Drop)]
+struct LeafRun<'c, P> {
+    hall: Hall<'c>,
+    passes: Vec<Pass>,
+    shifts: Vec<LeafShift<P>>,
+}
+
+/// Opens a hall, and has its workers examine the sections of the case and then its leaves, between
+/// the gate's start and its end.
+fn run_leaves<
+    'c,
+    R: Threads + Wait + Sync,
+    G: Gate + Sync,
+    P: LeafProofs + Send + Drop,
+>(
+    rt: &R,
+    alloc: Global,
+    case: &'c Case,
+    settings: Settings,
+    gate: &G,
+    proofs: Vec<P>,
+) -> Result<LeafRun<'c, P>, CrewFault>
+    requires workers { vec_len proofs ≡ settings.workers }
+    requires fresh { All (λ one. P.failures one ≡ 0) proofs.items }
+    ensures hall { IfOk result (λ run.
+        (hall_of run.hall).of ≡ cut_case_as true case.now settings.cut) }
+    ensures count { IfOk result (λ run.
+        vec_len run.passes + vec_len run.shifts ≡ (hall_of run.hall).passes) }
+    ensures own { IfOk result (λ run. All (IsPassOf (hall_of run.hall)) run.passes.items) }
+    ensures free { IfOk result (λ run. All (λ pass. (view_of pass).owes ≡ None) run.passes.items) }
+    ensures seen { IfOk result (λ run. HaveSeenSections case.now run.passes.items) }
+    ensures shifts { IfOk result (λ run. All (λ shift. IsLeafShiftOf (hall_of run.hall)
+        (P.held shift.proofs) (P.failures shift.proofs) shift.pass shift.examined.items
+        shift.fault) run.shifts.items) }
+    ensures held { (known : Known)
+        → All (λ one. (leaf : Leaf) → P.held one leaf ≡ known leaf) proofs.items
+        → IfOk result (λ run. All (λ shift. (leaf : Leaf) → P.held shift.proofs leaf ≡ known leaf)
+        run.shifts.items) }
+{
+    let workers = settings.workers() as usize;
+    let cut = settings.cut();
+    let (hall, mut passes) = Hall::open_for_proofs_elsewhere(alloc, case, cut, 2 * workers)?;
+    let order = leaves_in_order(alloc, case, &proofs)?;
+    let jobs = deal(alloc, hall.core(), &mut passes, proofs)?;
+    gate.start(alloc, case, cut, order.proofs)?;
+    let run = run_both(rt, alloc, case, hall.core(), gate, &order.leaves, passes, jobs);
+    gate.end();
+    let (passes, shifts) = run?;
+    Ok(LeafRun {
+        hall,
+        passes,
+        shifts,
+    })
+}
+
+/// Gives each worker over leaves one of the passes, from the last on, and what it reads proofs by.
+fn deal<P: LeafProofs + Drop>(
+    alloc: Global,
+    core: &Core,
+    passes: &mut Vec<Pass>,
+    proofs: Vec<P>,
+) -> Result<Vec<LeafJob<P>>, AllocError>
+    requires count { vec_len proofs ≤ vec_len passes.old }
+    requires few { vec_len proofs ≤ 32 }
+    requires new { All (IsNewPass (shared_of core.now)) passes.old.items }
+    requires fresh { All (λ one. P.failures one ≡ 0) proofs.items }
+    ensures count { IfOk result (λ jobs. (vec_len jobs ≡ vec_len proofs)
+        × (vec_len passes.new + vec_len jobs ≡ vec_len passes.old)) }
+    ensures rest { IfOk result (λ jobs. All (IsNewPass (shared_of core.now)) passes.new.items) }
+    ensures new { IfOk result (λ jobs.
+        All (λ job. IsNewPass (shared_of core.now) job.pass) jobs.items) }
+    ensures fresh { IfOk result (λ jobs. All (λ job. P.failures job.proofs ≡ 0) jobs.items) }
+    ensures held { (known : Known)
+        → All (λ one. (leaf : Leaf) → P.held one leaf ≡ known leaf) proofs.items
+        → IfOk result (λ jobs. All (λ job. (leaf : Leaf) → P.held job.proofs leaf ≡ known leaf)
+        jobs.items) }
+{
+    let mut jobs = Vec::with_capacity(alloc, proofs.len())?;
+    let mut worker = 0;
+    for one in proofs {
+        let Some(pass) = passes.pop() else {
+            unreachable!()
+        };
+        jobs.push_reserved(LeafJob {
+            worker,
+            pass,
+            proofs: one,
+        });
+        worker += 1;
+    }
+    Ok(jobs)
+}
+
+/// Has workers examine the sections of the case, and then its leaves.
+fn run_both<R: Threads + Wait + Sync, G: Gate + Sync, P: LeafProofs + Send + Drop>(
+    rt: &R,
+    alloc: Global,
+    case: &Case,
+    core: &Core,
+    gate: &G,
+    order: &[Leaf],
+    passes: Vec<Pass>,
+    jobs: Vec<LeafJob<P>>,
+) -> Result<(Vec<Pass>, Vec<LeafShift<P>>), CrewFault>
+    requires case { case.now ≡ (core_of core.now).case }
+    requires elsewhere { (core_of core.now).elsewhere ≡ true }
+    requires count { (0 < vec_len passes) × (vec_len passes ≤ 32) }
+    requires passes { All (IsNewPass (shared_of core.now)) passes.items }
+    requires new { All (λ job. IsNewPass (shared_of core.now) job.pass) jobs.items }
+    requires fresh { All (λ job. P.failures job.proofs ≡ 0) jobs.items }
+    ensures count { IfOk result (λ run. (vec_len run.0 ≡ vec_len passes)
+        × (vec_len run.1 ≡ vec_len jobs)) }
+    ensures own { IfOk result (λ run. All (IsPassOf (shared_of core.now)) run.0.items) }
+    ensures free { IfOk result (λ run. All (λ pass. (view_of pass).owes ≡ None) run.0.items) }
+    ensures seen { IfOk result (λ run. HaveSeenSections case.now run.0.items) }
+    ensures shifts { IfOk result (λ run. All (λ shift. IsLeafShiftOf (shared_of core.now)
+        (P.held shift.proofs) (P.failures shift.proofs) shift.pass shift.examined.items
+        shift.fault) run.1.items) }
+    ensures held { (known : Known)
+        → All (λ job. (leaf : Leaf) → P.held job.proofs leaf ≡ known leaf) jobs.items
+        → IfOk result (λ run. All (λ shift. (leaf : Leaf) → P.held shift.proofs leaf ≡ known leaf)
+        run.1.items) }
+{
+    let passes = examine_all(rt, alloc, case, core, gate, passes)?;
+    let shifts = examine_elsewhere(rt, alloc, case, core, gate, order, jobs)?;
+    Ok((passes, shifts))
+}
+
+/// Has a worker for each job, which take the leaves of the order in turn. Where a thread can't be
+/// started, another worker's thread does its part behind its own.
+fn examine_elsewhere<R: Threads + Wait + Sync, G: Gate + Sync, P: LeafProofs + Send + Drop>(
+    rt: &R,
+    alloc: Global,
+    case: &Case,
+    core: &Core,
+    gate: &G,
+    order: &[Leaf],
+    jobs: Vec<LeafJob<P>>,
+) -> Result<Vec<LeafShift<P>>, AllocError>
+    requires case { case.now ≡ (core_of core.now).case }
+    requires elsewhere { (core_of core.now).elsewhere ≡ true }
+    requires new { All (λ job. IsNewPass (shared_of core.now) job.pass) jobs.items }
+    requires fresh { All (λ job. P.failures job.proofs ≡ 0) jobs.items }
+    ensures count { IfOk result (λ shifts. vec_len shifts ≡ vec_len jobs) }
+    ensures shifts { IfOk result (λ shifts. All (λ shift. IsLeafShiftOf (shared_of core.now)
+        (P.held shift.proofs) (P.failures shift.proofs) shift.pass shift.examined.items
+        shift.fault) shifts.items) }
+    ensures held { (known : Known)
+        → All (λ job. (leaf : Leaf) → P.held job.proofs leaf ≡ known leaf) jobs.items
+        → IfOk result (λ shifts. All (λ shift. (leaf : Leaf) → P.held shift.proofs leaf
+        ≡ known leaf) shifts.items) }
+{
+    let counter = AtomicU64::new(0);
+    let next = &counter;
+    thread::map_vec(
+        rt,
+        jobs,
+        &move |job: LeafJob<P>| -> LeafShift<P>
+            requires case { case.now ≡ (core_of core.now).case }
+            requires elsewhere { (core_of core.now).elsewhere ≡ true }
+            requires new { IsNewPass (shared_of core.now) job.pass }
+            requires fresh { P.failures job.proofs ≡ 0 }
+            ensures held { P.held result.proofs ≡ P.held job.proofs }
+            ensures shift { IsLeafShiftOf (shared_of core.entry.now) (P.held result.proofs)
+                (P.failures result.proofs) result.pass result.examined.items result.fault }
+        { work_leaves(rt, alloc, case, core, gate, order, next, job) },
+    )
+}
+
+/// The first of what workers read by that has met a failed read, or else all that they hand back.
+fn failed_first<P: LeafProofs + Drop>(
+    mut shifts: Vec<LeafShift<P>>,
+) -> Result<Vec<LeafShift<P>>, P>
+    requires { All (λ shift. MatchOption shift.fault (P.failures shift.proofs ≡ 0)
+        (IsReadFault 0 (P.failures shift.proofs))) shifts.items }
+    ensures same { IfOk result (λ kept. kept ≡ shifts) }
+    ensures none { IfOk result (λ kept.
+        All (λ shift. shift.fault ≢ Some ReadFault.Device) kept.items) }
+    ensures failed { IfErr result (λ one. P.failures one ≡ 1) }
+{
+    for place in 0..shifts.len() {
+        if let Some(ReadFault::Device) = shifts[place].fault {
+            let LeafShift { proofs, .. } = shifts.swap_remove(place);
+            return Err(proofs);
+        }
+    }
+    Ok(shifts)
+}
+
+/// What the workers over leaves hand back, when none of them has met a failed read: all passes
+/// together, and a list of leaves of each.
+#[derive(Drop)]
+struct Handed {
+    passes: Vec<Pass>,
+    lists: Vec<Vec<ExaminedLeaf>>,
+}
+
+/// Puts the passes of the workers over leaves to those of the workers over sections. `AllocError`
+/// where a fault stopped one of them, or a growth is refused now.
+fn hand_in_leaves<P: LeafProofs + Drop>(
+    alloc: Global,
+    hall: &Hall<'_>,
+    mut passes: Vec<Pass>,
+    shifts: Vec<LeafShift<P>>,
+) -> Result<Handed, AllocError>
+    requires own { All (IsPassOf (hall_of hall.now)) passes.items }
+    requires free { All (λ pass. (view_of pass).owes ≡ None) passes.items }
+    requires seen { HaveSeenSections (hall_of hall.now).of.case passes.items }
+    requires shifts { All (λ shift. IsLeafShiftOf (hall_of hall.now)
+        (P.held shift.proofs) (P.failures shift.proofs) shift.pass shift.examined.items
+        shift.fault) shifts.items }
+    ensures count { IfOk result (λ handed.
+        vec_len handed.passes ≡ vec_len passes + vec_len shifts) }
+    ensures own { IfOk result (λ handed. All (IsPassOf (hall_of hall.now)) handed.passes.items) }
+    ensures free { IfOk result (λ handed.
+        All (λ pass. (view_of pass).owes ≡ None) handed.passes.items) }
+    ensures seen { IfOk result (λ handed.
+        HaveSeenSections (hall_of hall.now).of.case handed.passes.items) }
+    ensures lists { (known : Known)
+        → All (λ shift. (leaf : Leaf) → P.held shift.proofs leaf ≡ known leaf) shifts.items
+        → IfOk result (λ handed. All (λ list. IsListOf known (hall_of hall.now).of.case list.items)
+        handed.lists.items) }
+{
+    let mut lists = Vec::new(alloc);
+    for shift in shifts {
+        if shift.fault.is_some() {
+            return Err(AllocError);
+        }
+        passes.push(shift.pass)?;
+        lists.push(shift.examined)?;
+    }
+    Ok(Handed { passes, lists })
+}
+
+/// Closes the hall after a run, where no read failed, and compares the marks of leaves with what
+/// the workers found of them.
+fn close_leaves<'c, P: LeafProofs + Drop>(
+    alloc: Global,
+    run: LeafRun<'c, P>,
+) -> Result<Result<Option<Boards<'c>>, CrewFault>, P>
+    requires count { vec_len run.passes + vec_len run.shifts ≡ (hall_of run.hall).passes }
+    requires own { All (IsPassOf (hall_of run.hall)) run.passes.items }
+    requires free { All (λ pass. (view_of pass).owes ≡ None) run.passes.items }
+    requires seen { HaveSeenSections (hall_of run.hall).of.case run.passes.items }
+    requires shifts { All (λ shift. IsLeafShiftOf (hall_of run.hall)
+        (P.held shift.proofs) (P.failures shift.proofs) shift.pass shift.examined.items
+        shift.fault) run.shifts.items }
+    ensures apart { (known : Known) → All (λ shift. (leaf : Leaf) → P.held shift.proofs leaf
+        ≡ known leaf) run.entry.shifts.items
+        → IfOk result (λ run'. IfOk run' (λ some. IfSome some (λ boards.
+        (boards.case ≡ (hall_of run.entry.hall).of.case)
+        × (boards.cut ≡ (hall_of run.entry.hall).of.cut)
+        × AreFoundApart known (hall_of run.entry.hall).of.case boards.marks))) }
+    ensures failed { IfErr result (λ one. P.failures one ≡ 1) }
+{
+    let LeafRun {
+        hall,
+        passes,
+        shifts,
+    } = run;
+    let shifts = failed_first(shifts)?;
+    Ok(boards_of(alloc, hall, passes, shifts))
+}
+
+/// The boards of a hall that is closed, where each leaf has the mark of what the workers found of
+/// it.
+fn boards_of<'c, P: LeafProofs + Drop>(
+    alloc: Global,
+    hall: Hall<'c>,
+    passes: Vec<Pass>,
+    shifts: Vec<LeafShift<P>>,
+) -> Result<Option<Boards<'c>>, CrewFault>
+    requires count { vec_len passes + vec_len shifts ≡ (hall_of hall).passes }
+    requires own { All (IsPassOf (hall_of hall)) passes.items }
+    requires free { All (λ pass. (view_of pass).owes ≡ None) passes.items }
+    requires seen { HaveSeenSections (hall_of hall).of.case passes.items }
+    requires shifts { All (λ shift. IsLeafShiftOf (hall_of hall)
+        (P.held shift.proofs) (P.failures shift.proofs) shift.pass shift.examined.items
+        shift.fault) shifts.items }
+    ensures { (known : Known)
+        → All (λ shift. (leaf : Leaf) → P.held shift.proofs leaf ≡ known leaf) shifts.items
+        → IfOk result (λ some. IfSome some (λ boards.
+        (boards.case ≡ (hall_of hall.entry).of.case)
+        × (boards.cut ≡ (hall_of hall.entry).of.cut)
+        × AreFoundApart known (hall_of hall.entry).of.case boards.marks)) }
+{
+    let Handed { passes, lists } = hand_in_leaves(alloc, &hall, passes, shifts)?;
+    match hall.close(passes) {
+        Ok(boards) => Ok(right_alone(alloc, boards, &lists)?),
+        Err(_) => unreachable!(),
+    }
+}
+
+/// Boards where each leaf has the mark of what became of it, by these lists, and no others.
+fn right_alone<'c>(
+    alloc: Global,
+    boards: Boards<'c>,
+    lists: &[Vec<ExaminedLeaf>],
+) -> Result<Option<Boards<'c>>, AllocError>
+    ensures same { IfOk result (λ some. IfSome some (λ kept. kept ≡ boards.entry)) }
+    ensures right { IfOk result (λ some. IfSome some (λ kept. (known : Known)
+        → All (λ list. IsListOf known kept.case list.items) lists.now
+        → (node : ℕ) (leaf : Leaf) → IsLeafAt kept.case.tree node leaf
+        → IsRightAt known kept.case kept.marks node)) }
+{
+    if has_right_marks(alloc, &boards, lists)? {
+        Ok(Some(boards))
+    } else {
+        Ok(None)
+    }
+}
