@@ -59,4 +59,10 @@ pub trait LeafProofs {
         ensures ok { OnOk result (failures self.new ≡ failures self.old) }
         ensures err { IfErr result
             (λ fault. IsReadFault (failures self.old) (failures self.new) fault) };
+
+    /// How long the proof of a leaf is, where that can be told without reading it. Nothing
+    /// rests on it but the order in which proofs are read and the totals that a person is told.
+    fn length(&mut self, leaf: Leaf) -> Option<u64>
+        ensures held { held self.new ≡ held self.old }
+        ensures failures { failures self.new ≡ failures self.old };
 }
