@@ -1,5 +1,5 @@
 pub mod FilesFormula
 mod FilesSections
 mod FilesOpened
-mod FilesReader
+mod FilesPaths
 mod FilesApart
