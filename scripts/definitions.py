@@ -60,9 +60,12 @@ write is one of these, and after a report nothing is known to be allowed. That t
     ("bundle_files: the bundle that is judged", """
 It is the file's or the input's, with the proofs of a folder added for the leaves of its tree, in order and each under its own label.""",
      ["bundle_files/source.rt read_judged held bundle ok err kept",
+      "bundle_files/source.rt read_given held bundle ok err kept",
       "bundle_files/folder.rt add_proofs held whole ok err",
       "bundle_files/store.rt Store::read held found ok err",
-      "bundle_files/store.rt Store::write written elsewhere nothing ok err"]),
+      "bundle_files/store.rt Store::write written elsewhere nothing ok err",
+      "bundle_files/store.rt Store::reader held none",
+      "bundle_files/store.rt Store::settle held failures"]),
     ("cnf_text: the iCNF text", """
 The file that is read is what the text stands for, or the fault is the text's first one.""",
      ["cnf_text/icnf.rt read_icnf ok only err"]),

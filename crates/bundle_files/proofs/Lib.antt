@@ -1,5 +1,6 @@
 pub mod FilesFormula
 mod FilesSections
 mod FilesOpened
+mod FilesPaths
 mod FilesApart
 mod JudgingRuns

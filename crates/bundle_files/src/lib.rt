@@ -6,12 +6,15 @@ mod folder;
 mod judge;
 mod laws;
 mod opener;
+mod reader;
 mod source;
 mod store;
 
+pub use check_crew::{LeafProofs, ReadFault};
 pub use folder::add_proofs;
 pub use judge::judge_given;
 pub use laws::{proofs_judged_apart, proofs_keep_formula};
 pub use opener::{Opener, SystemFiles};
-pub use source::read_judged;
+pub use reader::FolderReader;
+pub use source::{read_given, read_judged};
 pub use store::{FileStore, Store};

@@ -5,6 +5,7 @@ ghost use Rattle.std.specs.Prelude.{IfErr, OnOk};
 ghost use Rattle.std.specs.IoError.{error_kind};
 ghost use Rattle.bundle_files.specs.Files.{IsOpened};
 
+use std::alloc::{AllocError, Global};
 use std::io::{ErrorKind, Read, Write};
 use std::rt::Files;
 use std::{fs, io};
@@ -57,6 +58,15 @@ pub trait Opener {
             → files self.new other ≡ files self.old other }
         ensures there { knows self.old ≡ true
             → files self.new path.now ≡ Self.Made.contents file };
+
+    /// An opener of the same files, for another thread.
+    fn another(&self, alloc: Global) -> Result<Self, AllocError>
+        ensures knows { IfOk result (λ other. knows other ≡ knows self.now) }
+        ensures files { IfOk result (λ other. files other ≡ files self.now) };
+
+    /// How long the file at this path is, where that can be told without reading it. No clause ties
+    /// the length to the file's bytes.
+    fn length(&self, path: &str) -> Option<u64>;
 }
 
 /// The files of a system. What they hold is not known to a contract.
@@ -96,4 +106,14 @@ impl<'a, R: Files> Opener for SystemFiles<'a, R> {
     }
 
     fn close(&mut self, _path: &str, _file: R::File) {}
+
+    fn another(&self, _alloc: Global) -> Result<SystemFiles<'a, R>, AllocError> {
+        Ok(SystemFiles::new(self.files))
+    }
+
+    fn length(&self, path: &str) -> Option<u64> {
+        fs::metadata(self.files, path)
+            .ok()
+            .map(|metadata| metadata.len())
+    }
 }

@@ -39,7 +39,7 @@ pub fn read_judged<D: Store, I: Source>(
     // Where a file is asked for, the input isn't touched.
     ensures kept { IfSome file.entry (λ _. input.new ≡ input.old) }
 {
-    let mut bundle = read_bundle(alloc, store, input, file)?;
+    let mut bundle = read_given(alloc, store, input, file)?;
     if let Some(folder) = folder {
         add_proofs(alloc, store, folder, &mut bundle)?;
     }
@@ -50,7 +50,7 @@ pub fn read_judged<D: Store, I: Source>(
 ///
 /// `Device` where a call failed, or no file is at the path, and `Memory` where a growth was
 /// refused.
-fn read_bundle<D: Store, I: Source>(
+pub fn read_given<D: Store, I: Source>(
     alloc: Global,
     store: &mut D,
     input: &mut I,

@@ -2,11 +2,16 @@
 ghost use Rattle.std.specs.Prelude.{◌≡◌, ◌≢◌, ℕ, List, Some, ◌<◌, ◌+◌, ◌^◌, ◌-◌, Option, None};
 ghost use Rattle.std.specs.Prelude.{IfOk, IfErr};
 ghost use Rattle.std.specs.Prelude.{OnOk};
+ghost use Rattle.case_core.specs.Leaf.{Leaf};
 ghost use Rattle.cube_report.specs.Device.{IsReadFault};
-ghost use Rattle.bundle_files.specs.Files.{Gives, IsFound, StaysAllowed};
+ghost use Rattle.bundle_files.specs.Files.{Gives, IsFound, StaysAllowed, held_if};
+ghost use Rattle.bundle_files.specs.Laws.{held_for};
 
 use crate::opener::Opener;
+use crate::reader::FolderReader;
+use check_crew::LeafProofs;
 use cube_report::{Counted, Fault, read_to_end, write_all};
+use std::alloc::{AllocError, Global};
 use std::io::ErrorKind;
 
 /// What can be read by its path, FILE and a folder's proofs alike, and what is written by its path.
@@ -21,6 +26,9 @@ pub trait Store {
 
     // Which bytes may be written at which path.
     ghost allows: { Self → List ℕ → List ℕ → Type 0 };
+
+    /// What a worker reads a folder's proofs by.
+    type Reader: LeafProofs + Send + Drop;
 
     /// Appends the bytes of the file at this path, and answers whether there is one; where there is
     /// none, nothing changes.
@@ -55,6 +63,20 @@ pub trait Store {
         ensures ok { OnOk result (failures self.new ≡ failures self.old) }
         ensures err { IfErr result
             (λ fault. IsReadFault (failures self.old) (failures self.new) fault) };
+
+    /// A reader of the proofs of a folder, for one worker, with no failed read yet: what it reads
+    /// for a leaf is what lies at the path of the leaf's proof.
+    fn reader(&self, alloc: Global, folder: &str) -> Result<Self::Reader, AllocError>
+        ensures held { IfOk result (λ reader. (leaf : Leaf) →
+            Self.Reader.held reader leaf ≡ held_for (held self.now) folder.now leaf) }
+        ensures none { IfOk result (λ reader. Self.Reader.failures reader ≡ 0) };
+
+    /// Takes a reader back: its failed reads count as failed calls of the store's.
+    fn settle(&mut self, reader: Self::Reader)
+        requires { failures self.old + Self.Reader.failures reader < 2 ^ 64 }
+        ensures held { held self.new ≡ held self.old }
+        ensures allowed { StaysAllowed (allows self.old) (allows self.new) }
+        ensures failures { failures self.new ≡ failures self.old + Self.Reader.failures reader };
 }
 
 /// Files by their paths, and how many calls on them have failed. It opens them by an opener, and
@@ -91,18 +113,28 @@ impl<F> FileStore<F> {
         self.failed += 1;
         Fault::Device
     }
+
+    /// How many calls have failed so far.
+    pub(crate) fn failed(&self) -> u64
+        ensures { result ≡ self.now.failed }
+    {
+        self.failed
+    }
 }
 
-impl<F: Opener> Store for FileStore<F> {
-    ghost use Rattle.bundle_files.specs.Files.{held_if};
-
-    ghost held = { λ s path. held_if (F.knows s.opener) (F.files s.opener path) };
-
-    ghost failures = { λ s. s.failed };
-
-    ghost allows = { λ _ _ _. Unit {0} };
-
-    fn read(&mut self, path: &str, bytes: &mut Vec<u8>) -> Result<bool, Fault> {
+impl<F: Opener> FileStore<F> {
+    /// Appends the bytes of the file at this path, and answers whether there is one, as `Store::read`
+    /// owes it.
+    pub(crate) fn read_file(&mut self, path: &str, bytes: &mut Vec<u8>) -> Result<bool, Fault>
+        requires { self.old.failed < 2 ^ 64 - 1 }
+        ensures knows { F.knows self.new.opener ≡ F.knows self.old.opener }
+        ensures files { F.files self.new.opener ≡ F.files self.old.opener }
+        ensures found { IfOk result (λ there.
+            IsFound (held_if (F.knows self.old.opener) (F.files self.old.opener path.now))
+            bytes.old.items bytes.new.items there) }
+        ensures ok { OnOk result (self.new.failed ≡ self.old.failed) }
+        ensures err { IfErr result (λ fault. IsReadFault self.old.failed self.new.failed fault) }
+    {
         match self.opener.open(path) {
             Ok(file) => match read_to_end(&mut Counted::new(file), bytes) {
                 Ok(()) => Ok(true),
@@ -115,6 +147,25 @@ impl<F: Opener> Store for FileStore<F> {
                 _ => Err(self.broken()),
             },
         }
+    }
+
+    /// How long the file at this path is, where that can be told.
+    pub(crate) fn file_length(&self, path: &str) -> Option<u64> {
+        self.opener.length(path)
+    }
+}
+
+impl<F: Opener + Send + Drop> Store for FileStore<F> {
+    type Reader = FolderReader<F>;
+
+    ghost held = { λ s path. held_if (F.knows s.opener) (F.files s.opener path) };
+
+    ghost failures = { λ s. s.failed };
+
+    ghost allows = { λ _ _ _. Unit {0} };
+
+    fn read(&mut self, path: &str, bytes: &mut Vec<u8>) -> Result<bool, Fault> {
+        self.read_file(path, bytes)
     }
 
     fn write(&mut self, path: &str, bytes: &[u8]) -> Result<(), Fault> {
@@ -133,5 +184,15 @@ impl<F: Opener> Store for FileStore<F> {
                 _ => Err(self.broken()),
             },
         }
+    }
+
+    fn reader(&self, alloc: Global, folder: &str) -> Result<FolderReader<F>, AllocError> {
+        let opener = self.opener.another(alloc)?;
+        let folder = String::from_str(alloc, folder)?;
+        Ok(FolderReader::new(alloc, opener, folder))
+    }
+
+    fn settle(&mut self, reader: FolderReader<F>) {
+        self.failed += reader.failed();
     }
 }

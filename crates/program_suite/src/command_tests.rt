@@ -166,18 +166,19 @@ fn asks_for<R: AllocGlobal + Abort + Threads + Wait + Sync>(
     input: &[u8],
     ending: Ending<'_>,
     paths: &[u8],
-)
+) -> Result<(), Fail>
     requires { store.failed < 2 ^ 64 - 1 }
 {
     ends_with(rt, &mut store, words, input, ending);
-    assert!(rt; store.opener().asked.as_slice() == paths, "{words:?}");
+    assert!(rt; store.opener().asked()?.as_slice() == paths, "{words:?}");
+    Ok(())
 }
 
 #[test]
 fn statuses(rt: HostRuntime) -> Result<(), Fail> {
     for (bundle, status, report) in [(REFUTED, 0, REFUTED_REPORT), (OPEN, 1, OPEN_REPORT)] {
-        let store = FileStore::new(Shelf::new(rt.alloc(), ALL_FILES));
-        asks_for(&rt, store, &[], bundle, (status, report, b""), b"");
+        let store = FileStore::new(Shelf::new(rt.alloc(), ALL_FILES)?);
+        asks_for(&rt, store, &[], bundle, (status, report, b""), b"")?;
     }
     Ok(())
 }
@@ -185,8 +186,8 @@ fn statuses(rt: HostRuntime) -> Result<(), Fail> {
 #[test]
 fn faults(rt: HostRuntime) -> Result<(), Fail> {
     for (bundle, line) in FAULTS {
-        let store = FileStore::new(Shelf::new(rt.alloc(), ALL_FILES));
-        asks_for(&rt, store, &[], bundle, (3, b"", line), b"");
+        let store = FileStore::new(Shelf::new(rt.alloc(), ALL_FILES)?);
+        asks_for(&rt, store, &[], bundle, (3, b"", line), b"")?;
     }
     Ok(())
 }
@@ -196,12 +197,12 @@ fn faults(rt: HostRuntime) -> Result<(), Fail> {
 fn faults_with_a_folder(rt: HostRuntime) -> Result<(), Fail> {
     for (bundle, line) in FAULTS {
         let ending = (3, b"".as_slice(), *line);
-        let store = FileStore::new(Shelf::new(rt.alloc(), ALL_FILES));
-        asks_for(&rt, store, &["--proofs", "D"], bundle, ending, b"");
+        let store = FileStore::new(Shelf::new(rt.alloc(), ALL_FILES)?);
+        asks_for(&rt, store, &["--proofs", "D"], bundle, ending, b"")?;
         let files = [("FILE", *bundle), ("D/1.lrat", b"x".as_slice())];
-        let store = FileStore::new(Shelf::new(rt.alloc(), &files));
+        let store = FileStore::new(Shelf::new(rt.alloc(), &files)?);
         let words = ["--proofs", "D", "FILE"];
-        asks_for(&rt, store, &words, REFUTED, ending, b"FILE\n");
+        asks_for(&rt, store, &words, REFUTED, ending, b"FILE\n")?;
     }
     Ok(())
 }
@@ -215,9 +216,9 @@ fn a_limit(rt: HostRuntime) -> Result<(), Fail> {
         bundle.extend_from_slice(b" 1")?;
     }
     bundle.extend_from_slice(b" 0\n")?;
-    let store = FileStore::new(Shelf::new(rt.alloc(), ALL_FILES));
+    let store = FileStore::new(Shelf::new(rt.alloc(), ALL_FILES)?);
     let ending = (3, b"".as_slice(), b"cubeboard: F5 limit\n".as_slice());
-    asks_for(&rt, store, &["--proofs", "D"], &bundle, ending, b"");
+    asks_for(&rt, store, &["--proofs", "D"], &bundle, ending, b"")?;
     Ok(())
 }
 
@@ -261,8 +262,8 @@ fn proofs_of_a_folder(rt: HostRuntime) -> Result<(), Fail> {
         (&[], 1, BARE_REPORT),
     ] {
         let ending = (status, report, b"".as_slice());
-        let store = FileStore::new(Shelf::new(rt.alloc(), files));
-        asks_for(&rt, store, &["--proofs", "D"], MIXED, ending, PROOF_PATHS);
+        let store = FileStore::new(Shelf::new(rt.alloc(), files)?);
+        asks_for(&rt, store, &["--proofs", "D"], MIXED, ending, PROOF_PATHS)?;
     }
     Ok(())
 }
@@ -271,10 +272,10 @@ fn proofs_of_a_folder(rt: HostRuntime) -> Result<(), Fail> {
 #[test]
 fn no_folder(rt: HostRuntime) -> Result<(), Fail> {
     let ending = (1, BARE_REPORT, b"".as_slice());
-    let store = FileStore::new(Shelf::new(rt.alloc(), ALL_FILES));
-    asks_for(&rt, store, &[], MIXED, ending, b"");
-    let store = FileStore::new(Shelf::new(rt.alloc(), ALL_FILES));
-    asks_for(&rt, store, &["FILE"], b"", ending, b"FILE\n");
+    let store = FileStore::new(Shelf::new(rt.alloc(), ALL_FILES)?);
+    asks_for(&rt, store, &[], MIXED, ending, b"")?;
+    let store = FileStore::new(Shelf::new(rt.alloc(), ALL_FILES)?);
+    asks_for(&rt, store, &["FILE"], b"", ending, b"FILE\n")?;
     Ok(())
 }
 
@@ -291,7 +292,7 @@ fn lines_without_an_end(rt: HostRuntime) -> Result<(), Fail> {
         four!("a 1 0\na -1 0").as_bytes(),
         four!("a 1 0\na -1 0\nc a comment").as_bytes(),
     ] {
-        let store = FileStore::new(Shelf::new(rt.alloc(), &files));
+        let store = FileStore::new(Shelf::new(rt.alloc(), &files)?);
         let paths = b"D/1.lrat\nD/2.lrat\n";
         asks_for(
             &rt,
@@ -300,7 +301,7 @@ fn lines_without_an_end(rt: HostRuntime) -> Result<(), Fail> {
             bundle,
             (0, report, b""),
             paths,
-        );
+        )?;
     }
     Ok(())
 }
@@ -311,10 +312,10 @@ fn lines_without_an_end(rt: HostRuntime) -> Result<(), Fail> {
 fn a_proof_in_both_places(rt: HostRuntime) -> Result<(), Fail> {
     let line: &[u8] = b"cubeboard: F12 second proof, line 13\n";
     let files = [("D/2.lrat", b"6 0 5 1 2 0\n".as_slice())];
-    let store = FileStore::new(Shelf::new(rt.alloc(), &files));
+    let store = FileStore::new(Shelf::new(rt.alloc(), &files)?);
     let paths = b"D/1.lrat\nD/2.lrat\n";
     let input = BOTH_CUBES.as_bytes();
-    asks_for(&rt, store, &["--proofs", "D"], input, (3, b"", line), paths);
+    asks_for(&rt, store, &["--proofs", "D"], input, (3, b"", line), paths)?;
     Ok(())
 }
 
@@ -326,14 +327,15 @@ fn leaves_input<R: AllocGlobal + Abort + Threads + Wait + Sync>(
     words: &[&str],
     ending: Ending<'_>,
     paths: &[u8],
-)
+) -> Result<(), Fail>
     requires { store.failed < 2 ^ 64 - 1 }
 {
     let mut input = Broken::new(REFUTED, 0);
     let told = told(rt, &mut store, words, &mut input);
     is_ending(rt, words, told, ending);
     assert!(rt; input.calls == 0, "{words:?}");
-    assert!(rt; store.opener().asked.as_slice() == paths, "{words:?}");
+    assert!(rt; store.opener().asked()?.as_slice() == paths, "{words:?}");
+    Ok(())
 }
 
 // FILE is asked for first, and the input isn't read.
@@ -345,8 +347,8 @@ fn a_file_in_place_of_the_input(rt: HostRuntime) -> Result<(), Fail> {
         (&["FILE", "--proofs", "D"], 0, ALL_REPORT, all_paths),
         (&["--proofs=D", "FILE"], 0, ALL_REPORT, all_paths),
     ] {
-        let store = FileStore::new(Shelf::new(rt.alloc(), ALL_FILES));
-        leaves_input(&rt, store, words, (status, report, b""), paths);
+        let store = FileStore::new(Shelf::new(rt.alloc(), ALL_FILES)?);
+        leaves_input(&rt, store, words, (status, report, b""), paths)?;
     }
     Ok(())
 }
@@ -355,8 +357,8 @@ fn a_file_in_place_of_the_input(rt: HostRuntime) -> Result<(), Fail> {
 #[test]
 fn no_file(rt: HostRuntime) -> Result<(), Fail> {
     for words in [["FILE"].as_slice(), &["--proofs", "D", "FILE"]] {
-        let store = FileStore::new(Shelf::new(rt.alloc(), WITHOUT_M1));
-        leaves_input(&rt, store, words, (5, b"", DEVICE), b"FILE\n");
+        let store = FileStore::new(Shelf::new(rt.alloc(), WITHOUT_M1)?);
+        leaves_input(&rt, store, words, (5, b"", DEVICE), b"FILE\n")?;
     }
     Ok(())
 }
@@ -372,9 +374,9 @@ fn a_file_fails(rt: HostRuntime) -> Result<(), Fail> {
         (5, b"FILE\nD/1.lrat\nD/2.lrat\nD/m1.lrat\nD/m2.lrat\n"),
     ] {
         for (fault, status, line) in [(Fault::Device, 5, DEVICE), (Fault::Memory, 4, MEMORY)] {
-            let store = FileStore::new(Shelf::failing(rt.alloc(), ALL_FILES, fails_at, fault));
+            let store = FileStore::new(Shelf::failing(rt.alloc(), ALL_FILES, fails_at, fault)?);
             let words = ["--proofs", "D", "FILE"];
-            leaves_input(&rt, store, &words, (status, b"", line), paths);
+            leaves_input(&rt, store, &words, (status, b"", line), paths)?;
         }
     }
     Ok(())
@@ -385,12 +387,12 @@ fn a_file_fails(rt: HostRuntime) -> Result<(), Fail> {
 fn the_input_fails(rt: HostRuntime) -> Result<(), Fail> {
     let calls = REFUTED.len() as u64 / 16 + 2;
     for fails_at in 1..=calls {
-        let mut store = FileStore::new(Shelf::new(rt.alloc(), ALL_FILES));
+        let mut store = FileStore::new(Shelf::new(rt.alloc(), ALL_FILES)?);
         let mut input = Broken::new(REFUTED, fails_at);
         let (answer, output, errors) = told(&rt, &mut store, &["--proofs", "D"], &mut input);
         assert!(rt; answer == 5 && output.is_empty(), "at {fails_at}");
         assert!(rt; errors.as_slice() == DEVICE, "at {fails_at}");
-        assert!(rt; store.opener().asked.is_empty(), "at {fails_at}");
+        assert!(rt; store.opener().asked()?.is_empty(), "at {fails_at}");
     }
     Ok(())
 }
@@ -401,13 +403,13 @@ fn output_fails_at<R: AllocGlobal + Abort + Threads + Wait + Sync>(
     rt: &R,
     fails_at: u64,
     before: &[u8],
-) {
+) -> Result<(), Fail> {
     let mut output = Narrow::new(rt.alloc(), fails_at);
     let mut errors = Vec::new(rt.alloc());
     let no_words: [&str; 0] = [];
     let answer = command(
         rt,
-        &mut FileStore::new(Shelf::new(rt.alloc(), &[])),
+        &mut FileStore::new(Shelf::new(rt.alloc(), &[])?),
         &no_words,
         &mut Counted::new(REFUTED),
         &mut output,
@@ -418,12 +420,13 @@ fn output_fails_at<R: AllocGlobal + Abort + Threads + Wait + Sync>(
     assert!(rt; answer == 5, "{answer} at {fails_at}");
     assert!(rt; output.written.as_slice() == before, "at {fails_at}");
     assert!(rt; errors.as_slice() == DEVICE, "at {fails_at}");
+    Ok(())
 }
 
 #[test]
 fn the_output_fails(rt: HostRuntime) -> Result<(), Fail> {
     for fails_at in 1..=REFUTED_REPORT.len() {
-        output_fails_at(&rt, fails_at as u64, &REFUTED_REPORT[..fails_at - 1]);
+        output_fails_at(&rt, fails_at as u64, &REFUTED_REPORT[..fails_at - 1])?;
     }
     Ok(())
 }
@@ -437,12 +440,12 @@ fn errors_fail_at<R: AllocGlobal + Abort + Threads + Wait + Sync>(
     status: u8,
     fails_at: u64,
     before: &[u8],
-) {
+) -> Result<(), Fail> {
     let mut output = Vec::new(rt.alloc());
     let mut errors = Narrow::new(rt.alloc(), fails_at);
     let answer = command(
         rt,
-        &mut FileStore::new(Shelf::new(rt.alloc(), &[])),
+        &mut FileStore::new(Shelf::new(rt.alloc(), &[])?),
         words,
         &mut Counted::new(input),
         &mut Counted::new(&mut output),
@@ -453,6 +456,7 @@ fn errors_fail_at<R: AllocGlobal + Abort + Threads + Wait + Sync>(
     assert!(rt; answer == status, "{answer} at {fails_at}");
     assert!(rt; output.is_empty(), "at {fails_at}");
     assert!(rt; errors.written.as_slice() == before, "at {fails_at}");
+    Ok(())
 }
 
 // A line that can't be written doesn't change the status.
@@ -460,20 +464,23 @@ fn errors_fail_at<R: AllocGlobal + Abort + Threads + Wait + Sync>(
 fn the_errors_fail(rt: HostRuntime) -> Result<(), Fail> {
     for fails_at in 1..=HEADER.len() {
         let before = &HEADER[..fails_at - 1];
-        errors_fail_at(&rt, &[], b"p cnf 2 4\n", 3, fails_at as u64, before);
+        errors_fail_at(&rt, &[], b"p cnf 2 4\n", 3, fails_at as u64, before)?;
     }
     for fails_at in 1..=DEVICE.len() {
         let before = &DEVICE[..fails_at - 1];
-        errors_fail_at(&rt, &["FILE"], REFUTED, 5, fails_at as u64, before);
+        errors_fail_at(&rt, &["FILE"], REFUTED, 5, fails_at as u64, before)?;
     }
-    errors_fail_at(&rt, &["--help"], REFUTED, 2, 1, b"");
+    errors_fail_at(&rt, &["--help"], REFUTED, 2, 1, b"")?;
     Ok(())
 }
 
 /// The program on these words ends with status 2, no report and a text of errors, and reads
 /// nothing.
-fn is_refused<R: AllocGlobal + Abort + Threads + Wait + Sync>(rt: &R, words: &[&str]) {
-    let mut store = FileStore::new(Shelf::new(rt.alloc(), ALL_FILES));
+fn is_refused<R: AllocGlobal + Abort + Threads + Wait + Sync>(
+    rt: &R,
+    words: &[&str],
+) -> Result<(), Fail> {
+    let mut store = FileStore::new(Shelf::new(rt.alloc(), ALL_FILES)?);
     let mut input = Broken::new(REFUTED, 0);
     let (answer, output, errors) = told(rt, &mut store, words, &mut input);
     assert!(rt;
@@ -481,9 +488,10 @@ fn is_refused<R: AllocGlobal + Abort + Threads + Wait + Sync>(rt: &R, words: &[&
         "{answer} on {words:?}"
     );
     assert!(rt;
-        store.opener().asked.is_empty() && input.calls == 0,
+        store.opener().asked()?.is_empty() && input.calls == 0,
         "{words:?}"
     );
+    Ok(())
 }
 
 #[test]
@@ -498,7 +506,7 @@ fn other_words(rt: HostRuntime) -> Result<(), Fail> {
         "--cut",
         "--nothing",
     ] {
-        is_refused(&rt, &[word]);
+        is_refused(&rt, &[word])?;
     }
     for words in [
         ["--workers", "0"],
@@ -514,7 +522,7 @@ fn other_words(rt: HostRuntime) -> Result<(), Fail> {
         ["FILE", "--help"],
         ["--workers=1", "--workers=1"],
     ] {
-        is_refused(&rt, &words);
+        is_refused(&rt, &words)?;
     }
     Ok(())
 }
@@ -526,9 +534,9 @@ fn ends_of_the_ranges(rt: HostRuntime) -> Result<(), Fail> {
         ["--workers", "1", "--cut", "0"],
         ["--cut", "6", "--workers", "32"],
     ] {
-        let store = FileStore::new(Shelf::new(rt.alloc(), ALL_FILES));
+        let store = FileStore::new(Shelf::new(rt.alloc(), ALL_FILES)?);
         let ending = (0, REFUTED_REPORT, b"".as_slice());
-        asks_for(&rt, store, &words, REFUTED, ending, b"");
+        asks_for(&rt, store, &words, REFUTED, ending, b"")?;
     }
     Ok(())
 }

@@ -1,13 +1,15 @@
 //! A reader, a writer and files in memory that count their calls, and fail at one of them.
-ghost use Rattle.std.specs.Prelude.{Some, true, ◌≡◌, map, option_map};
+ghost use Rattle.std.specs.Prelude.{Some, true, ◌≡◌, map, option_map, IfOk};
 ghost use Rattle.std.specs.String.{string_bytes};
 ghost use Rattle.program_suite.specs.Shelf.{bytes_at, lies_at};
 
 use cube_command::{Opener, Sink, Source};
 use cube_report::Fault;
-use std::alloc::Global;
+use std::alloc::{AllocError, Global};
 use std::io;
 use std::io::{ErrorKind, Read};
+use std::sync::atomic::{AtomicU64, Ordering};
+use std::sync::{Arc, OnceLock};
 
 /// A reader of 16 bytes a call that fails at one of its calls, counted from 1, with the fault that
 /// a signal makes; at none where that is 0.
@@ -144,38 +146,105 @@ struct Made {
     bytes: Vec<u8>,
 }
 
+impl Made {
+    /// The same file once more.
+    fn copy(&self, alloc: Global) -> Result<Made, AllocError>
+        ensures path { IfOk result (λ copy. string_bytes copy.path ≡ string_bytes self.now.path) }
+        ensures bytes { IfOk result (λ copy. copy.bytes.items ≡ self.now.bytes.items) }
+    {
+        let mut bytes = Vec::new(alloc);
+        bytes.extend_from_slice(&self.bytes)?;
+        Ok(Made {
+            path: String::from_str(alloc, self.path.as_str())?,
+            bytes,
+        })
+    }
+}
+
+/// What a shelf shares with the openers that are made from it: how many calls there were, and the
+/// paths that were asked for, in the order of the calls.
+#[derive(Drop)]
+struct Desk {
+    calls: AtomicU64,
+    asks: AtomicU64,
+    paths: Vec<OnceLock<String>>,
+}
+
+impl Desk {
+    /// How many paths there is room for.
+    const ROOM: usize = 64;
+
+    /// A desk before the first call.
+    fn new(alloc: Global) -> Result<Desk, AllocError> {
+        let mut paths = Vec::new(alloc);
+        for _ in 0..Desk::ROOM {
+            paths.push(OnceLock::new())?;
+        }
+        Ok(Desk {
+            calls: AtomicU64::new(0),
+            asks: AtomicU64::new(0),
+            paths,
+        })
+    }
+
+    /// Notes that this path was asked for, and answers whether there was room for it.
+    fn note(&self, path: String) -> bool {
+        let place = self.asks.fetch_add(1, Ordering::SeqCst);
+        match self.paths.get(place as usize) {
+            Some(slot) => slot.try_set(path).is_ok(),
+            None => false,
+        }
+    }
+}
+
 /// These files, and one more that may be made; no others. One of its calls fails, counted from 1:
 /// with `Device` where a byte of the file was read, and with `Memory` before it; none does where
-/// that is 0.
+/// that is 0. Openers made from it count their calls together with it.
 #[derive(Drop)]
 pub struct Shelf<'t> {
     alloc: Global,
     files: &'t [File<'t>],
     made: Option<Made>,
-    /// Each path that was asked for, in order, and a line end behind it.
-    pub asked: Vec<u8>,
-    calls: u64,
+    desk: Arc<Desk>,
     fails_at: u64,
     fault: Fault,
 }
 
 impl<'t> Shelf<'t> {
     /// These files, no call of which fails.
-    pub fn new(alloc: Global, files: &'t [File<'t>]) -> Shelf<'t> {
+    pub fn new(alloc: Global, files: &'t [File<'t>]) -> Result<Shelf<'t>, AllocError> {
         Shelf::failing(alloc, files, 0, Fault::Device)
     }
 
     /// These files, where this call fails with this fault, `Memory` or `Device`.
-    pub fn failing(alloc: Global, files: &'t [File<'t>], fails_at: u64, fault: Fault) -> Shelf<'t> {
-        Shelf {
+    pub fn failing(
+        alloc: Global,
+        files: &'t [File<'t>],
+        fails_at: u64,
+        fault: Fault,
+    ) -> Result<Shelf<'t>, AllocError> {
+        Ok(Shelf {
             alloc,
             files,
             made: None,
-            asked: Vec::new(alloc),
-            calls: 0,
+            desk: Arc::new(alloc, Desk::new(alloc)?)?,
             fails_at,
             fault,
+        })
+    }
+
+    /// Each path that it and the openers made from it were asked for, in the order of the calls,
+    /// and a line end behind it.
+    pub fn asked(&self) -> Result<Vec<u8>, AllocError> {
+        let mut asked = Vec::new(self.alloc);
+        for slot in &self.desk.paths {
+            let Some(path) = slot.get() else {
+                break;
+            };
+            asked.extend_from_slice(path.as_bytes())?;
+            asked.push(b'\n')?;
         }
+        Ok(asked)
     }
 
     /// The path and the bytes of the file that was made, if one was.
@@ -187,11 +256,9 @@ impl<'t> Shelf<'t> {
     }
 
     /// Counts a call, and answers whether it is the one that fails.
-    fn fails(&mut self) -> bool
-        ensures same { (self.new.files ≡ self.old.files) × (self.new.made ≡ self.old.made) }
-    {
-        self.calls = self.calls.wrapping_add(1);
-        self.calls == self.fails_at
+    fn fails(&self) -> bool {
+        let before = self.desk.calls.fetch_add(1, Ordering::SeqCst);
+        before.wrapping_add(1) == self.fails_at
     }
 }
 
@@ -209,10 +276,9 @@ impl<'t> Opener for Shelf<'t> {
     ghost makes = { λ s path. option_map (λ made. string_bytes made.path) s.made ≡ Some path };
 
     fn open(&mut self, path: &str) -> io::Result<Pages<'t>> {
-        self.asked.extend_from_slice(path.as_bytes())?;
-        self.asked.push(b'\n')?;
+        let has_room = self.desk.note(String::from_str(self.alloc, path)?);
         let is_broken = self.fails();
-        if is_broken && self.fault == Fault::Memory {
+        if !has_room || is_broken && self.fault == Fault::Memory {
             return Err(io::Error::from(ErrorKind::OutOfMemory));
         }
         if let Some(made) = &self.made
@@ -254,5 +320,24 @@ impl<'t> Opener for Shelf<'t> {
         if let Some(made) = &mut self.made {
             made.bytes = file;
         }
+    }
+
+    fn another(&self, alloc: Global) -> Result<Shelf<'t>, AllocError> {
+        let made = match &self.made {
+            Some(made) => Some(made.copy(alloc)?),
+            None => None,
+        };
+        Ok(Shelf {
+            alloc,
+            files: self.files,
+            made,
+            desk: Arc::try_clone(&self.desk)?,
+            fails_at: self.fails_at,
+            fault: self.fault,
+        })
+    }
+
+    fn length(&self, _path: &str) -> Option<u64> {
+        None
     }
 }

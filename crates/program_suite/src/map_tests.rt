@@ -8,6 +8,7 @@ use cube_report::Fault;
 use fixtures::bundles::{BOTH_CUBES, BOTH_CUBES_REPORT};
 use std::process::Abort;
 use std::sync::Wait;
+use std::test::Fail;
 use std::thread::Threads;
 
 const DEVICE: &[u8] = b"cubeboard: F13 device\n";
@@ -61,9 +62,9 @@ fn status_with<R: AllocGlobal + Abort + Threads + Wait + Sync>(
 // The picture lies at the path that the words say, and the report is the same. Without the word
 // nothing is written to a file.
 #[test]
-fn a_picture(rt: HostRuntime) {
+fn a_picture(rt: HostRuntime) -> Result<(), Fail> {
     for words in [["--map", "tree.svg"].as_slice(), &["--map=tree.svg"], &[]] {
-        let mut store = FileStore::new(Shelf::new(rt.alloc(), &[]));
+        let mut store = FileStore::new(Shelf::new(rt.alloc(), &[])?);
         let mut output = Narrow::new(rt.alloc(), 0);
         let input = BOTH_CUBES.as_bytes();
         let (status, errors) = status_with(&rt, &mut store, words, input, &mut output);
@@ -80,15 +81,16 @@ fn a_picture(rt: HostRuntime) {
             assert!(rt; written.contains(cell), "{words:?}");
         }
     }
+    Ok(())
 }
 
 // Where the file can't be written there is no report, and where the input is refused there is no
 // file.
 #[test]
-fn no_picture(rt: HostRuntime) {
+fn no_picture(rt: HostRuntime) -> Result<(), Fail> {
     let words = ["--map", "tree.svg"].as_slice();
     for (fault, wanted, line) in [(Fault::Device, 5, DEVICE), (Fault::Memory, 4, MEMORY)] {
-        let mut store = FileStore::new(Shelf::failing(rt.alloc(), &[], 1, fault));
+        let mut store = FileStore::new(Shelf::failing(rt.alloc(), &[], 1, fault)?);
         let mut output = Narrow::new(rt.alloc(), 0);
         let input = BOTH_CUBES.as_bytes();
         let (status, errors) = status_with(&rt, &mut store, words, input, &mut output);
@@ -96,18 +98,19 @@ fn no_picture(rt: HostRuntime) {
         assert!(rt; output.written.is_empty() && errors.as_slice() == line);
         assert!(rt; store.opener().made().is_none());
     }
-    let mut store = FileStore::new(Shelf::new(rt.alloc(), &[]));
+    let mut store = FileStore::new(Shelf::new(rt.alloc(), &[])?);
     let mut output = Narrow::new(rt.alloc(), 0);
     let (status, errors) = status_with(&rt, &mut store, words, b"p cnf 1 1\n", &mut output);
     assert_eq!(rt; status, 3);
     assert!(rt; errors.as_slice() == HEADER);
     assert!(rt; output.written.is_empty() && store.opener().made().is_none());
+    Ok(())
 }
 
 // The picture is written before the report: it is there where the report can't be written.
 #[test]
-fn a_picture_without_a_report(rt: HostRuntime) {
-    let mut store = FileStore::new(Shelf::new(rt.alloc(), &[]));
+fn a_picture_without_a_report(rt: HostRuntime) -> Result<(), Fail> {
+    let mut store = FileStore::new(Shelf::new(rt.alloc(), &[])?);
     let mut output = Narrow::new(rt.alloc(), 1);
     let input = BOTH_CUBES.as_bytes();
     let words = ["--map", "tree.svg"].as_slice();
@@ -115,4 +118,5 @@ fn a_picture_without_a_report(rt: HostRuntime) {
     assert_eq!(rt; status, 5);
     assert!(rt; output.written.is_empty() && errors.as_slice() == DEVICE);
     assert!(rt; store.opener().made().is_some());
+    Ok(())
 }

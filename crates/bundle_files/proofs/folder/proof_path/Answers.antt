@@ -1,11 +1,9 @@
-use Rattle.std.proofs.Common.{◌∙◌, ◌++◌, sym, append_assoc, codes}
+use Rattle.std.proofs.Common.{◌∙◌}
 use Rattle.std.proofs.lemmas.Result.{IfOk-weaker}
+use Rattle.bundle_files.proofs.FilesPaths.{path_parts}
 use Rattle.bundle_files.proofs.folder.proof_path.Goals as goal
 
 pub returns : goal.returns
 returns c =
     IfOk-weaker c.format.result _ _
-    (λ path is. is
-    ∙ sym (append_assoc c.args.folder.now (codes "/") (c.args.name.now ++ codes ".lrat"))
-    ∙ sym (append_assoc (c.args.folder.now ++ codes "/") c.args.name.now (codes ".lrat")))
-    c.format.ensures.ok
+    (λ path is. is ∙ path_parts c.args.folder.now c.args.name.now) c.format.ensures.ok
