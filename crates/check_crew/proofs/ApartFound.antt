@@ -1,5 +1,6 @@
 -- Marks of boards that were compared with what workers found of leaves.
 use Rattle.std.proofs.Common.{◌≡◌, ℕ, List, [], All, Option, None, Some, refl, sym, ap, ◌∙◌, subst}
+use Rattle.std.specs.Prelude.{IfSome}
 use Rattle.case_core.specs.Literal.{Literal}
 use Rattle.case_core.specs.Proof.{Proof, IsProofOf}
 use Rattle.case_core.specs.Leaf.{Leaf}
@@ -91,7 +92,28 @@ found_apart hall passes boards known gathered own seen right = record {
       let same : is.leaf ≡ leaf = cc in (
         is.given,
         subst
-        (λ (l : Leaf). IsGivenFor (known l) hall.of.case l (mark_at boards.marks node) is.given) same
-        is.is,
+            (λ (l : Leaf). IsGivenFor (known l) hall.of.case l (mark_at boards.marks node) is.given) same
+            is.is,
       );
 }
+
+-- so are boards that are handed on where each leaf is right
+pub apart_boards : (hall : HallOf) (passes : List Pass) (boards : BoardsOf) (known : Known)
+    (some : Option BoardsOf) (Right : Type 0) → Gathers hall passes boards
+    → All (IsPassOf hall) passes → HaveSeenSections hall.of.case passes
+    → IfSome some (λ kept. kept ≡ boards) → IfSome some (λ kept. Right)
+    → (Right → (node : ℕ) (leaf : Leaf) → IsLeafAt boards.case.tree node leaf →
+    IsRightAt known boards.case boards.marks node)
+    → IfSome some (λ kept. (kept.case ≡ hall.of.case) × (kept.cut ≡ hall.of.cut)
+    × AreFoundApart known hall.of.case kept.marks)
+apart_boards hall passes boards known None Right gathered own seen same right so = tt
+apart_boards hall passes boards known (Some kept) Right gathered own seen same right so =
+    let of_case : boards.case ≡ hall.of.case = gathered.hold.case in (
+      ap (λ (b : BoardsOf). b.case) same ∙ of_case,
+      ap (λ (b : BoardsOf). b.cut) same ∙ gathered.hold.cut,
+      subst (λ (b : BoardsOf). AreFoundApart known hall.of.case b.marks) (sym same)
+          (found_apart hall passes boards known gathered own seen
+          (λ node leaf at.
+          subst (λ (k : CaseOf). IsRightAt known k boards.marks node) of_case
+          (so right node leaf (rw of_case at)))),
+    )

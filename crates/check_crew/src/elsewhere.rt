@@ -40,12 +40,7 @@ use std::thread::Threads;
 ///
 /// An outer fault says that a read failed, and gives what met that; it stands before each other
 /// answer. All workers that were started are joined before it answers.
-pub fn conquer_leaves<
-    'c,
-    R: Threads + Wait + Sync,
-    G: Gate + Sync,
-    P: LeafProofs + Send + Drop,
->(
+pub fn conquer_leaves<'c, R: Threads + Wait + Sync, G: Gate + Sync, P: LeafProofs + Send + Drop>(
     rt: &R,
     alloc: Global,
     case: &'c Case,
@@ -83,12 +78,7 @@ struct LeafRun<'c, P> {
 
 /// Opens a hall, and has its workers examine the sections of the case and then its leaves, between
 /// the gate's start and its end.
-fn run_leaves<
-    'c,
-    R: Threads + Wait + Sync,
-    G: Gate + Sync,
-    P: LeafProofs + Send + Drop,
->(
+fn run_leaves<'c, R: Threads + Wait + Sync, G: Gate + Sync, P: LeafProofs + Send + Drop>(
     rt: &R,
     alloc: Global,
     case: &'c Case,
@@ -119,7 +109,16 @@ fn run_leaves<
     let order = leaves_in_order(alloc, case, &proofs)?;
     let jobs = deal(alloc, hall.core(), &mut passes, proofs)?;
     gate.start(alloc, case, cut, order.proofs)?;
-    let run = run_both(rt, alloc, case, hall.core(), gate, &order.leaves, passes, jobs);
+    let run = run_both(
+        rt,
+        alloc,
+        case,
+        hall.core(),
+        gate,
+        &order.leaves,
+        passes,
+        jobs,
+    );
     gate.end();
     let (passes, shifts) = run?;
     Ok(LeafRun {
@@ -244,9 +243,7 @@ fn examine_elsewhere<R: Threads + Wait + Sync, G: Gate + Sync, P: LeafProofs + S
 }
 
 /// The first of what workers read by that has met a failed read, or else all that they hand back.
-fn failed_first<P: LeafProofs + Drop>(
-    mut shifts: Vec<LeafShift<P>>,
-) -> Result<Vec<LeafShift<P>>, P>
+fn failed_first<P: LeafProofs + Drop>(mut shifts: Vec<LeafShift<P>>) -> Result<Vec<LeafShift<P>>, P>
     requires { All (λ shift. MatchOption shift.fault (P.failures shift.proofs ≡ 0)
         (IsReadFault 0 (P.failures shift.proofs))) shifts.items }
     ensures same { IfOk result (λ kept. kept ≡ shifts) }
@@ -375,9 +372,9 @@ fn right_alone<'c>(
 ) -> Result<Option<Boards<'c>>, AllocError>
     ensures same { IfOk result (λ some. IfSome some (λ kept. kept ≡ boards.entry)) }
     ensures right { IfOk result (λ some. IfSome some (λ kept. (known : Known)
-        → All (λ list. IsListOf known kept.case list.items) lists.now
-        → (node : ℕ) (leaf : Leaf) → IsLeafAt kept.case.tree node leaf
-        → IsRightAt known kept.case kept.marks node)) }
+        → All (λ list. IsListOf known boards.entry.case list.items) lists.now
+        → (node : ℕ) (leaf : Leaf) → IsLeafAt boards.entry.case.tree node leaf
+        → IsRightAt known boards.entry.case boards.entry.marks node)) }
 {
     if has_right_marks(alloc, &boards, lists)? {
         Ok(Some(boards))

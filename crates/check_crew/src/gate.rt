@@ -5,7 +5,7 @@ ghost use Rattle.board_hall.specs.Halls.{view_of};
 ghost use Rattle.check_crew.specs.Seen.{IsTold};
 
 use board_hall::Pass;
-use case_core::{Case, Judged, NodeId, Target};
+use case_core::{Case, Judged, Leaf, NodeId, Target};
 use mark_board::Place;
 use std::alloc::{AllocError, Global};
 
@@ -55,6 +55,10 @@ pub trait Gate {
     fn after(&self, worker: u32, found: &Found<'_>)
         requires { IsTold (view_of found.now.pass.now) found.now.case.now found.now.target
             found.now.node found.now.judged found.now.place found.now.weight };
+
+    /// By a worker that finds that the run has to be made with all proofs in one bundle, because of
+    /// the proof of this leaf: it has a label line, or the leaf has a section, too.
+    fn falls_back(&self, _leaf: Leaf) {}
 
     /// Once, after all workers that were started have been joined.
     fn end(&self) {}

@@ -95,6 +95,7 @@ fn examine_leaf<R: Wait, G: Gate, P: LeafProofs>(
         return Ok(Examined::Absent);
     }
     if has_label_line(bytes) || case.proof_for(Target::Leaf(placed)).is_some() {
+        gate.falls_back(told);
         return Ok(Examined::Other);
     }
     gate.before(worker, Target::Leaf(announced));
@@ -104,7 +105,16 @@ fn examine_leaf<R: Wait, G: Gate, P: LeafProofs>(
     if !post(rt, case, core, pass, finding) {
         return Ok(Examined::Other);
     }
-    tell(case, core, gate, worker, pass, Target::Leaf(told), node, judged);
+    tell(
+        case,
+        core,
+        gate,
+        worker,
+        pass,
+        Target::Leaf(told),
+        node,
+        judged,
+    );
     Ok(Examined::Found(judged))
 }
 
@@ -121,8 +131,16 @@ fn leaf_at(case: &Case, order: &[Leaf], turn: u64) -> Option<Leaf>
     }
 }
 
+/// Lets nobody take another turn where the run has to be made with all proofs in one bundle.
+fn end_at_other(found: Examined, order: &[Leaf], next: &AtomicU64) {
+    if let Examined::Other = found {
+        next.store(order.len() as u64, Ordering::SeqCst);
+    }
+}
+
 /// Takes turns, which the workers count in `next`, and examines their leaves, until none is left or
-/// a fault comes. It takes bytes and scratch of its own, which it drops at the end.
+/// a fault comes. Where the run has to be made with all proofs in one bundle, nobody takes another
+/// one. It takes bytes and scratch of its own, which it drops at the end.
 fn examine_leaves<R: Wait, G: Gate, P: LeafProofs>(
     rt: &R,
     alloc: Global,
@@ -172,6 +190,7 @@ fn examine_leaves<R: Wait, G: Gate, P: LeafProofs>(
             pass,
             asked,
         )?;
+        end_at_other(found, order, next);
         examined.push(ExaminedLeaf {
             leaf,
             examined: found,

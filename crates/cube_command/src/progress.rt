@@ -6,7 +6,7 @@ ghost use Rattle.cube_report.specs.Seen.{IsTold};
 ghost use Rattle.cube_report.specs.SplitTree.{size};
 ghost use Rattle.cube_report.specs.Parts.{part_nodes};
 
-use cube_report::{Case, Found, Gate, Judged, NodeId, Place, Target, Tree};
+use cube_report::{Case, Found, Gate, Judged, Leaf, NodeId, Place, Target, Tree};
 use std::alloc::{AllocError, Global};
 use std::array;
 use std::io::Eprint;
@@ -204,6 +204,20 @@ fn share_of(open: u64, total: u64) -> u64 {
     shares.min(u128::from(SHARES)) as u64
 }
 
+impl<'a, R: Eprint> Progress<'a, R> {
+    /// Says that the proof of a leaf has all proofs of the folder read before the first is judged.
+    fn tell_whole(&self, leaf: Leaf) {
+        let (kind, number) = match leaf {
+            Leaf::Cube(number) => ("", number),
+            Leaf::Missing(number) => ("m", number),
+        };
+        let _ = eprint!(self.device;
+            "cubeboard: {kind}{number}.lrat has a label line or is a second proof, \
+             so all proofs are read before they are judged\n"
+        );
+    }
+}
+
 impl<'a, R: Clock + Eprint> Gate for Progress<'a, R> {
     fn start(
         &self,
@@ -230,6 +244,10 @@ impl<'a, R: Clock + Eprint> Gate for Progress<'a, R> {
         if self.is_due() {
             self.tell(false);
         }
+    }
+
+    fn falls_back(&self, leaf: Leaf) {
+        self.tell_whole(leaf);
     }
 
     fn end(&self) {
@@ -272,6 +290,14 @@ impl<'a, G: Gate, W: Gate> Gate for Watched<'a, G, W> {
         self.gate.after(worker, found);
         if self.is_asked {
             self.watch.after(worker, found);
+        }
+    }
+
+    fn falls_back(&self, leaf: Leaf) {
+        let again = leaf;
+        self.gate.falls_back(leaf);
+        if self.is_asked {
+            self.watch.falls_back(again);
         }
     }
 

@@ -107,7 +107,8 @@ fn outcome_by(alloc: Global, boards: &Boards<'_>, draws: bool) -> Result<Outcome
     ensures { IfOk result (λ outcome. IsStated boards.now.case draws
         outcome.text.items outcome.map.items outcome.refuted) }
 {
-    written_by(alloc, boards, draws)
+    let outcome = written_by(alloc, boards, draws)?;
+    Ok(outcome)
 }
 
 /// The report on a case, and whether it says refuted, by this thread.

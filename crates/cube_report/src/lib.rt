@@ -7,7 +7,7 @@ mod fault;
 mod laws;
 mod report;
 
-pub use case_core::{Case, Judged, NodeId, Target, Tree};
+pub use case_core::{Case, Judged, Leaf, NodeId, Target, Tree};
 pub use check_crew::{Found, Gate, LeafProofs, NoGate, ReadFault, Settings};
 pub use device::{Counted, Sink, Source};
 pub use engine::{

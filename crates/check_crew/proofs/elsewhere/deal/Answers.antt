@@ -34,3 +34,6 @@ loop-one-preserved g c =
                 _ both.1 ((rw next.0 at both.0) 0 c.in-Some.one (omega arith))),
           );
     }
+
+pub returns-clause-held : goal.returns-clause-held
+returns-clause-held g c = λ known all. (c.loop-one.invariant.held known all).1

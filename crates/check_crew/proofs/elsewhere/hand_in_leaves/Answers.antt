@@ -1,4 +1,4 @@
-use Rattle.std.proofs.Common.{◌≡◌, None, arith, sym}
+use Rattle.std.proofs.Common.{◌≡◌, None, arith, sym, ◌∙◌}
 use Rattle.std.proofs.lemmas.List.Elements.{All-push, All-rest}
 use Rattle.case_core.specs.Leaf.{Leaf}
 use Rattle.board_hall.specs.declared.pass.Pass.{Pass}
@@ -35,10 +35,13 @@ loop-shift-preserved g c =
             All-rest
                 (λ one. (leaf : Leaf) → g.P.LeafProofs.held one.proofs leaf ≡ known leaf) _ _ _
                 next.0 both.0,
-            rw c.in_ok-push-in-loop-shift.ensures.items
+            rw c.in_ok-push-2.ensures.items
                 (All-push (λ list. IsListOf known hall.of.case list.items) _ _ both.1
                 (list_of hall (g.P.LeafProofs.held shift.proofs) known
                 (g.P.LeafProofs.failures shift.proofs) shift.pass shift.examined.items shift.fault
                 mine none ((rw next.0 at both.0) 0 shift (omega arith)))),
           );
     }
+
+pub returns-clause-lists : goal.returns-clause-lists
+returns-clause-lists g c = λ known all. (c.loop-shift.invariant.lists known all).1
