@@ -164,11 +164,7 @@ pub fn judge_bundle<T: Threads + Wait + Sync, G: Gate + Sync>(
 /// `conquer_leaves` says, which has one of `proofs` for each worker; or `None` where the run has to
 /// be made with all proofs in one bundle. `Memory` or `Thread` may stand in the place of any other
 /// answer but the outer fault, which says that a read failed and gives what met that.
-pub fn judge_apart<
-    T: Threads + Wait + Sync,
-    G: Gate + Sync,
-    P: LeafProofs + Send + Drop,
->(
+pub fn judge_apart<T: Threads + Wait + Sync, G: Gate + Sync, P: LeafProofs + Send + Drop>(
     rt: &T,
     alloc: Global,
     case: &Case,
