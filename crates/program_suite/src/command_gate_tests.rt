@@ -1,12 +1,12 @@
 //! The program's words for its workers and its cut, by what a gate sees of them.
 
+use crate::devices::Shelf;
 use crossbeam_utils::Backoff;
-use cube_command::{Counted, FileStore, Found, Gate, NoGate, SystemFiles, command};
+use cube_command::{Counted, FileStore, Found, Gate, NoGate, command};
 use cube_report::Target;
 use fixtures::bundles::TURNS;
 use fixtures::four;
 use std::process::Abort;
-use std::rt::Files;
 use std::sync::Wait;
 use std::sync::atomic::{AtomicU64, Ordering};
 use std::thread::Threads;
@@ -23,7 +23,7 @@ const EIGHT_CUBES: &str = four!(
 const DEEP: &str = four!("a 1 2 3 4 5 6 7 0\nl 1\n12 0 5 6 4 0\n");
 
 /// The status of the program on these words and this bundle, beside this gate.
-fn status_beside<R: Files + AllocGlobal + Abort + Threads + Wait + Sync, G: Gate + Sync>(
+fn status_beside<R: AllocGlobal + Abort + Threads + Wait + Sync, G: Gate + Sync>(
     rt: &R,
     words: &[&str],
     bundle: &str,
@@ -31,9 +31,10 @@ fn status_beside<R: Files + AllocGlobal + Abort + Threads + Wait + Sync, G: Gate
 ) -> u8 {
     let mut output = Vec::new(rt.alloc());
     let mut errors = Vec::new(rt.alloc());
+    let shelf = Shelf::new(rt.alloc(), &[]).expect(rt, "no memory");
     command(
         rt,
-        &mut FileStore::new(SystemFiles::new(rt)),
+        &mut FileStore::new(shelf),
         words,
         &mut Counted::new(bundle.as_bytes()),
         &mut Counted::new(&mut output),

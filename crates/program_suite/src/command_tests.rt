@@ -9,7 +9,6 @@ use fixtures::bundles::{BOTH_CUBES, OPEN, OPEN_REPORT, REFUTED, REFUTED_REPORT};
 use fixtures::four;
 use std::fs;
 use std::process::Abort;
-use std::rt::Files;
 use std::sync::Wait;
 use std::test::Fail;
 use std::thread::Threads;
@@ -222,19 +221,13 @@ fn a_limit(rt: HostRuntime) -> Result<(), Fail> {
     Ok(())
 }
 
+// The words name files and folders of the system.
 #[test]
 fn files(rt: HostRuntime) -> Result<(), Fail> {
     fs::create_dir_all(&rt, "files_test/proofs")?;
     fs::create_dir_all(&rt, "files_test/unreadable/1.lrat")?;
     fs::write(&rt, "files_test/case.icnf", BUNDLE)?;
     fs::write(&rt, "files_test/proofs/1.lrat", PROOF)?;
-    with_files(&rt);
-    fs::remove_dir_all(&rt, "files_test")?;
-    Ok(())
-}
-
-/// The program on words that name files and folders of the system.
-fn with_files<R: Files + AllocGlobal + Abort + Threads + Wait + Sync>(rt: &R) {
     let proofs = ["--proofs", "files_test/proofs"];
     let both = ["--proofs=files_test/proofs", "files_test/case.icnf"];
     let unreadable = ["--proofs", "files_test/unreadable"];
@@ -247,9 +240,11 @@ fn with_files<R: Files + AllocGlobal + Abort + Threads + Wait + Sync>(rt: &R) {
         (no_file.as_slice(), BUNDLE, 5, b"", DEVICE),
         (folder.as_slice(), BUNDLE, 5, b"", DEVICE),
     ] {
-        let mut store = FileStore::new(SystemFiles::new(rt));
-        ends_with(rt, &mut store, words, input, (status, report, line));
+        let mut store = FileStore::new(SystemFiles::new(&rt));
+        ends_with(&rt, &mut store, words, input, (status, report, line));
     }
+    fs::remove_dir_all(&rt, "files_test")?;
+    Ok(())
 }
 
 // Each leaf's file is asked for once, the cubes' and then those of the missing leaves, whatever is

@@ -1,14 +1,14 @@
 //! What the program tells of a run while it goes on. The lines are written by hand from how the
 //! bundles are made and from how the clock goes.
 
-use cube_command::{Counted, FileStore, NoGate, Progress, SystemFiles, command};
+use crate::devices::Shelf;
+use cube_command::{Counted, FileStore, NoGate, Progress, command};
 use fixtures::bundles::{FOUR_CUBES, FOUR_CUBES_REPORT};
 use fixtures::four;
 use std::fmt::Display;
 use std::io;
 use std::io::Eprint;
 use std::process::Abort;
-use std::rt::Files;
 use std::sync::atomic::{AtomicU64, Ordering};
 use std::sync::{Mutex, Wait};
 use std::thread::Threads;
@@ -83,7 +83,7 @@ impl<'a, R> Clock for Device<'a, R> {
 
 /// Whether the program, on these words and this bundle, answers this status, writes this report and
 /// no error, and tells this text on the device.
-fn tells<R: Files + AllocGlobal + Abort + Threads + Wait + Sync>(
+fn tells<R: AllocGlobal + Abort + Threads + Wait + Sync>(
     rt: &R,
     words: &[&str],
     bundle: &str,
@@ -93,9 +93,10 @@ fn tells<R: Files + AllocGlobal + Abort + Threads + Wait + Sync>(
 ) -> bool {
     let mut output = Vec::new(rt.alloc());
     let mut errors = Vec::new(rt.alloc());
+    let shelf = Shelf::new(rt.alloc(), &[]).expect(rt, "no memory");
     let status = command(
         rt,
-        &mut FileStore::new(SystemFiles::new(rt)),
+        &mut FileStore::new(shelf),
         words,
         &mut Counted::new(bundle.as_bytes()),
         &mut Counted::new(&mut output),

@@ -24,17 +24,17 @@ returns-in_err-outcome-clause-fault g c =
     c.from_residual-in_err-outcome.ensures.1
 
 pub write_outcome-requires-clause-store : goal.write_outcome-requires-clause-store
-write_outcome-requires-clause-store g c = rw c.in_ok-bundle.ensures.ok.0 c.requires.store
+write_outcome-requires-clause-store g c = λ _ _. rw c.in_ok-bundle.ensures.ok.0 c.requires.store
 
 pub write_outcome-requires-clause-report : goal.write_outcome-requires-clause-report
-write_outcome-requires-clause-report g c =
+write_outcome-requires-clause-report g c = λ _ _.
     let bundle = c.in_ok-bundle.ensures.bundle in
     c.requires.reports bundle.0 c.in_ok-bundle.bundle.items bundle.1
     c.in_ok-outcome.outcome.text.items
     (report_on _ _ _ c.in_ok-outcome.ensures.outcome.correct)
 
 pub write_outcome-requires-clause-picture : goal.write_outcome-requires-clause-picture
-write_outcome-requires-clause-picture g c = λ path is.
+write_outcome-requires-clause-picture g c = λ _ _ path is.
     let bundle = c.in_ok-bundle.ensures.bundle in
     c.in_ok-bundle.ensures.allowed path c.in_ok-outcome.outcome.map.items
     (c.requires.pictures path bundle.0 c.in_ok-bundle.bundle.items is bundle.1
