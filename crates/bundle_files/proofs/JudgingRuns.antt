@@ -1,18 +1,21 @@
 -- What is said of a bundle and a folder's proofs on the way to the program's report.
-use Rattle.std.proofs.Common.{◌≡◌, ◌≢◌, ◌<◌, ◌+◌, ◌^◌, ◌⊎◌, ℕ, List, [], ◌++◌, Bool, Option, None, Some, refl}
-use Rattle.std.proofs.Common.{sym, ap, ◌∙◌, subst, inl, inr, arith, append-nil}
+use Rattle.std.proofs.Common.{◌≡◌, ◌≢◌, ◌<◌, ◌+◌, ◌^◌, ℕ, List, [], Bool, Option, None, Some, refl}
+use Rattle.std.proofs.Common.{sym, ap, inr, arith, append-nil, length, Result, Ok, Err, IfOk}
+use Rattle.std.specs.Prelude.{IfSome}
 use Rattle.std.proofs.lemmas.List.Elements.{All-nil}
 use Rattle.case_core.specs.Sections.{IsCaseOf, IsFaultOf}
 use Rattle.case_core.specs.declared.fault.CaseFault.{CaseFault}
 use Rattle.case_core.specs.declared.fault.CaseFault.TheVariants as case
+use Rattle.case_core.specs.SplitTree.{SplitTree}
+use Rattle.case_core.specs.Leaves.{cube_count, missing_nodes}
 use Rattle.case_core.specs.Case.{CaseOf}
 use Rattle.cube_report.specs.Mark.{Mark}
 use Rattle.cube_report.specs.declared.fault.Fault.{Fault}
-use Rattle.cube_report.specs.declared.fault.Fault.TheVariants.{Memory, Device}
+use Rattle.cube_report.specs.declared.engine.Outcome.{Outcome}
 use Rattle.cube_report.specs.Faults.{IsInputFault, fault_of_case}
 use Rattle.cube_report.specs.Stated.{IsWrittenBy}
 use Rattle.proof_folder.specs.Given.{HasFewLeaves, AreFoundApart}
-use Rattle.bundle_files.specs.Files.{Held, AreAdded, AreLeavesOf, IsWithProofs}
+use Rattle.bundle_files.specs.Files.{Held, IsWithProofs}
 use Rattle.bundle_files.specs.Laws.{held_for}
 use Rattle.bundle_files.proofs.FilesApart.{judged_apart}
 use Rattle.bundle_files.specs.Judging.{IsOutcomeOf, IsRefusedOf}
@@ -55,3 +58,23 @@ apart_outcome held folder bundle case marks draws report map answer is few apart
       is_judged = judged.with_proofs;
       outcome = judged.outcome draws report map answer written;
     }
+
+-- so it is of a run, where it wrote something
+pub run_apart : (held : Held) (folder bundle : List ℕ) (case : CaseOf) (draws : Bool)
+    (run : Result (Option Outcome) Fault) → IsCaseOf bundle case → HasFewLeaves case.tree
+    → IfOk run (λ some. IfSome some (λ outcome. (marks : List Mark)
+    × AreFoundApart (held_for held folder) case marks
+    × IsWrittenBy case marks draws outcome.text.items outcome.map.items outcome.refuted))
+    → IfOk run (λ some. IfSome some (λ outcome. IsOutcomeOf held (Some folder) bundle draws
+    outcome.text.items outcome.map.items outcome.refuted))
+run_apart held folder bundle case draws (Ok (Some outcome)) is few apart =
+    apart_outcome held folder bundle case apart.0 draws outcome.text.items outcome.map.items
+    outcome.refuted is few apart.1 apart.2
+run_apart held folder bundle case draws (Ok None) is few apart = tt
+run_apart held folder bundle case draws (Err fault) is few apart = tt
+
+-- two counts of 32 bits are few leaves
+pub few_leaves : (tree : SplitTree) (cubes missing_leaves : ℕ) → cubes < 2 ^ 32
+    → missing_leaves < 2 ^ 32 → cubes ≡ cube_count tree
+    → missing_leaves ≡ length (missing_nodes tree) → HasFewLeaves tree
+few_leaves tree cubes missing_leaves few_cubes few_missing cubes_are missing_are = omega arith
