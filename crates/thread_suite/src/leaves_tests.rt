@@ -5,7 +5,7 @@ ghost use Rattle.std.specs.Prelude.{◌≡◌, All, vec_len};
 use crate::cases::case;
 use case_core::{Case, Leaf, Target};
 use check_crew::{Found, Gate, LeafProofs, NoGate, ReadFault, Settings};
-use cube_report::judge_apart;
+use cube_report::{judge_apart, run_one};
 use fixtures::bundles::FOUR_CUBES_REPORT;
 use fixtures::four;
 use std::alloc::{AllocError, Global};
@@ -43,6 +43,12 @@ const LABELLED: &[Option<&[u8]>] = &[
     Some(b"9 0 5 6 2 0\nl 2\n7 0 5 6 3 0\n"),
     None,
 ];
+
+/// A proof that ends before the empty clause.
+const ENDS_EARLY: &[u8] = b"7 d 1 0\n";
+
+/// The label lines of the four cubes.
+const LABELS: &[&[u8]] = &[b"l 1\n", b"l 2\n", b"l 3\n", b"l 4\n"];
 
 /// The report where the second cube has no proof.
 const OPEN_SECOND_REPORT: &[u8] = b"t 4 0 1152921504606846976\n\
@@ -96,7 +102,10 @@ impl<'t> LeafProofs for Lent<'t> {
     }
 
     fn length(&self, leaf: Leaf) -> Option<u64> {
-        match self.proofs.get((cube_number(leaf) as usize).wrapping_sub(1)) {
+        match self
+            .proofs
+            .get((cube_number(leaf) as usize).wrapping_sub(1))
+        {
             Some(Some(proof)) => Some(proof.len() as u64),
             _ => None,
         }
@@ -136,6 +145,7 @@ struct Told {
     before: AtomicU64,
     after: AtomicU64,
     order: AtomicU64,
+    fell_back: AtomicU64,
     ended: AtomicU64,
 }
 
@@ -147,6 +157,7 @@ impl Told {
             before: AtomicU64::new(0),
             after: AtomicU64::new(0),
             order: AtomicU64::new(0),
+            fell_back: AtomicU64::new(0),
             ended: AtomicU64::new(0),
         }
     }
@@ -188,6 +199,11 @@ impl Gate for Told {
             .fetch_add(one_of(cube_of(found.target)), Ordering::SeqCst);
     }
 
+    fn falls_back(&self, leaf: Leaf) {
+        self.fell_back
+            .fetch_add(one_of(cube_number(leaf)), Ordering::SeqCst);
+    }
+
     fn end(&self) {
         self.ended.fetch_add(1, Ordering::SeqCst);
     }
@@ -203,7 +219,8 @@ enum Said {
     Fault,
 }
 
-fn said<R: Abort + AllocGlobal + Threads + Wait + Sync, G: Gate + Sync>(
+/// What a run says of a bundle with these proofs, at these numbers of workers and of the cut.
+fn run_apart<R: Abort + AllocGlobal + Threads + Wait + Sync, G: Gate + Sync>(
     rt: &R,
     bundle: &str,
     (workers, cut): (u32, u32),
@@ -239,13 +256,14 @@ fn each_proof_is_read_once(rt: HostRuntime) {
         for cut in [0, 1, 6] {
             let gate = Told::new();
             let reads = AtomicU64::new(0);
-            let told = said(&rt, CUBES, (workers, cut), &gate, ALL, &reads, 0);
+            let told = run_apart(&rt, CUBES, (workers, cut), &gate, ALL, &reads, 0);
             assert!(rt; is_report(told, FOUR_CUBES_REPORT));
             assert_eq!(rt; reads.load(Ordering::SeqCst), 0x11110);
             assert_eq!(rt; gate.elsewhere.load(Ordering::SeqCst), 4);
             assert_eq!(rt; gate.started.load(Ordering::SeqCst), 1);
             assert_eq!(rt; gate.before.load(Ordering::SeqCst), 0x11110);
             assert_eq!(rt; gate.after.load(Ordering::SeqCst), 0x11110);
+            assert_eq!(rt; gate.fell_back.load(Ordering::SeqCst), 0);
             assert_eq!(rt; gate.ended.load(Ordering::SeqCst), 1);
         }
     }
@@ -261,7 +279,7 @@ fn a_leaf_has_no_proof_elsewhere(rt: HostRuntime) {
         ] {
             let gate = Told::new();
             let reads = AtomicU64::new(0);
-            let said = said(&rt, bundle, (workers, 1), &gate, WITHOUT_SECOND, &reads, 0);
+            let said = run_apart(&rt, bundle, (workers, 1), &gate, WITHOUT_SECOND, &reads, 0);
             assert!(rt; is_report(said, report));
             assert_eq!(rt; reads.load(Ordering::SeqCst), 0x11110);
             assert_eq!(rt; gate.after.load(Ordering::SeqCst), told);
@@ -270,13 +288,22 @@ fn a_leaf_has_no_proof_elsewhere(rt: HostRuntime) {
 }
 
 // A proof with a label line, and one of a leaf that has a section, too, have to be in the bundle.
+// The gate is told of that leaf, once, and one worker reads no further proof: the third is the
+// longest, and the second is next.
 #[test]
 fn all_in_one_bundle(rt: HostRuntime) {
     for workers in [1, 4] {
-        for (bundle, proofs) in [(CUBES, LABELLED), (SECOND, ALL)] {
+        for (bundle, proofs, leaf, read) in [
+            (CUBES, LABELLED, 0x1000, 0x1000),
+            (SECOND, ALL, 0x100, 0x1100),
+        ] {
+            let gate = Told::new();
             let reads = AtomicU64::new(0);
-            let told = said(&rt, bundle, (workers, 0), &NoGate, proofs, &reads, 0);
+            let told = run_apart(&rt, bundle, (workers, 0), &gate, proofs, &reads, 0);
             assert!(rt; matches!(told, Said::Elsewhere));
+            assert_eq!(rt; gate.fell_back.load(Ordering::SeqCst), leaf);
+            assert!(rt; workers > 1 || reads.load(Ordering::SeqCst) == read);
+            assert_eq!(rt; gate.ended.load(Ordering::SeqCst), 1);
         }
     }
 }
@@ -287,7 +314,7 @@ fn a_read_fails(rt: HostRuntime) {
     for workers in [1, 2, 4] {
         for (proofs, fails_at) in [(ALL, 1), (ALL, 2), (ALL, 3), (ALL, 4), (LABELLED, 3)] {
             let reads = AtomicU64::new(0);
-            let told = said(&rt, CUBES, (workers, 1), &NoGate, proofs, &reads, fails_at);
+            let told = run_apart(&rt, CUBES, (workers, 1), &NoGate, proofs, &reads, fails_at);
             assert!(rt; matches!(told, Said::Unread(1)), "{fails_at}");
         }
     }
@@ -299,7 +326,62 @@ fn a_read_fails(rt: HostRuntime) {
 fn long_proofs_are_read_first(rt: HostRuntime) {
     let gate = Told::new();
     let reads = AtomicU64::new(0);
-    let told = said(&rt, CUBES, (1, 2), &gate, ALL, &reads, 0);
+    let told = run_apart(&rt, CUBES, (1, 2), &gate, ALL, &reads, 0);
     assert!(rt; is_report(told, FOUR_CUBES_REPORT));
     assert_eq!(rt; gate.order.load(Ordering::SeqCst), 3214);
+}
+
+/// For each cube what a digit of the number to base 3 says, from the lowest on: no proof, its own,
+/// or one that ends too early.
+fn proofs_by<'t>(rt: &(impl Abort + AllocGlobal), digits: u32) -> Vec<Option<&'t [u8]>> {
+    let mut proofs = Vec::new(rt.alloc());
+    let mut left = digits;
+    for proof in ALL {
+        let chosen = match left % 3 {
+            0 => None,
+            1 => *proof,
+            _ => Some(ENDS_EARLY),
+        };
+        proofs.push(chosen).expect(rt, "memory");
+        left /= 3;
+    }
+    proofs
+}
+
+/// The bundle of the cubes with these proofs as their sections.
+fn bundle_of(rt: &(impl Abort + AllocGlobal), proofs: &[Option<&[u8]>]) -> Vec<u8> {
+    let mut bundle = Vec::new(rt.alloc());
+    bundle
+        .extend_from_slice(CUBES.as_bytes())
+        .expect(rt, "memory");
+    for (label, proof) in LABELS.iter().zip(proofs) {
+        if let Some(text) = proof {
+            bundle.extend_from_slice(*label).expect(rt, "memory");
+            bundle.extend_from_slice(*text).expect(rt, "memory");
+        }
+    }
+    bundle
+}
+
+// Whatever lies there for the four cubes, the report is that on the bundle with it as sections.
+#[test]
+fn as_sections_of_the_bundle(rt: HostRuntime) {
+    for digits in 0..81 {
+        let proofs = proofs_by(&rt, digits);
+        let bundle = bundle_of(&rt, &proofs);
+        let alone = run_one(rt.alloc(), &bundle).expect(&rt, "no report");
+        let reads = AtomicU64::new(0);
+        let workers = 1 + digits % 5;
+        let told = run_apart(
+            &rt,
+            CUBES,
+            (workers, digits % 3),
+            &NoGate,
+            &proofs,
+            &reads,
+            0,
+        );
+        assert!(rt; is_report(told, &alone), "{digits}");
+        assert_eq!(rt; reads.load(Ordering::SeqCst), 0x11110, "{digits}");
+    }
 }
