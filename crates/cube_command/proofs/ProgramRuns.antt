@@ -4,8 +4,7 @@ use Rattle.std.proofs.Common.{[], Option, None, Some}
 use Rattle.std.specs.Prelude.{is_some, option_map, if◌then◌else◌}
 use Rattle.std.proofs.Common.{Result, Ok, Err, IfOk, IfErr, MatchResult, inl, inr, arith}
 use Rattle.std.specs.Io.KnownBytes.{Appends}
-use Rattle.bundle_files.specs.Files.{Held, Gives, IsBundleOf, IsJudgedOf, IsRead}
-use Rattle.bundle_files.specs.Judging.{IsRefusedOf}
+use Rattle.bundle_files.specs.Files.{Held, Gives, IsBundleOf, IsRead}
 use Rattle.bundle_files.proofs.FilesFormula.{judged_unsatisfiable}
 use Rattle.cube_report.specs.declared.fault.Fault.{Fault}
 use Rattle.cube_report.specs.declared.fault.Fault.TheVariants.{Header, Token, Unfinished, TooLarge}
@@ -34,26 +33,6 @@ pub some_mapped : {A B : Type 0} (f : A → B) (path : Option A) (there : Bool) 
     there ≡ is_some path → there ≡ is_some (option_map f path)
 some_mapped f None there is = is
 some_mapped f (Some path) there is = is
-
--- a bundle that was read, and the one that is judged for it
-pub bundle_of : (held : Held) (file folder input : Option (List ℕ)) (read whole : List ℕ) →
-    IsRead held file input read → IsJudgedOf held folder read whole →
-    IsBundleOf held file folder input read whole
-bundle_of held file folder input read whole is_read is_judged = record {
-  is_read = is_read;
-  is_judged = is_judged;
-}
-
--- its first fault is that of what the words ask for
-pub refused_of : (held : Held) (file folder input : Option (List ℕ)) (read : List ℕ)
-    (fault : Fault) → IsRead held file input read → IsRefusedOf held folder read fault →
-    IsRefused held file folder input fault
-refused_of held file folder input read fault is_read refused = record {
-  read = read;
-  whole = refused.whole;
-  bundle = bundle_of held file folder input read refused.whole is_read refused.is_judged;
-  first = refused.first;
-}
 
 -- the report that was written, and the picture, are those on the bundle that was asked for
 pub reported : (held after : Held) (file folder map input old new : Option (List ℕ))

@@ -17,10 +17,10 @@ ghost use Rattle.cube_command.specs.Program.{AllowsPictures};
 use crate::progress::Watched;
 use crate::telling::{tell_fault, tell_run};
 use crate::words::{Request, request_of};
-use bundle_files::{Store, judge_given, read_given};
+use bundle_files::{Store, read_judged};
 use clap::Error as WordsError;
 use clap::error::ErrorKind as WordsFault;
-use cube_report::{Fault, Gate, Outcome, Sink, Source, write_all};
+use cube_report::{Fault, Gate, Outcome, Sink, Source, judge_bundle, write_all};
 use std::alloc::Global;
 use std::convert::AsStr;
 use std::sync::Wait;
@@ -33,9 +33,7 @@ use std::thread::Threads;
 ///
 /// With `--proofs DIR` the proofs of that folder are added to the bundle: for each cube K and after
 /// that for each missing leaf J, in order, the file `DIR/K.lrat` or `DIR/mJ.lrat`, where it is
-/// there, as the section of its leaf. Each of them is read when a worker comes to its leaf, and
-/// dropped when it is judged; all are read beforehand only where one has a label line, or is for a
-/// leaf with a section of its own. N workers check the proofs, with boards cut at the depth D;
+/// there, as the section of its leaf. N workers check the proofs, with boards cut at the depth D;
 /// `gate` is called beside each section, and with `--progress` also `watch`, which may tell a
 /// person how far the run is, on a device that it is lent: what it does there is not `errors`. With
 /// `--map SVG` a picture of the tree is written to that file, made anew, before the report.
@@ -224,9 +222,9 @@ where
         < D.failures store.new + I.failures input.new + O.failures output.new)
         ⊎ IsAbsent (D.held store.old) (option_map (λ text. text.now) request.now.file) }
 {
-    let read = read_given(rt.alloc(), store, input, request.file)?;
+    let bundle = read_judged(rt.alloc(), store, input, request.file, request.proofs)?;
     let draws = request.map.is_some();
-    let outcome = judge_given(rt, store, read, request.proofs, request.settings, gate, draws)?;
+    let outcome = judge_bundle(rt, rt.alloc(), bundle, request.settings, gate, draws)?;
     write_outcome(store, output, request.map, &outcome)?;
     Ok(outcome.refuted)
 }
