@@ -337,7 +337,7 @@ impl<'t> Opener for Shelf<'t> {
         })
     }
 
-    fn length(&mut self, _path: &str) -> Option<u64> {
+    fn length(&self, _path: &str) -> Option<u64> {
         None
     }
 }
