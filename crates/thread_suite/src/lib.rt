@@ -11,5 +11,3 @@ mod hall_tests;
 mod hall_thread_tests;
 #[cfg(test)]
 mod jobs_tests;
-#[cfg(test)]
-mod leaves_tests;
