@@ -1,7 +1,8 @@
 #!/bin/bash
 # large_folder.sh PROGRAM [GIGABYTES=2] [PROOFS=4096]
 # Runs PROGRAM with four workers on a folder of so many proofs, a power of two, that are so many gigabytes in all, and says how much memory
-# it took. The status is 1 where that is more than 5/4 of the gigabytes, or where the report isn't that all leaves are refuted.
+# it took. The status is 1 where that is more than 32 MB, a thousand bytes for each leaf and one proof for each worker, or where the report isn't
+# that all leaves are refuted.
 # The folder is made in TMPDIR (/tmp), where there has to be room for it, and removed afterwards.
 set -eu
 program=$(realpath "${1:?a program}")
@@ -27,19 +28,19 @@ bytes=$(find "$folder/proofs" -name '*.lrat' -printf '%s\n' | awk '{n += $1} END
 told=$(bin/measure "$folder/out" "$program" --workers 4 --proofs "$folder/proofs" "$folder/case.icnf")
 read -r wall processor kilobytes status <<< "$told"
 awk -v bytes="$bytes" -v proofs="$proofs" -v wall="$wall" -v processor="$processor" -v kilobytes="$kilobytes" 'BEGIN {
-    printf "%d proofs, %.3f GB: %.2f s, %.2f s of processor time, %.3f GB at most in memory, %.3f for each byte of proof\n",
-        proofs, bytes / 1e9, wall / 1e9, processor / 1e6, kilobytes * 1024 / 1e9, kilobytes * 1024 / bytes
+    printf "%d proofs, %.3f GB: %.2f s, %.2f s of processor time, %.1f MB at most in memory\n",
+        proofs, bytes / 1e9, wall / 1e9, processor / 1e6, kilobytes * 1024 / 1e6
 }'
 failed=0
 if [ "$status" -ne 0 ] || ! cmp -s "$folder/report" "$folder/out"; then
     echo "the report isn't that all leaves are refuted (status $status)"
     failed=1
 fi
-limit=$(awk -v gigabytes="$gigabytes" 'BEGIN {print gigabytes * 1.25}')
-if within "$(awk -v kilobytes="$kilobytes" 'BEGIN {print kilobytes * 1024 / 1e9}')" "$limit"; then
-    echo "within $limit GB"
+limit=$(awk -v bytes="$bytes" -v proofs="$proofs" 'BEGIN {printf "%.0f", 32 + proofs / 1000 + 4 * bytes / proofs / 1e6}')
+if within "$(awk -v kilobytes="$kilobytes" 'BEGIN {print kilobytes * 1024 / 1e6}')" "$limit"; then
+    echo "within $limit MB"
 else
-    echo "more than $limit GB"
+    echo "more than $limit MB"
     failed=1
 fi
 exit "$failed"

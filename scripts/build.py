@@ -9,10 +9,12 @@
 
 crates.txt says which libraries those are: what the program's line names, what their lines name, and so on down. A crate is proved as soon as all that
 it names are, and as many side by side as processors and memory allow, those first that most stands on. Above a library its statements are read and its
-proofs are not, as in the gate. Whatever is proved is kept in out/rlib of the program's folder: a call that was interrupted is gone on with by the next.
-out/times has a line for each crate that this call proved: its name, the seconds from its start to its end, its processor seconds.
+proofs are not, as in the gate. Whatever is proved is kept: a call that was interrupted is gone on with by the next. All programs share their libraries,
+in crates/cubeboard/out/rlib, so that a second one proves only what no earlier one stands on; out/times beside it has a line for each crate that the last
+call proved: its name, the seconds from its start to its end, its processor seconds. A program lies in out/ of its own folder.
 
-Standard error tells how far it is, and what failed. The status is 0 where the program is built, 70 where it can't be, 130 after an interrupt.
+Standard error tells how far it is, and what failed, in lines that begin with the program's name. The status is 0 where the program is built, 70 where
+it can't be, 130 after an interrupt.
 """
 import fcntl
 import hashlib
@@ -26,8 +28,11 @@ import sys
 import threading
 import time
 
-NEEDED = "rattle-kit-13f logic dac8208d650f15bf"
+# What `rt version` of the kit has to end in: kits of other names with this logic serve as well.
+NEEDED = "logic dac8208d650f15bf"
 ROOT = pathlib.Path(__file__).resolve().parent.parent
+# What all programs share: the libraries, what was said of each crate, the lock.
+SHARED = ROOT / "crates" / "cubeboard" / "out"
 FAILED, INTERRUPTED = 70, 130
 # What a first call has taken, as scripts/first_call.py measured it.
 FIRST_CALL = "13 minutes and 2,071 processor seconds on 4 cores"
@@ -40,8 +45,14 @@ class Failure(Exception):
     """Why the program can't be built, in the words that are told."""
 
 
+class Speaker:
+    """Who tells what is told: the program that is built."""
+
+    name = "build.py"
+
+
 def say(text):
-    print(f"cubeboard: {text}", file=sys.stderr, flush=True)
+    print(f"{Speaker.name}: {text}", file=sys.stderr, flush=True)
 
 
 class Kit:
@@ -49,8 +60,8 @@ class Kit:
 
     def __init__(self):
         self.version = self.ask("version")
-        if self.version != NEEDED:
-            raise Failure(f"the Rattle kit {NEEDED} is needed, and `rt version` says {self.version}")
+        if not self.version.endswith(f" {NEEDED}"):
+            raise Failure(f"a Rattle kit with {NEEDED} is needed, and `rt version` says {self.version}")
         self.folder = pathlib.Path(self.ask("doc")).parent
 
     def ask(self, word):
@@ -58,7 +69,7 @@ class Kit:
         try:
             said = subprocess.run(["rt", word], stdout=subprocess.PIPE, text=True, check=True)
         except (OSError, subprocess.CalledProcessError) as error:
-            raise Failure(f"the Rattle kit {NEEDED} is needed, and `rt {word}` fails: {error}")
+            raise Failure(f"a Rattle kit with {NEEDED} is needed, and `rt {word}` fails: {error}")
         return said.stdout.strip()
 
 
@@ -119,11 +130,15 @@ def sums_of(crates):
 
 
 class Kept:
-    """What earlier calls have proved: the libraries in out/rlib of the program's folder, each beside its sum, and the program beside its own."""
+    """What earlier calls have proved: the libraries that all programs share, each beside its sum, and the program beside its own in its own folder."""
 
     def __init__(self, program):
         self.out = program.folder / "out"
-        self.libraries = self.out / "rlib"
+        self.libraries = SHARED / "rlib"
+
+    def make_folders(self):
+        for folder in (self.libraries, self.out):
+            folder.mkdir(parents=True, exist_ok=True)
 
     def library(self, crate):
         return self.libraries / f"{crate.name}.rlib"
@@ -135,7 +150,7 @@ class Kept:
         return self.out / "built" if crate.is_program else self.libraries / f"{crate.name}.sum"
 
     def log(self, crate):
-        return self.out / f"{crate.name}.log"
+        return SHARED / f"{crate.name}.log"
 
     def has(self, crate, wanted):
         """Whether the crate is proved as its sources are now."""
@@ -149,6 +164,10 @@ class Kept:
 
     def note(self, crate, wanted):
         self.sum_file(crate).write_text(f"{wanted}\n")
+
+    def note_kit(self, kit):
+        """Notes by which kit the program was proved: the file out/kit has its line."""
+        (self.out / "kit").write_text(f"{kit.version}\n")
 
 
 class Teller:
@@ -239,7 +258,7 @@ class Prover:
 
     def prove(self, crate, jobs, log):
         """Proves a crate, and makes its library or its program of what was proved."""
-        tool, checked = f"{self.kit.folder}/bin/rattle", str(self.kept.out / f"{crate.name}.checked")
+        tool, checked = f"{self.kit.folder}/bin/rattle", str(SHARED / f"{crate.name}.checked")
         shutil.rmtree(checked, ignore_errors=True)
         more = ["--logic-built", f"{self.kit.folder}/logic_built", "--progress", "-o", checked]
         more += [] if crate.is_program else ["--statements"]
@@ -327,12 +346,12 @@ class Build:
                 self.change.notify_all()
 
     def note_times(self, crate, seconds):
-        with open(self.kept.out / "times", "a") as it:
+        with open(SHARED / "times", "a") as it:
             it.write(f"{crate.name} {seconds:.1f} {self.prover.used.get(crate.name, 0):.1f}\n")
 
     def run(self):
         """Proves all that is left; answers the crate that failed, if one did."""
-        (self.kept.out / "times").unlink(missing_ok=True)
+        (SHARED / "times").unlink(missing_ok=True)
         try:
             with self.change:
                 while len(self.proved) < len(self.crates):
@@ -351,16 +370,16 @@ class Build:
 
 
 def build(crates, kept, sums):
-    """Builds the program, the last of the crates, where that is needed. Calls that come at once build once."""
+    """Builds the program, the last of the crates, where that is needed. Of calls that come at once, also for other programs, one builds at a time."""
     if kept.has(crates[-1], sums[crates[-1].name]):
         return
     kit = Kit()
-    kept.libraries.mkdir(parents=True, exist_ok=True)
-    with open(kept.out / "lock", "w") as lock:
+    kept.make_folders()
+    with open(SHARED / "lock", "w") as lock:
         try:
             fcntl.flock(lock, fcntl.LOCK_EX | fcntl.LOCK_NB)
         except BlockingIOError:
-            say("another call is building the program: waiting for it")
+            say("another call is building: waiting for it")
             fcntl.flock(lock, fcntl.LOCK_EX)
         run = Build(crates, kit, kept, sums)
         if len(run.proved) == len(crates):
@@ -373,13 +392,14 @@ def build(crates, kept, sums):
             log = kept.log(failed)
             print(*log.read_text(errors="replace").splitlines()[-15:], sep="\n", file=sys.stderr)
             raise Failure(f"the crate {failed.name} could not be built; all that was said stands in {log}")
+        kept.note_kit(kit)
 
 
 def take(crates, kept, sums, wanted):
     """Takes the libraries and the program that `rt ci` has left. Those that another command of `rt` has made, which have a stamp, are left alone."""
     if sums[crates[-1].name] != wanted:
         return
-    kept.libraries.mkdir(parents=True, exist_ok=True)
+    kept.make_folders()
     for crate in crates[:-1]:
         made = crate.folder / "out" / "rlib" / f"{crate.name}.rlib"
         if made.is_dir() and not (made.parent / "stamp").exists():
@@ -388,6 +408,7 @@ def take(crates, kept, sums, wanted):
             kept.note(crate, sums[crate.name])
     if kept.made(crates[-1]).is_file():
         kept.note(crates[-1], wanted)
+        kept.note_kit(Kit())
 
 
 def main(words):
@@ -396,6 +417,7 @@ def main(words):
     if len(words) not in counts.get(mode, [1]):
         print(__doc__, file=sys.stderr)
         return 2
+    Speaker.name = words[bool(mode)]
     crates = below(words[bool(mode)])
     kept, sums = Kept(crates[-1]), sums_of(crates)
     if mode == "--list":

@@ -40,6 +40,11 @@ proof is judged to be from the formula and the node's path, or open where it has
       "cube_report/engine.rt run_io written answer correct",
       "cube_report/engine.rt judge_bundle outcome",
       "cube_report/report.rt report_of -"]),
+    ("A record names its formula", """
+With `--record` the file gets the very report that is written to standard output, under a line with the SHA-256 of the iCNF text that was read. So two records with one line are on one text, unless
+SHA-256 gives two texts one digest. `refuted` and `open` say it beside the report (`recorded` of `IsReported`), `records` that nothing else may be written there.""",
+     ["cube_command/program.rt command refuted open records",
+      "cube_command/record.rt digest_line_of -"]),
     ("Streams and status", """
 What the program and `run_io` have written where something fails, which files they leave as they are, which lines go to standard error, and which status comes when.""",
      ["cube_command/program.rt command status quiet elsewhere undrawn nothing beginning usage unread taken none memory device failed broken",
@@ -47,23 +52,40 @@ What the program and `run_io` have written where something fails, which files th
       "cube_report/engine.rt run_io nothing beginning device"]),
     ("Nothing else is written, also by a call that never returns", """
 A call that may wait need not return, and then its clauses on what it has written say nothing. So each write asks for its leave: a text has to be one that the outlet
-allows, and `command` and `run_io` are proved for all outlets that allow the report on the bundle that is judged, its picture at the path of `--map` and nowhere else,
+allows, and `command` and `run_io` are proved for all outlets that allow the report on the bundle that is judged, its picture at the path of `--map` and its record at that of `--record`, and nowhere else,
 the line of a fault that this bundle has, the lines of want of memory, of a thread or of a device, and where the words can't be taken the parser's text. Whatever they
 write is one of these, and after a report nothing is known to be allowed. That the program's own outlets allow each text changes nothing: `command` can't ask which they are.""",
-     ["cube_command/program.rt command reports pictures faults words",
+     ["cube_command/program.rt command reports pictures records faults words",
       "cube_command/telling.rt own_words words memory",
       "cube_report/engine.rt run_io allowed",
       "cube_report/engine.rt write_report allowed",
       "cube_report/device.rt Sink::write allowed rest",
       "bundle_files/store.rt Store::read allowed",
-      "bundle_files/store.rt Store::write allowed"]),
+      "bundle_files/store.rt Store::write allowed beside",
+      "bundle_files/store.rt Store::write_counted allowed beside"]),
+    ("Reports of several runs, joined: `s REFUTED` means that the formula has no model", """
+Where `cubejoin` ends with status 0, and each REPORT that it has read is the report on FILE's formula and cubes with some proofs, whichever, no assignment makes all clauses
+of FILE true: `join_command` is the call that `main` of `cubejoin` makes. What it writes is the report by the joined marks. It is a report again, so it can be joined with others; where two runs split the sections between them, what
+they say together is what the one run says; and no true report is refused.""",
+     ["join_command/program.rt join_command sound refuted open",
+      "join_command/program.rt join_command status quiet held nothing beginning usage unread taken fault memory device failed broken",
+      "join_command/program.rt join_command reports faults words",
+      "cube_join/joining.rt Join::new tree none",
+      "cube_join/joining.rt Join::add tree joined stranger kept err",
+      "cube_join/joining.rt Join::report text refuted",
+      "cube_join/laws.rt a_report_tells_what_is_refuted -",
+      "cube_join/laws.rt joined_reports_are_sound -",
+      "cube_join/laws.rt a_join_is_a_report -",
+      "cube_join/laws.rt a_split_run_is_one_run -"]),
     ("bundle_files: the bundle that is judged", """
-It is the file's or the input's, with the proofs of a folder added for the leaves of its tree, in order and each under its own label.""",
-     ["bundle_files/source.rt read_judged held bundle ok err kept",
-      "bundle_files/source.rt read_given held bundle ok err kept",
+It is the file's or the input's, with the proofs of a folder added for the leaves of its tree, in order and each under its own label. What a run says that reads each of
+these proofs when a worker comes to its leaf is what a run on this bundle promises.""",
+     ["bundle_files/source.rt read_given held bundle ok err kept",
+      "bundle_files/judge.rt judge_given held outcome fault ok err",
       "bundle_files/folder.rt add_proofs held whole ok err",
       "bundle_files/store.rt Store::read held found ok err",
       "bundle_files/store.rt Store::write written elsewhere nothing ok err",
+      "bundle_files/store.rt Store::write_counted written elsewhere ok err failed",
       "bundle_files/store.rt Store::reader held none",
       "bundle_files/store.rt Store::settle held failures"]),
     ("cnf_text: the iCNF text", """
@@ -89,6 +111,9 @@ a refuted target has no model with the formula.""",
       "case_core/finding.rt examine -",
       "case_core/finding.rt examine_text -",
       "case_core/bundle.rt has_label_line -",
+      "case_core/bundle.rt icnf_part -",
+      "case_core/scan.rt LabelScan::new -",
+      "case_core/scan.rt LabelScan::add ok err",
       "case_core/finding.rt Finding here only may_be is sound"]),
     ("mark_board: marks, open weight and open branches", """
 A post marks the node of its finding and no other. Marks, open weight and open branches are the definition's, by all
@@ -99,6 +124,8 @@ single board the findings of a node stand at its own row, and the verdict of a p
       "mark_board/boards.rt Boards::root_marked marked sound",
       "mark_board/boards.rt Boards::open_weight -",
       "mark_board/boards.rt Boards::open_branches -",
+      "mark_board/marks.rt Marks::of -",
+      "mark_board/marked_tree.rt open_branches_of -",
       "mark_board/board.rt Board::row_of -",
       "mark_board/board.rt Board::row_of_part -"]),
     ("board_hall: boards shared by threads", """
@@ -127,7 +154,8 @@ workers, every cut and every gate.""",
      ["cube_jobs/jobs.rt Jobs::fill sections count passes",
       "cube_jobs/jobs.rt Jobs::claim same place later claimed none",
       "cube_jobs/jobs.rt Jobs::finish exactly once",
-      "check_crew/crew.rt conquer case findings"]),
+      "check_crew/crew.rt conquer case findings",
+      "check_crew/elsewhere.rt conquer_leaves apart failed"]),
     ("tree_map: the picture of a tree", """
 The bytes are one picture, fixed by the case and by the mark of each node.""",
      ["tree_map/picture.rt map_of -"]),

@@ -1,8 +1,9 @@
 #!/bin/sh
-# Tries the launcher in a copy of this folder under a stand-in for the kit that proves nothing and notes on which crate it is called: which crates
-# the launcher builds, when it builds anew, and what it does where it can't. Then it tries wrong launchers, each of which a claim has to refuse. It
-# takes a minute, and no proof. Last, with the word `build`, the launcher of this folder itself builds the program, over the libraries that are
-# proved here but the last, and the first example of README runs through it: a minute or two. The last line counts.
+# Tries the launchers in a copy of this folder under a stand-in for the kit that proves nothing and notes on which crate it is called: which crates
+# a launcher builds, when it builds anew, what it does where it can't, and what the two programs share. Then it tries wrong launchers, each of which
+# a claim has to refuse. It takes a minute, and no proof. Last, with the word `build`, the launchers of this folder themselves build the programs, over
+# the libraries that are proved here but the last; the first example of README runs through the first, and the second joins its report: a minute
+# or two. The last line counts.
 root=$(CDPATH= cd -- "$(dirname -- "$0")/.." && pwd) || exit 1
 here=$(mktemp -d) || exit 1
 trap 'rm -rf "$here"' EXIT
@@ -13,17 +14,24 @@ name=launcher
 
 copy_folder
 stand_in
+begin
 claims
+copy_folder
+begin
+claims_of_two_programs
 
-# Wrong launchers: the name, and what `sed` makes of build.py. A launcher that no claim refuses is a failed claim.
+# Wrong launchers: the name, what `sed` makes of build.py, which claims have to refuse it where those of one program needn't, and what else than
+# build.py is made so. A launcher that no claim refuses is a failed claim.
 wrong() {
     copy_folder
-    sed "$2" "$root/scripts/build.py" > "$here/copy/scripts/build.py"
-    if cmp -s "$root/scripts/build.py" "$here/copy/scripts/build.py"; then
-        count "the wrong launcher \"$1\" can be made" 1
-        return
-    fi
-    (is_wrong=1 && failed=0 && claims > "$here/told" 2>&1)
+    for file in ${4:-scripts/build.py}; do
+        sed "$2" "$root/$file" > "$here/copy/$file"
+        if cmp -s "$root/$file" "$here/copy/$file"; then
+            count "the wrong launcher \"$1\" can be made" 1
+            return
+        fi
+    done
+    (is_wrong=1 && failed=0 && begin && ${3:-claims} > "$here/told" 2>&1)
     [ $? -ne 0 ]
     count "a launcher with $1 is refused" $?
 }
@@ -40,12 +48,21 @@ wrong "a hash that leaves out the kit" 's/made = f"{NEEDED}/made = f"/'
 wrong "a program that is left where a crate can't be built" 's/self.made(crate).unlink(missing_ok=True)/pass/'
 wrong "status 0 where a crate can't be built" 's/^FAILED, INTERRUPTED = 70, 130/FAILED, INTERRUPTED = 0, 130/'
 wrong "no word on what failed" 's/^            raise Failure(f"the crate .*/            raise Failure("it could not be built")/'
-wrong "another kit" 's/if self.version != NEEDED:/if False:/'
+wrong "another kit" 's/if not self.version.endswith(f" {NEEDED}"):/if False:/'
+wrong "a kit of another name and the same logic refused" 's/if not self.version.endswith(f" {NEEDED}"):/if self.version != NEEDED:/'
 wrong "two builds at once" 's/fcntl.flock(lock, fcntl.LOCK_EX.*)/pass/'
 wrong "nothing kept after an interrupt" 's/^    signal.signal(signal.SIGTERM, signal.default_int_handler)/    shutil.rmtree(ROOT \/ "crates\/cubeboard\/out\/rlib", ignore_errors=True)/'
-wrong "silence" 's/^    print(f"cubeboard: {text}", .*/    pass/'
+wrong "silence" 's/^    print(f"{Speaker.name}: {text}", .*/    pass/'
 wrong "what changes while it is proved taken as proved" 's/ and crate.sum() == crate.own//'
 wrong "words that are lost" 's/, \*words\[2:\]\])/])/'
+two=claims_of_two_programs
+wrong "libraries of its own for each program" 's/self.libraries = SHARED /self.libraries = self.out /' "$two"
+wrong "one note of what is built for all programs" 's/return self.out \/ "built"/return SHARED \/ "built"/' "$two"
+wrong "builds of two programs at once" 's/with open(SHARED \/ "lock"/with open(kept.out \/ "lock"/' "$two"
+wrong "the first program in the place of the second" 's/^    kept, sums = Kept(crates\[-1\])/    crates = below("cubeboard")\n&/' "$two"
+wrong "messages of another program's name" 's/^    Speaker.name = .*/    Speaker.name = "cubeboard"/' "$two"
+wrong "a text that runs the first program under both names" 's/--run "$name"/--run cubeboard/' "$two" "cubeboard cubejoin"
+wrong "another text for the second program" 's/^# Runs .*/# Runs/' "$two" cubejoin
 
 [ "$1" != build ] || build_here
 echo "$name: $passed passed, $failed failed"

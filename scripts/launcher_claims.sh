@@ -1,6 +1,7 @@
-# What scripts/launcher.sh claims of a launcher. It has set `root` and `here`; `$here/copy` is the copy whose launcher is tried, and `is_wrong` is set
-# where that is a wrong one, for which the first claim that fails is the end.
+# What scripts/launcher.sh claims of a launcher. It has set `root` and `here`; `$here/copy` is the copy whose launchers are tried, `program` the one that
+# is called, and `is_wrong` is set where it is a wrong one, for which the first claim that fails is the end.
 is_wrong=
+program=cubeboard
 
 count() {
     if [ "$2" -eq 0 ]; then
@@ -22,7 +23,8 @@ copy_folder() {
 # The stand-in: `rt` says which kit it is and where it lies; `rattle` notes the crate that it is to prove, and refuses one whose libraries aren't there.
 stand_in() {
     mkdir -p "$here/bin" "$here/kit/bin"
-    sed -n 's/^NEEDED = "\(.*\)"/\1/p' "$root/scripts/build.py" > "$here/version"
+    sed -n 's/^NEEDED = "\(.*\)"/\1/p' "$root/scripts/build.py" > "$here/needed"
+    echo "a-kit-of-some-name $(cat "$here/needed")" > "$here/version"
     cat > "$here/bin/rt" << 'RT'
 #!/bin/sh
 case $1 in
@@ -55,7 +57,7 @@ RATTLE
     cat > "$here/kit/bin/rattle-link" << 'LINK'
 #!/bin/sh
 while [ "$1" != -o ]; do shift; done
-printf '#!/bin/sh\necho "$*"\nexit 7\n' > "$2"
+printf '#!/bin/sh\necho "${0##*/} $*"\nexit 7\n' > "$2"
 chmod +x "$2"
 LINK
     chmod +x "$here/bin/rt" "$here/kit/bin/rattle" "$here/kit/bin/rattle-link"
@@ -78,7 +80,7 @@ reach() {
 
 # Those of its lines that the program stands on: a list, sorted.
 of_program() {
-    reach below cubeboard > "$here/below"
+    reach below "$program" > "$here/below"
     comm -12 "$here/below" -
 }
 
@@ -89,9 +91,70 @@ call() {
     crates=$3
     shift 3
     : > "$here/notes"
-    "$here/copy/cubeboard" "$@" < /dev/null > "$here/out" 2> "$here/err"
+    "$here/copy/$program" "$@" < /dev/null > "$here/out" 2> "$here/err"
     [ $? -eq "$wanted" ] && [ "$(sort "$here/notes")" = "$crates" ]
     count "$claim" $?
+}
+
+# Whether the last call has built and run the program that was called, said so under that name alone, and run it on these words.
+has_run() {
+    [ "$(cat "$here/out")" = "$program $*" ] && [ -s "$here/err" ] && ! grep -q -v "^$program: " "$here/err"
+}
+
+# Two programs over the same libraries: in the copy the second one has a library that the first doesn't stand on.
+claims_of_two_programs() {
+    cmp -s "$here/copy/cubeboard" "$here/copy/cubejoin" && [ -x "$here/copy/cubejoin" ]
+    count "the launchers of both programs are the same bytes" $?
+    mkdir -p "$here/copy/crates/cubejoin/src" "$here/copy/crates/of_join/src"
+    echo "//" >> "$here/copy/crates/cubejoin/src/main.rt"
+    echo "//" > "$here/copy/crates/of_join/src/lib.rt"
+    sed -i '/^cubejoin/d' "$here/copy/crates.txt"
+    { echo "of_join: mark_board"; echo "cubejoin: cube_command of_join"; } >> "$here/copy/crates.txt"
+    first=$(reach below cubeboard)
+    program=cubejoin
+    second=$(reach below cubejoin)
+    program=cubeboard
+    call "the first program is built" 7 "$first" "a b"
+    has_run "a b"
+    count "it is the first one that runs, and its name that is told" $?
+    program=cubejoin
+    call "the second program proves only what the first doesn't stand on" 7 "cubejoin
+of_join" c "a  b"
+    has_run "c a  b"
+    count "it is the second one that runs, and its name that is told" $?
+    call "the second program again" 7 ""
+    program=cubeboard
+    call "the first program is there still" 7 ""
+    [ "$(cat "$here/out")" = "cubeboard " ] && [ ! -s "$here/err" ]
+    count "and runs" $?
+    echo "// more" >> "$here/copy/crates/of_join/src/lib.rt"
+    call "what only the second stands on leaves the first as it is" 7 ""
+    program=cubejoin
+    call "and is proved for the second" 7 "cubejoin
+of_join"
+    echo "// more" >> "$here/copy/crates/mark_board/src/lib.rt"
+    claims_of_two_at_once
+    rm -rf "$here"/copy/crates/*/out
+    call "the second program alone proves all that it stands on" 7 "$second"
+    program=cubeboard
+    call "and the first one then itself alone" 7 "$(echo "$first" | grep -v -x -F "$second")"
+    rm -rf "$here"/copy/crates/*/out
+}
+
+# Both programs are called at once, and a library below both has changed: each crate above it is proved once. Wrong ones may wait for ever.
+claims_of_two_at_once() {
+    reach above mark_board > "$here/above"
+    { reach below cubejoin && reach below cubeboard; } | sort -u | comm -12 "$here/above" - > "$here/both"
+    : > "$here/notes"
+    SLOW=mark_board
+    timeout 120 "$here/copy/cubeboard" > "$here/out" 2> /dev/null < /dev/null &
+    timeout 120 "$here/copy/cubejoin" > "$here/out.join" 2> /dev/null < /dev/null
+    status=$?
+    SLOW=
+    wait $!
+    [ $? -eq 7 ] && [ "$status" -eq 7 ] && [ "$(cat "$here/out" "$here/out.join" | tr '\n' ,)" = "cubeboard ,cubejoin ," ] &&
+        sort "$here/notes" | cmp -s - "$here/both"
+    count "both programs called at once prove each crate once, and both run" $?
 }
 
 # Which crates are proved, when and how often.
@@ -99,7 +162,7 @@ claims_of_builds() {
     all=$(reach below cubeboard)
     many=$(printf '%s\n' $all | wc -l)
     call "the first call proves each crate that the program stands on, and no other" 7 "$all" --workers 2 "a b"
-    [ "$(cat "$here/out")" = "--workers 2 a b" ]
+    [ "$(cat "$here/out")" = "cubeboard --workers 2 a b" ]
     count "the program gets the words, and standard output nothing else" $?
     [ "$(head -n 1 "$here/err" | cut -d ' ' -f 1-6)" = "cubeboard: proving $many crates and building" ] &&
         [ "$(grep -c "^cubeboard: proved [0-9]* of $many: [a-z_]* (1 of 1 functions), 0 min\$" "$here/err")" -eq "$many" ] &&
@@ -162,7 +225,6 @@ claims_of_failures() {
     [ ! -e "$here/copy/crates/cubeboard/out/cubeboard" ]
     count "no program is left that was built from other sources" $?
     REFUSED=
-    cp "$here/version" "$here/needed"
     echo "another kit" > "$here/version"
     call "another kit" 70 ""
     [ "$(wc -l < "$here/err")" -eq 1 ] && grep -q "$(cat "$here/needed")" "$here/err" && grep -q "another kit" "$here/err"
@@ -171,9 +233,8 @@ claims_of_failures() {
     (PATH=$(without_rt) && call "no kit" 70 "") && grep -q "$(cat "$here/needed")" "$here/err" && [ "$(wc -l < "$here/err")" -eq 1 ]
     count "one line says which kit is needed where none is" $?
     mv "$here/rt" "$here/bin/rt"
-    cp "$here/needed" "$here/version"
-    sed -i 's/^NEEDED = .*/NEEDED = "a later kit"/' "$here/copy/scripts/build.py"
-    echo "a later kit" > "$here/version"
+    sed -i 's/^NEEDED = .*/NEEDED = "a later logic"/' "$here/copy/scripts/build.py"
+    echo "a-kit-of-some-name a later logic" > "$here/version"
     call "with another kit all is proved anew" 7 "$(reach below cubeboard)"
 }
 
@@ -186,17 +247,19 @@ without_rt() {
 claims_of_calls_at_once() {
     echo "// at once" >> "$here/copy/crates/cube_report/src/lib.rt"
     : > "$here/notes"
+    SLOW=cube_report
+    export SLOW
     "$here/copy/cubeboard" > /dev/null 2>&1 < /dev/null &
     first=$!
     "$here/copy/cubeboard" > /dev/null 2>&1 < /dev/null
     second=$?
+    SLOW=
     wait "$first"
     [ $? -eq 7 ] && [ "$second" -eq 7 ] && [ "$(sort "$here/notes")" = "$(reach above cube_report | of_program)" ]
     count "two calls at once build once, and both run the program" $?
     echo "// interrupted" >> "$here/copy/crates/cube_report/src/lib.rt"
     : > "$here/notes"
     SLOW=cube_command
-    export SLOW
     call_until_slow
     kill -TERM "$first"
     wait "$first"
@@ -229,11 +292,17 @@ call_until_slow() {
     until grep -q "$SLOW" "$here/notes" || [ "$tries" -gt 100 ]; do sleep 0.1; tries=$((tries + 1)); done
 }
 
-claims() {
+# What the stand-in begins with, and which program is called.
+begin() {
     REFUSED=
     SLOW=
     export REFUSED SLOW
-    sed -n 's/^NEEDED = "\(.*\)"/\1/p' "$root/scripts/build.py" > "$here/version"
+    program=cubeboard
+    sed -n 's/^NEEDED = "\(.*\)"/\1/p' "$root/scripts/build.py" > "$here/needed"
+    echo "a-kit-of-some-name $(cat "$here/needed")" > "$here/version"
+}
+
+claims() {
     claims_of_builds
     claims_of_terminals
     claims_of_the_list
@@ -241,7 +310,8 @@ claims() {
     claims_of_failures
 }
 
-# The launcher of this folder: without the program and the last library, it has to prove both, and to run README's first example.
+# The launchers of this folder: without the first program and the last library, that of the first has to prove both, and to run README's first
+# example; that of the second has then to prove its program alone, and to join that example's report with itself.
 build_here() {
     PATH=${PATH#"$here/bin:"}
     out=$root/crates/cubeboard/out
@@ -253,4 +323,13 @@ build_here() {
     count "the launcher builds the program, and README's first example runs" "$is_well"
     grep -q "proved .* of .*: cubeboard" "$here/err"
     count "it has built it itself" $?
+    example=$root/examples/pigeons-7-in-6
+    rm -f "$root/crates/cubejoin/out/cubejoin"
+    "$root/cubejoin" "$example.icnf" "$example.report" "$example.report" < /dev/null > "$here/out" 2> "$here/err"
+    [ $? -eq 0 ] && cmp -s "$here/out" "$example.report"
+    is_well=$?
+    [ "$is_well" -eq 0 ] || cat "$here/err"
+    count "the second launcher builds its program, and the example's report joins with itself" "$is_well"
+    [ "$(grep -c "^cubejoin: proved " "$here/err")" -eq 1 ] && grep -q "^cubejoin: proved .* of .*: cubejoin" "$here/err"
+    count "it has proved its program alone" $?
 }

@@ -1,14 +1,16 @@
 #!/bin/sh
-# Makes cubeboard-VERSION-x86_64.tar.gz of the built program, for machines that have no kit: the program, README, CHANGELOG, docs/USING.md,
-# docs/FORMATS.md, the examples, the file PROVED, which says of which commit and with which kit the program was proved, and the file SHA256SUMS. Then it
-# unpacks the archive elsewhere and runs the program out of it on every example; the last line counts.
+# Makes cubeboard-VERSION-x86_64.tar.gz of the built programs, for machines that have no kit: cubeboard, cubejoin, README, CHANGELOG, docs/USING.md,
+# docs/FORMATS.md, the examples, the file PROVED, which says of which commit and with which kit each program was proved, and the file SHA256SUMS. Then it
+# unpacks the archive elsewhere, runs the first program out of it on every example, and joins each report with itself by the second; the last line
+# counts.
 #
 #     sh scripts/package.sh [FOLDER]
 #
-# Without FOLDER the archive is left in out/ of this folder. The same commit and program give the same bytes.
+# Without FOLDER the archive is left in out/ of this folder. The same commit and programs give the same bytes.
 root=$(CDPATH= cd -- "$(dirname -- "$0")/.." && pwd) || exit 1
 . "$root/scripts/runs.sh"
 build_program
+build_join
 mkdir -p "${1:-$root/out}" || exit 1
 target=$(CDPATH= cd -- "${1:-$root/out}" && pwd) || exit 1
 
@@ -17,8 +19,8 @@ said=$("$program" --version 2>&1)
 version=$(echo "$said" | sed -n 's/^cubeboard \([0-9.]*\) (proved by .*)$/\1/p')
 [ -n "$version" ]
 count "the program tells its version" $?
-name=cubeboard-$version-x86_64
-archive=$target/$name.tar.gz
+archived=cubeboard-$version-x86_64
+archive=$target/$archived.tar.gz
 
 # Of which commit it is, and whether anything differs from it.
 commit=$(git -C "$root" rev-parse HEAD 2> /dev/null)
@@ -27,34 +29,44 @@ date=$(git -C "$root" log -1 --format=@%ct 2> /dev/null)
 
 # The folder that is packed.
 lay_out_package() {
-    package=$here/$name
+    package=$here/$archived
     mkdir -p "$package/docs"
     cp "$program" "$package/cubeboard"
+    cp "$join" "$package/cubejoin"
     cp "$root/README.md" "$root/CHANGELOG.md" "$package/"
     cp "$root/docs/USING.md" "$root/docs/FORMATS.md" "$package/docs/"
     cp -r "$root/examples" "$package/"
     {
-        echo "program: $said"
+        echo "version: $said"
         echo "commit: ${commit:-none}$changed"
-        echo "kit: $(echo "$said" | sed 's/^.*(proved by \(.*\))$/\1/')"
-        echo "sources: $(python3 "$root/scripts/build.py" --sum cubeboard)"
+        for name in cubeboard cubejoin; do
+            echo "program: $name"
+            echo "kit: $(cat "$root/crates/$name/out/kit")"
+            echo "sources: $(python3 "$root/scripts/build.py" --sum "$name")"
+        done
     } > "$package/PROVED"
     (cd "$package" && find . -type f ! -name SHA256SUMS | LC_ALL=C sort | sed 's/^/"/; s/$/"/' | xargs sha256sum > SHA256SUMS)
 }
 
-# An example: the path of its report without the ending. A bundle is judged as FILE and as the input, a folder as FILE and proofs.
+# An example: the path of its report without the ending. A bundle is judged as FILE and as the input, a folder as FILE and proofs; the report is joined
+# with itself as one on either.
 try_example() {
     example=$(basename "$1")
-    folder=$here/unpacked/$name/examples
-    program=$here/unpacked/$name/cubeboard
+    folder=$here/unpacked/$archived/examples
     wanted=0
     grep -q '^s OPEN$' "$1.report" && wanted=1
     if [ -f "$folder/$example.icnf" ]; then
+        program=$here/unpacked/$archived/cubeboard
         try_run "$example as the input" "$1.report" "$folder/$example.icnf"
         try_run "$example as FILE" "$1.report" "$here/none" "$folder/$example.icnf"
+        program=$here/unpacked/$archived/cubejoin
+        try_run "the join on $example" "$1.report" "$here/none" "$folder/$example.icnf" "$folder/$example.report" "$folder/$example.report"
     fi
     if [ -d "$folder/$example" ]; then
+        program=$here/unpacked/$archived/cubeboard
         try_run "$example as a folder" "$1.report" "$here/none" --proofs "$folder/$example/proofs" "$folder/$example/case.icnf"
+        program=$here/unpacked/$archived/cubejoin
+        try_run "the join on $example as a folder" "$1.report" "$here/none" "$folder/$example/case.icnf" "$folder/$example.report" "$folder/$example.report"
     fi
 }
 
@@ -70,11 +82,14 @@ try_run() {
 }
 
 lay_out_package
-tar -C "$here" --sort=name --owner=0 --group=0 --numeric-owner --mtime="${date:-@0}" -c "$name" | gzip -n -9 > "$archive"
+tar -C "$here" --sort=name --owner=0 --group=0 --numeric-owner --mtime="${date:-@0}" -c "$archived" | gzip -n -9 > "$archive"
 count "the archive is written" $?
 mkdir "$here/unpacked"
-tar -C "$here/unpacked" -xzf "$archive" && (cd "$here/unpacked/$name" && sha256sum --quiet -c SHA256SUMS)
+tar -C "$here/unpacked" -xzf "$archive" && (cd "$here/unpacked/$archived" && sha256sum --quiet -c SHA256SUMS)
 count "the archive is unpacked, with the sums that it names" $?
+[ "$(grep -c -x 'kit: .* logic [0-9a-f][0-9a-f]*' "$here/unpacked/$archived/PROVED")" -eq 2 ] &&
+    [ "$(sed -n 's/^program: //p' "$here/unpacked/$archived/PROVED" | tr '\n' ' ')" = "cubeboard cubejoin " ]
+count "the archive names both programs, and the kit by which each was proved" $?
 for report in "$root"/examples/*.report; do try_example "${report%.report}"; done
 echo "$script: $archive, $(wc -c < "$archive") bytes"
 finish

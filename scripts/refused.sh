@@ -148,7 +148,7 @@ next_step() {
 
 if preload refuse "requests for memory, reads that are interrupted and the test of the next step"; then
     for name in two_cubes_refuted missing_leaf_open proof_for_an_inner_node folder_of_proofs folder_with_missing_leaves \
-        second_section_of_a_cube; do
+        second_section_of_a_cube proof_in_file_and_folder; do
         for workers in 1 2 4; do
             requests "$name" "$workers"
         done

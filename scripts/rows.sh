@@ -46,11 +46,11 @@ count "the help on one screen" $?
 refuses Usage -h
 for word in --version -V; do
     run "$root/tests/rows/two_cubes_refuted.in" "$word"
-    [ "$(cat "$here/status")" = 2 ] && [ ! -s "$here/out" ] && [ "$(cat "$here/err")" = "cubeboard 0.1.0 (proved by $(rt version))" ]
+    [ "$(cat "$here/status")" = 2 ] && [ ! -s "$here/out" ] && [ "$(cat "$here/err")" = "cubeboard 0.1.0 (proved by a Rattle kit with $(rt version | sed 's/^.* logic /logic /'))" ]
     count "the word $word" $?
 done
 refuses --no-such-word --no-such-word
-for word in --workers --cut --proofs --map; do
+for word in --workers --cut --proofs --map --record; do
     refuses "$word" "$word"
     refuses "$word" "$word" ''
     refuses "$word" "$word="
@@ -74,7 +74,7 @@ done
 
 # With --progress the report and the status are the same, and standard error has a line at most once a second and one at the end: for
 # the name of a row, and that last line. On a terminal, where `script` makes one, it stands behind a carriage return.
-told="cubeboard: [0-9]* of [0-9]* judged, [0-9]* refuted, [0-9]* rejected, [0-9]*\\.[0-9][0-9][0-9] % open"
+told="cubeboard: [0-9]* of [0-9]* judged, [0-9]* of [0-9]* bytes, [0-9]* refuted, [0-9]* rejected, [0-9]*\\.[0-9][0-9][0-9] % open"
 progress() {
     lay_out "$root/tests/rows/$1"
     run "$root/tests/rows/$1.in" --progress
@@ -82,8 +82,40 @@ progress() {
         && [ "$(tail -n 1 "$here/err")" = "$2" ] && [ "$(grep -c -v -x -e "$told" "$here/err")" = 0 ]
     count "progress on $1" $?
 }
-progress two_cubes_refuted "cubeboard: 2 of 2 judged, 2 refuted, 0 rejected, 0.000 % open"
-progress candidate_without_a_group "cubeboard: 1 of 1 judged, 0 refuted, 1 rejected, 100.000 % open"
+progress two_cubes_refuted "cubeboard: 2 of 2 judged, 24 of 24 bytes, 2 refuted, 0 rejected, 0.000 % open"
+progress candidate_without_a_group "cubeboard: 1 of 1 judged, 19 of 19 bytes, 0 refuted, 1 rejected, 100.000 % open"
+# With a folder one worker tells this, line by line: the name of a row with one.
+progress_with_folder() {
+    base=$root/tests/rows/$1
+    lay_out "$base"
+    cat > "$here/wanted"
+    with_words "$base" run "$base.in" --workers 1 --progress
+    has_given "$base.out" "$here/wanted" "$base.status"
+    count "progress on $1" $?
+}
+progress_with_folder folder_of_proofs << 'TOLD'
+cubeboard: 2 of 2 judged, 24 of 24 bytes, 2 refuted, 0 rejected, 0.000 % open
+TOLD
+progress_with_folder proof_in_file_and_folder << 'TOLD'
+cubeboard: 1.lrat has a label line or is a second proof, so all proofs are read before they are judged
+cubeboard: 2 of 4 judged, 24 of 48 bytes, 2 refuted, 0 rejected, 0.000 % open
+cubeboard: F12 second proof, line 13
+TOLD
+# A run that is made anew with all proofs in one bundle counts anew: FILE has the second cube's proof, and the first one's file has a section for the
+# root, too. Behind the bundle's last line stands an empty one, which is the last of the second cube's section then.
+rm -rf "$here/run"
+mkdir -p "$here/run/proofs"
+sed '/^l 1$/,/^6/d' "$root/tests/rows/two_cubes_refuted.in" > "$here/run/case.icnf"
+printf '6 0 5 3 4 0\nl n 0\n5 1 0 1 2 0\n6 0 5 3 4 0\n' > "$here/run/proofs/1.lrat"
+sed 's/^w 0$/n 0 refuted\n&/' "$root/tests/rows/two_cubes_refuted.out" > "$here/report"
+cat > "$here/wanted" << 'TOLD'
+cubeboard: 1.lrat has a label line or is a second proof, so all proofs are read before they are judged
+cubeboard: 1 of 2 judged, 12 of 54 bytes, 1 refuted, 0 rejected, 50.000 % open
+cubeboard: 3 of 3 judged, 49 of 49 bytes, 3 refuted, 0 rejected, 0.000 % open
+TOLD
+run "$here/none" --workers 1 --progress --proofs proofs case.icnf
+has_given "$here/report" "$here/wanted" "$root/tests/rows/two_cubes_refuted.status"
+count "progress on a run that is made anew" $?
 run "$root/tests/rows/two_cubes_refuted.in" --progress no_such_file
 [ "$(cat "$here/status")" = 5 ] && [ "$(cat "$here/err")" = "cubeboard: F13 device" ]
 count "no progress without a bundle" $?
@@ -95,7 +127,7 @@ if command -v script > /dev/null; then
     cp "$root/tests/rows/two_cubes_refuted.in" "$here/run/case.icnf"
     (cd "$here/run" && timeout 60 script -qec "'$program' --progress case.icnf > report" /dev/null) < /dev/null > "$here/err"
     echo $? > "$here/status"
-    [ "$(tail -n 1 "$here/err" | tr '\r' '~' | cut -c1-29)" = "~cubeboard: 2 of 2 judged, 2 " ] && cmp -s "$here/run/report" "$root/tests/rows/two_cubes_refuted.out"
+    [ "$(tail -n 1 "$here/err" | tr '\r' '~' | cut -c1-29)" = "~cubeboard: 2 of 2 judged, 24" ] && cmp -s "$here/run/report" "$root/tests/rows/two_cubes_refuted.out"
     count "progress on a terminal" $?
 else
     skip "progress on a terminal" "there is no script here that makes one" bsdutils
@@ -137,6 +169,45 @@ echo "what was there" > "$here/run/tree.svg"
 run /dev/null --map tree.svg
 [ "$(cat "$here/status")" = 3 ] && [ "$(cat "$here/run/tree.svg")" = "what was there" ]
 count "no picture of a refused input" $?
+
+# A record: the report is the same, and the file is made anew: the line with the checksum of the text up to the first label line, and that
+# report. Where it can't be written there is no report; the picture, which is written first, is there.
+is_record() {
+    { printf 'i %s\n' "$(sha256sum < "$1" | cut -c1-64)" && cat "$here/out"; } | cmp -s - "$here/run/a.record"
+}
+refuted=$root/tests/rows/two_cubes_refuted
+folder=$root/tests/rows/folder_of_proofs
+lay_out "$folder"
+echo "what was there" > "$here/run/a.record"
+sed '/^l /,$d' "$refuted.in" > "$here/text"
+run "$refuted.in" --record a.record
+has_given "$refuted.out" "$refuted.err" "$refuted.status" && is_record "$here/text"
+count "a record" $?
+run /dev/null --proofs proofs --record=a.record case.icnf
+has_given "$folder.out" "$folder.err" "$folder.status" && is_record "$here/run/case.icnf"
+count "a record of a file with a folder of proofs" $?
+printf %s "$(cat "$here/run/case.icnf")" > "$here/run/unended.icnf"
+run /dev/null --proofs proofs --record a.record unended.icnf
+has_given "$folder.out" "$folder.err" "$folder.status" && is_record "$here/run/unended.icnf" && ! is_record "$here/run/case.icnf"
+count "a record of a file without an end of its last line" $?
+rm "$here/run/a.record"
+run "$refuted.in" --record a.record --map tree.svg
+has_given "$refuted.out" "$refuted.err" "$refuted.status" && is_record "$here/text" && [ "$(head -c 5 "$here/run/tree.svg")" = "<svg " ]
+count "a record and a picture" $?
+for path in no_such_folder/a.record proofs; do
+    rm "$here/run/tree.svg"
+    run "$refuted.in" --record "$path" --map tree.svg
+    is_device "a record at $path"
+    [ "$(head -c 5 "$here/run/tree.svg")" = "<svg " ]
+    count "a picture where there can't be a record at $path" $?
+done
+echo "what was there" > "$here/run/a.record"
+run /dev/null --record a.record
+[ "$(cat "$here/status")" = 3 ] && [ "$(cat "$here/run/a.record")" = "what was there" ]
+count "no record of a refused input" $?
+refuses "can't name the same file" --record one --map one
+[ ! -e "$here/run/one" ]
+count "nothing made where a picture and a record would be one file" $?
 
 # What is there and may not be read. Root reads anything, so the program runs as another user then.
 as_another_user

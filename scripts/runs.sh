@@ -2,7 +2,8 @@
 # folder that goes at the script's end, `$here/run` the one that the program runs in, and `$here/out`, `$here/err` and `$here/status` are what
 # the last run left.
 # A script's last line is `NAME: P passed, F failed, S skipped`, and its status is 0 where no claim failed. Whoever calls a script may set:
-# - CUBEBOARD_PROGRAM, the path of a program that is tried in the place of the built one; the launcher isn't called then (scripts/false_programs.sh);
+# - CUBEBOARD_PROGRAM, the path of a program that is tried in the place of the built one, and CUBEJOIN_PROGRAM, that of one in the place of the built
+#   `cubejoin`; the launcher isn't called then (scripts/false_programs.sh);
 # - CUBEBOARD_STOP, so that the script ends at its first claim that fails;
 # - CUBEBOARD_SKIPPED, the path of a file that gets a line for each thing that is skipped (./check counts them);
 # - CI, where it isn't empty: what a Debian package would make run isn't skipped, but fails.
@@ -59,13 +60,24 @@ finish() {
 build_program() {
     built=${CUBEBOARD_PROGRAM:-$root/crates/cubeboard/out/cubeboard}
     program=$built
-    if [ -z "${CUBEBOARD_PROGRAM:-}" ]; then
-        "$root/cubeboard" < /dev/null > "$here/out" 2> "$here/err"
-        if [ $? -ne 3 ]; then
-            cat "$here/err"
-            fail "there is no program that refuses an empty bundle, so nothing else is tried"
-            finish
-        fi
+    [ -n "${CUBEBOARD_PROGRAM:-}" ] || launch cubeboard
+}
+
+# The same for the program that joins, which is `$join`.
+build_join() {
+    join=${CUBEJOIN_PROGRAM:-$root/crates/cubejoin/out/cubejoin}
+    [ -n "${CUBEJOIN_PROGRAM:-}" ] || launch cubejoin /dev/null /dev/null
+}
+
+# Calls a launcher on an empty bundle, which its program has to refuse: its name and the words.
+launch() {
+    launched=$1
+    shift
+    "$root/$launched" "$@" < /dev/null > "$here/out" 2> "$here/err"
+    if [ $? -ne 3 ]; then
+        cat "$here/err"
+        fail "there is no program $launched that refuses an empty bundle, so nothing else is tried"
+        finish
     fi
 }
 

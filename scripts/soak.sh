@@ -3,13 +3,15 @@
 # workers with a random cut, and looks whether report, standard error and status are the same, and of the form that docs/FORMATS.md says
 # (scripts/form.awk): a report with the status of its last line and nothing on standard error, or no report, the status 3 and the line of a
 # fault. So it tries the claim that the report is the same for every number of workers, every cut and every schedule; what the report has to
-# be, the rows say. From 200 runs on, each of the three kinds of answer has to occur: refuted, open and refused.
+# be, the rows say. From 200 runs on, each of the three kinds of answer has to occur: refuted, open and refused. Each bundle is tried once more, taken apart into FILE
+# and a folder of proofs (scripts/soak_folder.awk): where the bundle has a report, both together have the same one, and where it has a fault, the
+# answers of one worker and of several are the same, and of one of these forms.
 #
 #     sh scripts/soak.sh [RUNS [SEED]]
 #
 # Without RUNS it is 10,000 of them. Without SEED it is another one each time; the first line tells it, and it gives the same bundles again
 # with the same awk. A run that hasn't ended after 20 seconds is ended, and fails. Where something is wrong, the bundle is kept, and a line
-# says where. The last line counts: a claim for each bundle, and one for the kinds of answer.
+# says where. The last line counts: two claims for each bundle, and two for the kinds of answer and the ways of reading.
 root=$(CDPATH= cd -- "$(dirname -- "$0")/.." && pwd) || exit 1
 runs=${1:-10000}
 seed=${2:-$(($(date +%s) % 1000000 * 1000 + $$ % 1000))}
@@ -18,6 +20,7 @@ kept=${TMPDIR:-/tmp}/cubeboard-soak-$seed
 refuted=0
 open=0
 refused=0
+labels=0
 echo "soak: seed $seed"
 
 build_program
@@ -59,7 +62,30 @@ both() {
     fi
     echo "$status" > "$here/status"
     count "$kept/$number.in by $*, where one worker's status is $one" "$right"
+    apart "$@"
     rm "$here/$number.in"
+}
+
+# The same bundle with its proofs in a folder: the words of the second run. What the whole bundle's run has left is compared with.
+apart() {
+    rm -rf "$here/parts"
+    mkdir -p "$here/parts/proofs"
+    LC_ALL=C awk -v seed="$seed$number" -v file="$here/parts/case.icnf" -v folder="$here/parts/proofs" -f "$root/scripts/soak_folder.awk" "$here/$number.in"
+    [ -s "$here/$number.in" ] || : > "$here/parts/case.icnf"
+    ! grep -q -s '^[[:blank:]]*l' "$here/parts/proofs"/*.lrat || labels=$((labels + 1))
+    timeout 20 "$program" --workers 1 --cut 0 --proofs "$here/parts/proofs" "$here/parts/case.icnf" > "$here/alone.out" 2> "$here/alone.err"
+    alone=$?
+    timeout 20 "$program" "$@" --proofs "$here/parts/proofs" "$here/parts/case.icnf" > "$here/out" 2> "$here/err"
+    status=$?
+    [ "$alone" -eq "$status" ] && cmp -s "$here/alone.out" "$here/out" && cmp -s "$here/alone.err" "$here/err" && has_form "$status" \
+        && { [ "$one" -eq 3 ] || { [ "$one" -eq "$status" ] && cmp -s "$here/one.out" "$here/out"; }; }
+    right=$?
+    if [ "$right" -ne 0 ]; then
+        mkdir -p "$kept/$number"
+        cp -r "$here/parts/." "$here/$number.in" "$kept/$number/"
+    fi
+    echo "$status" > "$here/status"
+    count "$kept/$number as a folder by $*, where the bundle's status is $one" "$right"
 }
 
 first=1
@@ -76,5 +102,7 @@ echo "soak: by one worker: $refuted refuted, $open open, $refused with a fault"
 if [ "$runs" -ge 200 ]; then
     [ "$refuted" -gt 0 ] && [ "$open" -gt 0 ] && [ "$refused" -gt 0 ]
     count "each kind of answer occurred" $?
+    [ "$labels" -gt 0 ] && [ "$labels" -lt "$runs" ]
+    count "folders with a label line, and folders without one" $?
 fi
 finish

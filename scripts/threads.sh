@@ -5,6 +5,8 @@
 # - on bundles that are made here, the report of which is known from how they are made: fewer sections than workers and more,
 #   4,096 sections that are all rejected, all sections under one part, proofs for the root and for inner nodes at each depth, one
 #   long proof among empty ones;
+# - on folders of proofs: thousands of leaves of which each third has a file, one that can't be read among them, a label line in the last
+#   of them, and files that come or change while the program runs;
 # - with standard streams that fail: a full device, one that fails at its Nth write or takes one byte at a time, a closed descriptor,
 #   a pipe that nobody reads. There the status is 5 where the report, or the input, met a failure, and what was written is a
 #   beginning of the report; whether the error could be written changes no status. How a system treats the writer of a pipe that
@@ -80,7 +82,7 @@ function pair(i, d) { return against(i, d) "200 0\n" against(i, d) "-200 0\n" }
 # Makes a bundle and its report, $here/in and $here/wanted.
 make() {
     rm -f "$here/in" "$here/wanted"
-    awk -v bundle="$here/in" -v report="$here/wanted" "$functions BEGIN { $1 }"
+    awk -v bundle="$here/in" -v report="$here/wanted" -v folder="$here/proofs" "$functions BEGIN { $1 }"
 }
 
 # Runs the bundle that was made with each setting: its name, and `zero` or `one`, the status.
@@ -214,6 +216,55 @@ make 'whole(6, "70 71 0\n")
     end("1134907106097364992")'
 try "one long proof" one
 
+# A folder, by one worker and by more: 16,384 leaves, of which each third has a file.
+try_folder() {
+    for words in "--workers 1 --cut 0" "--workers 4 --cut 3" "--workers 32 --cut 6"; do
+        run "$here/none" $words --proofs "$here/proofs" "$here/in"
+        compare "$1 with $words" "$2" "$3" "$here/$4"
+    done
+}
+printf '3\n' > "$here/three"
+printf '5\n' > "$here/five"
+mkdir "$here/proofs"
+make 'whole(14)
+    for (i = 0; i < 16384; i += 3) { bundle = folder "/" i + 1 ".lrat"; step(14, i + 1); close(bundle) }
+    for (i = 1; i <= 16384; i++) say("a " i (i % 3 == 1 ? " refuted" : " open"))
+    for (k = 0; k < 8192; k++)
+        say("o " (2 * k % 3 == 1 ? path(k, 13) : path(2 * k + (2 * k % 3 == 0), 14)) "0")
+    end("768567423908446208")'
+try_folder "each third of 16,384 files" "$here/wanted" "$here/none" one
+# The last file has a section more below its proof: that of leaf 2, and then one of leaf 1, which has a file of its own. In the bundle with all proofs
+# each file stands below an empty line and its label line, and has one line itself.
+echo "l 2
+16399 0 16385 16386 16387 16388 16389 16390 16391 16392 16393 16394 16395 16396 16397 16398 2 0" >> "$here/proofs/16384.lrat"
+sed -e 's/^a 2 open$/a 2 refuted/' -e '/^o 1 2 3 4 5 6 7 8 9 10 11 12 13 -14 0$/d' -e 's/^w .*/w 768497055164268544/' "$here/wanted" > "$here/more"
+try_folder "a label line in the last of these files" "$here/more" "$here/none" one
+echo "l 1" >> "$here/proofs/16384.lrat"
+echo "cubeboard: F12 second proof, line $(($(wc -l < "$here/in") + 3 * 5461 + 6))" > "$here/twice"
+try_folder "a second proof in the last of these files" "$here/none" "$here/twice" three
+rm "$here/proofs/10000.lrat"
+mkdir "$here/proofs/10000.lrat"
+try_folder "a file that can't be read among these" "$here/none" "$here/device" five
+
+# A folder that changes while one worker waits at the leaf of a named pipe: what is done then, and the name of the run. The pipe has the length 0,
+# so the other leaf's file is read before it where it is there, and after it where it wasn't.
+printf '6 0 5 3 4 0\n' > "$here/first"
+printf '6 0 5 1 2 0\n' > "$here/second"
+sed '/^l/,$d' "$root/tests/rows/two_cubes_refuted.in" > "$here/cubes"
+changing() {
+    rm -f "$here/changing/1.lrat"
+    mkfifo "$here/changing/1.lrat"
+    timeout 20 sh -c 'exec 3> "$1/changing/1.lrat" && eval "$2" && cat "$1/first" >&3' sh "$here" "$1" &
+    run "$here/none" --workers 1 --proofs "$here/changing" "$here/cubes"
+    wait $!
+    compare "$2" "$root/tests/rows/two_cubes_refuted.out" "$here/none" "$here/zero"
+}
+mkdir "$here/changing"
+changing 'cp "$1/second" "$1/changing/2.lrat"' "a file that comes before its leaf's turn"
+changing 'echo x > "$1/changing/2.lrat"' "a file that changes behind its leaf's turn"
+cp "$here/second" "$here/changing/2.lrat"
+changing 'rm "$1/changing/2.lrat"' "a file that goes behind its leaf's turn"
+
 # From here on, runs by four workers whose standard streams fail: a bundle that is refuted, one with a long report and one with a fault.
 small=$root/tests/rows/two_cubes_refuted
 great=$here/great
@@ -225,8 +276,6 @@ has_left() {
     cmp -s "$here/status" "$1" && cmp -s "$here/err" "$2" && head -c "$3" "$4" | cmp -s - "$here/out"
 }
 printf '2\n' > "$here/two"
-printf '3\n' > "$here/three"
-printf '5\n' > "$here/five"
 length() { wc -c < "$1"; }
 
 # A full device for the report, for the error, and for both.

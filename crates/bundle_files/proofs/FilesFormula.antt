@@ -9,11 +9,11 @@ use Rattle.case_core.specs.Icnf.{after_header, symbols_of}
 use Rattle.case_core.specs.Bundle.{lines_of, is_label, text_before, icnf_text}
 use Rattle.cube_report.specs.Correct.{IsFormulaOf, IsUnsatisfiable}
 use Rattle.proof_folder.specs.Added.{IsAlmost, section_text}
-use Rattle.proof_folder.proofs.AddedLines.{no_lines, lines_more, label_begun, before_label}
-use Rattle.proof_folder.proofs.AddedLines.{almost_header}
+use Rattle.case_core.proofs.BundleMore.{no_lines, lines_more}
+use Rattle.proof_folder.proofs.AddedLines.{label_begun, before_label, almost_header}
 use Rattle.bundle_files.specs.Files.{AreAdded, Held, IsJudgedOf, IsWithProofs}
 
-first_label : (rest : List ℕ) (lines : List (List ℕ)) → lines_of rest ≡ lines
+pub first_label : (rest : List ℕ) (lines : List (List ℕ)) → lines_of rest ≡ lines
     →
     (label : List ℕ) × (more : List (List ℕ)) × (lines_of (108 ∷ 32 ∷ rest) ≡ label ∷ more)
     × (is_label label ≡ true)

@@ -38,7 +38,7 @@ added_more held folder first second bundle part whole before after = record {
     section : Leaf → List ℕ
     section leaf = section_text leaf.0 leaf.1
 
-one_leaf : (held : Held) (folder name bundle whole : List ℕ) (proof : Option (List ℕ))
+pub one_leaf : (held : Held) (folder name bundle whole : List ℕ) (proof : Option (List ℕ))
     → Gives held (proof_path folder name) proof → whole ≡ bundle ++ section_text name proof
     → AreAdded held folder (name ∷ []) bundle whole
 one_leaf held folder name bundle whole proof known text = record {
@@ -50,7 +50,7 @@ one_leaf held folder name bundle whole proof known text = record {
   text = text ∙ ap (λ (t : List ℕ). bundle ++ t) (sym (append-nil (section_text name proof)));
 }
 
-label_then : (bundle name proof : List ℕ)
+pub label_then : (bundle name proof : List ℕ)
     →
     (bundle ++ codes "\nl " ++ name ++ codes "\n") ++ proof
     ≡ bundle ++ section_text name (Some proof)

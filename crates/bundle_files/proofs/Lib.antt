@@ -4,3 +4,4 @@ mod FilesOpened
 mod FilesPaths
 mod FilesApart
 mod JudgingRuns
+mod FaultsSearch

@@ -1,8 +1,8 @@
 -- Which bundle is judged, by what is known of the files: the input's or a file's, with the proofs
 -- that a folder has for its leaves.
-use Rattle.std.specs.Prelude.{◌≡◌, ℕ, zero, suc, ◌+◌, Bool, List, [], ◌∷◌, ◌++◌, map, length, codes}
+use Rattle.std.specs.Prelude.{◌≡◌, ◌≢◌, ℕ, zero, suc, ◌+◌, Bool, List, [], ◌∷◌, ◌++◌, map, length}
 use Rattle.std.specs.Prelude.{decimal, Option, None, Some, IfSome, is_some, unwrap_or, ◌⊎◌}
-use Rattle.std.specs.Prelude.{true, false}
+use Rattle.std.specs.Prelude.{true, false, codes}
 use Rattle.std.specs.List.{All, flat_map}
 use Rattle.case_core.specs.SplitTree.{SplitTree}
 use Rattle.case_core.specs.Leaves.{missing_nodes, cube_count}
@@ -24,6 +24,12 @@ Gives held path given = IfSome (held path) (λ known. given ≡ known)
 -- what may be written at a path may still be written there
 abbrev pub StaysAllowed : (List ℕ → List ℕ → Type 0) → (List ℕ → List ℕ → Type 0) → Type 0
 StaysAllowed old new = (path bytes : List ℕ) → old path bytes → new path bytes
+
+-- the same of every path but this one
+abbrev pub StaysAllowedBeside : List ℕ → (List ℕ → List ℕ → Type 0) → (List ℕ → List ℕ → Type 0) →
+    Type 0
+StaysAllowedBeside path old new =
+    (other bytes : List ℕ) → other ≢ path → old other bytes → new other bytes
 
 -- the bundle that is read: that of the file that is asked for, or the input
 abbrev pub IsRead : Held → Option (List ℕ) → Option (List ℕ) → List ℕ → Type 0

@@ -26,7 +26,7 @@ pub record IsJudgedApart (held : Held) (folder bundle : List ℕ) (case : CaseOf
   pub judged : IsJudged whole judged_case marks
   pub formula : judged_case.formula ≡ case.formula
   pub tree : judged_case.tree ≡ case.tree
-  pub report : report_text judged_case marks ≡ report_text case marks
+  pub report : report_text judged_case.tree marks ≡ report_text case.tree marks
   pub picture : map_text judged_case marks ≡ map_text case marks
   pub outcome : (draws : Bool) (report map : List ℕ) (answer : Bool) →
       IsWrittenBy case marks draws report map answer → IsOutcome whole draws report map answer

@@ -1,3 +1,4 @@
 pub mod Files
 pub mod Laws
 pub mod Judging
+pub mod Inner

@@ -124,14 +124,14 @@ fn add_section<D: Store>(
 }
 
 /// The path of the proof of the leaf of this name.
-fn proof_path(alloc: Global, folder: &str, name: &str) -> Result<String, AllocError>
+pub(crate) fn proof_path(alloc: Global, folder: &str, name: &str) -> Result<String, AllocError>
     ensures { IfOk result (λ path. string_bytes path ≡ proof_path folder.now name.now) }
 {
     format!(in alloc; "{folder}/{name}.lrat")
 }
 
 /// Adds a line end and the label line with this name.
-fn write_label(name: &str, bundle: &mut Vec<u8>) -> Result<(), AllocError>
+pub(crate) fn write_label(name: &str, bundle: &mut Vec<u8>) -> Result<(), AllocError>
     ensures { OnOk result
         (bundle.new.items ≡ bundle.old.items ++ codes "\nl " ++ name.now ++ codes "\n") }
 {

@@ -8,6 +8,7 @@ ghost use Rattle.bundle_files.specs.Files.{StaysAllowed};
 ghost use Rattle.bundle_files.specs.Laws.{held_for};
 ghost use Rattle.bundle_files.specs.Judging.{IsOutcomeOf, IsRefusedOf, IsJudgingFault};
 
+use crate::faults::find_fault;
 use crate::folder::add_proofs;
 use crate::store::Store;
 use case_core::read_bundle;
@@ -22,8 +23,9 @@ use std::thread::Threads;
 /// `judge_bundle` says.
 ///
 /// Each proof of the folder is read when a worker comes to its leaf, and dropped when it is judged.
-/// All are read beforehand only where one has a label line or is for a leaf with a section of its
-/// own; then the gate is called for a second run.
+/// Where one has a label line, or is for a leaf with a section of its own, all of them are read
+/// again, one after the other, for the first fault of the bundle with them. Only where it has none
+/// they are read together; then the gate is called for a second run.
 ///
 /// `Device` where a file is there and can't be read, before everything else; `Memory` and `Thread`
 /// may stand in the place of any other answer.
@@ -63,7 +65,8 @@ where
 }
 
 /// The same with a folder: each proof is read when a worker comes to its leaf, unless the bundle
-/// with all of them has to be judged.
+/// with all of them has to be judged. That is so only where it has no fault: a fault is found by a
+/// pass that holds one proof at a time.
 fn judge_folder<R, D, G>(
     rt: &R,
     store: &mut D,
@@ -90,7 +93,10 @@ where
 {
     match judge_by_leaf(rt, store, &bundle, folder, settings, gate, draws)? {
         Some(outcome) => Ok(outcome),
-        None => judge_whole(rt, store, bundle, folder, settings, gate, draws),
+        None => {
+            find_fault(rt.alloc(), store, folder, &bundle)?;
+            judge_whole(rt, store, bundle, folder, settings, gate, draws)
+        }
     }
 }
 

@@ -2,6 +2,7 @@
 //! of leaves.
 #![tactic(auto)]
 
+mod faults;
 mod folder;
 mod judge;
 mod laws;
@@ -16,5 +17,5 @@ pub use judge::judge_given;
 pub use laws::{proofs_judged_apart, proofs_keep_formula};
 pub use opener::{Opener, SystemFiles};
 pub use reader::FolderReader;
-pub use source::{read_given, read_judged};
+pub use source::read_given;
 pub use store::{FileStore, Store};

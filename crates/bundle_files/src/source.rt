@@ -1,50 +1,11 @@
-//! The bundle that is judged: that of a file or of the program's input, with the proofs of a
-//! folder.
-ghost use Rattle.std.specs.Prelude.{◌≡◌, List, ℕ, ◌<◌, ◌^◌, ◌-◌, ◌+◌, option_map, IfSome, IfOk};
+//! The bundle that is read: that of a file or of the program's input.
+ghost use Rattle.std.specs.Prelude.{◌≡◌, ◌<◌, ◌^◌, ◌-◌, ◌+◌, option_map, IfSome, IfOk};
 ghost use Rattle.std.specs.Prelude.{IfErr, OnOk};
-ghost use Rattle.bundle_files.specs.Files.{IsBundleOf, IsRead, IsUnread, StaysAllowed};
+ghost use Rattle.bundle_files.specs.Files.{IsRead, IsUnread, StaysAllowed};
 
-use crate::folder::add_proofs;
 use crate::store::Store;
 use cube_report::{Fault, Source, read_to_end};
 use std::alloc::Global;
-
-/// The bundle that is judged: the bytes of FILE, or of the input where none is asked for, and,
-/// where a folder is asked for, the proofs of that folder added to them.
-///
-/// `Device` where a call failed, or no file is at FILE's path, and `Memory` where a growth was
-/// refused.
-pub fn read_judged<D: Store, I: Source>(
-    alloc: Global,
-    store: &mut D,
-    input: &mut I,
-    file: Option<&str>,
-    folder: Option<&str>,
-) -> Result<Vec<u8>, Fault>
-    requires store { D.failures store.old < 2 ^ 64 - 1 }
-    requires input { I.failures input.old < 2 ^ 64 - 1 }
-    ensures held { D.held store.new ≡ D.held store.old }
-    ensures allowed { StaysAllowed (D.allows store.old) (D.allows store.new) }
-    ensures bundle { IfOk result
-        (λ bundle. (read : List ℕ) × IsBundleOf (D.held store.old)
-        (option_map (λ path. path.now) file.entry)
-        (option_map (λ path. path.now) folder.entry) (I.remaining input.old) read bundle.items) }
-    ensures ok { OnOk result
-        ((D.failures store.new ≡ D.failures store.old) ×
-        (I.failures input.new ≡ I.failures input.old)) }
-    ensures err { IfErr result
-        (IsUnread (D.held store.old) (option_map (λ path. path.now) file.entry)
-        (D.failures store.old + I.failures input.old)
-        (D.failures store.new + I.failures input.new)) }
-    // Where a file is asked for, the input isn't touched.
-    ensures kept { IfSome file.entry (λ _. input.new ≡ input.old) }
-{
-    let mut bundle = read_given(alloc, store, input, file)?;
-    if let Some(folder) = folder {
-        add_proofs(alloc, store, folder, &mut bundle)?;
-    }
-    Ok(bundle)
-}
 
 /// The bytes of the file at this path, or those of the input where there is none.
 ///

@@ -1,10 +1,11 @@
 //! What can be read and written by its path.
 ghost use Rattle.std.specs.Prelude.{◌≡◌, ◌≢◌, ℕ, List, Some, ◌<◌, ◌+◌, ◌^◌, ◌-◌, Option, None};
 ghost use Rattle.std.specs.Prelude.{IfOk, IfErr};
-ghost use Rattle.std.specs.Prelude.{OnOk};
+ghost use Rattle.std.specs.Prelude.{OnOk, OnErr};
 ghost use Rattle.case_core.specs.Leaf.{Leaf};
 ghost use Rattle.cube_report.specs.Device.{IsReadFault};
-ghost use Rattle.bundle_files.specs.Files.{Gives, IsFound, StaysAllowed, held_if};
+ghost use Rattle.bundle_files.specs.Files.{Gives, IsFound, StaysAllowed, StaysAllowedBeside};
+ghost use Rattle.bundle_files.specs.Files.{held_if};
 ghost use Rattle.bundle_files.specs.Laws.{held_for};
 
 use crate::opener::Opener;
@@ -47,7 +48,8 @@ pub trait Store {
             (λ fault. IsReadFault (failures self.old) (failures self.new) fault) };
 
     /// Makes the file at this path anew, with these bytes, which have to be allowed there; no other
-    /// file changes. Nothing is known to be allowed after that.
+    /// file changes. What was allowed at other paths still is, and nothing is known to be allowed
+    /// at this one.
     ///
     /// `Device` where it can't be made or written, and then a beginning of the bytes may lie there;
     /// `Memory` where a growth was refused, and then nothing changes. The count of failed calls,
@@ -58,11 +60,28 @@ pub trait Store {
         ensures written { OnOk result (Gives (held self.new) path.now (Some bytes.now)) }
         ensures elsewhere { (other : List ℕ) → other ≢ path.now
             → held self.new other ≡ held self.old other }
+        ensures beside { OnOk result
+            (StaysAllowedBeside path.now (allows self.old) (allows self.new)) }
         ensures nothing { IfErr result
             (λ fault. fault ≢ Fault.Device → held self.new ≡ held self.old) }
         ensures ok { OnOk result (failures self.new ≡ failures self.old) }
         ensures err { IfErr result
             (λ fault. IsReadFault (failures self.old) (failures self.new) fault) };
+
+    /// The same for a file that is written when another one may have been: then `Memory` would say
+    /// that nothing changed. So a growth that was refused counts as a failed call, too, and each
+    /// fault is `Device`.
+    fn write_counted(&mut self, path: &str, bytes: &[u8]) -> Result<(), Fault>
+        requires count { failures self.old < 2 ^ 64 - 1 }
+        requires allowed { allows self.old path.now bytes.now }
+        ensures written { OnOk result (Gives (held self.new) path.now (Some bytes.now)) }
+        ensures elsewhere { (other : List ℕ) → other ≢ path.now
+            → held self.new other ≡ held self.old other }
+        ensures beside { OnOk result
+            (StaysAllowedBeside path.now (allows self.old) (allows self.new)) }
+        ensures ok { OnOk result (failures self.new ≡ failures self.old) }
+        ensures err { IfErr result (λ fault. fault ≡ Fault.Device) }
+        ensures failed { OnErr result (failures self.new ≡ failures self.old + 1) };
 
     /// A reader of the proofs of a folder, for one worker, with no failed read yet: what it reads
     /// for a leaf is what lies at the path of the leaf's proof.
@@ -183,6 +202,14 @@ impl<F: Opener + Send + Drop> Store for FileStore<F> {
                 ErrorKind::OutOfMemory => Err(Fault::Memory),
                 _ => Err(self.broken()),
             },
+        }
+    }
+
+    fn write_counted(&mut self, path: &str, bytes: &[u8]) -> Result<(), Fault> {
+        match self.write(path, bytes) {
+            Ok(()) => Ok(()),
+            Err(Fault::Memory) => Err(self.broken()),
+            Err(fault) => Err(fault),
         }
     }
 

@@ -231,7 +231,7 @@ place_added sections s =
     by_place (sections ++ s ∷ []) (length sections)
     ∙ ap (λ (x : SectionOf). Some x.proof) (at_last sections s)
 
-other_target : (tree : SplitTree) (node : ℕ) (s target : Target) (at : ℕ) →
+pub other_target : (tree : SplitTree) (node : ℕ) (s target : Target) (at : ℕ) →
     ((i : ℕ) → IsTargetAt tree i s → i ≡ node) → IsTargetAt tree at target → at ≢ node →
     same_target s target ≡ false
 other_target tree node s target at only here other = elim (cases_Bool (same_target s target)) [

@@ -9,8 +9,13 @@ pub mod SectionsUniqueCase
 mod SectionsUniqueFault
 mod SectionsTotal
 mod BundleLetters
+pub mod BundleMore
+mod ScanLabels
+mod ScanTaken
+mod ScanWhole
 pub use Rattle.cnf_text.proofs.IcnfUnique
 pub use Rattle.hint_check.proofs.JudgementShort
+pub use Rattle.hint_check.proofs.JudgementSound
 pub use Rattle.hint_check.proofs.JudgementSteps
 pub use Rattle.hint_check.proofs.LiveEmpty
 pub use Rattle.hint_check.proofs.ProofUnique

@@ -11,7 +11,7 @@ use Rattle.case_core.specs.Inner.Label.{IsPathInRange}
 use Rattle.case_core.specs.Inner.Sections.{HasTree}
 use Rattle.case_core.proofs.LabelLimits.{limited}
 
-cubes_in_range : (items : List Item) → icnf.InRange items →
+pub cubes_in_range : (items : List Item) → icnf.InRange items →
     AllByRecursion IsPathInRange (cubes_of items)
 cubes_in_range [] h = tt
 cubes_in_range (ClauseItem literals ∷ items) h = cubes_in_range items h.1

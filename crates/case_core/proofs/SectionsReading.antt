@@ -6,7 +6,8 @@ use Rattle.std.specs.Prelude.{IfSome}
 use Rattle.cnf_text.specs.Tokens.{words}
 use Rattle.split_tree.specs.SplitTree.{SplitTree}
 use Rattle.case_core.specs.Bundle.{lines_of, is_label, text_before, Labelled, labelled, labels_of}
-use Rattle.case_core.specs.Inner.Bundle.{HasNoLabel, BeginsWithLabel, FirstLabel, at_line, OneLabel}
+use Rattle.case_core.specs.Bundle.{BeginsWithLabel}
+use Rattle.case_core.specs.Inner.Bundle.{HasNoLabel, FirstLabel, at_line, OneLabel}
 use Rattle.case_core.specs.Inner.Bundle.{NextLabel}
 use Rattle.case_core.specs.Case.{SectionOf, AreSections}
 use Rattle.case_core.specs.Label.{label_name}

@@ -1,6 +1,7 @@
 -- A bundle: an iCNF text, and behind it sections, each below a label line. (iCNF: HVC 2011; the
 -- labels are this project's own profile.)
-use Rattle.std.specs.Prelude.{ℕ, ◌+◌, Bool, false, codes, if◌then◌else◌, List, [], ◌∷◌, ◌++◌}
+use Rattle.std.specs.Prelude.{◌≡◌, ℕ, ◌+◌, Bool, true, false, codes, if◌then◌else◌, List}
+use Rattle.std.specs.Prelude.{[], ◌∷◌, ◌++◌}
 use Rattle.std.specs.List.{slice_split}
 use Rattle.std.specs.Str.{bytes_eq}
 use Rattle.cnf_text.specs.Tokens.{is_line_end, words}
@@ -49,3 +50,10 @@ icnf_text bundle = text_before (lines_of bundle)
 
 abbrev pub labels_of : List ℕ → List Labelled
 labels_of bundle = labelled 1 (lines_of bundle)
+
+-- the first line is a label line
+pub record BeginsWithLabel (text : List ℕ) : Type 0 where
+  pub line : List ℕ
+  pub others : List (List ℕ)
+  pub lines : lines_of text ≡ line ∷ others
+  pub is : is_label line ≡ true

@@ -4,3 +4,4 @@ pub mod Finding
 pub mod Label
 pub mod Bundle
 pub mod Sections
+pub mod Scan

@@ -7,6 +7,7 @@ pub mod FindingOf
 pub mod Faults
 pub mod Sections
 pub mod Laws
+pub mod Scan
 pub mod Inner
 pub use Rattle.cnf_text.specs.Formula
 pub use Rattle.cnf_text.specs.Icnf

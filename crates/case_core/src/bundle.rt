@@ -6,8 +6,9 @@ ghost use Rattle.std.specs.Prelude.{OnOk, IfOk, IfErr, IfSome, MatchOption, coun
 ghost use Rattle.cnf_text.specs.Tokens.{is_line_end};
 ghost use Rattle.cnf_text.specs.Icnf.{Item, Within, IsFileOf};
 ghost use Rattle.case_core.specs.Bundle.{lines_of, is_label, text_before, labels_of};
+ghost use Rattle.case_core.specs.Bundle.{BeginsWithLabel, icnf_text};
 ghost use Rattle.case_core.specs.Inner.Bundle.{HasNoLabel, HasNoLetter, AfterPlainLines};
-ghost use Rattle.case_core.specs.Inner.Bundle.{FirstLabel, EndsWith, BeginsWithLabel, OneLabel};
+ghost use Rattle.case_core.specs.Inner.Bundle.{FirstLabel, EndsWith, OneLabel};
 ghost use Rattle.case_core.specs.Inner.Bundle.{NextLabel};
 ghost use Rattle.case_core.specs.Case.{section_in, part_in, CaseOf};
 ghost use Rattle.case_core.specs.Inner.Case.{IsCaseKept};
@@ -73,6 +74,14 @@ fn cut(text: &[u8]) -> (&[u8], Option<&[u8]>)
     }
 }
 
+/// The iCNF text of a bundle: everything before its first label line.
+pub fn icnf_part(bundle: &[u8]) -> &[u8]
+    ensures { result.now ≡ icnf_text bundle.now }
+{
+    let (front, _) = cut(bundle);
+    front
+}
+
 /// Whether a line of the text is a label line.
 pub fn has_label_line(text: &[u8]) -> bool
     ensures { (result ≡ false) ↔ (labels_of text.now ≡ []) }
@@ -84,12 +93,19 @@ pub fn has_label_line(text: &[u8]) -> bool
 }
 
 /// The number of the line, counted from 1, on which the end of a text begins.
-fn line_at(text: &[u8], end: &[u8]) -> u64
+pub(crate) fn line_at(text: &[u8], end: &[u8]) -> u64
     requires { EndsWith text.now end.now }
     ensures { result + length (lines_of end.now) ≡ length (lines_of text.now) + 1 }
 {
     let before = &text[..text.len() - end.len()];
     line_ends(before) as u64 + 1
+}
+
+/// How many lines a text has.
+pub(crate) fn line_count(text: &[u8]) -> u64
+    ensures { result ≡ length (lines_of text.now) }
+{
+    line_ends(text) as u64 + 1
 }
 
 /// How many lines end in a text.
@@ -102,14 +118,14 @@ fn line_ends(text: &[u8]) -> usize
 
 /// A label line, the section below it, and the text from the next label line on, if there is one.
 #[derive(Clone, Copy)]
-struct Part<'b> {
-    line: &'b [u8],
+pub(crate) struct Part<'b> {
+    pub(crate) line: &'b [u8],
     section: &'b [u8],
-    next: Option<&'b [u8]>,
+    pub(crate) next: Option<&'b [u8]>,
 }
 
 /// The first part of a text that begins with a label line.
-fn first_part(text: &[u8]) -> Part<'_>
+pub(crate) fn first_part(text: &[u8]) -> Part<'_>
     requires { BeginsWithLabel text.now }
     ensures labels { MatchOption result.next
         (OneLabel text.now result.line.now result.section.now)

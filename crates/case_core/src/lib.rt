@@ -8,13 +8,15 @@ mod fault;
 mod finding;
 mod label;
 mod laws;
+mod scan;
 mod sections;
 
-pub use bundle::{has_label_line, read_bundle, read_tree, take_bundle};
+pub use bundle::{has_label_line, icnf_part, read_bundle, read_tree, take_bundle};
 pub use case::{Case, Section};
 pub use cnf_text::{Clause, Formula, Lit};
 pub use fault::CaseFault;
 pub use finding::{Finding, examine, examine_text, examine_with};
 pub use hint_check::{Judged, Reason, Scratch};
 pub use laws::{case_or_a_fault, no_fault_beside_a_case, one_case, one_fault};
+pub use scan::LabelScan;
 pub use split_tree::{Leaf, NodeId, Target, Tree};

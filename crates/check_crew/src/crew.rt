@@ -10,7 +10,7 @@ ghost use Rattle.check_crew.specs.Seen.{HaveSeenSections};
 ghost use Rattle.check_crew.specs.Inner.Crew.{IsShiftOf, AreReady, AreNew, HaveSeenClaims};
 
 use crate::fault::CrewFault;
-use crate::gate::Gate;
+use crate::gate::{Elsewhere, Gate};
 use crate::order::long_proofs_first;
 use crate::settings::Settings;
 use crate::worker::{Shift, Site, work};
@@ -46,7 +46,11 @@ pub fn conquer<'c, R: Threads + Wait + Sync, G: Gate + Sync>(
 {
     let workers = settings.workers() as usize;
     let (hall, passes) = Hall::open(alloc, case, settings.cut(), workers)?;
-    gate.start(alloc, case, settings.cut(), 0)?;
+    let elsewhere = Elsewhere {
+        proofs: 0,
+        bytes: 0,
+    };
+    gate.start(alloc, case, settings.cut(), elsewhere)?;
     let examined = examine_all(rt, alloc, case, hall.core(), gate, passes);
     gate.end();
     let passes = examined?;

@@ -108,7 +108,7 @@ fn run_leaves<'c, R: Threads + Wait + Sync, G: Gate + Sync, P: LeafProofs + Send
     let (hall, mut passes) = Hall::open_for_proofs_elsewhere(alloc, case, cut, 2 * workers)?;
     let order = leaves_in_order(alloc, case, &proofs)?;
     let jobs = deal(alloc, hall.core(), &mut passes, proofs)?;
-    gate.start(alloc, case, cut, order.proofs)?;
+    gate.start(alloc, case, cut, order.elsewhere)?;
     let run = run_both(
         rt,
         alloc,

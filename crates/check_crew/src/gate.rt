@@ -9,6 +9,16 @@ use case_core::{Case, Judged, Leaf, NodeId, Target};
 use mark_board::Place;
 use std::alloc::{AllocError, Global};
 
+/// The proofs that lie elsewhere, beside the case's sections, as far as that can be told before they
+/// are read.
+#[derive(Clone, Copy, PartialEq, Eq, Debug)]
+pub struct Elsewhere {
+    /// How many there are.
+    pub proofs: u64,
+    /// How many bytes all of them have.
+    pub bytes: u64,
+}
+
 /// What a worker found of a section, or of a leaf's proof that lies elsewhere, and what the boards
 /// said when it had posted that.
 #[derive(Drop)]
@@ -19,6 +29,8 @@ pub struct Found<'a> {
     pub target: Target,
     /// The node at which the target stands.
     pub node: NodeId,
+    /// How many bytes the proof has.
+    pub length: usize,
     /// What is said of the proof.
     pub judged: Judged,
     /// The place of the board on which findings of this node are posted.
@@ -33,14 +45,14 @@ pub struct Found<'a> {
 /// gate.
 pub trait Gate {
     /// Once, before the first worker starts: the case of the run, the depth at which its tree is
-    /// cut, from 0 to 6, and how many proofs are known to lie elsewhere, beside the case's sections.
+    /// cut, from 0 to 6, and the proofs that lie elsewhere, beside the case's sections.
     /// Where it answers `AllocError`, the run ends as it does where a growth is refused.
     fn start(
         &self,
         _alloc: Global,
         _case: &Case,
         _cut: u32,
-        _elsewhere: u64,
+        _elsewhere: Elsewhere,
     ) -> Result<(), AllocError>
         requires { _cut ≤ 6 }
     {

@@ -1,16 +1,17 @@
 //! In which order a run reads the proofs of leaves that lie elsewhere.
 
+use crate::gate::Elsewhere;
 use crate::leaf_proofs::LeafProofs;
 use case_core::{Case, Leaf};
 use std::alloc::{AllocError, Global};
 use std::cmp::Reverse;
 
-/// The leaves of a case in the order in which their proofs are read, and of how many it is known
-/// beforehand that there is one.
+/// The leaves of a case in the order in which their proofs are read, and what is known of all these
+/// proofs beforehand.
 #[derive(Drop)]
 pub(crate) struct LeafOrder {
     pub(crate) leaves: Vec<Leaf>,
-    pub(crate) proofs: u64,
+    pub(crate) elsewhere: Elsewhere,
 }
 
 /// The leaf of this number, from 0: the cubes in their order, and then the missing leaves.
@@ -34,12 +35,14 @@ pub(crate) fn leaves_in_order<P: LeafProofs>(
 ) -> Result<LeafOrder, AllocError> {
     let count = case.tree().leaf_count();
     let cubes = case.tree().cube_count();
-    let mut known = 0u64;
+    let mut proofs_there = 0u64;
+    let mut bytes = 0u64;
     let mut lengths: Vec<(u64, Leaf)> = Vec::with_capacity(alloc, count as usize)?;
     for number in 0..count {
         let asked = leaf_of(cubes, number);
         if let Some(length) = proofs.first().and_then(|first| first.length(asked)) {
-            known = known.saturating_add(1);
+            proofs_there = proofs_there.saturating_add(1);
+            bytes = bytes.saturating_add(length);
             lengths.push((length, leaf_of(cubes, number)))?;
         } else {
             lengths.push((0, leaf_of(cubes, number)))?;
@@ -49,6 +52,9 @@ pub(crate) fn leaves_in_order<P: LeafProofs>(
     let leaves = lengths.iter().map(|one| one.1).collect(alloc)?;
     Ok(LeafOrder {
         leaves,
-        proofs: known,
+        elsewhere: Elsewhere {
+            proofs: proofs_there,
+            bytes,
+        },
     })
 }

@@ -1,6 +1,9 @@
 //! What a worker does of leaves whose proofs don't stand in the case.
 
 ghost use Rattle.std.specs.Prelude.{◌≡◌, ◌<◌, ◌^◌, ◌-◌, [], true, None, All, IfOk, IfErr, IfSome};
+ghost use Rattle.std.specs.Prelude.{false};
+ghost use Rattle.case_core.specs.Bundle.{labels_of};
+ghost use Rattle.case_core.specs.Case.{proof_for};
 ghost use Rattle.std.specs.Prelude.{OnOk};
 ghost use Rattle.case_core.specs.Leaf.{Leaf};
 ghost use Rattle.case_core.specs.Leaves.{HasTarget};
@@ -55,6 +58,16 @@ pub(crate) struct LeafShift<P> {
     pub(crate) fault: Option<ReadFault>,
 }
 
+/// Whether the run has to be made with all proofs in one bundle, for the proof of this leaf: it has
+/// a label line, or the leaf has a section of its own.
+fn is_for_one_bundle(case: &Case, leaf: Leaf, proof: &[u8]) -> bool
+    requires { HasTarget case.now.tree (Target.Leaf leaf) }
+    ensures plain { result ≡ false → labels_of proof.now ≡ [] }
+    ensures free { result ≡ false → proof_for case.now.sections (Target.Leaf leaf) ≡ None }
+{
+    has_label_line(proof) || case.proof_for(Target::Leaf(leaf)).is_some()
+}
+
 /// Reads the proof of a leaf, judges it, and posts what is found, and then the part that is owed,
 /// if any; the gate is called beside it where there is a proof. The bytes are dropped by the next
 /// call.
@@ -94,7 +107,7 @@ fn examine_leaf<R: Wait, G: Gate, P: LeafProofs>(
     if !proofs.read(asked, bytes)? {
         return Ok(Examined::Absent);
     }
-    if has_label_line(bytes) || case.proof_for(Target::Leaf(placed)).is_some() {
+    if is_for_one_bundle(case, placed, bytes) {
         gate.falls_back(told);
         return Ok(Examined::Other);
     }
@@ -113,6 +126,7 @@ fn examine_leaf<R: Wait, G: Gate, P: LeafProofs>(
         pass,
         Target::Leaf(told),
         node,
+        bytes.len(),
         judged,
     );
     Ok(Examined::Found(judged))

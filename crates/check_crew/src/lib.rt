@@ -17,7 +17,7 @@ mod worker;
 pub use crew::conquer;
 pub use elsewhere::conquer_leaves;
 pub use fault::CrewFault;
-pub use gate::{Found, Gate, NoGate};
+pub use gate::{Elsewhere, Found, Gate, NoGate};
 pub use leaf_proofs::{LeafProofs, ReadFault};
 pub use leaves::Examined;
 pub use settings::Settings;

@@ -76,8 +76,9 @@ fn take_turn<R: Wait, G: Gate>(
     };
     let node = finding.node();
     let judged = finding.judged();
+    let length = case.proof_at(place).len();
     let _ = post(rt, case, core, pass, finding);
-    tell(case, core, gate, worker, pass, target, node, judged);
+    tell(case, core, gate, worker, pass, target, node, length, judged);
     Ok(())
 }
 
@@ -123,6 +124,7 @@ pub(crate) fn tell<G: Gate>(
     pass: &mut Pass,
     target: Target,
     node: NodeId,
+    length: usize,
     judged: Judged,
 )
     requires case { case.now ≡ (core_of core.now).case }
@@ -140,6 +142,7 @@ pub(crate) fn tell<G: Gate>(
         case,
         target,
         node,
+        length,
         judged,
         place: board,
         weight,

@@ -1,10 +1,11 @@
 -- What a run says of the bundle and of what was written, and what its status says.
 use Rattle.std.proofs.Common.{◌≡◌, ◌<◌, ◌⊎◌, ◌∙◌, sym, refl, ap, subst, ℕ, Bool, true, false, List}
-use Rattle.std.proofs.Common.{[], Option, None, Some}
+use Rattle.std.proofs.Common.{[], Option, None, Some, ◌++◌}
 use Rattle.std.specs.Prelude.{is_some, option_map, if◌then◌else◌}
-use Rattle.std.proofs.Common.{Result, Ok, Err, IfOk, IfErr, MatchResult, inl, inr, arith}
-use Rattle.std.specs.Io.KnownBytes.{Appends}
-use Rattle.bundle_files.specs.Files.{Held, Gives, IsBundleOf, IsRead}
+use Rattle.std.proofs.Common.{Result, Ok, Err, IfOk, IfErr, OnErr, MatchResult, inl, inr, arith}
+use Rattle.std.specs.Io.KnownBytes.{Appends, Keeps}
+use Rattle.bundle_files.specs.Files.{Held, Gives, IsBundleOf, IsJudgedOf, IsRead}
+use Rattle.bundle_files.specs.Judging.{IsRefusedOf}
 use Rattle.bundle_files.proofs.FilesFormula.{judged_unsatisfiable}
 use Rattle.cube_report.specs.declared.fault.Fault.{Fault}
 use Rattle.cube_report.specs.declared.fault.Fault.TheVariants.{Header, Token, Unfinished, TooLarge}
@@ -12,21 +13,24 @@ use Rattle.cube_report.specs.declared.fault.Fault.TheVariants.{Limit, Memory, Re
 use Rattle.cube_report.specs.declared.fault.Fault.TheVariants.{Overlap, BadLabel, NoSuchLeaf}
 use Rattle.cube_report.specs.declared.fault.Fault.TheVariants.{ProofTwice, Device, Thread}
 use Rattle.cube_report.specs.Faults.{IsInputFault}
-use Rattle.cube_report.specs.Correct.{AllowsReports, IsOutcome, IsUnsatisfiable}
+use Rattle.cube_report.specs.Correct.{AllowsReports, IsOutcome, IsReportOn, IsUnsatisfiable}
+use Rattle.cube_report.specs.Device.{AppendsBeginning}
 use Rattle.cube_report.specs.Picture.{map_text}
-use Rattle.cube_command.specs.Program.{IsDrawn, IsRefused, IsReported, IsLineWritten, fault_line}
-use Rattle.cube_command.specs.Program.{AllowsFaults, AllowsPictures, IsPictureOn}
+use Rattle.cube_report.specs.Bundle.{icnf_text}
+use Rattle.cube_command.specs.Program.{IsMade, IsRefused, IsReported, IsLineWritten, fault_line}
+use Rattle.cube_command.specs.Program.{AllowsFaults, IsBegun, IsPictureOn}
+use Rattle.cube_command.specs.Record.{digest_line, record_text}
 use Rattle.cube_command.specs.Inner.Telling.{IsFaultWritten, status_of, status_of_answer}
 
 -- ---- the run
 
--- what was drawn is the picture, where one is asked for
-drawn_there : (after : Held) (map : Option (List ℕ)) (picture drawn : List ℕ) →
-    drawn ≡ (if is_some map then picture else []) → IsDrawn after map drawn →
-    IsDrawn after map picture
-drawn_there after None picture drawn is there = tt
-drawn_there after (Some path) picture drawn is there =
-    subst (Gives after path) (ap (λ (bytes : List ℕ). Some bytes) is) there
+-- what was written where a file is asked for is what is owed there
+pub made_there : (after : Held) (path : Option (List ℕ)) (owed written : List ℕ)
+    → ((at : List ℕ) → path ≡ Some at → written ≡ owed) → IsMade after path written →
+    IsMade after path owed
+made_there after None owed written is there = tt
+made_there after (Some path) owed written is there =
+    subst (Gives after path) (ap (λ (bytes : List ℕ). Some bytes) (is path refl)) there
 
 -- whether there is a path is whether there is its text
 pub some_mapped : {A B : Type 0} (f : A → B) (path : Option A) (there : Bool) →
@@ -34,15 +38,37 @@ pub some_mapped : {A B : Type 0} (f : A → B) (path : Option A) (there : Bool) 
 some_mapped f None there is = is
 some_mapped f (Some path) there is = is
 
--- the report that was written, and the picture, are those on the bundle that was asked for
-pub reported : (held after : Held) (file folder map input old new : Option (List ℕ))
-    (read whole text picture : List ℕ) (draws answer : Bool)
+-- a bundle that was read, and the one that is judged for it
+pub bundle_of : (held : Held) (file folder input : Option (List ℕ)) (read whole : List ℕ) →
+    IsRead held file input read → IsJudgedOf held folder read whole →
+    IsBundleOf held file folder input read whole
+bundle_of held file folder input read whole is_read is_judged = record {
+  is_read = is_read;
+  is_judged = is_judged;
+}
+
+-- its first fault is that of what the words ask for
+pub refused_of : (held : Held) (file folder input : Option (List ℕ)) (read : List ℕ)
+    (fault : Fault) → IsRead held file input read → IsRefusedOf held folder read fault →
+    IsRefused held file folder input fault
+refused_of held file folder input read fault is_read refused = record {
+  read = read;
+  whole = refused.whole;
+  bundle = bundle_of held file folder input read refused.whole is_read refused.is_judged;
+  first = refused.first;
+}
+
+-- the report that was written, the picture and the record are those on the bundle that was asked
+-- for
+pub reported : (held after : Held) (file folder map out input old new : Option (List ℕ))
+    (read whole text picture made : List ℕ) (draws answer : Bool)
     → IsBundleOf held file folder input read whole → IsOutcome whole draws text picture answer →
     draws ≡ is_some map
-    → Appends old new text → IsDrawn after map picture →
-    IsReported held after file folder map input old new answer
-reported held after file folder map input old new read whole text picture draws answer bundle
-    outcome asked written there = record {
+    → ((at : List ℕ) → out ≡ Some at → made ≡ record_text read text)
+    → Appends old new text → IsMade after map picture → IsMade after out made →
+    IsReported held after file folder map out input old new answer
+reported held after file folder map out input old new read whole text picture made draws answer
+    bundle outcome asked owed written there beside = record {
       read = read;
       whole = whole;
       bundle = bundle;
@@ -52,11 +78,45 @@ reported held after file folder map input old new read whole text picture draws 
       sound =
           λ says. judged_unsatisfiable held folder read whole bundle.is_judged
           (outcome.correct.sound says);
-      drawn = drawn_there after map _ picture
-          (outcome.drawn
+      drawn = made_there after map _ picture
+          (λ at is. outcome.drawn
           ∙ ap (λ (b : Bool). if b then map_text outcome.correct.case outcome.correct.marks else [])
-          asked) there;
+          (asked ∙ ap is_some is)) there;
+      recorded = made_there after out (record_text read text) made owed beside;
     }
+
+-- a record that was begun by its line, and ended by the report
+pub whole_record : (out : Option (List ℕ)) (read text bytes report begun ended made : List ℕ)
+    → bytes ≡ read → report ≡ text → made ≡ ended
+    → ((at : List ℕ) → out ≡ Some at → begun ≡ digest_line (icnf_text bytes))
+    → ((at : List ℕ) → out ≡ Some at → ended ≡ begun ++ report)
+    → (at : List ℕ) → out ≡ Some at → made ≡ record_text read text
+whole_record out read text bytes report begun ended made same same_text same_made first last at is =
+    rw (← same, ← same_text)
+    (same_made ∙ last at is ∙ ap (λ (line : List ℕ). line ++ report) (first at is))
+
+-- what was written of a report that failed, if anything, is a beginning of that on the bundle
+pub begun_of : {E : Type 0} (run : Result Bool E) (held : Held)
+    (file folder input old new : Option (List ℕ)) (read whole text : List ℕ) (before after : ℕ)
+    → IsBundleOf held file folder input read whole → IsReportOn whole text
+    → Keeps old new ⊎ ((before < after) × AppendsBeginning old new text)
+    → OnErr run (Keeps old new ⊎ ((before < after) × IsBegun held file folder input old new))
+begun_of (Ok answer) held file folder input old new read whole text before after bundle report
+    wrote = tt
+begun_of (Err fault) held file folder input old new read whole text before after bundle report
+    (inl kept) = inl kept
+begun_of (Err fault) held file folder input old new read whole text before after bundle report
+    (inr begun) = inr (
+      begun.0,
+      record {
+        read = read;
+        whole = whole;
+        bundle = bundle;
+        text = text;
+        report = report;
+        written = begun.1;
+      },
+    )
 
 -- ---- what may be written
 
@@ -84,16 +144,16 @@ pub reports_asked : (texts : List ℕ → Type 0) (held : Held)
 reports_asked texts held file folder asked_file asked_folder input same_file same_folder may read
     whole bundle = may read whole (rw (same_file, same_folder) at bundle)
 
-pub pictures_asked : (texts : List ℕ → List ℕ → Type 0) (held : Held)
-    (file folder map asked_file asked_folder asked_map input : Option (List ℕ))
-    → file ≡ asked_file → folder ≡ asked_folder → map ≡ asked_map
-    → ((path read whole : List ℕ) → asked_map ≡ Some path →
-    IsBundleOf held asked_file asked_folder input read whole → AllowsPictures (texts path) whole)
-    → (path read whole : List ℕ) → map ≡ Some path →
-    IsBundleOf held file folder input read whole → AllowsPictures (texts path) whole
-pictures_asked texts held file folder map asked_file asked_folder asked_map input same_file
-    same_folder same_map may path read whole is bundle =
-    may path read whole (sym same_map ∙ is) (rw (same_file, same_folder) at bundle)
+pub files_asked : (Allowed : List ℕ → List ℕ → List ℕ → Type 0) (held : Held)
+    (file folder at asked_file asked_folder asked_at input : Option (List ℕ))
+    → file ≡ asked_file → folder ≡ asked_folder → at ≡ asked_at
+    → ((path read whole : List ℕ) → asked_at ≡ Some path →
+    IsBundleOf held asked_file asked_folder input read whole → Allowed path read whole)
+    → (path read whole : List ℕ) → at ≡ Some path →
+    IsBundleOf held file folder input read whole → Allowed path read whole
+files_asked Allowed held file folder at asked_file asked_folder asked_at input same_file
+    same_folder same_at may path read whole is bundle =
+    may path read whole (sym same_at ∙ is) (rw (same_file, same_folder) at bundle)
 
 -- the line of a fault with which a run ended
 pub fault_asked : (texts : List ℕ → Type 0) (held : Held)
@@ -188,25 +248,25 @@ with_five (NoSuchLeaf line) is = absurd (omega arith)
 with_five (ProofTwice line) is = absurd (omega arith)
 
 -- status 0
-pub sound_run : (held later : Held) (asked file folder map input out_old out_new : Option (List ℕ))
-    (run : Result Bool Fault) (status : ℕ) (Same : Type 0) (old new : Option (List ℕ))
-    (before after : ℕ)
+pub sound_run : (held later : Held)
+    (asked file folder map out input out_old out_new : Option (List ℕ)) (run : Result Bool Fault)
+    (status : ℕ) (Same : Type 0) (old new : Option (List ℕ)) (before after : ℕ)
     → file ≡ asked → ToldRun run status Same old new before after
-    → IfOk run (IsReported held later file folder map input out_old out_new) → status ≡ 0
+    → IfOk run (IsReported held later file folder map out input out_old out_new) → status ≡ 0
     → (read : List ℕ) × IsRead held asked input read × IsUnsatisfiable read
-sound_run held later asked file folder map input out_old out_new (Ok true) status Same old new
+sound_run held later asked file folder map out input out_old out_new (Ok true) status Same old new
     before after same told report is = (
       report.read,
       subst (λ (f : Option (List ℕ)). IsRead held f input report.read) same report.bundle.is_read,
       report.sound refl,
     )
-sound_run held later asked file folder map input out_old out_new (Ok false) status Same old new
+sound_run held later asked file folder map out input out_old out_new (Ok false) status Same old new
     before after same told report is = let one : status ≡ 1 = told.0 in absurd (omega arith)
-sound_run held later asked file folder map input out_old out_new (Err fault) status Same old new
+sound_run held later asked file folder map out input out_old out_new (Err fault) status Same old new
     before after same (inl told) report is =
     let above : 2 < status_of fault = above_two fault in
     let has : status ≡ status_of fault = told.0 in absurd (omega arith)
-sound_run held later asked file folder map input out_old out_new (Err fault) status Same old new
+sound_run held later asked file folder map out input out_old out_new (Err fault) status Same old new
     before after same (inr told) report is = let four : status ≡ 4 = told.1 in absurd (omega arith)
 
 -- status 3

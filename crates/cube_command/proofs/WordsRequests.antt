@@ -1,7 +1,11 @@
 -- What the words ask for.
 use Rattle.std.proofs.Common.{◌≡◌, ◌∙◌, ap, refl, ℕ, Bool, false, Option, Some, List, [], ◌∷◌, map}
-use Rattle.std.proofs.Common.{length, codes, true, None}
-use Rattle.std.proofs.Common.{Result, Ok, Err, IfErr, IsErrAnd, subst, sym, inl, inr}
+use Rattle.std.proofs.Common.{length, codes, true, None, not}
+use Rattle.std.proofs.Common.{Result, Ok, Err, IfErr, IsErrAnd, IsTrue, subst, sym, inl, inr}
+use Rattle.std.proofs.Common.{◌↔◌}
+use Rattle.std.specs.Str.{bytes_eq}
+use Rattle.std.proofs.lemmas.Bool.{not-true}
+use Rattle.std.proofs.lemmas.Slice.Eq.{bytes_eq-Decides}
 use Rattle.clap.specs.declared.builder.command.Command.{Command}
 use Rattle.clap.specs.declared.error.Error.{Error}
 use Rattle.clap.specs.declared.error.kind.ErrorKind.TheVariants.{OutOfMemory}
@@ -11,7 +15,8 @@ use Rattle.clap.specs.Words.{found_of, is_simple, is_simple_and_free, kind_of, m
 use Rattle.clap.specs.Words.{one_text, HasKind, Kinds}
 use Rattle.clap.proofs.OnLiterals.{clap_on_literals}
 use Rattle.clap.proofs.WalkLemmas.{first_value-rows, one_text-rows}
-use Rattle.cube_command.specs.Words.{AreTaken, asked_for, file_of, folder_of, words_taken}
+use Rattle.cube_command.specs.Words.{AreApart, AreTaken, asked_for, file_of, folder_of, map_of}
+use Rattle.cube_command.specs.Words.{record_of, words_taken}
 use Rattle.cube_command.specs.Inner.Words.{Reads, SaysFlag, SaysNumber, flag_text}
 
 -- what the parser's matches hold under a name is what the words ask for
@@ -51,18 +56,58 @@ pub taken_fails : (parser : Command) (words : List Text) (error : Error) →
     → AreTaken words → kind_of error ≡ OutOfMemory
 taken_fails parser words error is fails taken =
     among_none error (fault_of (app_of parser) words)
-    (ap (λ (a : App). fault_of a words) is ∙ taken) (fails (parser_simple parser is))
+    (ap (λ (a : App). fault_of a words) is ∙ taken.0) (fails (parser_simple parser is))
 
--- words that were parsed are taken
-pub parsed_taken : (parser : Command) (words : List Text) → app_of parser ≡ words_taken
-    → (is_simple_and_free (app_of parser) ≡ true → fault_of (app_of parser) words ≡ []) →
-    AreTaken words
-parsed_taken parser words is parsed =
-    sym (ap (λ (a : App). fault_of a words) is) ∙ parsed (parser_simple parser is)
+-- words that were parsed, and ask for two files at two paths, are taken
+pub parsed_taken : (parser : Command) (words : List Text) (picture out : Option Text)
+    → app_of parser ≡ words_taken
+    → (is_simple_and_free (app_of parser) ≡ true → fault_of (app_of parser) words ≡ [])
+    → picture ≡ asked_for (codes "map") words → out ≡ asked_for (codes "record") words
+    → AreApart picture out → AreTaken words
+parsed_taken parser words picture out is parsed picture_is out_is apart = (
+  sym (ap (λ (a : App). fault_of a words) is) ∙ parsed (parser_simple parser is),
+  rw (picture_is, out_is) at apart,
+)
+
+-- words that ask for two files at one path aren't taken
+pub one_path_untaken : (words : List Text) (picture out : Option Text) (apart : Bool)
+    → picture ≡ asked_for (codes "map") words → out ≡ asked_for (codes "record") words
+    → (AreApart picture out → IsTrue apart) → apart ≡ false → ¬ AreTaken words
+one_path_untaken words picture out apart picture_is out_is apart_is same taken =
+    let yes : apart ≡ true = apart_is (rw (picture_is, out_is) taken.1) in absurd (cc)
+
+no_fault : fault_of words_taken [] ≡ []
+unfolding clap_on_literals
+no_fault = refl
+
+no_map : asked_for (codes "map") [] ≡ None
+unfolding clap_on_literals
+no_map = refl
+
+unless_equal : (one other : Text) (equal : Bool) → bytes_eq one other ≡ equal →
+    AreApart (Some one) (Some other) → not equal ≡ true
+unless_equal one other true is apart =
+    absurd (apart one refl (ap (λ (t : Text). Some t) (sym ((bytes_eq-Decides one other).0 is))))
+unless_equal one other false is apart = refl
+
+-- two files are apart exactly where their paths differ
+pub apart_where : (one other : Text) →
+    IsTrue (not (bytes_eq one other)) ↔ AreApart (Some one) (Some other)
+apart_where one other = (
+  λ yes path at there.
+      let same : one ≡ other = cc in
+      let equal : bytes_eq one other ≡ true = (bytes_eq-Decides one other).1 same in
+      let differ : bytes_eq one other ≡ false = not-true (bytes_eq one other) yes in absurd (cc),
+  λ apart. unless_equal one other (bytes_eq one other) refl apart,
+)
+
+-- where the one isn't asked for, there are no two at one path
+apart_of_none : (one other : Option Text) → one ≡ None → AreApart one other
+apart_of_none None other is path there = absurd (cc)
+apart_of_none (Some text) other is path there = absurd (cc)
 
 no_words_taken : AreTaken []
-unfolding clap_on_literals
-no_words_taken = refl
+no_words_taken = (no_fault, apart_of_none (map_of []) (record_of []) no_map)
 
 no_proofs : asked_for (codes "proofs") [] ≡ None
 unfolding clap_on_literals
@@ -79,8 +124,7 @@ no_words f (word ∷ words) none = absurd (cc)
 -- no words are taken, and ask for neither proofs nor a file
 pub nothing_taken : {A : Type 0} (text : A → Text) (words : List A) → length words ≡ 0
     → AreTaken (map text words)
-nothing_taken text words none =
-    ap (fault_of words_taken) (no_words text words none) ∙ no_words_taken
+nothing_taken text words none = subst AreTaken (sym (no_words text words none)) no_words_taken
 
 -- no words ask for nothing
 pub nothing_asked : {A : Type 0} (text : A → Text) (words : List A) → length words ≡ 0

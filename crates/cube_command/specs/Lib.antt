@@ -1,3 +1,4 @@
 pub mod Words
+pub mod Record
 pub mod Program
 pub mod Inner

@@ -10,21 +10,23 @@ use Rattle.cube_report.specs.declared.fault.Fault.{Fault}
 use Rattle.cube_report.specs.Faults.{IsInputFault, fault_text}
 use Rattle.cube_report.specs.Device.{AppendsBeginning}
 use Rattle.cube_report.specs.Correct.{IsCorrect, IsFaultOn, IsJudged, IsReportOn, IsUnsatisfiable}
+use Rattle.cube_command.specs.Record.{record_text}
 
 -- one of the program's statuses
 abbrev pub IsStatus : ℕ → Type 0
 IsStatus status =
     (status ≡ 0) ⊎ (status ≡ 1) ⊎ (status ≡ 2) ⊎ (status ≡ 3) ⊎ (status ≡ 4) ⊎ (status ≡ 5)
 
--- the picture lies at the path that is asked for, as far as is known
-abbrev pub IsDrawn : Held → Option (List ℕ) → List ℕ → Type 0
-IsDrawn held None picture = ⊤
-IsDrawn held (Some path) picture = Gives held path (Some picture)
+-- where a file is asked for, these bytes lie at its path, as far as is known
+abbrev pub IsMade : Held → Option (List ℕ) → List ℕ → Type 0
+IsMade held None bytes = ⊤
+IsMade held (Some path) bytes = Gives held path (Some bytes)
 
 -- The report on the bundle that the words ask for was written, and nothing more; its last line
 -- gives this answer, and where it says refuted, the formula of the bundle that was read has no
--- model. Where a picture is asked for, that of the same case by the same marks was written.
-pub record IsReported (held after : Held) (file folder map input old new : Option (List ℕ))
+-- model. Where a picture is asked for, that of the same case by the same marks was written; where a
+-- record is, that of the bundle that was read and of the very report.
+pub record IsReported (held after : Held) (file folder map out input old new : Option (List ℕ))
     (answer : Bool) : Type 0 where
   pub read : List ℕ
   pub whole : List ℕ
@@ -33,7 +35,8 @@ pub record IsReported (held after : Held) (file folder map input old new : Optio
   pub correct : IsCorrect whole text answer
   pub written : Appends old new text
   pub sound : answer ≡ true → IsUnsatisfiable read
-  pub drawn : IsDrawn after map (map_text correct.case correct.marks)
+  pub drawn : IsMade after map (map_text correct.case correct.marks)
+  pub recorded : IsMade after out (record_text read text)
 
 -- the bundle that the words ask for has this fault, its first
 pub record IsRefused (held : Held) (file folder input : Option (List ℕ)) (fault : Fault)

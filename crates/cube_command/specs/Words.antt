@@ -1,5 +1,5 @@
 -- Which words the program takes, and what they ask for.
-use Rattle.std.specs.Prelude.{◌≡◌, List, [], ◌∷◌, codes, pos, true, Option, Some}
+use Rattle.std.specs.Prelude.{◌≡◌, ◌≢◌, List, [], ◌∷◌, codes, pos, true, Option, Some}
 use Rattle.clap.specs.Words.{App, Rule, Text, fault_of, first_of, matches_of, new_app, new_rule}
 use Rattle.clap.specs.Words.{with_rule}
 use Rattle.clap.specs.declared.builder.action.ArgAction.TheVariants.{SetTrue}
@@ -36,6 +36,10 @@ progress_word =
 abbrev pub map_word : Rule
 map_word = record (valued (codes "map")) { parser = Some NonEmptyString }
 
+-- `--record` with a text that isn't empty
+abbrev pub record_word : Rule
+record_word = record (valued (codes "record")) { parser = Some NonEmptyString }
+
 -- one text without a name
 abbrev pub file_word : Rule
 file_word = record (new_rule (codes "file")) { value_names = 1 }
@@ -47,14 +51,9 @@ with_version parser =
 
 abbrev pub words_taken : App
 words_taken =
-    with_rule (with_rule (with_rule (with_rule
+    with_rule (with_rule (with_rule (with_rule (with_rule
     (with_rule (with_rule (with_version (new_app (codes "cubeboard"))) workers_word) cut_word)
-    proofs_word) progress_word) map_word) file_word
-
--- these words fit that: `clap` finds no fault in them, and they ask for neither help nor the
--- version
-abbrev pub AreTaken : List Text → Type 0
-AreTaken words = fault_of words_taken words ≡ []
+    proofs_word) progress_word) map_word) record_word) file_word
 
 -- the value that `clap` finds in these words
 abbrev pub asked_for : Text → List Text → Option Text
@@ -70,3 +69,17 @@ folder_of words = first_of (codes "proofs") (matches_of words_taken words)
 -- the file for the picture
 abbrev pub map_of : List Text → Option Text
 map_of words = first_of (codes "map") (matches_of words_taken words)
+
+-- the file for the record
+abbrev pub record_of : List Text → Option Text
+record_of words = first_of (codes "record") (matches_of words_taken words)
+
+-- two files, where both are asked for, have two paths
+abbrev pub AreApart : Option Text → Option Text → Type 0
+AreApart one other = (path : Text) → one ≡ Some path → other ≢ Some path
+
+-- These words fit all that: `clap` finds no fault in them, they ask for neither help nor the
+-- version, and for the picture and the record at two paths.
+abbrev pub AreTaken : List Text → Type 0
+AreTaken words =
+    (fault_of words_taken words ≡ []) × AreApart (map_of words) (record_of words)

@@ -4,6 +4,7 @@
 // `command` stands here: a module can't have the name of an item beside it.
 mod program;
 mod progress;
+mod record;
 mod telling;
 mod words;
 

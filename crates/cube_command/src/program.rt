@@ -9,34 +9,42 @@ ghost use Rattle.clap.specs.Words.{kind_of};
 ghost use Rattle.bundle_files.specs.Files.{IsAbsent, IsBundleOf, IsRead};
 ghost use Rattle.cube_report.specs.Correct.{AllowsReports, IsUnsatisfiable};
 ghost use Rattle.cube_report.specs.Faults.{IsInputFault};
-ghost use Rattle.cube_command.specs.Words.{AreTaken, file_of, folder_of, map_of};
-ghost use Rattle.cube_command.specs.Program.{IsStatus, IsDrawn, IsReported, IsRefused, IsBegun};
+ghost use Rattle.cube_command.specs.Words.{AreApart, AreTaken, file_of, folder_of, map_of};
+ghost use Rattle.cube_command.specs.Words.{record_of};
+ghost use Rattle.cube_command.specs.Record.{AllowsRecords};
+ghost use Rattle.cube_command.specs.Program.{IsStatus, IsMade, IsReported, IsRefused, IsBegun};
 ghost use Rattle.cube_command.specs.Program.{IsLineWritten, fault_line, AllowsFaults};
 ghost use Rattle.cube_command.specs.Program.{AllowsPictures};
 
 use crate::progress::Watched;
+use crate::record::{begin_record, end_record};
 use crate::telling::{tell_fault, tell_run};
 use crate::words::{Request, request_of};
-use bundle_files::{Store, read_judged};
+use bundle_files::{Store, judge_given, read_given};
 use clap::Error as WordsError;
 use clap::error::ErrorKind as WordsFault;
-use cube_report::{Fault, Gate, Outcome, Sink, Source, judge_bundle, write_all};
+use cube_report::{Fault, Gate, Outcome, Sink, Source, write_all};
 use std::alloc::Global;
 use std::convert::AsStr;
 use std::sync::Wait;
 use std::thread::Threads;
 
 /// The program on these words, which are those after its name: `[--workers N] [--cut D] [--proofs
-/// DIR] [--progress] [--map SVG] [FILE]`. It reads a bundle from FILE, or from `input` where there
-/// is none, and writes the report to `output` or, where there is no report, one line to `errors`.
-/// Files are found by `store`. Both writers have to write at once, without a buffer of their own.
+/// DIR] [--progress] [--map SVG] [--record OUT] [FILE]`. It reads a bundle from FILE, or from
+/// `input` where there is none, and writes the report to `output` or, where there is no report, one
+/// line to `errors`. Files are found by `store`. Both writers have to write at once, without a
+/// buffer of their own.
 ///
 /// With `--proofs DIR` the proofs of that folder are added to the bundle: for each cube K and after
 /// that for each missing leaf J, in order, the file `DIR/K.lrat` or `DIR/mJ.lrat`, where it is
-/// there, as the section of its leaf. N workers check the proofs, with boards cut at the depth D;
+/// there, as the section of its leaf. Each of them is read when a worker comes to its leaf, and
+/// dropped when it is judged; all are read beforehand only where one has a label line, or is for a
+/// leaf with a section of its own. N workers check the proofs, with boards cut at the depth D;
 /// `gate` is called beside each section, and with `--progress` also `watch`, which may tell a
 /// person how far the run is, on a device that it is lent: what it does there is not `errors`. With
-/// `--map SVG` a picture of the tree is written to that file, made anew, before the report.
+/// `--map SVG` a picture of the tree is written to that file, made anew, before the report; with
+/// `--record OUT` then a record to that one: the line `i ` with the SHA-256 of the iCNF text of the
+/// bundle that was read, and the report. The two can't be one file.
 ///
 /// Answers the status: 0 for a report that says refuted, 1 for one that says open, 2 where the
 /// words can't be taken or ask for help or the version, after the parser's text on `errors`, 3
@@ -78,6 +86,11 @@ where
         → IsBundleOf (D.held store.old) (file_of (map S.text words.now))
         (folder_of (map S.text words.now)) (I.remaining input.old) read whole
         → AllowsPictures (D.allows store.old path) whole }
+    // To the file for the record, and to no other: the record of that bundle.
+    requires records { (path read whole : List ℕ) → record_of (map S.text words.now) ≡ Some path
+        → IsBundleOf (D.held store.old) (file_of (map S.text words.now))
+        (folder_of (map S.text words.now)) (I.remaining input.old) read whole
+        → AllowsRecords (D.allows store.old path) read whole }
     // To `errors`: the line of a fault, which is that bundle's where it is one of the input; or the
     // parser's text, which no contract knows, where the words can't be taken.
     requires faults { AllowsFaults (E.allows errors.old) (D.held store.old)
@@ -96,17 +109,19 @@ where
     // Status 1: it says open.
     ensures refuted { result ≡ 0 → IsReported (D.held store.old) (D.held store.new)
         (file_of (map S.text words.now)) (folder_of (map S.text words.now))
-        (map_of (map S.text words.now)) (I.remaining input.old)
+        (map_of (map S.text words.now)) (record_of (map S.text words.now)) (I.remaining input.old)
         (O.contents output.old) (O.contents output.new) true }
     ensures open { result ≡ 1 → IsReported (D.held store.old) (D.held store.new)
         (file_of (map S.text words.now)) (folder_of (map S.text words.now))
-        (map_of (map S.text words.now)) (I.remaining input.old)
+        (map_of (map S.text words.now)) (record_of (map S.text words.now)) (I.remaining input.old)
         (O.contents output.old) (O.contents output.new) false }
     // Then nothing is written to `errors`.
     ensures quiet { result < 2 → errors.new ≡ errors.old }
 
-    // No file changes but the one for the picture, and that one only with a report, or with 5.
+    // No file changes but those for the picture and the record, and these only with a report, or
+    // with 5.
     ensures elsewhere { (path : List ℕ) → map_of (map S.text words.now) ≢ Some path
+        → record_of (map S.text words.now) ≢ Some path
         → D.held store.new path ≡ D.held store.old path }
     ensures undrawn { 1 < result → result < 5 → D.held store.new ≡ D.held store.old }
 
@@ -193,13 +208,22 @@ where
         → IsBundleOf (D.held store.old) (option_map (λ text. text.now) request.now.file)
         (option_map (λ text. text.now) request.now.proofs) (I.remaining input.old) read whole
         → AllowsPictures (D.allows store.old path) whole }
+    requires records { (path read whole : List ℕ)
+        → option_map (λ text. text.now) request.now.out ≡ Some path
+        → IsBundleOf (D.held store.old) (option_map (λ text. text.now) request.now.file)
+        (option_map (λ text. text.now) request.now.proofs) (I.remaining input.old) read whole
+        → AllowsRecords (D.allows store.old path) read whole }
+    requires apart { AreApart (option_map (λ text. text.now) request.now.map)
+        (option_map (λ text. text.now) request.now.out) }
     ensures report { IfOk result
         (IsReported (D.held store.old) (D.held store.new)
         (option_map (λ text. text.now) request.now.file)
         (option_map (λ text. text.now) request.now.proofs)
-        (option_map (λ text. text.now) request.now.map) (I.remaining input.old)
+        (option_map (λ text. text.now) request.now.map)
+        (option_map (λ text. text.now) request.now.out) (I.remaining input.old)
         (O.contents output.old) (O.contents output.new)) }
     ensures elsewhere { (path : List ℕ) → option_map (λ text. text.now) request.now.map ≢ Some path
+        → option_map (λ text. text.now) request.now.out ≢ Some path
         → D.held store.new path ≡ D.held store.old path }
     ensures undrawn { IfErr result
         (λ fault. fault ≢ Fault.Device → D.held store.new ≡ D.held store.old) }
@@ -222,29 +246,46 @@ where
         < D.failures store.new + I.failures input.new + O.failures output.new)
         ⊎ IsAbsent (D.held store.old) (option_map (λ text. text.now) request.now.file) }
 {
-    let bundle = read_judged(rt.alloc(), store, input, request.file, request.proofs)?;
+    let read = read_given(rt.alloc(), store, input, request.file)?;
     let draws = request.map.is_some();
-    let outcome = judge_bundle(rt, rt.alloc(), bundle, request.settings, gate, draws)?;
-    write_outcome(store, output, request.map, &outcome)?;
+    let mut record = begin_record(rt.alloc(), request.out, &read)?;
+    let outcome = judge_given(
+        rt,
+        store,
+        read,
+        request.proofs,
+        request.settings,
+        gate,
+        draws,
+    )?;
+    end_record(&mut record, request.out, &outcome.text)?;
+    write_outcome(store, output, request, &outcome, &record)?;
     Ok(outcome.refuted)
 }
 
-/// Writes the picture, where a file for it is asked for, and then the report.
+/// Writes the picture and the record, where files for them are asked for, and then the report.
 fn write_outcome<D: Store, O: Sink>(
     store: &mut D,
     output: &mut O,
-    map: Option<&str>,
+    request: &Request<'_>,
     outcome: &Outcome,
+    made: &[u8],
 ) -> Result<(), Fault>
     requires store { D.failures store.old < 2 ^ 64 - 1 }
     requires output { O.failures output.old < 2 ^ 64 - 1 }
     requires report { O.allows output.old outcome.now.text.items }
-    requires picture { (path : List ℕ) → option_map (λ path. path.now) map ≡ Some path
+    requires picture { (path : List ℕ) → option_map (λ path. path.now) request.now.map ≡ Some path
         → D.allows store.old path outcome.now.map.items }
-    ensures drawn { OnOk result
-        (IsDrawn (D.held store.new) (option_map (λ path. path.now) map.entry)
-        outcome.now.map.items) }
-    ensures elsewhere { (path : List ℕ) → option_map (λ path. path.now) map.entry ≢ Some path
+    requires recorded { (path : List ℕ) → option_map (λ path. path.now) request.now.out ≡ Some path
+        → D.allows store.old path made.now }
+    requires apart { AreApart (option_map (λ path. path.now) request.now.map)
+        (option_map (λ path. path.now) request.now.out) }
+    ensures drawn { OnOk result (IsMade (D.held store.new)
+        (option_map (λ path. path.now) request.now.map) outcome.now.map.items) }
+    ensures recorded { OnOk result (IsMade (D.held store.new)
+        (option_map (λ path. path.now) request.now.out) made.now) }
+    ensures elsewhere { (path : List ℕ) → option_map (λ path. path.now) request.now.map ≢ Some path
+        → option_map (λ path. path.now) request.now.out ≢ Some path
         → D.held store.new path ≡ D.held store.old path }
     ensures undrawn { IfErr result
         (λ fault. fault ≢ Fault.Device → D.held store.new ≡ D.held store.old) }
@@ -262,10 +303,53 @@ fn write_outcome<D: Store, O: Sink>(
         (D.failures store.old + O.failures output.old)
         (D.failures store.new + O.failures output.new) fault) }
 {
-    if let Some(path) = map {
-        store.write(path, &outcome.map)?;
-    }
+    write_picture(store, request.map, &outcome.map)?;
+    write_record(store, request.out, made)?;
     write_all(output, &outcome.text)
+}
+
+/// Writes the picture, where a file for it is asked for.
+fn write_picture<D: Store>(store: &mut D, path: Option<&str>, picture: &[u8]) -> Result<(), Fault>
+    requires store { D.failures store.old < 2 ^ 64 - 1 }
+    requires picture { (at : List ℕ) → option_map (λ path. path.now) path ≡ Some at
+        → D.allows store.old at picture.now }
+    ensures drawn { OnOk result (IsMade (D.held store.new)
+        (option_map (λ path. path.now) path.entry) picture.now) }
+    ensures elsewhere { (other : List ℕ) → option_map (λ path. path.now) path.entry ≢ Some other
+        → D.held store.new other ≡ D.held store.old other }
+    ensures allowed { OnOk result ((other bytes : List ℕ)
+        → option_map (λ path. path.now) path.entry ≢ Some other
+        → D.allows store.old other bytes → D.allows store.new other bytes) }
+    ensures undrawn { IfErr result
+        (λ fault. fault ≢ Fault.Device → D.held store.new ≡ D.held store.old) }
+    ensures ok { OnOk result (D.failures store.new ≡ D.failures store.old) }
+    ensures err { IfErr result
+        (λ fault. IsReadFault (D.failures store.old) (D.failures store.new) fault) }
+{
+    match path {
+        Some(path) => store.write(path, picture),
+        None => Ok(()),
+    }
+}
+
+/// Writes the record, where a file for it is asked for. The picture may lie in its file by now, so
+/// each failure is one of the device.
+fn write_record<D: Store>(store: &mut D, path: Option<&str>, made: &[u8]) -> Result<(), Fault>
+    requires store { D.failures store.old < 2 ^ 64 - 1 }
+    requires recorded { (at : List ℕ) → option_map (λ path. path.now) path ≡ Some at
+        → D.allows store.old at made.now }
+    ensures recorded { OnOk result (IsMade (D.held store.new)
+        (option_map (λ path. path.now) path.entry) made.now) }
+    ensures elsewhere { (other : List ℕ) → option_map (λ path. path.now) path.entry ≢ Some other
+        → D.held store.new other ≡ D.held store.old other }
+    ensures ok { OnOk result (D.failures store.new ≡ D.failures store.old) }
+    ensures err { IfErr result (λ fault. fault ≡ Fault.Device) }
+    ensures failed { OnErr result (D.failures store.new ≡ D.failures store.old + 1) }
+{
+    match path {
+        Some(path) => store.write_counted(path, made),
+        None => Ok(()),
+    }
 }
 
 /// The status of words that make no request, after the parser's text, or the line that memory was

@@ -6,7 +6,7 @@ ghost use Rattle.cube_report.specs.Seen.{IsTold};
 ghost use Rattle.cube_report.specs.SplitTree.{size};
 ghost use Rattle.cube_report.specs.Parts.{part_nodes};
 
-use cube_report::{Case, Found, Gate, Judged, Leaf, NodeId, Place, Target, Tree};
+use cube_report::{Case, Elsewhere, Found, Gate, Judged, Leaf, NodeId, Place, Target, Tree};
 use std::alloc::{AllocError, Global};
 use std::array;
 use std::io::Eprint;
@@ -29,16 +29,21 @@ struct Part {
     open: AtomicU64,
 }
 
-/// A gate that tells how far the run is on a terminal or in lines: how many sections are judged, of
-/// how many, how many of these are refuted and rejected, and how much of the tree's weight is still
-/// open. It tells that at most once a second while the workers are at work, and once when they have
-/// ended. What it can't write is left out.
+/// A gate that tells how far the run is on a terminal or in lines: how many proofs are judged, of
+/// how many, how many of their bytes, of how many, how many are refuted and rejected, and how much
+/// of the tree's weight is still open. It tells that at most once a second while the workers are at
+/// work, and once when they have ended; a run that is made anew counts anew. What it can't write is
+/// left out.
 #[derive(Drop)]
 pub struct Progress<'a, R> {
     device: &'a R,
     /// Whether a line is written over the one before.
     on_terminal: bool,
-    sections: AtomicU64,
+    /// How many proofs there are, and how many bytes all of them have.
+    proofs: AtomicU64,
+    bytes: AtomicU64,
+    /// How many bytes the proofs have that are judged.
+    bytes_judged: AtomicU64,
     refuted: AtomicU64,
     rejected: AtomicU64,
     /// The tree's weight.
@@ -56,7 +61,9 @@ impl<'a, R> Progress<'a, R> {
         Progress {
             device,
             on_terminal,
-            sections: AtomicU64::new(0),
+            proofs: AtomicU64::new(0),
+            bytes: AtomicU64::new(0),
+            bytes_judged: AtomicU64::new(0),
             refuted: AtomicU64::new(0),
             rejected: AtomicU64::new(0),
             total: AtomicU64::new(0),
@@ -77,13 +84,14 @@ impl<'a, R> Progress<'a, R> {
         sum
     }
 
-    /// Counts what is said of a proof.
-    fn count(&self, judged: Judged) {
+    /// Counts what is said of a proof, and its bytes.
+    fn count(&self, judged: Judged, length: usize) {
         let counter = match judged {
             Judged::Refuted => &self.refuted,
             Judged::Rejected { .. } => &self.rejected,
         };
         counter.fetch_add(1, Ordering::SeqCst);
+        self.bytes_judged.fetch_add(length as u64, Ordering::SeqCst);
     }
 
     /// Keeps what stays open after a finding was posted: where it is a part's, by the open weight
@@ -180,7 +188,9 @@ impl<'a, R: Clock> Progress<'a, R> {
 impl<'a, R: Eprint> Progress<'a, R> {
     /// Writes how far the run is; the last line is ended also on a terminal.
     fn tell(&self, is_last: bool) {
-        let sections = self.sections.load(Ordering::SeqCst);
+        let proofs = self.proofs.load(Ordering::SeqCst);
+        let bytes = self.bytes.load(Ordering::SeqCst);
+        let done = self.bytes_judged.load(Ordering::SeqCst);
         let refuted = self.refuted.load(Ordering::SeqCst);
         let rejected = self.rejected.load(Ordering::SeqCst);
         let judged = refuted.saturating_add(rejected);
@@ -192,10 +202,19 @@ impl<'a, R: Eprint> Progress<'a, R> {
             (false, _) => ("", "\n"),
         };
         let _ = eprint!(self.device;
-            "{front}cubeboard: {judged} of {sections} judged, {refuted} refuted, \
-             {rejected} rejected, {percent}.{rest:03} % open{back}"
+            "{front}cubeboard: {judged} of {proofs} judged, {done} of {bytes} bytes, \
+             {refuted} refuted, {rejected} rejected, {percent}.{rest:03} % open{back}"
         );
     }
+}
+
+/// How many bytes the proofs of all sections have.
+fn bytes_of_sections(case: &Case) -> u64 {
+    let mut sum = 0u64;
+    for place in 0..case.sections().len() {
+        sum = sum.saturating_add(case.proof_at(place).len() as u64);
+    }
+    sum
 }
 
 /// How many hundred thousandths of the total are open, rounded up: 0 exactly where nothing is.
@@ -224,14 +243,19 @@ impl<'a, R: Clock + Eprint> Gate for Progress<'a, R> {
         alloc: Global,
         case: &Case,
         cut: u32,
-        elsewhere: u64,
+        elsewhere: Elsewhere,
     ) -> Result<(), AllocError> {
         let tree = case.tree();
         let roots = tree.parts(alloc, cut)?;
         begin_parts(&self.parts, tree, cut, &roots);
         self.total.store(tree.total(), Ordering::SeqCst);
-        let proofs = (case.sections().len() as u64).saturating_add(elsewhere);
-        self.sections.store(proofs, Ordering::SeqCst);
+        let proofs = (case.sections().len() as u64).saturating_add(elsewhere.proofs);
+        self.proofs.store(proofs, Ordering::SeqCst);
+        let bytes = bytes_of_sections(case).saturating_add(elsewhere.bytes);
+        self.bytes.store(bytes, Ordering::SeqCst);
+        self.bytes_judged.store(0, Ordering::SeqCst);
+        self.refuted.store(0, Ordering::SeqCst);
+        self.rejected.store(0, Ordering::SeqCst);
         self.told_at.store(self.now(), Ordering::SeqCst);
         Ok(())
     }
@@ -239,7 +263,7 @@ impl<'a, R: Clock + Eprint> Gate for Progress<'a, R> {
     fn before(&self, _worker: u32, _target: Target) {}
 
     fn after(&self, _worker: u32, found: &Found<'_>) {
-        self.count(found.judged);
+        self.count(found.judged, found.length);
         self.keep_open(found);
         if self.is_due() {
             self.tell(false);
@@ -269,11 +293,12 @@ impl<'a, G: Gate, W: Gate> Gate for Watched<'a, G, W> {
         alloc: Global,
         case: &Case,
         cut: u32,
-        elsewhere: u64,
+        elsewhere: Elsewhere,
     ) -> Result<(), AllocError> {
+        let again = elsewhere;
         self.gate.start(alloc, case, cut, elsewhere)?;
         if self.is_asked {
-            return self.watch.start(alloc, case, cut, elsewhere);
+            return self.watch.start(alloc, case, cut, again);
         }
         Ok(())
     }

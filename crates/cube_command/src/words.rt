@@ -1,11 +1,11 @@
 //! The words of the program: what they ask for, and the help.
 
 ghost use Rattle.std.specs.Prelude.{◌≡◌, ◌<◌, ◌≤◌, ℕ, Bool, Some, false, map, option_map, codes};
-ghost use Rattle.std.specs.Prelude.{IfOk, IfErr};
+ghost use Rattle.std.specs.Prelude.{IfOk, IfErr, IsTrue, ◌↔◌};
 ghost use Rattle.clap.specs.Words.{app_of, found_of, kind_of, new_app, one_text, rule_of};
-ghost use Rattle.cube_command.specs.Words.{AreTaken, asked_for, cut_word, file_word, map_word};
-ghost use Rattle.cube_command.specs.Words.{progress_word, proofs_word, with_version, words_taken};
-ghost use Rattle.cube_command.specs.Words.{workers_word};
+ghost use Rattle.cube_command.specs.Words.{AreApart, AreTaken, asked_for, cut_word, file_word};
+ghost use Rattle.cube_command.specs.Words.{map_word, progress_word, proofs_word, record_word};
+ghost use Rattle.cube_command.specs.Words.{with_version, words_taken, workers_word};
 ghost use Rattle.cube_command.specs.Inner.Words.{with_numbers, Reads, SaysFlag, SaysNumber};
 
 use clap::builder::ValueParser;
@@ -28,10 +28,13 @@ pub struct Request<'a> {
     pub progress: bool,
     /// The file for the picture of the tree, where one is asked for.
     pub map: Option<&'a str>,
+    /// The file for the record, where one is asked for; not the picture's.
+    pub out: Option<&'a str>,
 }
 
-/// The version, and the identity of the kit that proved it, as `rt version` prints it.
-const VERSION: &str = "0.1.0 (proved by rattle-kit-13f logic dac8208d650f15bf)";
+/// The version, and what `rt version` of the kit that proved it ends in: kits of one logic may have
+/// several names.
+const VERSION: &str = "0.1.0 (proved by a Rattle kit with logic dac8208d650f15bf)";
 
 /// What `--help` says below the words.
 const FORMATS: &str = "\
@@ -71,6 +74,9 @@ pub fn request_of<'a, S: AsStr>(alloc: Global, words: &'a [S]) -> Result<Request
     ensures map { IfOk result
         (λ request. option_map (λ text. text.now) request.map ≡ asked_for (codes "map")
         (map S.text words.now)) }
+    ensures out { IfOk result
+        (λ request. option_map (λ text. text.now) request.out ≡ asked_for (codes "record")
+        (map S.text words.now)) }
     ensures settings { IfOk result (λ request. (workers cut : ℕ)
         → SaysNumber (codes "workers") (map S.text words.now) workers → 0 < workers → workers ≤ 32
         → SaysNumber (codes "cut") (map S.text words.now) cut → cut ≤ 6
@@ -83,13 +89,39 @@ pub fn request_of<'a, S: AsStr>(alloc: Global, words: &'a [S]) -> Result<Request
         (λ error. AreTaken (map S.text words.now) → kind_of error ≡ ErrorKind.OutOfMemory) }
 {
     let matches = parser(alloc)?.try_get_matches_from(words)?;
+    let map = matches.get_str("map");
+    let out = matches.get_str("record");
+    if !are_apart(map, out) {
+        return Err(one_path(alloc)?);
+    }
     Ok(Request {
         settings: settings_in(&matches),
         proofs: matches.get_str("proofs"),
         file: matches.get_str("file"),
         progress: matches.get_flag("progress"),
-        map: matches.get_str("map"),
+        map,
+        out,
     })
+}
+
+/// Whether the picture and the record, where both are asked for, have two paths.
+#[tactic(auto, using(crate::proofs::WordsRequests::apart_where))]
+fn are_apart(map: Option<&str>, out: Option<&str>) -> bool
+    ensures { IsTrue result ↔ AreApart (option_map (λ path. path.now) map.entry)
+        (option_map (λ path. path.now) out.entry) }
+{
+    match (map, out) {
+        (Some(map), Some(out)) => map != out,
+        _ => true,
+    }
+}
+
+/// The error of words that ask for the picture and the record at one path.
+fn one_path(alloc: Global) -> Result<Error, AllocError>
+    ensures { IfOk result (λ error. kind_of error ≡ ErrorKind.ArgumentConflict) }
+{
+    let text = "'--map' and '--record' can't name the same file";
+    parser(alloc)?.error(ErrorKind::ArgumentConflict, text)
 }
 
 /// How the run is set up, by the numbers that were matched.
@@ -129,6 +161,7 @@ fn parser<'a>(alloc: Global) -> Result<Command<'a>, AllocError>
         .arg(proofs_word(alloc))?
         .arg(progress_word(alloc))?
         .arg(map_word(alloc))?
+        .arg(record_word(alloc))?
         .arg(file_word(alloc))
 }
 
@@ -209,6 +242,18 @@ fn map_word<'a>(alloc: Global) -> Arg<'a>
         .value_name("SVG")
         .value_parser(ValueParser::NonEmptyString)
         .help("A file for a picture of the tree, which is made anew")
+}
+
+/// The file for the record.
+fn record_word<'a>(alloc: Global) -> Arg<'a>
+    ensures rule { rule_of result ≡ record_word }
+    ensures own { result.global ≡ false }
+{
+    Arg::new(alloc, "record")
+        .long("record")
+        .value_name("OUT")
+        .value_parser(ValueParser::NonEmptyString)
+        .help("A file for the report under the SHA-256 of the formula's text, made anew")
 }
 
 /// The bundle's file.

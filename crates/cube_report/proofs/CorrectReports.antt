@@ -81,7 +81,7 @@ outcome_says bundle text answer outcome says =
     (total 0 outcome.case.tree))
     (cube_lines outcome.case.tree outcome.marks 1 (cube_count outcome.case.tree))
     (missing_lines outcome.case.tree outcome.marks 1 (missing_nodes outcome.case.tree))
-    (node_lines outcome.case outcome.marks 0 (subtrees outcome.case.tree))
+    (node_lines outcome.case.tree outcome.marks 0 (subtrees outcome.case.tree))
     (open_lines outcome.case.tree (open_branches (refuted_by outcome.marks) 0 outcome.case.tree))
     (weight_line
     (open_weight (worth_of outcome.case.tree) (refuted_by outcome.marks) 0 outcome.case.tree))

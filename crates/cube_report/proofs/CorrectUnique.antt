@@ -93,8 +93,8 @@ pub one_report : (bundle first second : List ℕ) → IsReportOn bundle first �
     first ≡ second
 one_report bundle first second x y =
     let same = one_judged bundle x.0 y.0 x.1 y.1 x.2 y.2 in
-    x.3 ∙ (ap (λ (c : CaseOf). report_text c x.1) same.0
-    ∙ (ap (λ (m : List Mark). report_text y.0 m) same.1 ∙ sym y.3))
+    x.3 ∙ (ap (λ (c : CaseOf). report_text c.tree x.1) same.0
+    ∙ (ap (λ (m : List Mark). report_text y.0.tree m) same.1 ∙ sym y.3))
 
 -- a bundle has one answer at most
 pub one_answer : (bundle : List ℕ) (first second : Bool) → IsAnswerOn bundle first →

@@ -15,12 +15,11 @@ use Rattle.split_tree.specs.declared.node.Target.{Target}
 use Rattle.split_tree.specs.declared.node.Target.TheVariants.{Leaf as Named}
 use Rattle.split_tree.specs.Navigation.{AreBranches}
 use Rattle.split_tree.proofs.NodesCoding.{length-subtrees}
-use Rattle.case_core.specs.Case.{CaseOf}
 use Rattle.mark_board.specs.declared.mark.Mark.{Mark}
 use Rattle.mark_board.specs.Marking.{NodeWithTree, mark_at}
 use Rattle.mark_board.specs.Boards.{AreTargetsAt}
 use Rattle.cube_report.specs.Report.{cube_line, missing_line, open_line, cube_node, cube_lines}
-use Rattle.cube_report.specs.Report.{missing_lines, section_line, node_lines, open_lines}
+use Rattle.cube_report.specs.Report.{missing_lines, marked_line, node_lines, open_lines}
 
 -- ---- cubes
 
@@ -105,40 +104,40 @@ missing_path tree b path p =
 -- ---- inner nodes
 
 -- what is written of one node
-abbrev pub node_part : CaseOf → List Mark → ℕ → SplitTree → List ℕ
-node_part case marks node missing = []
-node_part case marks node (cube k) = []
-node_part case marks node (split v p n) = section_line case marks node
+abbrev pub node_part : SplitTree → List Mark → ℕ → SplitTree → List ℕ
+node_part tree marks node missing = []
+node_part tree marks node (cube k) = []
+node_part tree marks node (split v p n) = marked_line (path_at tree node) (mark_at marks node)
 
-pub node_more : (case : CaseOf) (marks : List Mark) (n : ℕ) (trees : List SplitTree) (b : ℕ) →
+pub node_more : (tree : SplitTree) (marks : List Mark) (n : ℕ) (trees : List SplitTree) (b : ℕ) →
     b < length trees →
-    node_lines case marks n (take (suc b) trees)
-    ≡ node_lines case marks n (take b trees)
-    ++ node_part case marks (n + b) (get_or trees b missing)
-node_more case marks n [] b l = absurd (omega arith)
-node_more case marks n (missing ∷ trees) zero l = refl
-node_more case marks n (missing ∷ trees) (suc b) l =
+    node_lines tree marks n (take (suc b) trees)
+    ≡ node_lines tree marks n (take b trees)
+    ++ node_part tree marks (n + b) (get_or trees b missing)
+node_more tree marks n [] b l = absurd (omega arith)
+node_more tree marks n (missing ∷ trees) zero l = refl
+node_more tree marks n (missing ∷ trees) (suc b) l =
     let q : n + suc b ≡ suc n + b = omega arith in
-    rw q (node_more case marks (suc n) trees b (omega arith))
-node_more case marks n (cube k ∷ trees) zero l = refl
-node_more case marks n (cube k ∷ trees) (suc b) l =
+    rw q (node_more tree marks (suc n) trees b (omega arith))
+node_more tree marks n (cube k ∷ trees) zero l = refl
+node_more tree marks n (cube k ∷ trees) (suc b) l =
     let q : n + suc b ≡ suc n + b = omega arith in
-    rw q (node_more case marks (suc n) trees b (omega arith))
-node_more case marks n (split v p m ∷ trees) zero l =
-    let q : n + 0 ≡ n = omega arith in rw q (append-nil (section_line case marks n))
-node_more case marks n (split v p m ∷ trees) (suc b) l =
+    rw q (node_more tree marks (suc n) trees b (omega arith))
+node_more tree marks n (split v p m ∷ trees) zero l =
+    let q : n + 0 ≡ n = omega arith in rw q (append-nil (marked_line (path_at tree n) (mark_at marks n)))
+node_more tree marks n (split v p m ∷ trees) (suc b) l =
     let q : n + suc b ≡ suc n + b = omega arith in
-    rw q (ap (λ (xs : List ℕ). section_line case marks n ++ xs)
-    (node_more case marks (suc n) trees b (omega arith))
-    ∙ sym (append_assoc (section_line case marks n) (node_lines case marks (suc n) (take b trees))
-    (node_part case marks (suc n + b) (get_or trees b missing))))
+    rw q (ap (λ (xs : List ℕ). marked_line (path_at tree n) (mark_at marks n) ++ xs)
+    (node_more tree marks (suc n) trees b (omega arith))
+    ∙ sym (append_assoc (marked_line (path_at tree n) (mark_at marks n)) (node_lines tree marks (suc n) (take b trees))
+    (node_part tree marks (suc n + b) (get_or trees b missing))))
 
 -- the line of an inner node is that of its section, if it has one
-pub split_part : (case : CaseOf) (marks : List Mark) (node : ℕ) (t : SplitTree) → IsSplit t →
-    node_part case marks node t ≡ section_line case marks node
-split_part case marks node missing s = absurd s
-split_part case marks node (cube k) s = absurd s
-split_part case marks node (split v p n) s = refl
+pub split_part : (tree : SplitTree) (marks : List Mark) (node : ℕ) (t : SplitTree) → IsSplit t →
+    node_part tree marks node t ≡ marked_line (path_at tree node) (mark_at marks node)
+split_part tree marks node missing s = absurd s
+split_part tree marks node (cube k) s = absurd s
+split_part tree marks node (split v p n) s = refl
 
 splits : (t : SplitTree) (v : ℕ) (p n : SplitTree) → t ≡ split v p n → IsSplit t
 splits t v p n e = rw e tt
@@ -150,11 +149,11 @@ is_split tree node first second b =
     splits (subtree_at tree node) b.variable b.positive b.negative b.is
 
 -- a leaf has no line among those of the inner nodes
-pub leaf_part : (case : CaseOf) (marks : List Mark) (node : ℕ) (t : SplitTree) → IsLeaf t →
-    node_part case marks node t ≡ []
-leaf_part case marks node missing s = refl
-leaf_part case marks node (cube k) s = refl
-leaf_part case marks node (split v p n) s = absurd s
+pub leaf_part : (tree : SplitTree) (marks : List Mark) (node : ℕ) (t : SplitTree) → IsLeaf t →
+    node_part tree marks node t ≡ []
+leaf_part tree marks node missing s = refl
+leaf_part tree marks node (cube k) s = refl
+leaf_part tree marks node (split v p n) s = absurd s
 
 -- ---- open branches
 
@@ -247,23 +246,23 @@ missing_turn tree marks first text next b path mark l e f of is =
     (missing_lines tree marks 1 (take (b + 1) (missing_nodes tree))) e f more
 
 -- the lines of one more node
-pub node_turn : (case : CaseOf) (marks : List Mark) (first text next : List ℕ) (b : ℕ) →
-    b < size case.tree → text ≡ first ++ node_lines case marks 0 (take b (subtrees case.tree)) →
-    next ≡ text ++ node_part case marks b (subtree_at case.tree b) →
-    next ≡ first ++ node_lines case marks 0 (take (b + 1) (subtrees case.tree))
-node_turn case marks first text next b l e f =
+pub node_turn : (tree : SplitTree) (marks : List Mark) (first text next : List ℕ) (b : ℕ) →
+    b < size tree → text ≡ first ++ node_lines tree marks 0 (take b (subtrees tree)) →
+    next ≡ text ++ node_part tree marks b (subtree_at tree b) →
+    next ≡ first ++ node_lines tree marks 0 (take (b + 1) (subtrees tree))
+node_turn tree marks first text next b l e f =
     let q : b + 1 ≡ suc b = omega arith in
     let r : 0 + b ≡ b = omega arith in
-    let more : node_lines case marks 0 (take (b + 1) (subtrees case.tree))
-    ≡ node_lines case marks 0 (take b (subtrees case.tree))
-    ++ node_part case marks b (subtree_at case.tree b) =
-    ap (λ (k : ℕ). node_lines case marks 0 (take k (subtrees case.tree))) q
-    ∙ (node_more case marks 0 (subtrees case.tree) b (rw (length-subtrees case.tree) l)
-    ∙ ap (λ (k : ℕ). node_lines case marks 0 (take b (subtrees case.tree))
-    ++ node_part case marks k (subtree_at case.tree b)) r) in
-    goes_on first text next (node_lines case marks 0 (take b (subtrees case.tree)))
-    (node_part case marks b (subtree_at case.tree b))
-    (node_lines case marks 0 (take (b + 1) (subtrees case.tree))) e f more
+    let more : node_lines tree marks 0 (take (b + 1) (subtrees tree))
+    ≡ node_lines tree marks 0 (take b (subtrees tree))
+    ++ node_part tree marks b (subtree_at tree b) =
+    ap (λ (k : ℕ). node_lines tree marks 0 (take k (subtrees tree))) q
+    ∙ (node_more tree marks 0 (subtrees tree) b (rw (length-subtrees tree) l)
+    ∙ ap (λ (k : ℕ). node_lines tree marks 0 (take b (subtrees tree))
+    ++ node_part tree marks k (subtree_at tree b)) r) in
+    goes_on first text next (node_lines tree marks 0 (take b (subtrees tree)))
+    (node_part tree marks b (subtree_at tree b))
+    (node_lines tree marks 0 (take (b + 1) (subtrees tree))) e f more
 
 some_place : NodeWithTree
 some_place = record { node = 0; tree = missing }

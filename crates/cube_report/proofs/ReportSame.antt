@@ -1,4 +1,4 @@
--- Report and picture look at the sections of inner nodes alone.
+-- A picture looks at the sections of inner nodes alone, and a report at none.
 use Rattle.std.proofs.Common.{◌≡◌, ◌∙◌, ap, ap₂, refl, sym, subst, ℕ, zero, suc, ◌+◌, ◌-◌, ◌*◌, ◌^◌}
 use Rattle.std.proofs.Common.{Bool, List, [], ◌∷◌, ◌++◌, ◌||◌, if◌then◌else◌, codes, length}
 use Rattle.std.proofs.Common.{true, false}
@@ -13,8 +13,7 @@ use Rattle.mark_board.specs.TopPlaces.{worth_of}
 use Rattle.tree_map.specs.Picture.{map_text, cells, cell, frame, told, rectangle, colour, head}
 use Rattle.tree_map.specs.Picture.{legend, title}
 use Rattle.tree_map.specs.Fields.{answer_line}
-use Rattle.cube_report.specs.Report.{report_text, node_lines, section_line, node_line}
-use Rattle.cube_report.specs.Report.{total_line, cube_lines, missing_lines, open_lines, weight_line}
+use Rattle.cube_report.specs.Report.{report_text}
 use Rattle.case_core.specs.Formula.{IsRefuted}
 use Rattle.mark_board.specs.Findings.{AreFindings}
 use Rattle.cube_report.specs.Correct.{map_if}
@@ -29,30 +28,6 @@ module _ (formula others : List (List Literal)) (tree : SplitTree) (one other : 
 
   abbrev b : CaseOf
   b = record { formula = others; tree = tree; sections = other }
-
-  section_same : (node : ℕ) → section_line a marks node ≡ section_line b marks node
-  section_same node =
-      ap (λ (t : Bool). if t then node_line (path_at tree node) (mark_at marks node) else [])
-      (same node)
-
-  nodes_same : (node : ℕ) (trees : List SplitTree) →
-      node_lines a marks node trees ≡ node_lines b marks node trees
-  nodes_same node [] = refl
-  nodes_same node (missing ∷ trees) = nodes_same (suc node) trees
-  nodes_same node (cube k ∷ trees) = nodes_same (suc node) trees
-  nodes_same node (split v p n ∷ trees) =
-      ap₂ (λ (x y : List ℕ). x ++ y) (section_same node) (nodes_same (suc node) trees)
-
-  pub report_same : report_text a marks ≡ report_text b marks
-  report_same =
-      ap (λ (lines : List ℕ).
-      total_line (cube_count tree) (length (missing_nodes tree)) (total 0 tree)
-      ++ cube_lines tree marks 1 (cube_count tree)
-      ++ missing_lines tree marks 1 (missing_nodes tree)
-      ++ lines
-      ++ open_lines tree (open_branches (refuted_by marks) 0 tree)
-      ++ weight_line (open_weight (worth_of tree) (refuted_by marks) 0 tree)
-      ++ answer_line (marked (refuted_by marks) 0 tree)) (nodes_same 0 (subtrees tree))
 
   frame_same : (node : ℕ) (t : SplitTree) → frame a node t ≡ frame b node t
   frame_same node missing = refl
@@ -98,15 +73,14 @@ module _ (formula others : List (List Literal)) (tree : SplitTree) (one other : 
 
 pub same_report : (one other : CaseOf) (marks : List Mark) → one.tree ≡ other.tree
     → AreSameNodes one.sections other.sections
-    → (report_text one marks ≡ report_text other marks)
+    → (report_text one.tree marks ≡ report_text other.tree marks)
     × (map_text one marks ≡ map_text other marks)
 same_report one other marks tree same =
     subst (λ (t : SplitTree).
-    (report_text (record { formula = one.formula; tree = t; sections = one.sections }) marks
-    ≡ report_text other marks)
+    (report_text t marks ≡ report_text other.tree marks)
     × (map_text (record { formula = one.formula; tree = t; sections = one.sections }) marks
     ≡ map_text other marks)) (sym tree) (
-      report_same one.formula other.formula other.tree one.sections other.sections marks same,
+      refl,
       map_same one.formula other.formula other.tree one.sections other.sections marks same,
     )
 

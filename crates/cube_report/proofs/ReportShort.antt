@@ -224,7 +224,7 @@ findings = record { long = refl; each = mark_is }
 
 -- ---- the text
 
-text_is : report ≡ report_text case_of_bundle marks
+text_is : report ≡ report_text case_of_bundle.tree marks
 unfolding total_line missing_line weight_line digits
 text_is = refl
 

@@ -34,7 +34,7 @@ pub record IsJudged (bundle : List ℕ) (case : CaseOf) (marks : List Mark) : Ty
 abbrev pub IsReportOn : List ℕ → List ℕ → Type 0
 IsReportOn bundle report =
     (case : CaseOf) × (marks : List Mark) × IsJudged bundle case marks
-    × (report ≡ report_text case marks)
+    × (report ≡ report_text case.tree marks)
 
 -- these texts have each report on the bundle
 abbrev pub AllowsReports : (List ℕ → Type 0) → List ℕ → Type 0
@@ -58,7 +58,7 @@ pub record IsCorrect (bundle report : List ℕ) (answer : Bool) : Type 0 where
   pub case : CaseOf
   pub marks : List Mark
   pub judged : IsJudged bundle case marks
-  pub text : report ≡ report_text case marks
+  pub text : report ≡ report_text case.tree marks
   pub refuted : answer ≡ marked (refuted_by marks) 0 case.tree
   pub sound : answer ≡ true → IsUnsatisfiable bundle
 

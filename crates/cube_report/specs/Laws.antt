@@ -1,24 +1,34 @@
 -- Laws of reports.
-use Rattle.std.specs.Prelude.{◌≡◌, ℕ, Bool, List, is_some}
+use Rattle.std.specs.Prelude.{◌≡◌, ◌↔◌, ℕ, Bool, List, None, is_some}
+use Rattle.split_tree.specs.Leaves.{IsTargetAt}
 use Rattle.split_tree.specs.declared.node.Target.TheVariants.{Node}
 use Rattle.case_core.specs.Case.{CaseOf, SectionOf, proof_for}
 use Rattle.mark_board.specs.declared.mark.Mark.{Mark}
+use Rattle.mark_board.specs.declared.mark.Mark.TheVariants.{Open}
+use Rattle.mark_board.specs.Marking.{mark_at}
 use Rattle.tree_map.specs.Picture.{map_text}
 use Rattle.mark_board.specs.Findings.{AreFindings}
 use Rattle.cube_report.specs.Report.{report_text}
 use Rattle.cube_report.specs.Stated.{IsStated, IsWrittenBy}
+
+-- by the marks of a case's findings, an inner node has none, and so no line, exactly where it has no
+-- section
+abbrev pub LineForEachSection : Type 0
+LineForEachSection = (case : CaseOf) (marks : List Mark) (node : ℕ) → AreFindings case marks
+    → IsTargetAt case.tree node (Node node)
+    → (mark_at marks node ≡ Open) ↔ (proof_for case.sections (Node node) ≡ None)
 
 -- the same inner nodes have sections
 abbrev pub AreSameNodes : List SectionOf → List SectionOf → Type 0
 AreSameNodes one other = (node : ℕ) →
     is_some (proof_for one (Node node)) ≡ is_some (proof_for other (Node node))
 
--- by the same marks of the same tree, report and picture are the same where the same inner nodes
--- have sections, whatever sections the leaves have
+-- by the same marks of the same tree, the report is the same, and where the same inner nodes have
+-- sections, the picture is, too, whatever sections the leaves have
 abbrev pub SameReport : Type 0
 SameReport = (one other : CaseOf) (marks : List Mark) → one.tree ≡ other.tree
     → AreSameNodes one.sections other.sections
-    → (report_text one marks ≡ report_text other marks)
+    → (report_text one.tree marks ≡ report_text other.tree marks)
     × (map_text one marks ≡ map_text other marks)
 
 -- what is written of one case is stated of another with the same formula and tree, in which the

@@ -4,6 +4,7 @@ pub mod Report
 pub mod Correct
 pub mod Stated
 pub mod Laws
+pub use Rattle.case_core.specs.Bundle
 pub use Rattle.case_core.specs.Case
 pub use Rattle.check_crew.specs.Halls
 pub use Rattle.check_crew.specs.Seen

@@ -13,7 +13,7 @@ pub record IsStated (case : CaseOf) (draws : Bool) (report map : List ℕ) (answ
     : Type 0 where
   pub marks : List Mark
   pub findings : AreFindings case marks
-  pub text : report ≡ report_text case marks
+  pub text : report ≡ report_text case.tree marks
   pub drawn : map ≡ map_if draws case marks
   pub refuted : answer ≡ marked (refuted_by marks) 0 case.tree
   pub sound : answer ≡ true → IsRefuted case.formula []
@@ -22,7 +22,7 @@ pub record IsStated (case : CaseOf) (draws : Bool) (report map : List ℕ) (answ
 -- that goes with it, and the picture where one is drawn.
 pub record IsWrittenBy (case : CaseOf) (marks : List Mark) (draws : Bool) (report map : List ℕ)
     (answer : Bool) : Type 0 where
-  pub text : report ≡ report_text case marks
+  pub text : report ≡ report_text case.tree marks
   pub drawn : map ≡ map_if draws case marks
   pub refuted : answer ≡ marked (refuted_by marks) 0 case.tree
   pub sound : answer ≡ true → IsRefuted case.formula []

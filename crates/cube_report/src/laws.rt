@@ -2,7 +2,7 @@
 
 ghost use Rattle.std.specs.Prelude.{◌≡◌, ℕ, Bool, List, codes};
 ghost use Rattle.cube_report.specs.Correct.{IsReportOn, IsAnswerOn};
-ghost use Rattle.cube_report.specs.Laws.{SameReport, WrittenIsStated};
+ghost use Rattle.cube_report.specs.Laws.{LineForEachSection, SameReport, WrittenIsStated};
 
 /// A bundle has one report at most.
 pub fn one_report()
@@ -24,8 +24,13 @@ pub fn a_short_report()
         (codes "t 0 1 1152921504606846976\nm 1 0 refuted\nw 0\ns REFUTED\n") }
 {}
 
-/// Report and picture look at the sections of inner nodes alone: two cases with the same tree, in
-/// which the same inner nodes have sections, have the same ones by the same marks.
+/// By the marks of a case's findings, the inner nodes with a line are those that have a section.
+pub fn a_line_for_each_section()
+    ensures { LineForEachSection }
+{}
+
+/// A report looks at the tree and the marks alone, a picture at the sections of inner nodes, too: two
+/// cases with the same tree, in which the same inner nodes have sections, have both by the same marks.
 pub fn same_report()
     ensures { SameReport }
 {}

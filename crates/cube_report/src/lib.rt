@@ -7,13 +7,15 @@ mod fault;
 mod laws;
 mod report;
 
-pub use case_core::{Case, Judged, Leaf, NodeId, Target, Tree};
-pub use check_crew::{Found, Gate, LeafProofs, NoGate, ReadFault, Settings};
+pub use case_core::{Case, Judged, Leaf, NodeId, Target, Tree, icnf_part};
+pub use check_crew::{Elsewhere, Found, Gate, LeafProofs, NoGate, ReadFault, Settings};
 pub use device::{Counted, Sink, Source};
 pub use engine::{
     Outcome, judge_apart, judge_bundle, read_to_end, run, run_io, run_one, write_all, write_report,
 };
 pub use fault::Fault;
-pub use laws::{a_short_report, one_answer, one_report, same_report, written_is_stated};
+pub use laws::{
+    a_line_for_each_section, a_short_report, one_answer, one_report, same_report, written_is_stated,
+};
 pub use mark_board::Place;
 pub use report::report_of;

@@ -1,43 +1,45 @@
 //! The text of a report.
 
 ghost use Rattle.std.specs.Prelude.{◌≡◌, ◌++◌, length, OnOk, IfOk};
-ghost use Rattle.split_tree.specs.SplitTree.{subtrees, total};
+ghost use Rattle.split_tree.specs.SplitTree.{subtrees, total, path_at};
 ghost use Rattle.split_tree.specs.Leaves.{cube_count, missing_nodes, IsTargetAt};
 ghost use Rattle.split_tree.specs.declared.node.Target.TheVariants.{Node};
-ghost use Rattle.mark_board.specs.Marking.{open_branches, refuted_by};
+ghost use Rattle.mark_board.specs.Marking.{open_branches, refuted_by, mark_at};
 ghost use Rattle.tree_map.specs.Fields.{answer_line};
 ghost use Rattle.cube_report.specs.Report.{total_line, cube_line, missing_line, node_line};
 ghost use Rattle.cube_report.specs.Report.{open_line, weight_line, cube_lines, missing_lines};
-ghost use Rattle.cube_report.specs.Report.{node_lines, open_lines, section_line, report_text};
+ghost use Rattle.cube_report.specs.Report.{node_lines, open_lines, marked_line, report_text};
 
 use case_core::{Leaf, Lit, NodeId, Target};
-use mark_board::{Boards, Mark};
+use mark_board::{Mark, MarkedTree, open_branches_of};
 use std::alloc::{AllocError, Global};
 use tree_map::{answer, write_number, write_path, write_status};
 
-/// The report by the boards' own marks: the totals, each cube, each missing leaf, each inner node
-/// with a section, each open branch, the open weight, and the answer. `AllocError` where a growth
-/// was refused.
-pub fn report_of(alloc: Global, boards: &Boards<'_>) -> Result<Vec<u8>, AllocError>
-    ensures { IfOk result (λ text. text.items ≡ report_text boards.now.case boards.now.marks) }
+/// The report by the marks of a tree's nodes, whoever says them: the totals, each cube, each missing
+/// leaf, each inner node with a mark, each open branch, the open weight, and the answer.
+/// `AllocError` where a growth was refused.
+pub fn report_of<M: MarkedTree>(alloc: Global, told: &M) -> Result<Vec<u8>, AllocError>
+    ensures { IfOk result
+        (λ text. text.items ≡ report_text (M.splits told.now) (M.marks told.now)) }
 {
     let mut text = Vec::new(alloc);
-    write_totals(&mut text, boards)?;
-    write_cubes(&mut text, boards)?;
-    write_missing_leaves(alloc, &mut text, boards)?;
-    write_nodes(alloc, &mut text, boards)?;
-    write_open_branches(alloc, &mut text, boards)?;
-    write_closing(&mut text, boards.open_weight(), boards.root_marked())?;
+    write_totals(&mut text, told)?;
+    write_cubes(&mut text, told)?;
+    write_missing_leaves(alloc, &mut text, told)?;
+    write_nodes(alloc, &mut text, told)?;
+    write_open_branches(alloc, &mut text, told)?;
+    let open = told.open_under(told.tree().root());
+    write_closing(&mut text, open, open == 0)?;
     Ok(text)
 }
 
 #[tactic(auto, unfolding(crate::specs::Report::total_line))]
-fn write_totals(text: &mut Vec<u8>, boards: &Boards<'_>) -> Result<(), AllocError>
+fn write_totals<M: MarkedTree>(text: &mut Vec<u8>, told: &M) -> Result<(), AllocError>
     ensures { OnOk result (text.new.items ≡ text.old.items
-        ++ total_line (cube_count boards.now.case.tree)
-        (length (missing_nodes boards.now.case.tree)) (total 0 boards.now.case.tree)) }
+        ++ total_line (cube_count (M.splits told.now))
+        (length (missing_nodes (M.splits told.now))) (total 0 (M.splits told.now))) }
 {
-    let tree = boards.case().tree();
+    let tree = told.tree();
     text.extend_from_slice(b"t")?;
     write_number(text, tree.cube_count() as u64)?;
     write_number(text, tree.missing_count() as u64)?;
@@ -47,92 +49,91 @@ fn write_totals(text: &mut Vec<u8>, boards: &Boards<'_>) -> Result<(), AllocErro
 }
 
 /// The line of each cube, in order.
-fn write_cubes(text: &mut Vec<u8>, boards: &Boards<'_>) -> Result<(), AllocError>
+fn write_cubes<M: MarkedTree>(text: &mut Vec<u8>, told: &M) -> Result<(), AllocError>
     ensures { OnOk result
         (text.new.items
         ≡ text.old.items
-        ++ cube_lines boards.now.case.tree boards.now.marks 1 (cube_count boards.now.case.tree)) }
+        ++ cube_lines (M.splits told.now) (M.marks told.now) 1 (cube_count (M.splits told.now))) }
 {
-    for before in 0..boards.case().tree().cube_count() {
+    for before in 0..told.tree().cube_count() {
         let number = before + 1;
-        let mark = boards.mark_of(Target::Leaf(Leaf::Cube(number)));
+        let mark = told.mark_of(Target::Leaf(Leaf::Cube(number)));
         write_cube(text, number as u64, mark)?;
     }
     Ok(())
 }
 
 /// The line of each missing leaf, in order.
-fn write_missing_leaves(
+fn write_missing_leaves<M: MarkedTree>(
     alloc: Global,
     text: &mut Vec<u8>,
-    boards: &Boards<'_>,
+    told: &M,
 ) -> Result<(), AllocError>
     ensures { OnOk result
         (text.new.items
         ≡ text.old.items
-        ++ missing_lines boards.now.case.tree boards.now.marks 1
-        (missing_nodes boards.now.case.tree)) }
+        ++ missing_lines (M.splits told.now) (M.marks told.now) 1
+        (missing_nodes (M.splits told.now))) }
 {
-    let tree = boards.case().tree();
+    let tree = told.tree();
     for before in 0..tree.missing_count() {
         let number = before + 1;
         let leaf = Leaf::Missing(number);
         let path = tree.path_of(alloc, Target::Leaf(leaf))?;
-        let mark = boards.mark_of(Target::Leaf(leaf));
+        let mark = told.mark_of(Target::Leaf(leaf));
         write_missing(text, number as u64, &path, mark)?;
     }
     Ok(())
 }
 
-/// The line of each inner node that has a section, in tree order.
-fn write_nodes(alloc: Global, text: &mut Vec<u8>, boards: &Boards<'_>) -> Result<(), AllocError>
+/// The line of each inner node that has a mark, in tree order.
+fn write_nodes<M: MarkedTree>(alloc: Global, text: &mut Vec<u8>, told: &M) -> Result<(), AllocError>
     ensures { OnOk result
         (text.new.items
         ≡ text.old.items
-        ++ node_lines boards.now.case boards.now.marks 0 (subtrees boards.now.case.tree)) }
+        ++ node_lines (M.splits told.now) (M.marks told.now) 0 (subtrees (M.splits told.now))) }
 {
-    let tree = boards.case().tree();
+    let tree = told.tree();
     for number in 0..tree.size() {
         let node = NodeId::new(number);
         if let Some((_, _)) = tree.branches(node) {
-            write_section(alloc, text, boards, node)?;
+            write_marked(alloc, text, told, node)?;
         }
     }
     Ok(())
 }
 
-/// The line of an inner node, if it has a section.
-fn write_section(
+/// The line of an inner node, if it has a mark.
+fn write_marked<M: MarkedTree>(
     alloc: Global,
     text: &mut Vec<u8>,
-    boards: &Boards<'_>,
+    told: &M,
     node: NodeId,
 ) -> Result<(), AllocError>
-    requires { IsTargetAt boards.now.case.tree node (Node node) }
-    ensures { OnOk result
-        (text.new.items ≡ text.old.items ++ section_line boards.now.case boards.now.marks node) }
+    requires { IsTargetAt (M.splits told.now) node (Node node) }
+    ensures { OnOk result (text.new.items ≡ text.old.items
+        ++ marked_line (path_at (M.splits told.now) node) (mark_at (M.marks told.now) node)) }
 {
-    let case = boards.case();
-    if case.proof_for(Target::Node(node)).is_some() {
-        let path = case.tree().path_of(alloc, Target::Node(node))?;
-        let mark = boards.mark_of(Target::Node(node));
-        write_node(text, &path, mark)?;
+    let mark = told.mark_of(Target::Node(node));
+    if let Mark::Open = mark {
+        return Ok(());
     }
-    Ok(())
+    let path = told.tree().path_of(alloc, Target::Node(node))?;
+    write_node(text, &path, mark)
 }
 
 /// The line of each open branch, in tree order.
-fn write_open_branches(
+fn write_open_branches<M: MarkedTree>(
     alloc: Global,
     text: &mut Vec<u8>,
-    boards: &Boards<'_>,
+    told: &M,
 ) -> Result<(), AllocError>
     ensures { OnOk result (text.new.items ≡ text.old.items
-        ++ open_lines boards.now.case.tree
-        (open_branches (refuted_by boards.now.marks) 0 boards.now.case.tree)) }
+        ++ open_lines (M.splits told.now)
+        (open_branches (refuted_by (M.marks told.now)) 0 (M.splits told.now))) }
 {
-    let tree = boards.case().tree();
-    let targets = boards.open_branches(alloc)?;
+    let tree = told.tree();
+    let targets = open_branches_of(alloc, told)?;
     for target in &targets {
         // The proof takes from this call that a target stands at one node alone.
         let _only = tree.node_of_target(*target);

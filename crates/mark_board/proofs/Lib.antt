@@ -5,6 +5,7 @@ mod RowsPosts
 mod BoardNumbers
 mod MarkingSound
 mod RowsWorths
+mod MarksGiven
 pub mod TopPlacesNodes
 pub mod TopPlacesParts
 mod TopPlacesDepths

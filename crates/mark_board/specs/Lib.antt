@@ -4,6 +4,7 @@ pub mod Posting
 pub mod VerdictOf
 pub mod TopPlaces
 pub mod Findings
+pub mod Marks
 pub mod Laws
 pub mod BoardData
 pub mod Boards

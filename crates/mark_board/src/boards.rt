@@ -13,9 +13,10 @@ ghost use Rattle.mark_board.specs.Inner.Boards.{AreNewParts, is_new};
 
 use crate::board::Board;
 use crate::mark::Mark;
+use crate::marked_tree::{MarkedTree, open_branches_of};
 use crate::place::Place;
 use crate::posted::Posted;
-use case_core::{Case, Finding, NodeId, Target};
+use case_core::{Case, Finding, NodeId, Target, Tree};
 use std::alloc::{AllocError, Global};
 use std::marker::Model;
 
@@ -194,22 +195,24 @@ impl<'c> Boards<'c> {
             (λ targets. AreTargetsAt self.now.case.tree targets.items
             (open_branches (refuted_by self.now.marks) 0 self.now.case.tree)) }
     {
-        let tree = self.case().tree();
-        let mut targets = Vec::new(alloc);
-        let mut number = 0;
-        while number < tree.size() {
-            let node = NodeId::new(number);
-            let weight = self.open_under(node);
-            let whole = tree.weight_under(node);
-            number = if weight == 0 {
-                tree.end_of(node)
-            } else if weight == whole {
-                targets.push(tree.target_at(node))?;
-                tree.end_of(node)
-            } else {
-                number + 1
-            };
-        }
-        Ok(targets)
+        open_branches_of(alloc, self)
+    }
+}
+
+impl<'c> MarkedTree for Boards<'c> {
+    ghost splits = { λ b. b.case.tree };
+
+    ghost marks = { λ b. b.marks };
+
+    fn tree(&self) -> &Tree {
+        self.case().tree()
+    }
+
+    fn mark_of(&self, target: Target) -> Mark {
+        Boards::mark_of(self, target)
+    }
+
+    fn open_under(&self, node: NodeId) -> u64 {
+        Boards::open_under(self, node)
     }
 }

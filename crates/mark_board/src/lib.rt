@@ -6,6 +6,8 @@ mod boards;
 mod kind;
 mod laws;
 mod mark;
+mod marked_tree;
+mod marks;
 mod part;
 mod place;
 mod posted;
@@ -22,6 +24,8 @@ pub use laws::{
     top_has_the_nodes_above_the_cut, top_marks_the_root,
 };
 pub use mark::Mark;
+pub use marked_tree::{MarkedTree, open_branches_of};
+pub use marks::Marks;
 pub use part::PartVerdict;
 pub use place::Place;
 pub use posted::{PartPosted, Posted};

@@ -247,6 +247,12 @@ fn files(rt: HostRuntime) -> Result<(), Fail> {
     Ok(())
 }
 
+/// The words for one worker and the proofs of the folder D, and those for FILE in front of them. One
+/// worker asks for the leaves' files in their order, where nobody knows how long they are.
+const ALONE: &[&str] = &["--workers", "1", "--proofs", "D"];
+
+const FILE_ALONE: &[&str] = &["FILE", "--workers", "1", "--proofs", "D"];
+
 // Each leaf's file is asked for once, the cubes' and then those of the missing leaves, whatever is
 // there.
 #[test]
@@ -258,7 +264,7 @@ fn proofs_of_a_folder(rt: HostRuntime) -> Result<(), Fail> {
     ] {
         let ending = (status, report, b"".as_slice());
         let store = FileStore::new(Shelf::new(rt.alloc(), files)?);
-        asks_for(&rt, store, &["--proofs", "D"], MIXED, ending, PROOF_PATHS)?;
+        asks_for(&rt, store, ALONE, MIXED, ending, PROOF_PATHS)?;
     }
     Ok(())
 }
@@ -289,28 +295,89 @@ fn lines_without_an_end(rt: HostRuntime) -> Result<(), Fail> {
     ] {
         let store = FileStore::new(Shelf::new(rt.alloc(), &files)?);
         let paths = b"D/1.lrat\nD/2.lrat\n";
-        asks_for(
-            &rt,
-            store,
-            &["--proofs", "D"],
-            bundle,
-            (0, report, b""),
-            paths,
-        )?;
+        asks_for(&rt, store, ALONE, bundle, (0, report, b""), paths)?;
     }
     Ok(())
 }
 
 // A leaf with a proof in the bundle and one in the folder has two: the second one's label stands
-// behind the bundle's last line and an empty one.
+// behind the bundle's last line and an empty one. All files are read again then, one by one.
 #[test]
 fn a_proof_in_both_places(rt: HostRuntime) -> Result<(), Fail> {
     let line: &[u8] = b"cubeboard: F12 second proof, line 13\n";
     let files = [("D/2.lrat", b"6 0 5 1 2 0\n".as_slice())];
     let store = FileStore::new(Shelf::new(rt.alloc(), &files)?);
-    let paths = b"D/1.lrat\nD/2.lrat\n";
+    let paths = b"D/1.lrat\nD/2.lrat\nD/1.lrat\nD/2.lrat\n";
     let input = BOTH_CUBES.as_bytes();
-    asks_for(&rt, store, &["--proofs", "D"], input, (3, b"", line), paths)?;
+    asks_for(&rt, store, ALONE, input, (3, b"", line), paths)?;
+    Ok(())
+}
+
+// A faulty label line is told by its line in the bundle with all proofs: behind the bundle's last
+// line stands an empty one, then the first leaf's label line and its proof, then another empty
+// line, the second leaf's label line, and the file whose third line it is. No worker goes on behind
+// that file, but all are read again, also those behind the fault.
+#[test]
+fn a_bad_label_among_files(rt: HostRuntime) -> Result<(), Fail> {
+    let paths = b"D/1.lrat\nD/2.lrat\nD/1.lrat\nD/2.lrat\nD/m1.lrat\nD/m2.lrat\n";
+    for (second, line) in [
+        (
+            b"7 0 5 6 2 0\nc\nl x\n".as_slice(),
+            b"cubeboard: F10 bad label, line 15\n".as_slice(),
+        ),
+        (
+            b"7 0 5 6 2 0\nc\nl 3\n",
+            b"cubeboard: F11 no such leaf, line 15\n",
+        ),
+        (
+            b"7 0 5 6 2 0\nc\nl 1\n",
+            b"cubeboard: F12 second proof, line 15\n",
+        ),
+        // The label of the next leaf, whose own label stands behind this file and an empty line.
+        (
+            b"7 0 5 6 2 0\nl m1\n7 0 5 6 3 0\n",
+            b"cubeboard: F12 second proof, line 17\n",
+        ),
+    ] {
+        let files = [
+            ("D/1.lrat", b"7 0 5 6 4 0\n".as_slice()),
+            ("D/2.lrat", second),
+            ("D/m1.lrat", b"7 0 5 6 3 0\nl y\n"),
+            ("D/m2.lrat", b"7 0 5 6 1 0\n"),
+        ];
+        let store = FileStore::new(Shelf::new(rt.alloc(), &files)?);
+        asks_for(&rt, store, ALONE, MIXED, (3, b"", line), paths)?;
+    }
+    Ok(())
+}
+
+// A read that fails behind the first fault comes before it.
+#[test]
+fn a_file_fails_behind_a_fault(rt: HostRuntime) -> Result<(), Fail> {
+    let files = [("D/1.lrat", b"l x\n".as_slice())];
+    let paths = b"D/1.lrat\nD/1.lrat\nD/2.lrat\nD/m1.lrat\n";
+    for (fault, status, line) in [(Fault::Device, 5, DEVICE), (Fault::Memory, 4, MEMORY)] {
+        let store = FileStore::new(Shelf::failing(rt.alloc(), &files, 4, fault)?);
+        asks_for(&rt, store, ALONE, MIXED, (status, b"", line), paths)?;
+    }
+    Ok(())
+}
+
+// Where a file has the section of another leaf, and the bundle with all proofs has no fault, they
+// are read a third time, for the run on it.
+#[test]
+fn a_section_in_the_file_of_another_leaf(rt: HostRuntime) -> Result<(), Fail> {
+    let files = [
+        ("D/1.lrat", b"7 0 5 6 4 0\nl m1\n7 0 5 6 3 0\n".as_slice()),
+        ("D/2.lrat", b"7 0 5 6 2 0\n"),
+        ("D/m2.lrat", b"7 0 5 6 1 0\n"),
+    ];
+    let mut paths = Vec::new(rt.alloc());
+    paths.extend_from_slice(b"D/1.lrat\n")?;
+    paths.extend_from_slice(PROOF_PATHS)?;
+    paths.extend_from_slice(PROOF_PATHS)?;
+    let store = FileStore::new(Shelf::new(rt.alloc(), &files)?);
+    asks_for(&rt, store, ALONE, MIXED, (0, ALL_REPORT, b""), &paths)?;
     Ok(())
 }
 
@@ -339,8 +406,13 @@ fn a_file_in_place_of_the_input(rt: HostRuntime) -> Result<(), Fail> {
     let all_paths = b"FILE\nD/1.lrat\nD/2.lrat\nD/m1.lrat\nD/m2.lrat\n".as_slice();
     for (words, status, report, paths) in [
         (["FILE"].as_slice(), 1, BARE_REPORT, b"FILE\n".as_slice()),
-        (&["FILE", "--proofs", "D"], 0, ALL_REPORT, all_paths),
-        (&["--proofs=D", "FILE"], 0, ALL_REPORT, all_paths),
+        (FILE_ALONE, 0, ALL_REPORT, all_paths),
+        (
+            &["--workers=1", "--proofs=D", "FILE"],
+            0,
+            ALL_REPORT,
+            all_paths,
+        ),
     ] {
         let store = FileStore::new(Shelf::new(rt.alloc(), ALL_FILES)?);
         leaves_input(&rt, store, words, (status, report, b""), paths)?;
@@ -370,8 +442,7 @@ fn a_file_fails(rt: HostRuntime) -> Result<(), Fail> {
     ] {
         for (fault, status, line) in [(Fault::Device, 5, DEVICE), (Fault::Memory, 4, MEMORY)] {
             let store = FileStore::new(Shelf::failing(rt.alloc(), ALL_FILES, fails_at, fault)?);
-            let words = ["--proofs", "D", "FILE"];
-            leaves_input(&rt, store, &words, (status, b"", line), paths)?;
+            leaves_input(&rt, store, FILE_ALONE, (status, b"", line), paths)?;
         }
     }
     Ok(())

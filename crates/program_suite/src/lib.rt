@@ -8,8 +8,12 @@ mod command_tests;
 #[cfg(test)]
 mod devices;
 #[cfg(test)]
+mod join_tests;
+#[cfg(test)]
 mod map_tests;
 #[cfg(test)]
 mod progress_tests;
+#[cfg(test)]
+mod record_tests;
 #[cfg(test)]
 mod report_tests;

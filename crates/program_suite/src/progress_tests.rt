@@ -114,9 +114,9 @@ fn tells<R: AllocGlobal + Abort + Threads + Wait + Sync>(
 fn a_line_each_second(rt: HostRuntime) {
     let words = ["--workers", "1", "--progress"];
     let device = Device::new(&rt, 600, false);
-    let wanted = "cubeboard: 2 of 4 judged, 2 refuted, 0 rejected, 50.000 % open\n\
-                  cubeboard: 4 of 4 judged, 4 refuted, 0 rejected, 0.000 % open\n\
-                  cubeboard: 4 of 4 judged, 4 refuted, 0 rejected, 0.000 % open\n";
+    let wanted = "cubeboard: 2 of 4 judged, 24 of 48 bytes, 2 refuted, 0 rejected, 50.000 % open\n\
+                  cubeboard: 4 of 4 judged, 48 of 48 bytes, 4 refuted, 0 rejected, 0.000 % open\n\
+                  cubeboard: 4 of 4 judged, 48 of 48 bytes, 4 refuted, 0 rejected, 0.000 % open\n";
     assert!(rt;
         tells(
             &rt,
@@ -134,9 +134,12 @@ fn a_line_each_second(rt: HostRuntime) {
 fn over_the_line_before(rt: HostRuntime) {
     let words = ["--progress", "--workers=1"];
     let device = Device::new(&rt, 600, false);
-    let wanted = "\rcubeboard: 2 of 4 judged, 2 refuted, 0 rejected, 50.000 % open\x1b[K\
-                  \rcubeboard: 4 of 4 judged, 4 refuted, 0 rejected, 0.000 % open\x1b[K\
-                  \rcubeboard: 4 of 4 judged, 4 refuted, 0 rejected, 0.000 % open\x1b[K\n";
+    let wanted = "\rcubeboard: 2 of 4 judged, 24 of 48 bytes, 2 refuted, 0 rejected, \
+                  50.000 % open\x1b[K\
+                  \rcubeboard: 4 of 4 judged, 48 of 48 bytes, 4 refuted, 0 rejected, \
+                  0.000 % open\x1b[K\
+                  \rcubeboard: 4 of 4 judged, 48 of 48 bytes, 4 refuted, 0 rejected, \
+                  0.000 % open\x1b[K\n";
     assert!(rt;
         tells(
             &rt,
@@ -153,7 +156,7 @@ fn over_the_line_before(rt: HostRuntime) {
 // that is refuted closes what lies under it, also where it is above the cut, and once.
 #[test]
 fn the_last_line(rt: HostRuntime) {
-    let wanted = "cubeboard: 3 of 3 judged, 2 refuted, 1 rejected, 50.000 % open\n";
+    let wanted = "cubeboard: 3 of 3 judged, 32 of 32 bytes, 2 refuted, 1 rejected, 50.000 % open\n";
     for workers in ["1", "2", "4"] {
         for cut in ["0", "1", "2", "6"] {
             let words = ["--workers", workers, "--cut", cut, "--progress"];

@@ -15,7 +15,8 @@ use Rattle.std.specs.List.{onto_first}
 use Rattle.proof_folder.specs.Added.{AreEnds, IsAlmost, AreAlmost, LeafFile, section_text}
 use Rattle.proof_folder.specs.Added.{texts_of, section_of, sections_of, MayBeAdded, MayAllBeAdded}
 use Rattle.proof_folder.specs.Added.{IsCaseWith}
-use Rattle.proof_folder.proofs.AddedLines.{lines_more, before_label, label_begun, almost_header}
+use Rattle.case_core.proofs.BundleMore.{lines_more}
+use Rattle.proof_folder.proofs.AddedLines.{before_label, label_begun, almost_header}
 use Rattle.proof_folder.proofs.AddedLabels.{labels_more, sections_almost, labelled_more, plain_text}
 use Rattle.proof_folder.proofs.AddedLabels.{LabelsMore, SectionsMore}
 

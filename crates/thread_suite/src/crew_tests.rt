@@ -4,7 +4,7 @@ ghost use Rattle.std.specs.Prelude.{◌≡◌};
 
 use crate::cases::case;
 use case_core::{Case, Leaf, Target};
-use check_crew::{Found, Gate, NoGate, Settings, conquer};
+use check_crew::{Elsewhere, Found, Gate, NoGate, Settings, conquer};
 use crossbeam_utils::Backoff;
 use cube_report::{run, run_one};
 use fixtures::bundles::{
@@ -404,7 +404,7 @@ impl Gate for Tally {
         _alloc: Global,
         _case: &Case,
         _cut: u32,
-        _elsewhere: u64,
+        _elsewhere: Elsewhere,
     ) -> Result<(), AllocError> {
         self.started.fetch_add(1, Ordering::SeqCst);
         Ok(())

@@ -11,3 +11,5 @@ mod hall_tests;
 mod hall_thread_tests;
 #[cfg(test)]
 mod jobs_tests;
+#[cfg(test)]
+mod leaves_tests;

@@ -1,7 +1,7 @@
 -- Where a text is cut at its label lines.
-use Rattle.std.specs.Prelude.{◌≡◌, ◌⊎◌, ℕ, ◌+◌, ◌==◌, List, [], ◌∷◌, ◌++◌, length, true, false, All}
+use Rattle.std.specs.Prelude.{◌≡◌, ◌⊎◌, ℕ, ◌+◌, ◌==◌, List, [], ◌∷◌, ◌++◌, length, false, All}
 use Rattle.cnf_text.specs.Tokens.{words}
-use Rattle.case_core.specs.Bundle.{lines_of, is_label, Labelled, labelled}
+use Rattle.case_core.specs.Bundle.{lines_of, Labelled, labelled, BeginsWithLabel}
 
 -- a text and its end
 pub record EndsWith (text end : List ℕ) : Type 0 where
@@ -26,13 +26,6 @@ pub record AfterPlainLines (text end : List ℕ) : Type 0 where
   pub parts : text ≡ front ++ end
   pub plain : HasNoLetter front
   pub at_line : EndsAtLine front
-
--- the first line is a label line
-pub record BeginsWithLabel (text : List ℕ) : Type 0 where
-  pub line : List ℕ
-  pub others : List (List ℕ)
-  pub lines : lines_of text ≡ line ∷ others
-  pub is : is_label line ≡ true
 
 -- the end of a text from its first label line on
 pub record FirstLabel (text end : List ℕ) : Type 0 where

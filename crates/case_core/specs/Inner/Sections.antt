@@ -8,11 +8,11 @@ use Rattle.case_core.specs.declared.fault.CaseFault.{CaseFault}
 use Rattle.case_core.specs.Faults.{of_clash}
 use Rattle.split_tree.specs.SplitTree.{SplitTree, IsTreeOf, numbered, total}
 use Rattle.split_tree.specs.declared.node.Target.{Target}
-use Rattle.case_core.specs.Bundle.{Labelled, lines_of, labelled, labels_of}
+use Rattle.case_core.specs.Bundle.{Labelled, lines_of, labelled, labels_of, BeginsWithLabel}
 use Rattle.case_core.specs.Case.{SectionOf, AreSections, proof_for}
 use Rattle.case_core.specs.Inner.Case.{AreTabled}
 use Rattle.case_core.specs.Label.{Name, IsTargetOf}
-use Rattle.case_core.specs.Inner.Bundle.{EndsWith, BeginsWithLabel}
+use Rattle.case_core.specs.Inner.Bundle.{EndsWith}
 use Rattle.case_core.specs.Sections.{AreSectionsOf}
 use Rattle.case_core.specs.Inner.Label.{NamesNone, IsLimited}
 use Rattle.case_core.specs.declared.label.LabelFault.{LabelFault}

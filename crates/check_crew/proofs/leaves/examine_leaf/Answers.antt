@@ -27,11 +27,12 @@ returns-clause-examined g c =
     let bytes : List ℕ = c.read.new.bytes.items in
     let judged : Judged = c.judged-judged.result in
     let there : c.in_ok-read.field-0 ≡ true = search rules in
-    let free : proof_for c.args.case.now.sections leaf ≡ None = search rules in
+    let free : proof_for c.args.case.now.sections leaf ≡ None =
+    c.is_for_one_bundle.ensures.free c.if-is_for_one_bundle.false in
     let new : c.post.result ≡ true = search rules in
     let plain : labels_of bytes ≡ [] =
     subst (λ (t : List ℕ). labels_of t ≡ []) c.deref.ensures.value
-    (c.has_label_line.ensures.0 c.if-has_label_line.false) in
+    (c.is_for_one_bundle.ensures.plain c.if-is_for_one_bundle.false) in
     let by_text : IsFoundBy c.args.case.now leaf bytes judged =
     subst (λ (j : Judged). IsFoundBy c.args.case.now leaf bytes j) (sym c.judged-judged.ensures.value)
     (subst (λ (t : List ℕ). IsFoundBy c.args.case.now leaf t finding.judged) c.deref-2.ensures.value

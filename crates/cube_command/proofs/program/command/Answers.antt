@@ -1,8 +1,10 @@
 use Rattle.cube_command.proofs.WordsRequests.{nothing_asked, nothing_taken}
 use Rattle.cube_command.proofs.ProgramRuns.{device_run, fault_run, memory_run, sound_run}
-use Rattle.cube_command.proofs.ProgramRuns.{fault_asked, memory_asked, pictures_asked}
+use Rattle.cube_command.proofs.ProgramRuns.{fault_asked, files_asked, memory_asked}
 use Rattle.cube_command.proofs.ProgramRuns.{reports_asked}
-use Rattle.std.proofs.Common.{◌≡◌, arith}
+use Rattle.cube_command.specs.Program.{AllowsPictures}
+use Rattle.cube_command.specs.Record.{AllowsRecords}
+use Rattle.std.proofs.Common.{◌≡◌, arith, List, ℕ}
 use Rattle.cube_command.proofs.program.command.Goals as goal
 
 pub run_request-run-requires-clause-reports : goal.run_request-run-requires-clause-reports
@@ -13,9 +15,22 @@ run_request-run-requires-clause-reports g c = λ κs within.
 
 pub run_request-run-requires-clause-pictures : goal.run_request-run-requires-clause-pictures
 run_request-run-requires-clause-pictures g c = λ κs within.
-    pictures_asked (g.D.Store.allows c.args.store.now) (g.D.Store.held c.args.store.now) _ _ _ _ _
-    _ (g.I.Source.remaining c.args.input.now)
+    files_asked
+    (λ (path read whole : List ℕ). AllowsPictures (g.D.Store.allows c.args.store.now path) whole)
+    (g.D.Store.held c.args.store.now) _ _ _ _ _ _ (g.I.Source.remaining c.args.input.now)
     c.in-Ok.ensures.file c.in-Ok.ensures.proofs c.in-Ok.ensures.map c.requires.pictures
+
+pub run_request-run-requires-clause-records : goal.run_request-run-requires-clause-records
+run_request-run-requires-clause-records g c = λ κs within.
+    files_asked
+    (λ (path read whole : List ℕ).
+    AllowsRecords (g.D.Store.allows c.args.store.now path) read whole)
+    (g.D.Store.held c.args.store.now) _ _ _ _ _ _ (g.I.Source.remaining c.args.input.now)
+    c.in-Ok.ensures.file c.in-Ok.ensures.proofs c.in-Ok.ensures.out c.requires.records
+
+pub run_request-run-requires-clause-apart : goal.run_request-run-requires-clause-apart
+run_request-run-requires-clause-apart g c = λ κs within.
+    rw (c.in-Ok.ensures.map, c.in-Ok.ensures.out) c.in-Ok.ensures.taken.1
 
 pub tell_run-requires-clause-fault : goal.tell_run-requires-clause-fault
 tell_run-requires-clause-fault g c =
@@ -37,7 +52,7 @@ refused-requires-clause-words g c =
 
 pub returns-in-Ok-clause-sound : goal.returns-in-Ok-clause-sound
 returns-in-Ok-clause-sound g c = λ zero.
-    sound_run (g.D.Store.held c.args.store.now) _ _ _ _ _ _ (g.O.Sink.contents c.args.output.now)
+    sound_run (g.D.Store.held c.args.store.now) _ _ _ _ _ _ _ (g.O.Sink.contents c.args.output.now)
     (g.O.Sink.contents c.run_request-run.new.output) c.run_request-run.result c.tell_run.result _
     (g.E.Sink.contents c.args.errors.now) (g.E.Sink.contents c.tell_run.new.errors)
     (g.E.Sink.failures c.args.errors.now) (g.E.Sink.failures c.tell_run.new.errors)

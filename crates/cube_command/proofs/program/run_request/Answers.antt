@@ -1,58 +1,97 @@
-use Rattle.std.proofs.Common.{List, ℕ, option_map, Bor}
+use Rattle.std.proofs.Common.{List, ℕ, option_map, Bor, ◌∙◌}
 use Rattle.cube_report.specs.Faults.{IsInputFault}
 use Rattle.cube_command.specs.Program.{IsRefused}
 use Rattle.cube_report.proofs.CorrectReports.{report_on}
-use Rattle.cube_command.proofs.ProgramRuns.{picture_on, reported, some_mapped}
+use Rattle.cube_command.proofs.ProgramRuns.{bundle_of, refused_of, picture_on, reported}
+use Rattle.cube_command.proofs.ProgramRuns.{begun_of, some_mapped, whole_record}
 use Rattle.cube_command.proofs.WordsRequests.{handed_on}
 use Rattle.cube_command.proofs.program.run_request.Goals as goal
 
 pub returns-in_err-outcome-clause-fault : goal.returns-in_err-outcome-clause-fault
 returns-in_err-outcome-clause-fault g c =
-    let bundle = c.in_ok-bundle.ensures.bundle in
     handed_on c.from_residual-in_err-outcome.result
     (λ fault. IsInputFault fault → IsRefused (g.D.Store.held c.args.store.now)
     (option_map {T = Bor (List ℕ)} {U = List ℕ} (λ text. text.now) c.args.request.now.file)
     (option_map {T = Bor (List ℕ)} {U = List ℕ} (λ text. text.now) c.args.request.now.proofs)
     (g.I.Source.remaining c.args.input.now) fault)
     c.in_err-outcome.field-0.0
-    (λ input. record {
-      read = bundle.0;
-      whole = c.in_ok-bundle.bundle.items;
-      bundle = bundle.1;
-      first = c.in_err-outcome.ensures.fault input;
-    })
+    (λ input.
+    refused_of (g.D.Store.held c.args.store.now) _ _ (g.I.Source.remaining c.args.input.now)
+    c.in_ok-read.read.items _ c.in_ok-read.ensures.bundle
+    (rw c.in_ok-read.ensures.held at (c.in_err-outcome.ensures.fault input)))
     c.from_residual-in_err-outcome.ensures.1
 
 pub write_outcome-requires-clause-store : goal.write_outcome-requires-clause-store
-write_outcome-requires-clause-store g c = λ _ _. rw c.in_ok-bundle.ensures.ok.0 c.requires.store
+write_outcome-requires-clause-store g c = λ _ _.
+    rw (c.in_ok-outcome.ensures.ok ∙ c.in_ok-read.ensures.ok.0) c.requires.store
 
 pub write_outcome-requires-clause-report : goal.write_outcome-requires-clause-report
 write_outcome-requires-clause-report g c = λ _ _.
-    let bundle = c.in_ok-bundle.ensures.bundle in
-    c.requires.reports bundle.0 c.in_ok-bundle.bundle.items bundle.1
-    c.in_ok-outcome.outcome.text.items
-    (report_on _ _ _ c.in_ok-outcome.ensures.outcome.correct)
+    let judged = rw c.in_ok-read.ensures.held at c.in_ok-outcome.ensures.outcome in
+    c.requires.reports c.in_ok-read.read.items judged.whole
+    (bundle_of (g.D.Store.held c.args.store.now) _ _ (g.I.Source.remaining c.args.input.now)
+    c.in_ok-read.read.items judged.whole c.in_ok-read.ensures.bundle judged.is_judged)
+    c.in_ok-outcome.outcome.text.items (report_on _ _ _ judged.outcome.correct)
 
 pub write_outcome-requires-clause-picture : goal.write_outcome-requires-clause-picture
 write_outcome-requires-clause-picture g c = λ _ _ path is.
-    let bundle = c.in_ok-bundle.ensures.bundle in
-    c.in_ok-bundle.ensures.allowed path c.in_ok-outcome.outcome.map.items
-    (c.requires.pictures path bundle.0 c.in_ok-bundle.bundle.items is bundle.1
+    let judged = rw c.in_ok-read.ensures.held at c.in_ok-outcome.ensures.outcome in
+    c.in_ok-outcome.ensures.allowed path c.in_ok-outcome.outcome.map.items
+    (c.in_ok-read.ensures.allowed path c.in_ok-outcome.outcome.map.items
+    (c.requires.pictures path c.in_ok-read.read.items judged.whole is
+    (bundle_of (g.D.Store.held c.args.store.now) _ _ (g.I.Source.remaining c.args.input.now)
+    c.in_ok-read.read.items judged.whole c.in_ok-read.ensures.bundle judged.is_judged)
     c.in_ok-outcome.outcome.map.items
-    (picture_on c.in_ok-bundle.bundle.items c.in_ok-outcome.outcome.text.items
+    (picture_on judged.whole c.in_ok-outcome.outcome.text.items
     c.in_ok-outcome.outcome.map.items path _ c.is_some-draws.result
     c.in_ok-outcome.outcome.refuted
     (some_mapped (λ (text : Bor (List ℕ)). text.now) c.args.request.now.map c.is_some-draws.result
     c.is_some-draws.ensures)
-    is c.in_ok-outcome.ensures.outcome))
+    is judged.outcome)))
+
+pub write_outcome-requires-clause-recorded : goal.write_outcome-requires-clause-recorded
+write_outcome-requires-clause-recorded g c = λ _ _ path is.
+    let judged = rw c.in_ok-read.ensures.held at c.in_ok-outcome.ensures.outcome in
+    c.in_ok-outcome.ensures.allowed path c.deref-3.result.now
+    (c.in_ok-read.ensures.allowed path c.deref-3.result.now
+    (c.requires.records path c.in_ok-read.read.items judged.whole is
+    (bundle_of (g.D.Store.held c.args.store.now) _ _ (g.I.Source.remaining c.args.input.now)
+    c.in_ok-read.read.items judged.whole c.in_ok-read.ensures.bundle judged.is_judged)
+    c.deref-3.result.now (
+      c.in_ok-outcome.outcome.text.items,
+      report_on _ _ _ judged.outcome.correct,
+      whole_record _ c.in_ok-read.read.items c.in_ok-outcome.outcome.text.items _ _
+          c.in_ok-record.record.items c.end_record.new.begun.items c.deref-3.result.now
+          c.deref.ensures.value c.deref-2.ensures.value c.deref-3.ensures.value c.in_ok-record.ensures c.in_ok-end_record.ensures path is,
+    )))
+
+pub returns-in_err-write_outcome-clause-beginning : goal.returns-in_err-write_outcome-clause-beginning
+returns-in_err-write_outcome-clause-beginning g c =
+    let judged = rw c.in_ok-read.ensures.held at c.in_ok-outcome.ensures.outcome in
+    begun_of c.from_residual-in_err-write_outcome.result (g.D.Store.held c.args.store.now) _ _
+    (g.I.Source.remaining c.args.input.now) (g.O.Sink.contents c.args.output.now)
+    (g.O.Sink.contents c.write_outcome.new.output) c.in_ok-read.read.items judged.whole
+    c.in_ok-outcome.outcome.text.items (g.O.Sink.failures c.args.output.now)
+    (g.O.Sink.failures c.write_outcome.new.output)
+    (bundle_of (g.D.Store.held c.args.store.now) _ _ (g.I.Source.remaining c.args.input.now)
+    c.in_ok-read.read.items judged.whole c.in_ok-read.ensures.bundle judged.is_judged)
+    (report_on _ _ _ judged.outcome.correct) c.in_err-write_outcome.ensures.beginning
 
 pub returns-clause-report : goal.returns-clause-report
 returns-clause-report g c =
-    reported (g.D.Store.held c.args.store.now) (g.D.Store.held c.write_outcome.new.store) _ _ _ _
+    let judged = rw c.in_ok-read.ensures.held at c.in_ok-outcome.ensures.outcome in
+    reported (g.D.Store.held c.args.store.now) (g.D.Store.held c.write_outcome.new.store) _ _ _ _ _
     (g.O.Sink.contents c.args.output.now)
-    (g.O.Sink.contents c.write_outcome.new.output) _ c.in_ok-bundle.bundle.items
-    c.in_ok-outcome.outcome.text.items c.in_ok-outcome.outcome.map.items c.is_some-draws.result
-    c.in_ok-outcome.outcome.refuted c.in_ok-bundle.ensures.bundle.1 c.in_ok-outcome.ensures.outcome
+    (g.O.Sink.contents c.write_outcome.new.output) c.in_ok-read.read.items judged.whole
+    c.in_ok-outcome.outcome.text.items c.in_ok-outcome.outcome.map.items
+    c.deref-3.result.now c.is_some-draws.result c.in_ok-outcome.outcome.refuted
+    (bundle_of (g.D.Store.held c.args.store.now) _ _ (g.I.Source.remaining c.args.input.now)
+    c.in_ok-read.read.items judged.whole c.in_ok-read.ensures.bundle judged.is_judged)
+    judged.outcome
     (some_mapped (λ (text : Bor (List ℕ)). text.now) c.args.request.now.map c.is_some-draws.result
     c.is_some-draws.ensures)
+    (whole_record _ c.in_ok-read.read.items c.in_ok-outcome.outcome.text.items _ _
+    c.in_ok-record.record.items c.end_record.new.begun.items c.deref-3.result.now
+    c.deref.ensures.value c.deref-2.ensures.value c.deref-3.ensures.value c.in_ok-record.ensures c.in_ok-end_record.ensures)
     c.in_ok-write_outcome.ensures.written c.in_ok-write_outcome.ensures.drawn
+    c.in_ok-write_outcome.ensures.recorded

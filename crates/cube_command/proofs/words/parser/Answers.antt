@@ -1,7 +1,7 @@
 use Rattle.std.proofs.Common.{◌≡◌, ◌∙◌, ap₂}
 use Rattle.std.proofs.lemmas.Result.{IfOk-weaker}
 use Rattle.clap.specs.Words.{app_of, with_rule}
-use Rattle.cube_command.specs.Words.{map_word, progress_word, proofs_word}
+use Rattle.cube_command.specs.Words.{map_word, progress_word, proofs_word, record_word}
 use Rattle.cube_command.specs.Inner.Words.{with_numbers}
 use Rattle.cube_command.proofs.words.parser.Goals as goal
 
@@ -18,6 +18,11 @@ returns c =
     ≡ with_rule (with_rule (with_rule with_numbers proofs_word) progress_word) map_word =
     c.in_ok-arg-3.ensures.shape c.map_word.ensures.own
     ∙ ap₂ with_rule second c.map_word.ensures.rule in
-    IfOk-weaker c.arg-4.result _ _
+    let fourth : app_of c.in_ok-arg-4.field-0
+    ≡ with_rule (with_rule (with_rule (with_rule with_numbers proofs_word) progress_word) map_word)
+    record_word =
+    c.in_ok-arg-4.ensures.shape c.record_word.ensures.own
+    ∙ ap₂ with_rule third c.record_word.ensures.rule in
+    IfOk-weaker c.arg-5.result _ _
     (λ parser adds. adds.shape c.file_word.ensures.own
-    ∙ ap₂ with_rule third c.file_word.ensures.rule) c.arg-4.ensures
+    ∙ ap₂ with_rule fourth c.file_word.ensures.rule) c.arg-5.ensures

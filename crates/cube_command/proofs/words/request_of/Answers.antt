@@ -3,7 +3,8 @@ use Rattle.clap.specs.Words.{kind_of}
 use Rattle.clap.specs.declared.error.kind.ErrorKind.TheVariants.{OutOfMemory}
 use Rattle.cube_command.specs.Words.{AreTaken}
 use Rattle.cube_command.proofs.WordsRequests.{flag_asked, flag_read, found_asked, handed_on}
-use Rattle.cube_command.proofs.WordsRequests.{number_asked, parsed_taken, taken_fails}
+use Rattle.cube_command.proofs.WordsRequests.{number_asked, one_path_untaken, parsed_taken}
+use Rattle.cube_command.proofs.WordsRequests.{taken_fails}
 use Rattle.cube_command.proofs.words.request_of.Goals as goal
 
 pub returns-in_err-matches-clause-refused : goal.returns-in_err-matches-clause-refused
@@ -14,6 +15,15 @@ returns-in_err-matches-clause-refused g c =
     (λ taken. taken_fails _ _ c.in_err-matches.field-0.0 c.in_ok-parser.ensures
     c.in_err-matches.ensures.kinds taken) c.from_residual-in_err-matches.ensures.1
 
+pub returns-then-not-are_apart-clause-refused : goal.returns-then-not-are_apart-clause-refused
+returns-then-not-are_apart-clause-refused g c = λ taken.
+    absurd (one_path_untaken _ _ _ c.are_apart.result
+    (c.get_str-map.ensures
+    ∙ found_asked _ _ _ _ c.in_ok-parser.ensures c.in_ok-matches.ensures.matches)
+    (c.get_str-out.ensures
+    ∙ found_asked _ _ _ _ c.in_ok-parser.ensures c.in_ok-matches.ensures.matches)
+    c.are_apart.ensures.1 c.if-not-are_apart.true taken)
+
 pub returns : goal.returns
 returns g c = record {
   proofs =
@@ -23,7 +33,10 @@ returns g c = record {
       c.get_str-2.ensures
       ∙ found_asked _ _ _ _ c.in_ok-parser.ensures c.in_ok-matches.ensures.matches;
   map =
-      c.get_str-3.ensures
+      c.get_str-map.ensures
+      ∙ found_asked _ _ _ _ c.in_ok-parser.ensures c.in_ok-matches.ensures.matches;
+  out =
+      c.get_str-out.ensures
       ∙ found_asked _ _ _ _ c.in_ok-parser.ensures c.in_ok-matches.ensures.matches;
   settings = λ workers cut says_workers least most says_cut top.
       let of_workers =
@@ -38,6 +51,11 @@ returns g c = record {
       λ asked says.
       flag_read _ c.get_flag.result asked c.get_flag.ensures.value c.get_flag.ensures.other
       (flag_asked _ _ _ _ asked c.in_ok-parser.ensures c.in_ok-matches.ensures.matches says);
-  taken = parsed_taken _ _ c.in_ok-parser.ensures c.in_ok-matches.ensures.kinds;
+  taken = parsed_taken _ _ _ _ c.in_ok-parser.ensures c.in_ok-matches.ensures.kinds
+      (c.get_str-map.ensures
+      ∙ found_asked _ _ _ _ c.in_ok-parser.ensures c.in_ok-matches.ensures.matches)
+      (c.get_str-out.ensures
+      ∙ found_asked _ _ _ _ c.in_ok-parser.ensures c.in_ok-matches.ensures.matches)
+      (c.are_apart.ensures.0 c.if-not-are_apart.false);
   refused = tt;
 }

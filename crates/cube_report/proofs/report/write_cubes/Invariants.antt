@@ -3,5 +3,5 @@ use Rattle.cube_report.specs.Report.{cube_lines}
 use Rattle.cube_report.proofs.report.write_cubes.Given as goal
 
 abbrev pub invariant-loop-before : goal.invariant-loop-before
-invariant-loop-before l =
-    l.text.items ≡ l.initial.text.items ++ cube_lines l.boards.case.tree l.boards.marks 1 l.before
+invariant-loop-before g l =
+    l.text.items ≡ l.initial.text.items ++ cube_lines (g.M.MarkedTree.splits l.told) (g.M.MarkedTree.marks l.told) 1 l.before

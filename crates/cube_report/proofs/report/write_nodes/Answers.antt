@@ -3,32 +3,33 @@ use Rattle.std.proofs.lemmas.List.{take_all}
 use Rattle.split_tree.specs.SplitTree.{subtrees, size}
 use Rattle.split_tree.proofs.NodesCoding.{length-subtrees}
 use Rattle.cube_report.specs.Report.{node_lines}
-use Rattle.cube_report.proofs.ReportLines.{node_turn, is_split, split_part, leaf_part}
-use Rattle.cube_report.proofs.report.write_nodes.Goals.{in-Some+in_ok-write_section, in_default}
+use Rattle.cube_report.proofs.ReportLines.{is_split}
+use Rattle.cube_report.proofs.ReportLines.{node_turn, split_part, leaf_part}
+use Rattle.cube_report.proofs.report.write_nodes.Goals.{in-Some+in_ok-write_marked, in_default}
 use Rattle.cube_report.proofs.report.write_nodes.Goals as goal
 
 pub loop-number-preserved : goal.loop-number-preserved
-loop-number-preserved c =
-    let tree : c.tree-tree.result.now ≡ c.args.boards.now.case.tree =
-    c.tree-tree.ensures.tree ∙ ap (λ x. x.tree) c.case.ensures in
-    let inside : c.loop-number.number < size c.args.boards.now.case.tree =
+loop-number-preserved g c =
+    let tree : c.tree-tree.result.now ≡ (g.M.MarkedTree.splits c.args.told.now) =
+    c.tree-tree.ensures in
+    let inside : c.loop-number.number < size (g.M.MarkedTree.splits c.args.told.now) =
     rw (c.size-number-end.ensures, tree) at c.loop-number-test.true in
-    node_turn c.args.boards.now.case c.args.boards.now.marks c.args.text.now.items
+    node_turn (g.M.MarkedTree.splits c.args.told.now) (g.M.MarkedTree.marks c.args.told.now) c.args.text.now.items
     c.loop-number.text.items c.match-branches.text.items c.loop-number.number inside
     c.loop-number.invariant
     (elim c.match-branches.branch [
-      | in-Some+in_ok-write_section w ↦
+      | in-Some+in_ok-write_marked w ↦
           let here =
-          is_split c.args.boards.now.case.tree c.loop-number.number _ _
+          is_split (g.M.MarkedTree.splits c.args.told.now) c.loop-number.number _ _
           (rw (tree, c.new-node.ensures) at w.in-Some.ensures) in
           let part =
-          split_part c.args.boards.now.case c.args.boards.now.marks c.loop-number.number _ here in
+          split_part (g.M.MarkedTree.splits c.args.told.now) (g.M.MarkedTree.marks c.args.told.now) c.loop-number.number _ here in
           ap (λ x. x.items) w.text-is
-          ∙ ((rw c.new-node.ensures at w.in_ok-write_section.ensures)
+          ∙ ((rw c.new-node.ensures at w.in_ok-write_marked.ensures)
           ∙ ap (λ xs. c.loop-number.text.items ++ xs) (sym part))
       | in_default w ↦
           let part =
-          leaf_part c.args.boards.now.case c.args.boards.now.marks c.loop-number.number _
+          leaf_part (g.M.MarkedTree.splits c.args.told.now) (g.M.MarkedTree.marks c.args.told.now) c.loop-number.number _
           (rw (tree, c.new-node.ensures) at w.in_default.ensures) in
           ap (λ x. x.items) w.text-is
           ∙ (sym (append-nil c.loop-number.text.items)
@@ -36,13 +37,13 @@ loop-number-preserved c =
     ])
 
 pub returns : goal.returns
-returns c =
-    let tree : c.tree-tree.result.now ≡ c.args.boards.now.case.tree =
-    c.tree-tree.ensures.tree ∙ ap (λ x. x.tree) c.case.ensures in
-    let all : size c.args.boards.now.case.tree ≤ c.loop-number.number =
+returns g c =
+    let tree : c.tree-tree.result.now ≡ (g.M.MarkedTree.splits c.args.told.now) =
+    c.tree-tree.ensures in
+    let all : size (g.M.MarkedTree.splits c.args.told.now) ≤ c.loop-number.number =
     rw (c.size-number-end.ensures, tree) at c.loop-number-test.false in
     c.loop-number.invariant
     ∙ ap (λ xs. c.args.text.now.items
-    ++ node_lines c.args.boards.now.case c.args.boards.now.marks 0 xs)
-    (take_all c.loop-number.number (subtrees c.args.boards.now.case.tree)
-    (rw (length-subtrees c.args.boards.now.case.tree) all))
+    ++ node_lines (g.M.MarkedTree.splits c.args.told.now) (g.M.MarkedTree.marks c.args.told.now) 0 xs)
+    (take_all c.loop-number.number (subtrees (g.M.MarkedTree.splits c.args.told.now))
+    (rw (length-subtrees (g.M.MarkedTree.splits c.args.told.now)) all))

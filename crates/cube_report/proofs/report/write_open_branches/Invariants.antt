@@ -4,8 +4,8 @@ use Rattle.cube_report.specs.Report.{open_lines}
 use Rattle.cube_report.proofs.report.write_open_branches.Given as goal
 
 abbrev pub invariant-loop-target : goal.invariant-loop-target
-invariant-loop-target l =
+invariant-loop-target g l =
     l.text.items
     ≡ l.initial.text.items
-    ++ open_lines l.boards.case.tree
-    (take l.target-index (open_branches (refuted_by l.boards.marks) 0 l.boards.case.tree))
+    ++ open_lines (g.M.MarkedTree.splits l.told)
+    (take l.target-index (open_branches (refuted_by (g.M.MarkedTree.marks l.told)) 0 (g.M.MarkedTree.splits l.told)))

@@ -1,0 +1,53 @@
+//! The record of a run: the line that names the text of the formula, and the report.
+
+ghost use Rattle.std.specs.Prelude.{◌≡◌, ◌++◌, ℕ, List, Some, option_map, IfOk, OnOk};
+ghost use Rattle.cube_report.specs.Bundle.{icnf_text};
+ghost use Rattle.cube_command.specs.Record.{digest_line};
+
+use cube_report::icnf_part;
+use sha2::{Digest, Sha256};
+use std::alloc::{AllocError, Global};
+
+/// The line that names the iCNF text of a bundle: its SHA-256.
+pub(crate) fn digest_line_of(alloc: Global, bundle: &[u8]) -> Result<Vec<u8>, AllocError>
+    ensures { IfOk result (λ line. line.items ≡ digest_line (icnf_text bundle.now)) }
+{
+    let digits = hex::encode(alloc, Sha256::digest(icnf_part(bundle)))?;
+    let mut line = Vec::new(alloc);
+    line.extend_from_slice(b"i ")?;
+    line.extend_from_slice(digits.as_bytes())?;
+    line.push(b'\n')?;
+    Ok(line)
+}
+
+/// The same where a file for the record is asked for.
+pub(crate) fn begin_record(
+    alloc: Global,
+    out: Option<&str>,
+    bundle: &[u8],
+) -> Result<Vec<u8>, AllocError>
+    ensures { IfOk result (λ begun. (path : List ℕ)
+        → option_map (λ path. path.now) out.entry ≡ Some path
+        → begun.items ≡ digest_line (icnf_text bundle.now)) }
+{
+    match out {
+        Some(_) => digest_line_of(alloc, bundle),
+        None => Ok(Vec::new(alloc)),
+    }
+}
+
+/// Puts the report behind that line, where a file for the record is asked for.
+pub(crate) fn end_record(
+    begun: &mut Vec<u8>,
+    out: Option<&str>,
+    report: &[u8],
+) -> Result<(), AllocError>
+    ensures { OnOk result ((path : List ℕ)
+        → option_map (λ path. path.now) out.entry ≡ Some path
+        → begun.new.items ≡ begun.old.items ++ report.now) }
+{
+    if out.is_some() {
+        begun.extend_from_slice(report)?;
+    }
+    Ok(())
+}

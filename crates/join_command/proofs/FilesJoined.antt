@@ -1,0 +1,102 @@
+-- Files that are read and joined one after the other.
+use Rattle.std.proofs.Common.{◌≡◌, ◌+◌, ◌<◌, ◌⊎◌, ℕ, zero, suc, List, [], ◌∷◌, ◌++◌, length, take, get_or}
+use Rattle.std.proofs.Common.{refl, sym, ap, ◌∙◌, arith, inl, inr, Some, None, map, Bor}
+use Rattle.std.proofs.lemmas.List.{take_all}
+use Rattle.case_core.specs.SplitTree.{SplitTree}
+use Rattle.cube_report.specs.Mark.{Mark}
+use Rattle.bundle_files.specs.Files.{Held, Gives}
+use Rattle.cube_join.specs.Joined.{IsJoinedSoFar, IsToldBy, joined}
+use Rattle.cube_join.proofs.JoinedAll.{so_far_more}
+use Rattle.join_command.specs.declared.fault.JoinFault.{JoinFault}
+use Rattle.join_command.specs.declared.fault.JoinFault.TheVariants.{Run, Stranger}
+use Rattle.join_command.specs.Program.{AreFiles, IsAbsentAmong}
+use Rattle.join_command.specs.Inner.Files.{AreNotAdded, IsNotAdded}
+
+take_last : (texts : List (List ℕ)) (i : ℕ) → i < length texts →
+    take (i + 1) texts ≡ take i texts ++ get_or texts i [] ∷ []
+take_last [] i l = absurd (omega (arith, l))
+take_last (t ∷ texts) zero l = refl
+take_last (t ∷ texts) (suc i) l =
+    let q : suc i + 1 ≡ suc (i + 1) = omega arith in
+    rw q (ap (λ (xs : List (List ℕ)). t ∷ xs) (take_last texts i (omega (arith, l))))
+
+files_last : (held : Held) (paths texts : List (List ℕ)) (path text : List ℕ) →
+    AreFiles held paths texts → Gives held path (Some text) →
+    AreFiles held (paths ++ path ∷ []) (texts ++ text ∷ [])
+files_last held [] [] path text h g = (g, tt)
+files_last held [] (t ∷ texts) path text h g = absurd h
+files_last held (p ∷ paths) [] path text h g = absurd h
+files_last held (p ∷ paths) (t ∷ texts) path text h g =
+    (h.0, files_last held paths texts path text h.1 g)
+
+-- a file that isn't there is one of these
+absent_among : (held : Held) (paths : List (List ℕ)) (i : ℕ) → i < length paths →
+    Gives held (get_or paths i []) None → IsAbsentAmong held paths
+absent_among held [] i l g = absurd (omega (arith, l))
+absent_among held (p ∷ paths) zero l g = inl g
+absent_among held (p ∷ paths) (suc i) l g = inr (absent_among held paths i (omega (arith, l)) g)
+
+-- the reports that were joined before, at the first of these paths, so many
+abbrev pub AreJoined : Held → SplitTree → List (List ℕ) → ℕ → List Mark → Type 0
+AreJoined held tree paths index marks =
+    (reports : List (List ℕ)) × AreFiles held (take index paths) reports
+    × IsJoinedSoFar tree reports marks
+
+-- one more file
+pub more_files : (held : Held) (tree : SplitTree) (paths : List (List ℕ)) (index : ℕ)
+    (marks next : List Mark) → index < length paths → AreJoined held tree paths index marks →
+    (text : List ℕ) × Gives held (get_or paths index []) (Some text)
+    × (told : List Mark) × IsToldBy tree text told × (next ≡ joined marks told) →
+    AreJoined held tree paths (index + 1) next
+more_files held tree paths index marks next l h one = (
+  h.0 ++ one.0 ∷ [],
+  rw (take_last paths index l)
+      (files_last held (take index paths) h.0 (get_or paths index []) one.0 h.1 one.1),
+  so_far_more tree h.0 marks next one.2 one.0 h.2 one.3 one.4,
+)
+
+-- all files
+pub all_files : (held : Held) (tree : SplitTree) (paths : List (List ℕ)) (index : ℕ)
+    (marks : List Mark) → length paths ≡ index → AreJoined held tree paths index marks →
+    (reports : List (List ℕ)) × AreFiles held paths reports × IsJoinedSoFar tree reports marks
+all_files held tree paths index marks l h =
+    (h.0, rw (take_all index paths (omega (arith, l))) at h.1, h.2)
+
+-- why one of them wasn't joined is why they weren't
+pub one_not_added : (held : Held) (tree : SplitTree) (paths : List (List ℕ))
+    (index before after : ℕ) (marks : List Mark) (fault : JoinFault) → index < length paths →
+    AreJoined held tree paths index marks →
+    IsNotAdded held tree (get_or paths index []) (index + 1) before after fault →
+    AreNotAdded held tree paths before after fault
+one_not_added held tree paths index before after marks (Run fault) l h (inl memory) = inl memory
+one_not_added held tree paths index before after marks (Run fault) l h (inr (device, inl grew)) =
+    inr (device, inl grew)
+one_not_added held tree paths index before after marks (Run fault) l h
+    (inr (device, inr absent)) =
+    inr (device, inr (absent.0, absent_among held paths index l absent.1))
+one_not_added held tree paths index before after marks (Stranger number) l h why = (
+  why.1,
+  record {
+    index = index;
+    is_number = why.0;
+    inside = l;
+    before = h.0;
+    files = h.1;
+    marks = marks;
+    reports = h.2;
+    text = why.2.0;
+    file = why.2.1;
+    stranger = why.2.2;
+  },
+)
+
+-- the text of an entry
+pub at_path : (xs : List (Bor (List ℕ))) (i : ℕ) (d : Bor (List ℕ)) → i < length xs →
+    (get_or xs i d).now ≡ get_or (map (λ path. path.now) xs) i []
+at_path [] i d l = absurd (omega (arith, l))
+at_path (x ∷ xs) zero d l = refl
+at_path (x ∷ xs) (suc i) d l = at_path xs i d (omega (arith, l))
+
+pub long_paths : (xs : List (Bor (List ℕ))) → length (map (λ path. path.now) xs) ≡ length xs
+long_paths [] = refl
+long_paths (x ∷ xs) = ap suc (long_paths xs)

@@ -1,0 +1,4 @@
+mod WordsRequests
+mod FilesJoined
+mod ProgramFiles
+mod ProgramRuns

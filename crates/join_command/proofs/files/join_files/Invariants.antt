@@ -1,0 +1,15 @@
+use Rattle.std.proofs.Common.{◌≡◌, List, ℕ, map, take}
+use Rattle.cube_join.specs.Joined.{IsJoinedSoFar}
+use Rattle.join_command.specs.Program.{AreFiles}
+use Rattle.join_command.proofs.files.join_files.Given as goal
+
+abbrev pub invariant-loop-index : goal.invariant-loop-index
+invariant-loop-index g l = record {
+  held : g.D.Store.held l.store ≡ g.D.Store.held l.initial.store;
+  same : g.D.Store.failures l.store ≡ g.D.Store.failures l.initial.store;
+  tree : l.join.tree ≡ l.initial.join.tree;
+  files : (reports : List (List ℕ))
+      × AreFiles (g.D.Store.held l.initial.store)
+      (take l.index (map (λ path. path.now) l.paths)) reports
+      × IsJoinedSoFar l.initial.join.tree reports l.join.marks;
+}

@@ -1,0 +1,4 @@
+-- The words of private contracts: no public contract names them, and no other crate does.
+pub mod Files
+pub mod Telling
+pub mod Words

@@ -1,0 +1,222 @@
+//! The program: from its words and its streams to its status.
+
+ghost use Rattle.std.specs.Prelude.{◌≡◌, ◌≢◌, ◌⊎◌, ◌<◌, ◌+◌, ◌^◌, ◌-◌, List, ℕ, map, true, false};
+ghost use Rattle.std.specs.Prelude.{◌∷◌, IfOk, IfErr, OnOk, OnErr};
+ghost use Rattle.std.specs.Io.KnownBytes.{Keeps};
+ghost use Rattle.clap.specs.Words.{kind_of};
+ghost use Rattle.cube_report.specs.declared.fault.Fault.TheVariants.{Memory, Device};
+ghost use Rattle.cube_report.specs.Correct.{IsUnsatisfiable};
+ghost use Rattle.cube_join.specs.Joined.{IsJoined};
+ghost use Rattle.cube_command.specs.Program.{IsLineWritten, IsStatus};
+ghost use Rattle.join_command.specs.Words.{AreTaken, file_of, reports_of};
+ghost use Rattle.join_command.specs.Program.{AllowsJoinFaults, AreFiles, AreRead, AreReportsOn};
+ghost use Rattle.join_command.specs.Program.{IsAbsentAmong, IsJoinBegun, IsJoinOn, IsJoinWritten};
+ghost use Rattle.join_command.specs.Program.{IsReadingFault, IsRefused, join_fault_line};
+ghost use Rattle.join_command.specs.Inner.Files.{IsUnjoined, IsUnwritten};
+
+use crate::fault::JoinFault;
+use crate::files::{join_files, read_whole};
+use crate::telling::{tell_join, tell_memory};
+use crate::words::{Request, request_of};
+use bundle_files::Store;
+use case_core::take_bundle;
+use clap::Error as WordsError;
+use clap::error::ErrorKind as WordsFault;
+use cube_join::{Join, Joined};
+use cube_report::{Sink, write_all};
+use std::alloc::Global;
+use std::convert::AsStr;
+
+/// The program `cubejoin` on these words, which are those after its name: `FILE REPORT [REPORT
+/// ..]`. FILE is a bundle as `cubeboard` reads it; its sections, if it has any, aren't judged. Each
+/// REPORT is a report on its formula and its cubes, with some proofs. The joined report goes to
+/// `output` or, where there is none, one line to `errors`. Both writers have to write at once,
+/// without a buffer of their own. REPORTs are read one at a time, in order; files are found by
+/// `store`, and none is written.
+///
+/// Answers the status: 0 for a report that says refuted, 1 for one that says open, 2 where the
+/// words can't be taken or ask for help or the version, after the parser's text on `errors`, 3
+/// where FILE is refused or a REPORT is no report on its cubes, 4 where memory is refused, 5 where
+/// a device failed: also where FILE or a REPORT isn't there. A failed write to `errors` doesn't
+/// change it.
+pub fn join_command<R, D, S, O, E>(
+    rt: &R,
+    store: &mut D,
+    words: &[S],
+    output: &mut O,
+    errors: &mut E,
+) -> u8
+where
+    R: AllocGlobal,
+    D: Store,
+    S: AsStr,
+    O: Sink,
+    E: Sink,
+    requires store { D.failures store.old < 2 ^ 64 - 1 }
+    requires output { O.failures output.old < 2 ^ 64 - 1 }
+    requires errors { E.failures errors.old < 2 ^ 64 - 1 }
+
+    // All that is written, also where the call doesn't return. To `output`: the joined report.
+    requires reports { (bundle : List ℕ) (reports : List (List ℕ)) (text : List ℕ)
+        → AreRead (D.held store.old) (file_of (map S.text words.now))
+        (reports_of (map S.text words.now)) bundle reports
+        → IsJoinOn bundle reports text → O.allows output.old text }
+    // To `errors`: the line of a fault, which the files have where it is one of what was read; or
+    // the parser's text, which no contract knows, where the words can't be taken.
+    requires faults { AllowsJoinFaults (E.allows errors.old) (D.held store.old)
+        (file_of (map S.text words.now)) (reports_of (map S.text words.now)) }
+    requires words { ¬ AreTaken (map S.text words.now)
+        → (text : List ℕ) → E.allows errors.old text }
+
+    ensures status { IsStatus result }
+
+    // Status 0: where each REPORT that was read is the report on FILE's formula and cubes with some
+    // proofs, the formula of FILE has no model.
+    ensures sound { result ≡ 0 → (bundle : List ℕ) × (reports : List (List ℕ))
+        × AreRead (D.held store.old) (file_of (map S.text words.now))
+        (reports_of (map S.text words.now)) bundle reports
+        × (AreReportsOn bundle reports → IsUnsatisfiable bundle) }
+    // And exactly the joined report was written: it says refuted. Status 1: it says open.
+    ensures refuted { result ≡ 0 → IsJoinWritten (D.held store.old)
+        (file_of (map S.text words.now)) (reports_of (map S.text words.now))
+        (O.contents output.old) (O.contents output.new) true }
+    ensures open { result ≡ 1 → IsJoinWritten (D.held store.old)
+        (file_of (map S.text words.now)) (reports_of (map S.text words.now))
+        (O.contents output.old) (O.contents output.new) false }
+    // Then nothing is written to `errors`.
+    ensures quiet { result < 2 → errors.new ≡ errors.old }
+
+    // No file changes.
+    ensures held { D.held store.new ≡ D.held store.old }
+
+    // With every other status but 5 nothing is written to `output`; with 5 nothing is, or a
+    // beginning of the joined report where a write failed.
+    ensures nothing { 1 < result → result < 5 → Keeps (O.contents output.old)
+        (O.contents output.new) }
+    ensures beginning { result ≡ 5 → Keeps (O.contents output.old) (O.contents output.new)
+        ⊎ ((O.failures output.old < O.failures output.new)
+        × IsJoinBegun (D.held store.old) (file_of (map S.text words.now))
+        (reports_of (map S.text words.now)) (O.contents output.old) (O.contents output.new)) }
+
+    // Status 2: the words can't be taken. They are refused exactly then, unless memory is refused,
+    // and nothing is read.
+    ensures usage { AreTaken (map S.text words.now) → result ≢ 2 }
+    ensures unread { result ≡ 2 → store.new ≡ store.old }
+    ensures taken { result ≢ 2 → result ≢ 4 → AreTaken (map S.text words.now) }
+    // Status 3: FILE has a fault, and its first one is told; or it has none, and the first REPORT
+    // that is no report on its cubes is told.
+    ensures fault { result ≡ 3 → (fault : JoinFault) × IsReadingFault fault
+        × IsRefused (D.held store.old) (file_of (map S.text words.now))
+        (reports_of (map S.text words.now)) fault
+        × IsLineWritten (E.contents errors.old) (E.contents errors.new) (E.failures errors.old)
+        (E.failures errors.new) (join_fault_line fault) }
+    // Status 4: want of memory is told.
+    ensures memory { result ≡ 4 →
+        IsLineWritten (E.contents errors.old) (E.contents errors.new) (E.failures errors.old)
+        (E.failures errors.new) (join_fault_line (JoinFault.Run Memory)) }
+    // Status 5: a device failed, and this is told. It stands where a call failed that reads or
+    // writes the report, and only there or where a file isn't there.
+    ensures device { result ≡ 5 →
+        IsLineWritten (E.contents errors.old) (E.contents errors.new) (E.failures errors.old)
+        (E.failures errors.new) (join_fault_line (JoinFault.Run Device)) }
+    ensures failed { D.failures store.old + O.failures output.old
+        < D.failures store.new + O.failures output.new → result ≡ 5 }
+    ensures broken { result ≡ 5 →
+        (D.failures store.old + O.failures output.old
+        < D.failures store.new + O.failures output.new)
+        ⊎ IsAbsentAmong (D.held store.old)
+        (file_of (map S.text words.now) ∷ reports_of (map S.text words.now)) }
+{
+    match request_of(rt.alloc(), words) {
+        Ok(request) => {
+            let run = run_request(rt.alloc(), store, &request, output);
+            tell_join(rt.alloc(), errors, run)
+        }
+        Err(error) => refused(rt.alloc(), errors, &error),
+    }
+}
+
+/// What the request asks for: whether the report that was written says refuted, or why there is
+/// none.
+fn run_request<D: Store, O: Sink>(
+    alloc: Global,
+    store: &mut D,
+    request: &Request<'_>,
+    output: &mut O,
+) -> Result<bool, JoinFault>
+    requires store { D.failures store.old < 2 ^ 64 - 1 }
+    requires output { O.failures output.old < 2 ^ 64 - 1 }
+    requires reports { (bundle : List ℕ) (reports : List (List ℕ)) (text : List ℕ)
+        → AreRead (D.held store.old) request.now.file.now
+        (map (λ path. path.now) request.now.reports.items) bundle reports
+        → IsJoinOn bundle reports text → O.allows output.old text }
+    ensures held { D.held store.new ≡ D.held store.old }
+    ensures written { IfOk result (IsJoinWritten (D.held store.old) request.now.file.now
+        (map (λ path. path.now) request.now.reports.items) (O.contents output.old)
+        (O.contents output.new)) }
+    ensures ok { OnOk result ((D.failures store.new ≡ D.failures store.old)
+        × (O.failures output.new ≡ O.failures output.old)) }
+    ensures nothing { IfErr result (λ fault. fault ≢ JoinFault.Run Device
+        → Keeps (O.contents output.old) (O.contents output.new)) }
+    ensures beginning { OnErr result (Keeps (O.contents output.old) (O.contents output.new)
+        ⊎ ((O.failures output.old < O.failures output.new)
+        × IsJoinBegun (D.held store.old) request.now.file.now
+        (map (λ path. path.now) request.now.reports.items) (O.contents output.old)
+        (O.contents output.new))) }
+    ensures err { IfErr result (IsUnwritten (D.held store.old) request.now.file.now
+        (map (λ path. path.now) request.now.reports.items)
+        (D.failures store.old + O.failures output.old)
+        (D.failures store.new + O.failures output.new)) }
+{
+    let bundle = read_whole(alloc, store, request.file)?;
+    let joined = join_all(alloc, store, bundle, &request.reports)?;
+    write_all(output, &joined.text)?;
+    Ok(joined.refuted)
+}
+
+/// The report by all REPORTs on the cubes of a bundle.
+fn join_all<D: Store>(
+    alloc: Global,
+    store: &mut D,
+    bundle: Vec<u8>,
+    paths: &[&str],
+) -> Result<Joined, JoinFault>
+    requires store { D.failures store.old < 2 ^ 64 - 1 }
+    ensures held { D.held store.new ≡ D.held store.old }
+    ensures joined { IfOk result (λ joined. (reports : List (List ℕ))
+        × AreFiles (D.held store.old) (map (λ path. path.now) paths.now) reports
+        × IsJoined bundle.items reports joined.text.items joined.refuted) }
+    ensures ok { OnOk result (D.failures store.new ≡ D.failures store.old) }
+    ensures err { IfErr result (IsUnjoined (D.held store.old) bundle.items
+        (map (λ path. path.now) paths.now) (D.failures store.old) (D.failures store.new)) }
+{
+    let case = take_bundle(alloc, bundle)?;
+    let mut join = Join::new(alloc, case.tree())?;
+    join_files(alloc, store, &mut join, paths)?;
+    Ok(join.report(alloc)?)
+}
+
+/// The status of words that make no request, after the parser's text, or the line that memory was
+/// refused.
+fn refused<E: Sink>(alloc: Global, errors: &mut E, error: &WordsError) -> u8
+    requires errors { E.failures errors.old < 2 ^ 64 - 1 }
+    requires memory { E.allows errors.old (join_fault_line (JoinFault.Run Memory)) }
+    requires words { kind_of error.now ≢ WordsFault.OutOfMemory
+        → (text : List ℕ) → E.allows errors.old text }
+    ensures either { (result ≡ 2) ⊎ (result ≡ 4) }
+    ensures usage { kind_of error.now ≡ WordsFault.OutOfMemory → result ≡ 4 }
+    ensures memory { result ≡ 4 →
+        IsLineWritten (E.contents errors.old) (E.contents errors.new) (E.failures errors.old)
+        (E.failures errors.new) (join_fault_line (JoinFault.Run Memory)) }
+{
+    if error.kind() == WordsFault::OutOfMemory {
+        return tell_memory(errors);
+    }
+    match format!(in alloc; "{error}") {
+        Ok(text) => {
+            let _ = write_all(errors, text.as_bytes());
+            2
+        }
+        Err(_) => tell_memory(errors),
+    }
+}

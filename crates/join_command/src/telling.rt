@@ -1,0 +1,183 @@
+//! What went wrong, as a line and as a status.
+
+ghost use Rattle.std.specs.Prelude.{◌≡◌, ◌⊎◌, ◌<◌, ◌^◌, ◌-◌, codes, drop, OnOk, IfOk, IfErr};
+ghost use Rattle.std.specs.Prelude.{MatchResult};
+ghost use Rattle.std.specs.String.{string_bytes};
+ghost use Rattle.cube_report.specs.declared.fault.Fault.TheVariants.{Memory};
+ghost use Rattle.cube_command.specs.Program.{IsLineWritten};
+ghost use Rattle.join_command.specs.Program.{IsReadingFault, join_fault_line};
+ghost use Rattle.join_command.specs.Inner.Telling.{IsFaultWritten, status_of, status_of_answer};
+ghost use Rattle.join_command.specs.Inner.Telling.{status_of_run};
+
+use crate::fault::JoinFault;
+use cube_report::{Fault, Sink, write_all};
+use std::alloc::{AllocError, Global};
+use std::env;
+use std::env::Env;
+use std::io::ErrorKind;
+
+/// The status of a join, after a line that says what went wrong, if anything did.
+pub(crate) fn tell_join<E: Sink>(alloc: Global, errors: &mut E, run: Result<bool, JoinFault>) -> u8
+    requires errors { E.failures errors.old < 2 ^ 64 - 1 }
+    requires fault { IfErr run (λ fault. E.allows errors.old (join_fault_line fault)) }
+    requires memory { E.allows errors.old (join_fault_line (JoinFault.Run Memory)) }
+    ensures told { MatchResult run
+        (λ answer. (result ≡ status_of_answer answer) × (errors.new ≡ errors.old))
+        (λ fault. IsFaultWritten fault result (E.contents errors.old) (E.contents errors.new)
+        (E.failures errors.old) (E.failures errors.new)) }
+{
+    match run {
+        Ok(true) => 0,
+        Ok(false) => 1,
+        Err(fault) => tell_fault(alloc, errors, fault),
+    }
+}
+
+/// Says what went wrong, and answers the status. Where the line of a fault of what was read finds
+/// no memory, it is want of memory that is told.
+fn tell_fault<E: Sink>(alloc: Global, errors: &mut E, fault: JoinFault) -> u8
+    requires errors { E.failures errors.old < 2 ^ 64 - 1 }
+    requires fault { E.allows errors.old (join_fault_line fault) }
+    requires memory { E.allows errors.old (join_fault_line (JoinFault.Run Memory)) }
+    ensures told { IsFaultWritten fault result (E.contents errors.old) (E.contents errors.new)
+        (E.failures errors.old) (E.failures errors.new) }
+{
+    match fault {
+        JoinFault::Run(kind) => tell_run(alloc, errors, kind),
+        JoinFault::Stranger(number) => tell_read(alloc, errors, JoinFault::Stranger(number)),
+    }
+}
+
+/// The same of a fault that a run of `cubeboard` may end with, too.
+fn tell_run<E: Sink>(alloc: Global, errors: &mut E, kind: Fault) -> u8
+    requires errors { E.failures errors.old < 2 ^ 64 - 1 }
+    requires fault { E.allows errors.old (join_fault_line (JoinFault.Run kind)) }
+    requires memory { E.allows errors.old (join_fault_line (JoinFault.Run Memory)) }
+    ensures told { IsFaultWritten (JoinFault.Run kind) result (E.contents errors.old)
+        (E.contents errors.new) (E.failures errors.old) (E.failures errors.new) }
+{
+    match kind {
+        Fault::Memory => tell_memory(errors),
+        Fault::Thread => {
+            tell(errors, b"cubejoin: F14 thread\n");
+            4
+        }
+        Fault::Device => {
+            tell(errors, b"cubejoin: F13 device\n");
+            5
+        }
+        read => tell_read(alloc, errors, JoinFault::Run(read)),
+    }
+}
+
+/// Says which fault there is in what was read.
+fn tell_read<E: Sink>(alloc: Global, errors: &mut E, fault: JoinFault) -> u8
+    requires errors { E.failures errors.old < 2 ^ 64 - 1 }
+    requires read { IsReadingFault fault }
+    requires fault { E.allows errors.old (join_fault_line fault) }
+    requires memory { E.allows errors.old (join_fault_line (JoinFault.Run Memory)) }
+    ensures told { IsFaultWritten fault result (E.contents errors.old) (E.contents errors.new)
+        (E.failures errors.old) (E.failures errors.new) }
+{
+    match line_of(alloc, fault) {
+        Ok(line) => {
+            tell(errors, line.as_bytes());
+            status_of(fault)
+        }
+        Err(_) => tell_memory(errors),
+    }
+}
+
+/// The line that tells a fault.
+fn line_of(alloc: Global, fault: JoinFault) -> Result<String, AllocError>
+    ensures { IfOk result (λ line. string_bytes line ≡ join_fault_line fault) }
+{
+    match fault {
+        JoinFault::Run(fault) => format!(in alloc; "cubejoin: {fault}\n"),
+        JoinFault::Stranger(number) => format!(in alloc; "cubejoin: F15 report {number}\n"),
+    }
+}
+
+/// Writes a line, as far as the device takes it.
+fn tell<E: Sink>(errors: &mut E, line: &[u8])
+    requires errors { E.failures errors.old < 2 ^ 64 - 1 }
+    requires line { E.allows errors.old line.now }
+    ensures { IsLineWritten (E.contents errors.old) (E.contents errors.new) (E.failures errors.old)
+        (E.failures errors.new) line.now }
+{
+    let _ = write_all(errors, line);
+}
+
+/// The status of a fault.
+fn status_of(fault: JoinFault) -> u8
+    ensures { result ≡ status_of fault }
+{
+    match fault {
+        JoinFault::Run(fault) => status_of_run(fault),
+        JoinFault::Stranger(_) => 3,
+    }
+}
+
+/// The status of a fault that a run of `cubeboard` may end with, too.
+fn status_of_run(fault: Fault) -> u8
+    ensures { result ≡ status_of_run fault }
+{
+    match fault {
+        Fault::Memory | Fault::Thread => 4,
+        Fault::Device => 5,
+        _ => 3,
+    }
+}
+
+/// The words after the program's name, or the status where they can't be read, after a line on
+/// `errors`. The kit's reader gives the words once: so `main` calls this first, and hands them on.
+pub fn own_words<R: Env + AllocGlobal, E: Sink>(rt: &R, errors: &mut E) -> Result<Vec<String>, u8>
+    requires errors { E.failures errors.old < 2 ^ 64 - 1 }
+    // The lines that it may write.
+    requires words { E.allows errors.old (codes "cubejoin: a word is no text\n") }
+    requires memory { E.allows errors.old (join_fault_line (JoinFault.Run Memory)) }
+    ensures ok { OnOk result (errors.new ≡ errors.old) }
+    ensures err { IfErr result (λ status.
+        ((status ≡ 2) × IsLineWritten (E.contents errors.old) (E.contents errors.new)
+        (E.failures errors.old) (E.failures errors.new)
+        (codes "cubejoin: a word is no text\n"))
+        ⊎ ((status ≡ 4) × IsLineWritten (E.contents errors.old) (E.contents errors.new)
+        (E.failures errors.old) (E.failures errors.new)
+        (join_fault_line (JoinFault.Run Memory)))) }
+{
+    let words = match env::args(rt) {
+        Ok(words) => words,
+        Err(error) if error.kind() != ErrorKind::OutOfMemory => {
+            tell(errors, b"cubejoin: a word is no text\n");
+            return Err(2);
+        }
+        Err(_) => return Err(tell_memory(errors)),
+    };
+    match words.collect(rt.alloc()) {
+        Ok(words) => Ok(after_name(words)),
+        Err(_) => Err(tell_memory(errors)),
+    }
+}
+
+/// The words of a call after the first one, which is the program's name.
+fn after_name(mut words: Vec<String>) -> Vec<String>
+    ensures { result.items ≡ drop 1 words.items }
+{
+    if !words.is_empty() {
+        let _name = words.remove(0);
+    }
+    words
+}
+
+/// Says that memory was refused, and answers the status.
+pub(crate) fn tell_memory<E: Sink>(errors: &mut E) -> u8
+    requires errors { E.failures errors.old < 2 ^ 64 - 1 }
+    requires memory { E.allows errors.old (join_fault_line (JoinFault.Run Memory)) }
+    ensures status { result ≡ 4 }
+    ensures told { IsLineWritten (E.contents errors.old) (E.contents errors.new)
+        (E.failures errors.old)
+        (E.failures errors.new) (join_fault_line (JoinFault.Run Memory)) }
+{
+    tell(errors, b"cubejoin: F6 memory\n");
+    4
+}

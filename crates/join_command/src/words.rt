@@ -1,0 +1,112 @@
+//! The words of the program: what they ask for, and the help.
+
+ghost use Rattle.std.specs.Prelude.{◌≡◌, false, map, codes, IfOk, IfErr};
+ghost use Rattle.clap.specs.Words.{app_of, found_of, kind_of, new_app, rule_of};
+ghost use Rattle.join_command.specs.Words.{AreTaken, file_of, file_word, reports_of, reports_word};
+ghost use Rattle.join_command.specs.Words.{with_version, words_taken};
+ghost use Rattle.join_command.specs.Inner.Words.{reports_found};
+
+use clap::error::ErrorKind;
+use clap::{Arg, ArgAction, ArgMatches, Command, Error};
+use std::alloc::{AllocError, Global};
+use std::convert::AsStr;
+
+/// What the words ask for.
+#[derive(Drop)]
+pub(crate) struct Request<'a> {
+    /// The file with the bundle.
+    pub file: &'a str,
+    /// The files with the reports, in order.
+    pub reports: Vec<&'a str>,
+}
+
+/// The version, and what `rt version` of the kit that proved it ends in: kits of one logic may have
+/// several names.
+const VERSION: &str = "0.1.0 (proved by a Rattle kit with logic dac8208d650f15bf)";
+
+/// What `--help` says below the words.
+const FORMATS: &str = "\
+FILE is a bundle as cubeboard takes it: a formula and cubes in iCNF. Each REPORT is
+one that cubeboard wrote on this formula and these cubes, with some of the proofs.
+
+The report that is written has what they say together: a node is refuted where some
+REPORT says so, else rejected as the first REPORT says that rejects it, else open.
+It is a report again, so it can be joined with others.
+
+Status: 0 REFUTED, 1 OPEN, 2 words or help, 3 FILE refused, or REPORT number R is no
+report on its cubes (F15 report R), 4 memory, 5 device.
+Example: cubejoin case.icnf *.report > joined";
+
+/// What these words, without the program's name, ask for; or the parser's text, which is the help
+/// or the version where that is asked for.
+pub(crate) fn request_of<'a, S: AsStr>(alloc: Global, words: &'a [S]) -> Result<Request<'a>, Error>
+    // The request is what the words say.
+    ensures file { IfOk result
+        (λ request. request.file.now ≡ file_of (map S.text words.now)) }
+    ensures reports { IfOk result (λ request.
+        map (λ path. path.now) request.reports.items ≡ reports_of (map S.text words.now)) }
+    // Only words that are taken make a request, and they are refused only for want of memory.
+    ensures taken { IfOk result (λ _. AreTaken (map S.text words.now)) }
+    ensures refused { IfErr result
+        (λ error. AreTaken (map S.text words.now) → kind_of error ≡ ErrorKind.OutOfMemory) }
+{
+    let matches = parser(alloc)?.try_get_matches_from(words)?;
+    Ok(Request {
+        file: matches.get_str("file").unwrap_or(""),
+        reports: reports_in(alloc, &matches)?,
+    })
+}
+
+/// The REPORTs that were matched.
+fn reports_in<'a>(alloc: Global, matches: &ArgMatches<'a>) -> Result<Vec<&'a str>, AllocError>
+    ensures { IfOk result (λ reports. map (λ path. path.now) reports.items
+        ≡ reports_found (found_of matches.now)) }
+{
+    let mut reports = Vec::new(alloc);
+    if let Some(paths) = matches.get_strs("reports") {
+        reports.extend_from_slice(paths)?;
+    }
+    Ok(reports)
+}
+
+/// The parser of the program's words.
+fn parser<'a>(alloc: Global) -> Result<Command<'a>, AllocError>
+    ensures { IfOk result (λ parser. app_of parser ≡ words_taken) }
+{
+    texts(alloc).arg(file_word(alloc))?.arg(reports_word(alloc))
+}
+
+/// A parser that takes no words yet, with the texts of the help.
+fn texts<'a>(alloc: Global) -> Command<'a>
+    ensures { app_of result ≡ with_version (new_app (codes "cubejoin")) }
+{
+    Command::new(alloc, "cubejoin")
+        .no_binary_name(true)
+        .version(VERSION)
+        .about("Joins reports on one formula and its cubes, and prints their report.")
+        .after_help(FORMATS)
+}
+
+/// The bundle's file.
+fn file_word<'a>(alloc: Global) -> Arg<'a>
+    ensures rule { rule_of result ≡ file_word }
+    ensures own { result.global ≡ false }
+{
+    Arg::new(alloc, "file")
+        .value_name("FILE")
+        .required(true)
+        .help("The file with the formula and the cubes")
+}
+
+/// The files with the reports.
+fn reports_word<'a>(alloc: Global) -> Arg<'a>
+    ensures rule { rule_of result ≡ reports_word }
+    ensures own { result.global ≡ false }
+{
+    Arg::new(alloc, "reports")
+        .value_name("REPORT")
+        .required(true)
+        .num_args(1..)
+        .action(ArgAction::Append)
+        .help("The files with the reports")
+}
