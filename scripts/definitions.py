@@ -64,9 +64,9 @@ write is one of these, and after a report nothing is known to be allowed. That t
       "bundle_files/store.rt Store::write allowed beside",
       "bundle_files/store.rt Store::write_counted allowed beside"]),
     ("Reports of several runs, joined: `s REFUTED` means that the formula has no model", """
-Where `cubejoin` ends with status 0, and each REPORT that it has read is the report on FILE's formula and cubes with some proofs, whichever, no assignment makes all clauses
-of FILE true: `join_command` is the call that `main` of `cubejoin` makes. What it writes is the report by the joined marks. It is a report again, so it can be joined with others; where two runs split the sections between them, what
-they say together is what the one run says; and no true report is refused.""",
+Where `cubejoin` ends with status 0, and each RECORD that it has read is one that `cubeboard` wrote, on whichever files, none of which has FILE's SHA-256 with another text, no assignment makes all clauses of FILE true: `join_command`
+is the call that `main` of `cubejoin` makes. With `--unbound` the texts are plain reports, and the premise is that each is the report on FILE's formula and cubes with some proofs. What it writes is the report by the joined marks. It is
+a report again, so it can be joined with others; where two runs split the sections between them, what they say together is what the one run says; and no true record or report is refused.""",
      ["join_command/program.rt join_command sound refuted open",
       "join_command/program.rt join_command status quiet held nothing beginning usage unread taken fault memory device failed broken",
       "join_command/program.rt join_command reports faults words",

@@ -1,11 +1,12 @@
 #!/bin/sh
-# Runs each script that tries the program, each that calls `build_program` of scripts/runs.sh, with false programs in the place of the true one.
-# Each script has to fail with each of them, by a claim that doesn't hold of it; that the same claims hold of the true program is what the
-# scripts say by themselves. A script ends at its first claim that fails. The false programs:
+# Runs each script that tries the program, each that calls `build_program` of scripts/runs.sh, with false programs in the place of the true one, and each
+# that calls `build_join` with the same in the place of `cubejoin`. Each script has to fail with each of them, by a claim that doesn't hold of it; that the
+# same claims hold of the true programs is what the scripts say by themselves. A script ends at its first claim that fails. The false programs:
 # - `silent` and `done` print nothing, and end with 3 and with 0;
 # - `open` and `refuted` say of every bundle that nothing is refuted, or that all cubes are, in a report of the right form with the right
 #   status and with the picture that goes with it;
-# - `faulty` refuses every bundle by the line of a fault.
+# - `faulty` refuses every bundle by the line of a fault;
+# - `first`, in the place of `cubejoin` alone, looks at no record but the first, and writes the report that stands in it.
 # The last line counts: a claim for each script and each false program.
 root=$(CDPATH= cd -- "$(dirname -- "$0")/.." && pwd) || exit 1
 . "$root/scripts/runs.sh"
@@ -14,15 +15,18 @@ programs="silent done open refuted faulty"
 printf '%s\n' '#!/bin/sh' 'exit 3' > "$here/silent"
 printf '%s\n' '#!/bin/sh' 'exit 0' > "$here/done"
 printf '%s\n' '#!/bin/sh' 'echo "cubeboard: F2 token, line 1" >&2' 'exit 3' > "$here/faulty"
+printf '%s\n' '#!/bin/sh' '[ "$1" != --unbound ] || shift' 'sed 1d "$2"' > "$here/first"
 
 # Makes one that says the same of every bundle: its name, what it says of each cube, the lines at its report's end, and its status.
 always() {
     cat > "$here/$1" << PROGRAM
 #!/bin/sh
 picture=
+record=
 while [ \$# -gt 0 ]; do
     case \$1 in
         --workers | --cut | --proofs) shift 2 ;;
+        --record) record=\$2 && shift 2 ;;
         --map) picture=\$2 && shift 2 ;;
         --*) shift ;;
         *) break ;;
@@ -35,6 +39,7 @@ report=\$(cat -- "\${1:--}" | awk '
         for (i = 1; i <= n; i++) print "a " i " $2"
         print "$3"
     }')
+[ -z "\$record" ] || { echo "i \$(sha256sum < "\$1" | cut -d ' ' -f 1)"; echo "\$report"; } > "\$record"
 [ -z "\$picture" ] || echo "\$report" | python3 "$root/scripts/draw.py" "\$1" /dev/stdin > "\$picture"
 echo "\$report"
 exit $4
@@ -43,32 +48,40 @@ PROGRAM
 always open open 'o 0\nw 1152921504606846976\ns OPEN' 1
 always refuted refuted 'w 0\ns REFUTED' 0
 # Some of the scripts run the program as another user, who has to get there.
-for program in $programs; do chmod 755 "$here/$program"; done
+for program in $programs first; do chmod 755 "$here/$program"; done
 chmod 711 "$here"
 
-# One script with one false program: the script's name, the program's, and the script's words. What is skipped isn't counted here.
+# The words of a script, of those that it may have: its name.
+words_of() {
+    case $1 in
+        soak) echo "200 1" ;;
+        cluster) echo loop ;;
+    esac
+}
+
+# One script with one false program: the script's name, the program's, and the variable by which it stands in the true one's place. What is skipped
+# isn't counted here.
 try() {
     unset CI CUBEBOARD_SKIPPED
     log=$here/$1.$2
-    CUBEBOARD_PROGRAM=$here/$2 CUBEBOARD_STOP=1 TMPDIR=$here timeout 300 sh "$root/scripts/$1.sh" $3 > "$log" 2>&1
+    env "$3=$here/$2" CUBEBOARD_STOP=1 TMPDIR="$here" timeout 300 sh "$root/scripts/$1.sh" $(words_of "$1") > "$log" 2>&1
     [ $? -eq 1 ] && grep -q "^$1: .*: this isn't so" "$log" && tail -n 1 "$log" | grep -q -x "$1: [0-9]* passed, 1 failed, [0-9]* skipped"
     echo $? > "$log.fails"
 }
 
-scripts=$(grep -l -x 'build_program' "$root"/scripts/*.sh)
-for program in $programs; do
-    for path in $scripts; do
-        name=$(basename "$path" .sh)
-        words=
-        [ "$name" != soak ] || words="200 1"
-        try "$name" "$program" "$words" &
-    done
+# One false program with each script that calls this: the program, its variable, what the scripts call, and what it stands for.
+try_all() {
+    scripts=$(grep -l -x "$3" "$root"/scripts/*.sh)
+    for path in $scripts; do try "$(basename "$path" .sh)" "$1" "$2" & done
     wait
     for path in $scripts; do
-        log=$here/$(basename "$path" .sh).$program
+        log=$here/$(basename "$path" .sh).$1
         fails=$(cat "$log.fails")
-        count "$(basename "$path") fails with the false program $program" "$fails"
+        count "$(basename "$path") fails with the false $4 $1" "$fails"
         [ "$fails" -eq 0 ] || tail -n 3 "$log"
     done
-done
+}
+
+for program in $programs; do try_all "$program" CUBEBOARD_PROGRAM build_program program; done
+for program in $programs first; do try_all "$program" CUBEJOIN_PROGRAM build_join cubejoin; done
 finish

@@ -60,13 +60,13 @@ try_example() {
         try_run "$example as the input" "$1.report" "$folder/$example.icnf"
         try_run "$example as FILE" "$1.report" "$here/none" "$folder/$example.icnf"
         program=$here/unpacked/$archived/cubejoin
-        try_run "the join on $example" "$1.report" "$here/none" "$folder/$example.icnf" "$folder/$example.report" "$folder/$example.report"
+        try_run "the join on $example" "$1.report" "$here/none" --unbound "$folder/$example.icnf" "$folder/$example.report" "$folder/$example.report"
     fi
     if [ -d "$folder/$example" ]; then
         program=$here/unpacked/$archived/cubeboard
         try_run "$example as a folder" "$1.report" "$here/none" --proofs "$folder/$example/proofs" "$folder/$example/case.icnf"
         program=$here/unpacked/$archived/cubejoin
-        try_run "the join on $example as a folder" "$1.report" "$here/none" "$folder/$example/case.icnf" "$folder/$example.report" "$folder/$example.report"
+        try_run "the join on $example as a folder" "$1.report" "$here/none" --unbound "$folder/$example/case.icnf" "$folder/$example.report" "$folder/$example.report"
     fi
 }
 

@@ -2,16 +2,18 @@
 # Runs the built program on a few rows, by 1, 2 and 4 workers, with its Nth request for memory refused, for each N from 1
 # until a run meets no refusal. Each run has to write the row's exact report with its status, or no report, the status 4 and
 # `cubeboard: F6 memory`, or `cubeboard: F14 thread` where the request was made for the start of a thread, which one worker
-# makes none of. So it has with little room for addresses, and with few threads for the user: there one worker has to give the
+# makes none of; a join of two records likewise, by `cubejoin`. So it has with little room for addresses, and with few threads for the user: there one worker has to give the
 # report where four can't start a thread. Each read that is interrupted, of whatever is read, gives `cubeboard: F13 device`. A
 # test of the reader of proof steps is run with its requests refused, too. Requests and reads need a C compiler; where there is none,
 # they are skipped, or fail where CI is set. A run that hasn't ended after a minute is ended, and fails. The last line counts.
 root=$(CDPATH= cd -- "$(dirname -- "$0")/.." && pwd) || exit 1
 . "$root/scripts/runs.sh"
 build_program
+build_join
 echo "cubeboard: F6 memory" > "$here/memory"
 echo "cubeboard: F14 thread" > "$here/thread"
 limit=10000
+echo 0 > "$here/zero"
 
 # Whether the last run, by so many workers, said that memory or the start of a thread was refused, and nothing else.
 says_refused() {
@@ -66,6 +68,51 @@ reads() {
     done
     is_exact "$base" && [ "$request" -gt 2 ] && [ "$request" -le "$limit" ]
     count "$(basename "$base") after $((request - 1)) reads that were interrupted" $?
+}
+
+# A join of two records with its requests for memory refused, or its reads interrupted, each in turn: the variable that says which, and how the join has to
+# end where it doesn't give the exact report: its status and its line.
+joins() {
+    data=$root/crates/cubejoin/data
+    request=1
+    refused=0
+    while [ "$request" -le "$limit" ]; do
+        rm -f "$here/mark"
+        note /dev/null env "$1=$request" REFUSED_MARK="$here/mark" LD_PRELOAD="$here/refuse.so" \
+            "$join" "$data/case.icnf" "$data/cubes.record" "$data/missing.record"
+        has_given "$root/crates/cubejoin/stdout" "$here/none" "$here/zero" \
+            || { [ -f "$here/mark" ] && [ "$(cat "$here/status")" = "$2" ] && [ ! -s "$here/out" ] && [ "$(cat "$here/err")" = "cubejoin: $3" ]; }
+        count "a join, $1 $request" $?
+        [ -f "$here/mark" ] || break
+        [ "$(cat "$here/status")" = 0 ] || refused=$((refused + 1))
+        request=$((request + 1))
+    done
+    [ "$refused" -gt 2 ] && [ "$request" -le "$limit" ]
+    count "a join: $refused times $3" $?
+}
+
+# A run with a record, and each of its requests for memory refused in turn: the row's exact report and its record, or want of memory and none of the two,
+# or a device that failed, where the request was made for writing the record.
+records() {
+    base=$root/tests/rows/$1
+    left=$here/left
+    line="i $(sed '/^l /,$d' "$base.in" | sha256sum | cut -d ' ' -f 1)"
+    request=1
+    while [ "$request" -le "$limit" ]; do
+        rm -f "$here/mark" "$left"
+        note "$base.in" env REFUSE="$request" REFUSED_MARK="$here/mark" LD_PRELOAD="$here/refuse.so" "$program" --workers 1 --record "$left"
+        if is_exact "$base"; then
+            [ "$(head -n 1 "$left")" = "$line" ] && sed 1d "$left" | cmp -s - "$here/out"
+        else
+            [ -f "$here/mark" ] && [ ! -s "$here/out" ] \
+                && { { says_refused 1 && [ ! -e "$left" ]; } || { [ "$(cat "$here/status")" = 5 ] && [ "$(cat "$here/err")" = "cubeboard: F13 device" ]; }; }
+        fi
+        count "a record of $1, request $request" $?
+        [ -f "$here/mark" ] || break
+        request=$((request + 1))
+    done
+    [ "$request" -gt 2 ] && [ "$request" -le "$limit" ]
+    count "a record of $1: $((request - 1)) requests" $?
 }
 
 # One row by so many workers under a limit of the system: what sets it to $1, and the limit.
@@ -147,6 +194,9 @@ next_step() {
 }
 
 if preload refuse "requests for memory, reads that are interrupted and the test of the next step"; then
+    joins REFUSE 4 "F6 memory"
+    joins INTERRUPT 5 "F13 device"
+    records two_cubes_refuted
     for name in two_cubes_refuted missing_leaf_open proof_for_an_inner_node folder_of_proofs folder_with_missing_leaves \
         second_section_of_a_cube proof_in_file_and_folder; do
         for workers in 1 2 4; do

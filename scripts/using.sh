@@ -3,8 +3,9 @@
 # says of them holds: of the page's example, and from the bundle on of a formula that isn't split, five pigeons in four holes with one
 # empty cube. First without a solver, up to the report without proofs, and the check of an example whose proofs are there; then each way of the
 # page to solve a leaf where there is what it needs: `cadical` with `--lrat`; any `cadical` and a Rust compiler for bench/tools/drat2lrat.rs, or
-# drat-trim; `cryptominisat5` and that compiler. The others are skipped, also where CI is set: the script isn't part of `./check`. The last line
-# counts.
+# drat-trim; `cryptominisat5` and that compiler. The others are skipped, also where CI is set: the script isn't part of `./check`. The page's run over
+# many machines is tried by its plain loop where its solve.sh has what it needs; its other engines are those of examples/cluster, which scripts/cluster.sh
+# tries, by the same commands. The last line counts.
 root=$(CDPATH= cd -- "$(dirname -- "$0")/.." && pwd) || exit 1
 . "$root/scripts/runs.sh"
 
@@ -86,6 +87,34 @@ begin() {
     to_the_bundle "$1: the example" 16
 }
 
+# The run over many machines by the page's plain loop: who tries it.
+many_machines() {
+    block 8.1
+    cd run || exit 1
+    block 8.5
+    [ "$status" -eq 0 ] && [ "$(ls -- *.record | wc -l)" -eq 16 ] && [ ! -s "$here/err" ] && "$root/cubeboard" --proofs ../proofs case.icnf | cmp -s - joined.report
+    count "$1: the jobs' joined report is that of one run" $?
+    rm 3.record
+    "$root/cubejoin" case.icnf *.record > "$here/out" 2> "$here/err"
+    [ $? -eq 1 ] && [ "$(grep '^o ' "$here/out")" = "o $(sed -n '3s/^a //p' ../cubes)" ] && [ ! -s "$here/err" ]
+    count "$1: without a record its leaf is open" $?
+    cd ..
+}
+
+# Yesterday's proofs and today's, in a folder with all of them: whose they are, and the report on all.
+two_days() {
+    mkdir today && mv proofs/1*.lrat today/
+    "$root/cubeboard" --proofs proofs --record yesterday.record case.icnf > "$here/out" 2> "$here/err"
+    [ $? -eq 1 ] && tail -n +2 yesterday.record | cmp -s - "$here/out" && [ ! -s "$here/err" ]
+    count "$1: yesterday's report is open" $?
+    "$root/cubejoin" case.icnf yesterday.record > "$here/joined" 2> "$here/err"
+    [ $? -eq 1 ] && cmp -s "$here/joined" "$here/out" && [ ! -s "$here/err" ]
+    count "$1: yesterday's record alone joins to its report" $?
+    block 8.6
+    [ "$status" -eq 0 ] && cmp -s "$here/out" "$2" && [ ! -s "$here/err" ]
+    count "$1: yesterday's record and today's give the report on all proofs" $?
+}
+
 # The page from top to bottom by one of its ways to solve a leaf: the numbers of the blocks that it takes, and what it is.
 try() {
     way=$1
@@ -98,19 +127,14 @@ try() {
     [ "$status" -eq 0 ] && [ "$(tail -n 1 "$here/out")" = "s REFUTED" ] && python3 "$root/scripts/draw.py" case.icnf "$here/out" | cmp -s - tree.svg \
         && tail -n 1 "$here/err" | grep -q -x 'cubeboard: 16 of 16 judged, \([0-9]*\) of \1 bytes, 16 refuted, 0 rejected, 0.000 % open'
     count "$2: the example: the last line of progress, and the picture" $?
-    block 8.1
-    [ "$(grep -c '^s OPEN$' "$here/out")" -eq 4 ] && [ "$(cat ./*.report | grep -c ' refuted$')" -eq 16 ] && [ ! -s "$here/err" ]
-    count "$2: the example: four runs refute each cube once, and each leaves the others open" $?
-    block 8.2
-    [ "$status" -eq 0 ] && [ ! -s "$here/err" ] && "$root/cubeboard" --proofs proofs case.icnf | cmp -s - joined
-    count "$2: the example: the four reports, joined, are the report of one run" $?
+    [ "$way" = 4.5 ] || [ "$way" = "4.3 4.6" ] || many_machines "$2: the example"
     rm proofs/1.lrat proofs/2.lrat proofs/14.lrat
     echo 'garbage' > proofs/8.lrat
     "$root/cubeboard" --proofs proofs case.icnf > report
     . "$here/labels" > labels
     [ "$(tr '\n' ',' < labels)" = "l n 16 17 15 0,l 8,l 14," ]
     count "$2: the example: the labels of the open branches" $?
-    block 8.3
+    block 8.7
     [ "$status" -eq 0 ] && grep -q '^n 16 17 15 0 refuted$' "$here/out" && [ "$(tail -n 1 "$here/out")" = "s REFUTED" ] && [ ! -s "$here/err" ]
     count "$2: the example: what is left is refuted in the next run" $?
     cd "$here/unsplit" || exit 1
@@ -122,11 +146,13 @@ try() {
 }
 
 build_program
-# The page calls the launcher in the repository's folder: another program that is tried stands in its place, in a folder of the same things.
-if [ -n "${CUBEBOARD_PROGRAM:-}" ]; then
+build_join
+# The page calls the launchers in the repository's folder: other programs that are tried stand in their place, in a folder of the same things.
+if [ -n "${CUBEBOARD_PROGRAM:-}${CUBEJOIN_PROGRAM:-}" ]; then
     mkdir "$here/root"
     ln -s "$root"/* "$here/root/"
-    ln -s -f "$program" "$here/root/cubeboard"
+    [ -z "${CUBEBOARD_PROGRAM:-}" ] || ln -s -f "$program" "$here/root/cubeboard"
+    [ -z "${CUBEJOIN_PROGRAM:-}" ] || ln -s -f "$join" "$here/root/cubejoin"
     root=$here/root
 fi
 
@@ -138,7 +164,7 @@ awk -v page="$here/page" '
     /[^ ]/ { inside = 0 }
 ' "$root/docs/USING.md"
 blocks=$(ls "$here/page" | tr '\n' ' ')
-if [ "$blocks" != "1.1 2.1 3.1 4.1 4.2 4.3 4.4 4.5 4.6 4.7 5.1 5.2 5.3 5.4 5.5 8.1 8.2 8.3 " ]; then
+if [ "$blocks" != "1.1 2.1 3.1 4.1 4.2 4.3 4.4 4.5 4.6 4.7 5.1 5.2 5.3 5.4 5.5 8.1 8.2 8.3 8.4 8.5 8.6 8.7 " ]; then
     fail "the page has the blocks $blocks, which this script doesn't know"
     finish
 fi
@@ -154,6 +180,12 @@ awk '
 begin "no solver"
 cp -r "$root/examples/van-der-waerden-3-6" "$here/solved" && cd "$here/solved" && grep '^a ' case.icnf > cubes || exit 1
 check "no solver: the folder van-der-waerden-3-6 of examples"
+two_days "no solver: the folder van-der-waerden-3-6 of examples" "$root/examples/van-der-waerden-3-6.report"
+sed -n 's/^    //p' "$root/examples/cluster/README.md" > "$here/commands"
+for number in 2 3 4 5; do
+    tr '\n' '~' < "$here/commands" | grep -q -F "$(tr '\n' '~' < "$here/page/8.$number")"
+    count "the page's commands $number for many machines are those of examples/cluster" $?
+done
 if takes_lrat; then
     try 4.2 "cadical with --lrat"
 else

@@ -5,7 +5,7 @@ use Rattle.std.specs.List.{flat_map, onto_first}
 use Rattle.std.specs.Option.{option_map}
 use Rattle.case_core.specs.Literal.{Literal}
 use Rattle.case_core.specs.Tokens.{token_lines}
-use Rattle.case_core.specs.Icnf.{after_header, symbols_of}
+use Rattle.case_core.specs.Icnf.{Item, StandsFor, after_header, symbols_of}
 use Rattle.case_core.specs.Bundle.{lines_of, is_label, text_before, icnf_text}
 use Rattle.cube_report.specs.Correct.{IsFormulaOf, IsUnsatisfiable}
 use Rattle.proof_folder.specs.Added.{IsAlmost, section_text}
@@ -43,40 +43,62 @@ same_tokens bundle rest =
     almost_header (icnf_text bundle) (icnf_text (bundle ++ 10 ∷ 108 ∷ 32 ∷ rest))
     (icnf_more bundle rest)
 
+-- texts with the same words behind their headers have the same clauses
+formula_by_words : (one other : List ℕ) (formula : List (List Literal))
+    →
+    after_header (token_lines 1 (icnf_text one)) ≡ after_header (token_lines 1 (icnf_text other))
+    → IsFormulaOf one formula ↔ IsFormulaOf other formula
+formula_by_words one other formula same = (
+  λ is. (is.0, sym (ap (option_map symbols_of) same) ∙ is.1, is.2),
+  λ is. (is.0, ap (option_map symbols_of) same ∙ is.1, is.2),
+)
+
 -- what is added behind a line end and the beginning of a label line changes no clause
 pub formula_kept : (bundle rest : List ℕ) (formula : List (List Literal))
     → IsFormulaOf (bundle ++ 10 ∷ 108 ∷ 32 ∷ rest) formula ↔ IsFormulaOf bundle formula
-formula_kept bundle rest formula = (
-  λ is. (is.0, sym (ap (option_map symbols_of) (same_tokens bundle rest)) ∙ is.1, is.2),
-  λ is. (is.0, ap (option_map symbols_of) (same_tokens bundle rest) ∙ is.1, is.2),
-)
+formula_kept bundle rest formula =
+    formula_by_words (bundle ++ 10 ∷ 108 ∷ 32 ∷ rest) bundle formula (same_tokens bundle rest)
 
 abbrev Leaf : Type 0
 Leaf = List ℕ × Option (List ℕ)
 
--- sections that are added leave the formula as it is
-one_kept : (bundle name : List ℕ) (proof : Option (List ℕ)) (rest : List ℕ)
-    (formula : List (List Literal))
-    → (IsFormulaOf (bundle ++ rest) formula ↔ IsFormulaOf bundle formula)
-    → IsFormulaOf (bundle ++ (section_text name proof ++ rest)) formula ↔ IsFormulaOf bundle formula
-one_kept bundle name None rest formula kept = kept
-one_kept bundle name (Some proof) rest formula kept =
-    formula_kept bundle ((name ++ codes "\n" ++ proof) ++ rest) formula
+-- sections that are added leave the words behind the header as they are
+one_keeps_words : (bundle name : List ℕ) (proof : Option (List ℕ)) (rest : List ℕ)
+    →
+    after_header (token_lines 1 (icnf_text (bundle ++ rest)))
+    ≡ after_header (token_lines 1 (icnf_text bundle))
+    →
+    after_header (token_lines 1 (icnf_text (bundle ++ (section_text name proof ++ rest))))
+    ≡ after_header (token_lines 1 (icnf_text bundle))
+one_keeps_words bundle name None rest same = same
+one_keeps_words bundle name (Some proof) rest same =
+    same_tokens bundle ((name ++ codes "\n" ++ proof) ++ rest)
 
-sections_keep_formula : (bundle : List ℕ) (leaves : List Leaf) (formula : List (List Literal))
-    → IsFormulaOf (bundle ++ flat_map (λ leaf. section_text leaf.0 leaf.1) leaves) formula ↔
-    IsFormulaOf bundle formula
-sections_keep_formula bundle [] formula = rw append-nil ((λ is. is), (λ is. is))
-sections_keep_formula bundle (leaf ∷ leaves) formula =
-    one_kept bundle leaf.0 leaf.1 (flat_map (λ leaf. section_text leaf.0 leaf.1) leaves) formula
-    (sections_keep_formula bundle leaves formula)
+sections_keep_words : (bundle : List ℕ) (leaves : List Leaf)
+    →
+    after_header (token_lines 1
+    (icnf_text (bundle ++ flat_map (λ leaf. section_text leaf.0 leaf.1) leaves)))
+    ≡ after_header (token_lines 1 (icnf_text bundle))
+sections_keep_words bundle [] =
+    ap (λ (text : List ℕ). after_header (token_lines 1 (icnf_text text))) (append-nil bundle)
+sections_keep_words bundle (leaf ∷ leaves) =
+    one_keeps_words bundle leaf.0 leaf.1 (flat_map (λ leaf. section_text leaf.0 leaf.1) leaves)
+    (sections_keep_words bundle leaves)
+
+added_keep_words : (held : Held) (folder : List ℕ) (names : List (List ℕ))
+    (bundle whole : List ℕ) → AreAdded held folder names bundle whole
+    →
+    after_header (token_lines 1 (icnf_text whole)) ≡ after_header (token_lines 1 (icnf_text bundle))
+added_keep_words held folder names bundle whole added =
+    ap (λ (text : List ℕ). after_header (token_lines 1 (icnf_text text))) added.text
+    ∙ sections_keep_words bundle added.leaves
 
 pub added_keep_formula : (held : Held) (folder : List ℕ) (names : List (List ℕ))
     (bundle whole : List ℕ) (formula : List (List Literal)) →
     AreAdded held folder names bundle whole
     → IsFormulaOf whole formula ↔ IsFormulaOf bundle formula
 added_keep_formula held folder names bundle whole formula added =
-    rw added.text (sections_keep_formula bundle added.leaves formula)
+    formula_by_words whole bundle formula (added_keep_words held folder names bundle whole added)
 
 -- added proofs leave the formula as it is
 pub proofs_keep_formula : (held : Held) (folder bundle whole : List ℕ)
@@ -93,3 +115,15 @@ judged_unsatisfiable held None bundle whole same none = subst IsUnsatisfiable sa
 judged_unsatisfiable held (Some folder) bundle whole with_them none =
     let kept = (proofs_keep_formula held folder bundle whole none.0 with_them).0 none.1 in
     (none.0, kept, none.2)
+
+-- the bundle that is judged has the clauses and the cubes of the one that was read
+pub judged_keeps_items : (held : Held) (folder : Option (List ℕ)) (bundle whole : List ℕ)
+    (items : List Item) → IsJudgedOf held folder bundle whole →
+    StandsFor (icnf_text whole) items → StandsFor (icnf_text bundle) items
+judged_keeps_items held None bundle whole items same stands =
+    subst (λ (text : List ℕ). StandsFor (icnf_text text) items) same stands
+judged_keeps_items held (Some folder) bundle whole items with_them stands = (
+  stands.0,
+  sym (added_keep_words held folder with_them.0 bundle whole with_them.2) ∙ stands.1,
+  stands.2,
+)

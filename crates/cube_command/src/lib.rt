@@ -12,4 +12,5 @@ pub use bundle_files::{FileStore, Opener, Store, SystemFiles};
 pub use cube_report::{Counted, Found, Gate, NoGate, Sink, Source};
 pub use program::command;
 pub use progress::Progress;
+pub use record::digest_line_of;
 pub use telling::own_words;

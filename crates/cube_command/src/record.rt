@@ -8,8 +8,9 @@ use cube_report::icnf_part;
 use sha2::{Digest, Sha256};
 use std::alloc::{AllocError, Global};
 
-/// The line that names the iCNF text of a bundle: its SHA-256.
-pub(crate) fn digest_line_of(alloc: Global, bundle: &[u8]) -> Result<Vec<u8>, AllocError>
+/// The line that names the iCNF text of a bundle: `i `, its SHA-256 (FIPS 180-4) as 64 hexadecimal
+/// digits, and a line feed. `AllocError` where a growth was refused.
+pub fn digest_line_of(alloc: Global, bundle: &[u8]) -> Result<Vec<u8>, AllocError>
     ensures { IfOk result (λ line. line.items ≡ digest_line (icnf_text bundle.now)) }
 {
     let digits = hex::encode(alloc, Sha256::digest(icnf_part(bundle)))?;

@@ -1,15 +1,15 @@
 -- Files that are read and joined one after the other.
-use Rattle.std.proofs.Common.{◌≡◌, ◌+◌, ◌<◌, ◌⊎◌, ℕ, zero, suc, List, [], ◌∷◌, ◌++◌, length, take, get_or}
-use Rattle.std.proofs.Common.{refl, sym, ap, ◌∙◌, arith, inl, inr, Some, None, map, Bor}
-use Rattle.std.proofs.lemmas.List.{take_all}
+use Rattle.std.proofs.Common.{◌≡◌, ◌+◌, ◌<◌, ℕ, zero, suc, List, [], ◌∷◌, ◌++◌, length, take, get_or}
+use Rattle.std.proofs.Common.{refl, sym, subst, ap, ◌∙◌, arith, inl, inr, Some, None, map, Bor}
+use Rattle.std.proofs.lemmas.List.{append_cancel_left, map-append, take_all}
 use Rattle.case_core.specs.SplitTree.{SplitTree}
 use Rattle.cube_report.specs.Mark.{Mark}
 use Rattle.bundle_files.specs.Files.{Held, Gives}
-use Rattle.cube_join.specs.Joined.{IsJoinedSoFar, IsToldBy, joined}
+use Rattle.cube_join.specs.Joined.{IsJoinedSoFar, IsStranger, IsToldBy, joined}
 use Rattle.cube_join.proofs.JoinedAll.{so_far_more}
 use Rattle.join_command.specs.declared.fault.JoinFault.{JoinFault}
 use Rattle.join_command.specs.declared.fault.JoinFault.TheVariants.{Run, Stranger}
-use Rattle.join_command.specs.Program.{AreFiles, IsAbsentAmong}
+use Rattle.join_command.specs.Program.{AreFiles, IsAbsentAmong, behind_each}
 use Rattle.join_command.specs.Inner.Files.{AreNotAdded, IsNotAdded}
 
 take_last : (texts : List (List ℕ)) (i : ℕ) → i < length texts →
@@ -36,45 +36,50 @@ absent_among held [] i l g = absurd (omega (arith, l))
 absent_among held (p ∷ paths) zero l g = inl g
 absent_among held (p ∷ paths) (suc i) l g = inr (absent_among held paths i (omega (arith, l)) g)
 
--- the reports that were joined before, at the first of these paths, so many
-abbrev pub AreJoined : Held → SplitTree → List (List ℕ) → ℕ → List Mark → Type 0
-AreJoined held tree paths index marks =
-    (reports : List (List ℕ)) × AreFiles held (take index paths) reports
+-- the reports that were joined before, behind the line in the first of these files, so many
+abbrev pub AreJoined : Held → List ℕ → SplitTree → List (List ℕ) → ℕ → List Mark → Type 0
+AreJoined held line tree paths index marks =
+    (reports : List (List ℕ)) × AreFiles held (take index paths) (behind_each line reports)
     × IsJoinedSoFar tree reports marks
 
 -- one more file
-pub more_files : (held : Held) (tree : SplitTree) (paths : List (List ℕ)) (index : ℕ)
-    (marks next : List Mark) → index < length paths → AreJoined held tree paths index marks →
-    (text : List ℕ) × Gives held (get_or paths index []) (Some text)
-    × (told : List Mark) × IsToldBy tree text told × (next ≡ joined marks told) →
-    AreJoined held tree paths (index + 1) next
-more_files held tree paths index marks next l h one = (
+pub more_files : (held : Held) (line : List ℕ) (tree : SplitTree) (paths : List (List ℕ))
+    (index : ℕ) (marks next : List Mark) → index < length paths →
+    AreJoined held line tree paths index marks →
+    (report : List ℕ) × Gives held (get_or paths index []) (Some (line ++ report))
+    × (told : List Mark) × IsToldBy tree report told × (next ≡ joined marks told) →
+    AreJoined held line tree paths (index + 1) next
+more_files held line tree paths index marks next l h one = (
   h.0 ++ one.0 ∷ [],
-  rw (take_last paths index l)
-      (files_last held (take index paths) h.0 (get_or paths index []) one.0 h.1 one.1),
+  rw (take_last paths index l, map-append (λ (report : List ℕ). line ++ report) h.0 (one.0 ∷ []))
+      (files_last held (take index paths) (behind_each line h.0) (get_or paths index [])
+      (line ++ one.0) h.1 one.1),
   so_far_more tree h.0 marks next one.2 one.0 h.2 one.3 one.4,
 )
 
 -- all files
-pub all_files : (held : Held) (tree : SplitTree) (paths : List (List ℕ)) (index : ℕ)
-    (marks : List Mark) → length paths ≡ index → AreJoined held tree paths index marks →
-    (reports : List (List ℕ)) × AreFiles held paths reports × IsJoinedSoFar tree reports marks
-all_files held tree paths index marks l h =
+pub all_files : (held : Held) (line : List ℕ) (tree : SplitTree) (paths : List (List ℕ))
+    (index : ℕ) (marks : List Mark) → length paths ≡ index →
+    AreJoined held line tree paths index marks →
+    (reports : List (List ℕ)) × AreFiles held paths (behind_each line reports)
+    × IsJoinedSoFar tree reports marks
+all_files held line tree paths index marks l h =
     (h.0, rw (take_all index paths (omega (arith, l))) at h.1, h.2)
 
 -- why one of them wasn't joined is why they weren't
-pub one_not_added : (held : Held) (tree : SplitTree) (paths : List (List ℕ))
+pub one_not_added : (held : Held) (line : List ℕ) (tree : SplitTree) (paths : List (List ℕ))
     (index before after : ℕ) (marks : List Mark) (fault : JoinFault) → index < length paths →
-    AreJoined held tree paths index marks →
-    IsNotAdded held tree (get_or paths index []) (index + 1) before after fault →
-    AreNotAdded held tree paths before after fault
-one_not_added held tree paths index before after marks (Run fault) l h (inl memory) = inl memory
-one_not_added held tree paths index before after marks (Run fault) l h (inr (device, inl grew)) =
-    inr (device, inl grew)
-one_not_added held tree paths index before after marks (Run fault) l h
+    AreJoined held line tree paths index marks →
+    IsNotAdded held line tree (get_or paths index []) (index + 1) before after fault →
+    AreNotAdded held line tree paths before after fault
+one_not_added held line tree paths index before after marks (Run fault) l h (inl memory) =
+    inl memory
+one_not_added held line tree paths index before after marks (Run fault) l h
+    (inr (device, inl grew)) = inr (device, inl grew)
+one_not_added held line tree paths index before after marks (Run fault) l h
     (inr (device, inr absent)) =
     inr (device, inr (absent.0, absent_among held paths index l absent.1))
-one_not_added held tree paths index before after marks (Stranger number) l h why = (
+one_not_added held line tree paths index before after marks (Stranger number) l h why = (
   why.1,
   record {
     index = index;
@@ -89,6 +94,12 @@ one_not_added held tree paths index before after marks (Stranger number) l h why
     stranger = why.2.2;
   },
 )
+
+-- a text with a line and no report behind it has none behind that line
+pub stranger_behind : (line text report : List ℕ) (tree : SplitTree) → text ≡ line ++ report →
+    IsStranger tree report → (other : List ℕ) → text ≡ line ++ other → IsStranger tree other
+stranger_behind line text report tree is stranger other also =
+    subst (IsStranger tree) (append_cancel_left line report other (sym is ∙ also)) stranger
 
 -- the text of an entry
 pub at_path : (xs : List (Bor (List ℕ))) (i : ℕ) (d : Bor (List ℕ)) → i < length xs →

@@ -1,4 +1,5 @@
 mod WordsRequests
 mod FilesJoined
+mod RecordsTold
 mod ProgramFiles
 mod ProgramRuns

@@ -1,72 +1,77 @@
 -- Reports that are joined on the bundle of a file.
-use Rattle.std.proofs.Common.{◌≡◌, ◌≢◌, ◌∙◌, ℕ, Bool, List, refl, sym, subst, ap, inl, inr, Result}
-use Rattle.std.proofs.Common.{Ok, Err, IfErr, IsErrAnd, Option, Some, true}
+use Rattle.std.proofs.Common.{◌≡◌, ◌≢◌, ◌∙◌, ℕ, Bool, List, refl, subst, ap, inl, inr, Result}
+use Rattle.std.proofs.Common.{Ok, Err, IfErr, IsErrAnd, OnErr, Option, Some, ◌+◌, ◌<◌, ◌⊎◌}
+use Rattle.std.proofs.Common.{arith}
 use Rattle.case_core.specs.Case.{CaseOf}
 use Rattle.case_core.specs.SplitTree.{SplitTree}
 use Rattle.case_core.specs.Sections.{IsCaseOf, IsFaultOf}
 use Rattle.case_core.specs.declared.fault.CaseFault.{CaseFault}
 use Rattle.case_core.specs.declared.fault.CaseFault.TheVariants as case
-use Rattle.std.specs.Io.KnownBytes.{Appends}
+use Rattle.std.specs.Io.KnownBytes.{Appends, Keeps}
 use Rattle.cube_report.specs.Mark.{Mark}
-use Rattle.cube_report.specs.Faults.{IsInputFault, fault_of_case}
+use Rattle.cube_report.specs.Faults.{fault_of_case}
 use Rattle.cube_report.specs.Report.{report_text}
 use Rattle.mark_board.specs.Marking.{marked, refuted_by}
 use Rattle.bundle_files.specs.Files.{Held, Gives}
-use Rattle.case_core.proofs.SectionsUniqueCase.{one_case}
-use Rattle.cube_report.specs.Correct.{IsUnsatisfiable}
-use Rattle.cube_join.specs.Joined.{AreReportsWith, IsJoined, IsJoinedSoFar}
+use Rattle.cube_join.specs.Joined.{IsJoined, IsJoinedSoFar}
 use Rattle.cube_join.proofs.JoinedAll.{is_joined}
 use Rattle.join_command.specs.declared.fault.JoinFault.{JoinFault}
-use Rattle.join_command.specs.declared.fault.JoinFault.TheVariants.{Run, Stranger}
-use Rattle.join_command.specs.Program.{AreFiles, AreReportsOn, IsJoinWritten}
+use Rattle.join_command.specs.declared.fault.JoinFault.TheVariants.{Run}
+use Rattle.join_command.specs.Words.{Asked}
+use Rattle.join_command.specs.Program.{AreFiles, AreRead, IsJoinBegun, IsJoinOf, IsJoinWritten}
+use Rattle.join_command.specs.Program.{behind_each, line_before}
+use Rattle.cube_report.specs.Device.{AppendsBeginning}
 use Rattle.join_command.specs.Inner.Files.{IsUnjoined}
+use Rattle.join_command.proofs.RecordsTold.{reports_told}
 use Rattle.join_command.proofs.WordsRequests.{handed_on}
 
 -- a fault of the bundle
-fault_of : (held : Held) (bundle : List ℕ) (paths : List (List ℕ)) (count : ℕ) (kind : CaseFault) →
+fault_of : (held : Held) (bundle front : List ℕ) (paths : List (List ℕ)) (count : ℕ) (kind : CaseFault) →
     (kind ≢ case.Memory → IsFaultOf bundle kind) →
-    IsUnjoined held bundle paths count count (Run (fault_of_case kind))
-fault_of held bundle paths count case.Memory first = inr (inl (refl, refl))
-fault_of held bundle paths count case.Header first =
+    IsUnjoined held bundle front paths count count (Run (fault_of_case kind))
+fault_of held bundle front paths count case.Memory first = inr (inl (refl, refl))
+fault_of held bundle front paths count case.Header first =
     inl ((λ e. cc, λ e. cc, λ e. cc), refl, (case.Header, refl, first (λ e. cc)))
-fault_of held bundle paths count (case.Token line) first =
+fault_of held bundle front paths count (case.Token line) first =
     inl ((λ e. cc, λ e. cc, λ e. cc), refl, (case.Token line, refl, first (λ e. cc)))
-fault_of held bundle paths count case.Unfinished first =
+fault_of held bundle front paths count case.Unfinished first =
     inl ((λ e. cc, λ e. cc, λ e. cc), refl, (case.Unfinished, refl, first (λ e. cc)))
-fault_of held bundle paths count (case.TooLarge line) first =
+fault_of held bundle front paths count (case.TooLarge line) first =
     inl ((λ e. cc, λ e. cc, λ e. cc), refl, (case.TooLarge line, refl, first (λ e. cc)))
-fault_of held bundle paths count case.Limit first =
+fault_of held bundle front paths count case.Limit first =
     inl ((λ e. cc, λ e. cc, λ e. cc), refl, (case.Limit, refl, first (λ e. cc)))
-fault_of held bundle paths count (case.Repeats cube) first =
+fault_of held bundle front paths count (case.Repeats cube) first =
     inl ((λ e. cc, λ e. cc, λ e. cc), refl, (case.Repeats cube, refl, first (λ e. cc)))
-fault_of held bundle paths count (case.NotATree one other) first =
+fault_of held bundle front paths count (case.NotATree one other) first =
     inl ((λ e. cc, λ e. cc, λ e. cc), refl, (case.NotATree one other, refl, first (λ e. cc)))
-fault_of held bundle paths count (case.Overlap one other) first =
+fault_of held bundle front paths count (case.Overlap one other) first =
     inl ((λ e. cc, λ e. cc, λ e. cc), refl, (case.Overlap one other, refl, first (λ e. cc)))
-fault_of held bundle paths count (case.BadLabel line) first =
+fault_of held bundle front paths count (case.BadLabel line) first =
     inl ((λ e. cc, λ e. cc, λ e. cc), refl, (case.BadLabel line, refl, first (λ e. cc)))
-fault_of held bundle paths count (case.NoSuchLeaf line) first =
+fault_of held bundle front paths count (case.NoSuchLeaf line) first =
     inl ((λ e. cc, λ e. cc, λ e. cc), refl, (case.NoSuchLeaf line, refl, first (λ e. cc)))
-fault_of held bundle paths count (case.ProofTwice line) first =
+fault_of held bundle front paths count (case.ProofTwice line) first =
     inl ((λ e. cc, λ e. cc, λ e. cc), refl, (case.ProofTwice line, refl, first (λ e. cc)))
 
-pub bundle_fault : {T : Type 0} (held : Held) (bundle : List ℕ) (paths : List (List ℕ)) (count : ℕ)
-    (kind : CaseFault) (result : Result T JoinFault) →
+pub bundle_fault : {T : Type 0} (held : Held) (bundle front : List ℕ) (paths : List (List ℕ))
+    (count : ℕ) (kind : CaseFault) (result : Result T JoinFault) →
     (kind ≢ case.Memory → IsFaultOf bundle kind) →
     IsErrAnd result (λ told. told ≡ Run (fault_of_case kind)) →
-    IfErr result (IsUnjoined held bundle paths count count)
-bundle_fault held bundle paths count kind result first is =
-    handed_on result (IsUnjoined held bundle paths count count) (Run (fault_of_case kind))
-    (fault_of held bundle paths count kind first) is
+    IfErr result (IsUnjoined held bundle front paths count count)
+bundle_fault held bundle front paths count kind result first is =
+    handed_on result (IsUnjoined held bundle front paths count count) (Run (fault_of_case kind))
+    (fault_of held bundle front paths count kind first) is
 
 -- the joined report, on the bundle's case
-pub joined_on : (held : Held) (paths : List (List ℕ)) (bundle : List ℕ) (case : CaseOf)
+pub joined_on : (held : Held) (paths : List (List ℕ)) (line bundle : List ℕ) (case : CaseOf)
     (tree : SplitTree) (marks : List Mark) (text : List ℕ) (answer : Bool) →
     IsCaseOf bundle case → tree ≡ case.tree →
-    (reports : List (List ℕ)) × AreFiles held paths reports × IsJoinedSoFar tree reports marks →
+    (reports : List (List ℕ)) × AreFiles held paths (behind_each line reports)
+    × IsJoinedSoFar tree reports marks →
     text ≡ report_text tree marks → answer ≡ marked (refuted_by marks) 0 tree →
-    (reports : List (List ℕ)) × AreFiles held paths reports × IsJoined bundle reports text answer
-joined_on held paths bundle case tree marks text answer is same far t a = (
+    (reports : List (List ℕ)) × AreFiles held paths (behind_each line reports)
+    × IsJoined bundle reports text answer
+joined_on held paths line bundle case tree marks text answer is same far t a = (
   far.0,
   far.1,
   is_joined bundle case far.0 marks text answer is
@@ -75,25 +80,60 @@ joined_on held paths bundle case tree marks text answer is same far t a = (
       (a ∙ ap (λ (x : SplitTree). marked (refuted_by marks) 0 x) same),
 )
 
--- what it says is true where the reports are
-sound_on : (bundle : List ℕ) (reports : List (List ℕ)) (text : List ℕ) (answer : Bool) →
-    IsJoined bundle reports text answer → AreReportsOn bundle reports → answer ≡ true →
-    IsUnsatisfiable bundle
-sound_on bundle reports text answer joined are says =
-    joined.sound (subst (λ (c : CaseOf). AreReportsWith c.formula c.tree reports)
-    (one_case bundle are.0 joined.case are.1 joined.case_is) are.2) says
+-- what was read, and what a join of it promises
+pub join_of : (held : Held) (asked : Asked) (bundle line text : List ℕ) (answer : Bool) →
+    Gives held asked.file (Some bundle) → line ≡ line_before asked.unbound bundle →
+    ((reports : List (List ℕ)) × AreFiles held asked.records (behind_each line reports)
+    × IsJoined bundle reports text answer)
+    → (texts : List (List ℕ)) × AreRead held asked bundle texts
+    × IsJoinOf asked.unbound bundle texts text answer
+join_of held asked bundle line text answer there is far = (
+  behind_each line far.0,
+  record { of_file = there; of_records = far.1 },
+  (far.0, ap (λ (before : List ℕ). behind_each before far.0) is, far.2),
+)
 
--- and it was written
-pub join_written : (held : Held) (file : List ℕ) (paths : List (List ℕ)) (bundle : List ℕ)
-    (text : List ℕ) (answer : Bool) (old new : Option (List ℕ)) → Gives held file (Some bundle) →
-    ((reports : List (List ℕ)) × AreFiles held paths reports × IsJoined bundle reports text answer)
-    → Appends old new text → IsJoinWritten held file paths old new answer
-join_written held file paths bundle text answer old new there far written = record {
-  bundle = bundle;
-  reports = far.0;
-  read = record { of_file = there; of_reports = far.1 };
-  text = text;
-  joined = far.2;
-  written = written;
-  sound = λ are says. sound_on bundle far.0 text answer far.2 are says;
-}
+-- it was written
+pub join_written : (held : Held) (asked : Asked) (bundle line text : List ℕ) (answer : Bool)
+    (old new : Option (List ℕ)) → Gives held asked.file (Some bundle) →
+    line ≡ line_before asked.unbound bundle →
+    ((reports : List (List ℕ)) × AreFiles held asked.records (behind_each line reports)
+    × IsJoined bundle reports text answer)
+    → Appends old new text → IsJoinWritten held asked old new answer
+join_written held asked bundle line text answer old new there is far written =
+    let parts = join_of held asked bundle line text answer there is far in record {
+      bundle = bundle;
+      texts = parts.0;
+      read = parts.1;
+      text = text;
+      joined = parts.2;
+      written = written;
+      sound = λ are says. parts.2.2.sound
+          (reports_told asked.unbound bundle parts.0 parts.2.0 parts.2.2.case parts.2.2.case_is
+          parts.2.1 are) says;
+    }
+
+-- or a beginning of it
+pub join_begun : {T E : Type 0} (result : Result T E) (held : Held) (asked : Asked)
+    (bundle line text : List ℕ) (answer : Bool) (old new : Option (List ℕ)) (before after : ℕ) →
+    Gives held asked.file (Some bundle) → line ≡ line_before asked.unbound bundle →
+    ((reports : List (List ℕ)) × AreFiles held asked.records (behind_each line reports)
+    × IsJoined bundle reports text answer)
+    → AppendsBeginning old new text → after ≡ before + 1 →
+    OnErr result (Keeps old new ⊎ ((before < after) × IsJoinBegun held asked old new))
+join_begun (Ok value) held asked bundle line text answer old new before after there is far begun
+    one = tt
+join_begun (Err error) held asked bundle line text answer old new before after there is far begun
+    one =
+    let parts = join_of held asked bundle line text answer there is far in
+    inr (
+      omega (arith, one),
+      record {
+        bundle = bundle;
+        texts = parts.0;
+        read = parts.1;
+        text = text;
+        joined = (answer, parts.2);
+        written = begun;
+      },
+    )

@@ -1,7 +1,7 @@
 -- What a join says of its files and of what was written, and what its status says.
-use Rattle.std.proofs.Common.{◌≡◌, ◌≢◌, ◌<◌, ◌+◌, ◌⊎◌, ◌∙◌, sym, refl, subst, ℕ, Bool, true, false, List}
-use Rattle.std.proofs.Common.{[], ◌∷◌, Option, Result, Ok, Err, IfOk, IfErr, MatchResult, inl, inr}
-use Rattle.std.proofs.Common.{arith, OnOk}
+use Rattle.std.proofs.Common.{◌≡◌, ◌≢◌, ◌<◌, ◌⊎◌, ◌∙◌, sym, refl, subst, ℕ, Bool, true, false, List}
+use Rattle.std.proofs.Common.{◌∷◌, Option, Result, Ok, Err, IfOk, IfErr, MatchResult, inl, inr}
+use Rattle.std.proofs.Common.{arith}
 use Rattle.bundle_files.specs.Files.{Held}
 use Rattle.cube_report.specs.declared.fault.Fault.{Fault}
 use Rattle.cube_report.specs.declared.fault.Fault.TheVariants.{Header, Token, Unfinished, TooLarge}
@@ -13,9 +13,10 @@ use Rattle.cube_report.specs.Correct.{IsUnsatisfiable}
 use Rattle.cube_command.specs.Program.{IsLineWritten}
 use Rattle.join_command.specs.declared.fault.JoinFault.{JoinFault}
 use Rattle.join_command.specs.declared.fault.JoinFault.TheVariants.{Run, Stranger}
-use Rattle.join_command.specs.Program.{AllowsJoinFaults, AreRead, AreReportsOn, IsAbsentAmong}
+use Rattle.join_command.specs.Program.{AllowsJoinFaults, AreRead, AreTrusted, IsAbsentAmong}
 use Rattle.join_command.specs.Program.{IsJoinWritten, IsReadingFault, IsRefused, join_fault_line}
-use Rattle.join_command.specs.Inner.Files.{IsUnreadAmong, IsUnwritten}
+use Rattle.join_command.specs.Words.{Asked}
+use Rattle.join_command.specs.Inner.Files.{IsUnwritten}
 use Rattle.join_command.specs.Inner.Telling.{IsFaultWritten, status_of, status_of_answer}
 use Rattle.join_command.specs.Inner.Telling.{status_of_run}
 
@@ -65,13 +66,13 @@ with_three Device is = absurd (omega arith)
 with_three Thread is = absurd (omega arith)
 
 -- why no joined report was written is want of memory or a device, or else a fault of what was read
-kinds : (held : Held) (file : List ℕ) (paths : List (List ℕ)) (before after : ℕ) (fault : Fault) →
-    IsUnwritten held file paths before after (Run fault) →
-    (IsInputFault fault × IsRefused held file paths (Run fault))
+kinds : (held : Held) (asked : Asked) (before after : ℕ) (fault : Fault) →
+    IsUnwritten held asked before after (Run fault) →
+    (IsInputFault fault × IsRefused held asked (Run fault))
     ⊎ ((fault ≡ Memory) ⊎ (fault ≡ Device))
-kinds held file paths before after fault (inl refused) = inl (refused.0, refused.2)
-kinds held file paths before after fault (inr (inl memory)) = inr (inl memory.0)
-kinds held file paths before after fault (inr (inr device)) = inr (inr device.0)
+kinds held asked before after fault (inl refused) = inl (refused.0, refused.2)
+kinds held asked before after fault (inr (inl memory)) = inr (inl memory.0)
+kinds held asked before after fault (inr (inr device)) = inr (inr device.0)
 
 input_status : (fault : Fault) → IsInputFault fault → status_of_run fault ≡ 3
 input_status Header is = refl
@@ -90,79 +91,79 @@ input_status Device is = absurd (is.1 refl)
 input_status Thread is = absurd (is.2 refl)
 
 -- a status of a fault of a run that wasn't one of what was read
-status_kinds : (held : Held) (file : List ℕ) (paths : List (List ℕ)) (before after : ℕ)
-    (fault : Fault) → IsUnwritten held file paths before after (Run fault) →
+status_kinds : (held : Held) (asked : Asked) (before after : ℕ)
+    (fault : Fault) → IsUnwritten held asked before after (Run fault) →
     status_of_run fault ≢ 3 → (fault ≡ Memory) ⊎ (fault ≡ Device)
-status_kinds held file paths before after fault why other =
-    elim (kinds held file paths before after fault why) [
+status_kinds held asked before after fault why other =
+    elim (kinds held asked before after fault why) [
       | inl read ↦ absurd (other (input_status fault read.0))
       | inr kind ↦ kind
     ]
 
 -- ---- status 0
 
-pub sound_join : (held : Held) (file : List ℕ) (paths : List (List ℕ))
+pub sound_join : (held : Held) (asked : Asked)
     (out_old out_new : Option (List ℕ)) (run : Result Bool JoinFault) (status : ℕ) (Same : Type 0)
     (old new : Option (List ℕ)) (before after : ℕ)
     → ToldRun run status Same old new before after
-    → IfOk run (IsJoinWritten held file paths out_old out_new) → status ≡ 0
-    → (bundle : List ℕ) × (reports : List (List ℕ)) × AreRead held file paths bundle reports
-    × (AreReportsOn bundle reports → IsUnsatisfiable bundle)
-sound_join held file paths out_old out_new (Ok true) status Same old new before after told written
+    → IfOk run (IsJoinWritten held asked out_old out_new) → status ≡ 0
+    → (bundle : List ℕ) × (texts : List (List ℕ)) × AreRead held asked bundle texts
+    × (AreTrusted asked.unbound bundle texts → IsUnsatisfiable bundle)
+sound_join held asked out_old out_new (Ok true) status Same old new before after told written
     is =
-    (written.bundle, written.reports, written.read, λ are. written.sound are refl)
-sound_join held file paths out_old out_new (Ok false) status Same old new before after told written
+    (written.bundle, written.texts, written.read, λ are. written.sound are refl)
+sound_join held asked out_old out_new (Ok false) status Same old new before after told written
     is =
     let one : status ≡ 1 = told.0 in absurd (omega arith)
-sound_join held file paths out_old out_new (Err fault) status Same old new before after (inl told)
+sound_join held asked out_old out_new (Err fault) status Same old new before after (inl told)
     written is =
     let above : 2 < status_of fault = above_two fault in
     let has : status ≡ status_of fault = told.0 in absurd (omega arith)
-sound_join held file paths out_old out_new (Err fault) status Same old new before after (inr told)
+sound_join held asked out_old out_new (Err fault) status Same old new before after (inr told)
     written is = let four : status ≡ 4 = told.1 in absurd (omega arith)
 
 -- ---- status 3
 
-told_three : (held : Held) (file : List ℕ) (paths : List (List ℕ)) (fault : JoinFault)
+told_three : (held : Held) (asked : Asked) (fault : JoinFault)
     (status : ℕ) (out_before out_after : ℕ) → status ≡ 3 → status ≡ status_of fault →
-    IsUnwritten held file paths out_before out_after fault →
-    IsReadingFault fault × IsRefused held file paths fault
-told_three held file paths (Stranger number) status out_before out_after is has why = (tt, why.1)
-told_three held file paths (Run fault) status out_before out_after is has why =
+    IsUnwritten held asked out_before out_after fault →
+    IsReadingFault fault × IsRefused held asked fault
+told_three held asked (Stranger number) status out_before out_after is has why = (tt, why.1)
+told_three held asked (Run fault) status out_before out_after is has why =
     let input : IsInputFault fault = with_three fault (sym has ∙ is) in
-    elim (kinds held file paths out_before out_after fault why) [
+    elim (kinds held asked out_before out_after fault why) [
       | inl refused ↦ refused
       | inr (inl memory) ↦ absurd (input.0 memory)
       | inr (inr device) ↦ absurd (input.1 device)
     ]
 
-pub fault_join : (held : Held) (file : List ℕ) (paths : List (List ℕ))
+pub fault_join : (held : Held) (asked : Asked)
     (run : Result Bool JoinFault) (status : ℕ) (Same : Type 0) (old new : Option (List ℕ))
     (before after out_before out_after : ℕ)
     → ToldRun run status Same old new before after
-    → IfErr run (IsUnwritten held file paths out_before out_after) → status ≡ 3
-    → (fault : JoinFault) × IsReadingFault fault × IsRefused held file paths fault
+    → IfErr run (IsUnwritten held asked out_before out_after) → status ≡ 3
+    → (fault : JoinFault) × IsReadingFault fault × IsRefused held asked fault
     × IsLineWritten old new before after (join_fault_line fault)
-fault_join held file paths (Ok true) status Same old new before after out_before out_after told why
+fault_join held asked (Ok true) status Same old new before after out_before out_after told why
     is = let none : status ≡ 0 = told.0 in absurd (omega arith)
-fault_join held file paths (Ok false) status Same old new before after out_before out_after told why
+fault_join held asked (Ok false) status Same old new before after out_before out_after told why
     is = let one : status ≡ 1 = told.0 in absurd (omega arith)
-fault_join held file paths (Err fault) status Same old new before after out_before out_after
+fault_join held asked (Err fault) status Same old new before after out_before out_after
     (inl told) why is =
-    let both = told_three held file paths fault status out_before out_after is told.0 why in
+    let both = told_three held asked fault status out_before out_after is told.0 why in
     (fault, both.0, both.1, told.1)
-fault_join held file paths (Err fault) status Same old new before after out_before out_after
+fault_join held asked (Err fault) status Same old new before after out_before out_after
     (inr told) why is = let four : status ≡ 4 = told.1 in absurd (omega arith)
 
 -- ---- statuses 4 and 5
 
-told_four : (held : Held) (file : List ℕ) (paths : List (List ℕ)) (fault : JoinFault)
+told_four : (held : Held) (asked : Asked) (fault : JoinFault)
     (status out_before out_after : ℕ) → status ≡ 4 → status ≡ status_of fault →
-    IsUnwritten held file paths out_before out_after fault → fault ≡ Run Memory
-told_four held file paths (Stranger number) status out_before out_after is has why =
+    IsUnwritten held asked out_before out_after fault → fault ≡ Run Memory
+told_four held asked (Stranger number) status out_before out_after is has why =
     absurd (omega (arith, is, has))
-told_four held file paths (Run fault) status out_before out_after is has why =
-    elim (status_kinds held file paths out_before out_after fault why
+told_four held asked (Run fault) status out_before out_after is has why =
+    elim (status_kinds held asked out_before out_after fault why
     (λ three. omega (arith, three, is, has))) [
       | inl memory ↦ subst (λ (f : Fault). Run f ≡ Run Memory) (sym memory) refl
       | inr device ↦
@@ -171,30 +172,30 @@ told_four held file paths (Run fault) status out_before out_after is has why =
           absurd (omega (arith, five, is, has))
     ]
 
-pub memory_join : (held : Held) (file : List ℕ) (paths : List (List ℕ))
+pub memory_join : (held : Held) (asked : Asked)
     (run : Result Bool JoinFault) (status : ℕ) (Same : Type 0) (old new : Option (List ℕ))
     (before after out_before out_after : ℕ)
     → ToldRun run status Same old new before after
-    → IfErr run (IsUnwritten held file paths out_before out_after) → status ≡ 4
+    → IfErr run (IsUnwritten held asked out_before out_after) → status ≡ 4
     → IsLineWritten old new before after (join_fault_line (Run Memory))
-memory_join held file paths (Ok true) status Same old new before after out_before out_after told why
+memory_join held asked (Ok true) status Same old new before after out_before out_after told why
     is = let none : status ≡ 0 = told.0 in absurd (omega arith)
-memory_join held file paths (Ok false) status Same old new before after out_before out_after told
+memory_join held asked (Ok false) status Same old new before after out_before out_after told
     why is = let one : status ≡ 1 = told.0 in absurd (omega arith)
-memory_join held file paths (Err fault) status Same old new before after out_before out_after
+memory_join held asked (Err fault) status Same old new before after out_before out_after
     (inl told) why is =
     subst (λ (f : JoinFault). IsLineWritten old new before after (join_fault_line f))
-    (told_four held file paths fault status out_before out_after is told.0 why) told.1
-memory_join held file paths (Err fault) status Same old new before after out_before out_after
+    (told_four held asked fault status out_before out_after is told.0 why) told.1
+memory_join held asked (Err fault) status Same old new before after out_before out_after
     (inr told) why is = told.2
 
-told_five : (held : Held) (file : List ℕ) (paths : List (List ℕ)) (fault : JoinFault)
+told_five : (held : Held) (asked : Asked) (fault : JoinFault)
     (status out_before out_after : ℕ) → status ≡ 5 → status ≡ status_of fault →
-    IsUnwritten held file paths out_before out_after fault → fault ≡ Run Device
-told_five held file paths (Stranger number) status out_before out_after is has why =
+    IsUnwritten held asked out_before out_after fault → fault ≡ Run Device
+told_five held asked (Stranger number) status out_before out_after is has why =
     absurd (omega (arith, is, has))
-told_five held file paths (Run fault) status out_before out_after is has why =
-    elim (status_kinds held file paths out_before out_after fault why
+told_five held asked (Run fault) status out_before out_after is has why =
+    elim (status_kinds held asked out_before out_after fault why
     (λ three. omega (arith, three, is, has))) [
       | inr device ↦ subst (λ (f : Fault). Run f ≡ Run Device) (sym device) refl
       | inl memory ↦
@@ -203,112 +204,110 @@ told_five held file paths (Run fault) status out_before out_after is has why =
           absurd (omega (arith, four, is, has))
     ]
 
-pub device_join : (held : Held) (file : List ℕ) (paths : List (List ℕ))
+pub device_join : (held : Held) (asked : Asked)
     (run : Result Bool JoinFault) (status : ℕ) (Same : Type 0) (old new : Option (List ℕ))
     (before after out_before out_after : ℕ)
     → ToldRun run status Same old new before after
-    → IfErr run (IsUnwritten held file paths out_before out_after) → status ≡ 5
+    → IfErr run (IsUnwritten held asked out_before out_after) → status ≡ 5
     → IsLineWritten old new before after (join_fault_line (Run Device))
-device_join held file paths (Ok true) status Same old new before after out_before out_after told why
+device_join held asked (Ok true) status Same old new before after out_before out_after told why
     is = let none : status ≡ 0 = told.0 in absurd (omega arith)
-device_join held file paths (Ok false) status Same old new before after out_before out_after told
+device_join held asked (Ok false) status Same old new before after out_before out_after told
     why is = let one : status ≡ 1 = told.0 in absurd (omega arith)
-device_join held file paths (Err fault) status Same old new before after out_before out_after
+device_join held asked (Err fault) status Same old new before after out_before out_after
     (inr told) why is = let four : status ≡ 4 = told.1 in absurd (omega arith)
-device_join held file paths (Err fault) status Same old new before after out_before out_after
+device_join held asked (Err fault) status Same old new before after out_before out_after
     (inl told) why is =
     subst (λ (f : JoinFault). IsLineWritten old new before after (join_fault_line f))
-    (told_five held file paths fault status out_before out_after is told.0 why) told.1
+    (told_five held asked fault status out_before out_after is told.0 why) told.1
 
-broke : (held : Held) (file : List ℕ) (paths : List (List ℕ)) (fault : JoinFault)
+broke : (held : Held) (asked : Asked) (fault : JoinFault)
     (out_before out_after : ℕ) → fault ≡ Run Device →
-    IsUnwritten held file paths out_before out_after fault →
-    (out_before < out_after) ⊎ IsAbsentAmong held (file ∷ paths)
-broke held file paths (Stranger number) out_before out_after is why = cc
-broke held file paths (Run fault) out_before out_after is (inl refused) =
+    IsUnwritten held asked out_before out_after fault →
+    (out_before < out_after) ⊎ IsAbsentAmong held (asked.file ∷ asked.records)
+broke held asked (Stranger number) out_before out_after is why = cc
+broke held asked (Run fault) out_before out_after is (inl refused) =
     let device : fault ≡ Device = cc in absurd (refused.0.1 device)
-broke held file paths (Run fault) out_before out_after is (inr (inl memory)) =
+broke held asked (Run fault) out_before out_after is (inr (inl memory)) =
     let device : fault ≡ Device = cc in let clash : Memory ≡ Device = sym memory.0 ∙ device in cc
-broke held file paths (Run fault) out_before out_after is (inr (inr (device, inl grew))) =
+broke held asked (Run fault) out_before out_after is (inr (inr (device, inl grew))) =
     inl (omega (arith, grew))
-broke held file paths (Run fault) out_before out_after is (inr (inr (device, inr absent))) =
+broke held asked (Run fault) out_before out_after is (inr (inr (device, inr absent))) =
     inr absent.1
 
 -- a status of 5 stands only where a call failed or a file isn't there
-pub broken_join : (held : Held) (file : List ℕ) (paths : List (List ℕ))
+pub broken_join : (held : Held) (asked : Asked)
     (run : Result Bool JoinFault) (status : ℕ) (Same : Type 0) (old new : Option (List ℕ))
     (before after out_before out_after : ℕ)
     → ToldRun run status Same old new before after
-    → IfErr run (IsUnwritten held file paths out_before out_after) → status ≡ 5
-    → (out_before < out_after) ⊎ IsAbsentAmong held (file ∷ paths)
-broken_join held file paths (Ok true) status Same old new before after out_before out_after told why
+    → IfErr run (IsUnwritten held asked out_before out_after) → status ≡ 5
+    → (out_before < out_after) ⊎ IsAbsentAmong held (asked.file ∷ asked.records)
+broken_join held asked (Ok true) status Same old new before after out_before out_after told why
     is = let none : status ≡ 0 = told.0 in absurd (omega arith)
-broken_join held file paths (Ok false) status Same old new before after out_before out_after told
+broken_join held asked (Ok false) status Same old new before after out_before out_after told
     why is = let one : status ≡ 1 = told.0 in absurd (omega arith)
-broken_join held file paths (Err fault) status Same old new before after out_before out_after
+broken_join held asked (Err fault) status Same old new before after out_before out_after
     (inr told) why is = let four : status ≡ 4 = told.1 in absurd (omega arith)
-broken_join held file paths (Err fault) status Same old new before after out_before out_after
+broken_join held asked (Err fault) status Same old new before after out_before out_after
     (inl told) why is =
-    broke held file paths fault out_before out_after
-    (told_five held file paths fault status out_before out_after is told.0 why) why
+    broke held asked fault out_before out_after
+    (told_five held asked fault status out_before out_after is told.0 why) why
 
-five_of : (held : Held) (file : List ℕ) (paths : List (List ℕ)) (fault : JoinFault)
-    (out_before out_after : ℕ) → IsUnwritten held file paths out_before out_after fault →
+five_of : (held : Held) (asked : Asked) (fault : JoinFault)
+    (out_before out_after : ℕ) → IsUnwritten held asked out_before out_after fault →
     out_before < out_after → fault ≡ Run Device
-five_of held file paths (Stranger number) out_before out_after why grew =
+five_of held asked (Stranger number) out_before out_after why grew =
     let same : out_after ≡ out_before = why.0 in absurd (omega (arith, same, grew))
-five_of held file paths (Run fault) out_before out_after (inl refused) grew =
+five_of held asked (Run fault) out_before out_after (inl refused) grew =
     let same : out_after ≡ out_before = refused.1 in absurd (omega (arith, same, grew))
-five_of held file paths (Run fault) out_before out_after (inr (inl memory)) grew =
+five_of held asked (Run fault) out_before out_after (inr (inl memory)) grew =
     let same : out_after ≡ out_before = memory.1 in absurd (omega (arith, same, grew))
-five_of held file paths (Run fault) out_before out_after (inr (inr device)) grew =
+five_of held asked (Run fault) out_before out_after (inr (inr device)) grew =
     subst (λ (f : Fault). Run f ≡ Run Device) (sym device.0) refl
 
 -- where a call failed the status is 5
-pub failed_join : (held : Held) (file : List ℕ) (paths : List (List ℕ))
+pub failed_join : (held : Held) (asked : Asked)
     (run : Result Bool JoinFault) (status : ℕ) (Same : Type 0) (old new : Option (List ℕ))
     (before after out_before out_after : ℕ)
     → ToldRun run status Same old new before after
-    → IfErr run (IsUnwritten held file paths out_before out_after)
+    → IfErr run (IsUnwritten held asked out_before out_after)
     → IfOk run (λ _. out_after ≡ out_before)
     → out_before < out_after → status ≡ 5
-failed_join held file paths (Ok answer) status Same old new before after out_before out_after told
+failed_join held asked (Ok answer) status Same old new before after out_before out_after told
     why same grew = absurd (omega (arith, same, grew))
-failed_join held file paths (Err fault) status Same old new before after out_before out_after
+failed_join held asked (Err fault) status Same old new before after out_before out_after
     (inl told) why same grew =
     told.0 ∙ subst (λ (f : JoinFault). status_of f ≡ 5)
-    (sym (five_of held file paths fault out_before out_after why grew)) refl
-failed_join held file paths (Err fault) status Same old new before after out_before out_after
+    (sym (five_of held asked fault out_before out_after why grew)) refl
+failed_join held asked (Err fault) status Same old new before after out_before out_after
     (inr told) why same grew =
     let clash : IsReadingFault (Run Device) = subst IsReadingFault
-    (five_of held file paths fault out_before out_after why grew) told.0 in
+    (five_of held asked fault out_before out_after why grew) told.0 in
     absurd (clash.1 refl)
 
 -- ---- what may be written
 
 -- the line of a fault with which a join ended
-refused_why : (held : Held) (file : List ℕ) (paths : List (List ℕ)) (fault : JoinFault)
-    (out_before out_after : ℕ) → IsUnwritten held file paths out_before out_after fault →
-    IsReadingFault fault → IsRefused held file paths fault
-refused_why held file paths (Stranger number) out_before out_after why is = why.1
-refused_why held file paths (Run fault) out_before out_after why is =
-    elim (kinds held file paths out_before out_after fault why) [
+refused_why : (held : Held) (asked : Asked) (fault : JoinFault)
+    (out_before out_after : ℕ) → IsUnwritten held asked out_before out_after fault →
+    IsReadingFault fault → IsRefused held asked fault
+refused_why held asked (Stranger number) out_before out_after why is = why.1
+refused_why held asked (Run fault) out_before out_after why is =
+    elim (kinds held asked out_before out_after fault why) [
       | inl refused ↦ refused.1
       | inr (inl memory) ↦ absurd (is.0 memory)
       | inr (inr device) ↦ absurd (is.1 device)
     ]
 
-pub fault_allowed : (texts : List ℕ → Type 0) (held : Held) (file : List ℕ)
-    (paths : List (List ℕ)) (run : Result Bool JoinFault) (out_before out_after : ℕ)
-    → AllowsJoinFaults texts held file paths
-    → IfErr run (IsUnwritten held file paths out_before out_after)
+pub fault_allowed : (texts : List ℕ → Type 0) (held : Held) (asked : Asked) (run : Result Bool JoinFault) (out_before out_after : ℕ)
+    → AllowsJoinFaults texts held asked
+    → IfErr run (IsUnwritten held asked out_before out_after)
     → IfErr run (λ fault. texts (join_fault_line fault))
-fault_allowed texts held file paths (Ok answer) out_before out_after may why = tt
-fault_allowed texts held file paths (Err fault) out_before out_after may why =
-    may fault (refused_why held file paths fault out_before out_after why)
+fault_allowed texts held asked (Ok answer) out_before out_after may why = tt
+fault_allowed texts held asked (Err fault) out_before out_after may why =
+    may fault (refused_why held asked fault out_before out_after why)
 
 -- want of memory may be told of any files
-pub memory_allowed : (texts : List ℕ → Type 0) (held : Held) (file : List ℕ)
-    (paths : List (List ℕ)) → AllowsJoinFaults texts held file paths →
+pub memory_allowed : (texts : List ℕ → Type 0) (held : Held) (asked : Asked) → AllowsJoinFaults texts held asked →
     texts (join_fault_line (Run Memory))
-memory_allowed texts held file paths may = may (Run Memory) (λ read. absurd (read.0 refl))
+memory_allowed texts held asked may = may (Run Memory) (λ read. absurd (read.0 refl))

@@ -8,30 +8,40 @@ use Rattle.clap.specs.declared.error.kind.ErrorKind.TheVariants.{OutOfMemory}
 use Rattle.clap.specs.declared.parser.matches.ArgMatches.{ArgMatches}
 use Rattle.clap.specs.Words.{App, HasMatchesOf, Text, all_of, app_of, first_of, fault_of}
 use Rattle.clap.specs.Words.{first_value, found_of, is_simple, is_simple_and_free, kind_of}
-use Rattle.clap.specs.Words.{matched_of, matches_of, raw_values, HasKind, Kinds}
+use Rattle.clap.specs.Words.{matches_of, HasKind, Kinds}
 use Rattle.clap.proofs.OnLiterals.{clap_on_literals}
 use Rattle.clap.proofs.WalkLemmas.{first_value-rows, raw_values-rows}
-use Rattle.join_command.specs.Words.{AreTaken, file_of, reports_of, words_taken}
-use Rattle.join_command.specs.Inner.Words.{reports_found}
+use Rattle.join_command.specs.Words.{AreTaken, asked_of, is_given, words_taken}
+use Rattle.join_command.specs.Inner.Words.{records_found}
 
 -- the file that the parser's matches hold is the one that the words ask for
 pub file_asked : (parser : Command) (matches : ArgMatches) (words : List Text)
     → app_of parser ≡ words_taken
     → HasMatchesOf (app_of parser) words matches →
-    unwrap_or (first_value (found_of matches) (codes "file")) [] ≡ file_of words
+    unwrap_or (first_value (found_of matches) (codes "file")) [] ≡ (asked_of words).file
 file_asked parser matches words is has =
     ap (λ found. unwrap_or found []) (first_value-rows (found_of matches) (codes "file")
     ∙ ap (first_of (codes "file"))
     ((has (ap is_simple is ∙ refl)).0 ∙ ap (λ (a : App). matches_of a words) is))
 
--- so are the reports
-pub reports_asked : (parser : Command) (matches : ArgMatches) (words : List Text)
+-- so are the records
+pub records_asked : (parser : Command) (matches : ArgMatches) (words : List Text)
     → app_of parser ≡ words_taken
     → HasMatchesOf (app_of parser) words matches →
-    reports_found (found_of matches) ≡ reports_of words
-reports_asked parser matches words is has =
-    ap (λ found. unwrap_or found []) (raw_values-rows (found_of matches) (codes "reports")
-    ∙ ap (all_of (codes "reports"))
+    records_found (found_of matches) ≡ (asked_of words).records
+records_asked parser matches words is has =
+    ap (λ found. unwrap_or found []) (raw_values-rows (found_of matches) (codes "records")
+    ∙ ap (all_of (codes "records"))
+    ((has (ap is_simple is ∙ refl)).0 ∙ ap (λ (a : App). matches_of a words) is))
+
+-- so is whether they are plain reports
+pub unbound_asked : (parser : Command) (matches : ArgMatches) (words : List Text)
+    → app_of parser ≡ words_taken
+    → HasMatchesOf (app_of parser) words matches →
+    is_given (first_value (found_of matches) (codes "unbound")) ≡ (asked_of words).unbound
+unbound_asked parser matches words is has =
+    ap is_given (first_value-rows (found_of matches) (codes "unbound")
+    ∙ ap (first_of (codes "unbound"))
     ((has (ap is_simple is ∙ refl)).0 ∙ ap (λ (a : App). matches_of a words) is))
 
 -- what holds of an error holds of the result that hands it on

@@ -1,17 +1,20 @@
 -- What the status of `cubejoin` says.
-use Rattle.std.specs.Prelude.{◌≡◌, ◌≢◌, ◌<◌, ◌+◌, ◌⊎◌, ℕ, Bool, true, List, [], ◌∷◌, ◌++◌, codes}
-use Rattle.std.specs.Prelude.{decimal, length, take, get_or, Option, Some, None}
+use Rattle.std.specs.Prelude.{◌≡◌, ◌<◌, ◌+◌, ◌⊎◌, ℕ, Bool, true, false, List, [], ◌∷◌, ◌++◌, map}
+use Rattle.std.specs.Prelude.{codes, decimal, length, take, get_or, Option, Some, None}
+use Rattle.std.specs.List.{All}
 use Rattle.std.specs.Io.KnownBytes.{Appends}
 use Rattle.case_core.specs.Case.{CaseOf}
 use Rattle.case_core.specs.SplitTree.{SplitTree}
 use Rattle.case_core.specs.Sections.{IsCaseOf}
 use Rattle.cube_report.specs.Mark.{Mark}
-use Rattle.cube_report.specs.declared.fault.Fault.{Fault}
 use Rattle.cube_report.specs.Faults.{IsInputFault, fault_text}
 use Rattle.cube_report.specs.Device.{AppendsBeginning}
+use Rattle.cube_report.specs.Bundle.{icnf_text}
 use Rattle.cube_report.specs.Correct.{IsFaultOn, IsUnsatisfiable}
-use Rattle.bundle_files.specs.Files.{Held, Gives}
+use Rattle.bundle_files.specs.Files.{Held, Gives, IsJudgedOf}
 use Rattle.cube_join.specs.Joined.{AreReportsWith, IsJoined, IsJoinedSoFar, IsStranger}
+use Rattle.cube_command.specs.Record.{IsRecordOn, digest_line}
+use Rattle.join_command.specs.Words.{Asked}
 use Rattle.join_command.specs.declared.fault.JoinFault.{JoinFault}
 use Rattle.join_command.specs.declared.fault.JoinFault.TheVariants.{Run, Stranger}
 
@@ -25,81 +28,123 @@ AreFiles held (path ∷ paths) [] = ⊥
 AreFiles held (path ∷ paths) (text ∷ texts) =
     Gives held path (Some text) × AreFiles held paths texts
 
--- the bytes of FILE, and those of each REPORT
-pub record AreRead (held : Held) (file : List ℕ) (paths : List (List ℕ)) (bundle : List ℕ)
-    (reports : List (List ℕ)) : Type 0 where
-  pub of_file : Gives held file (Some bundle)
-  pub of_reports : AreFiles held paths reports
+-- the bytes of FILE, and those of each RECORD
+pub record AreRead (held : Held) (asked : Asked) (bundle : List ℕ) (texts : List (List ℕ))
+    : Type 0 where
+  pub of_file : Gives held asked.file (Some bundle)
+  pub of_records : AreFiles held asked.records texts
 
 -- no file lies at one of these paths, as far as is known
 abbrev pub IsAbsentAmong : Held → List (List ℕ) → Type 0
 IsAbsentAmong held [] = ⊥
 IsAbsentAmong held (path ∷ paths) = Gives held path None ⊎ IsAbsentAmong held paths
 
--- ---- what is said
+-- ---- what is taken for granted
+
+-- A run of `cubeboard` that read the one bundle left this record, by what its own contract says of
+-- the file that `--record` asks for: it judged that bundle with the proofs of some folder, or with
+-- none.
+pub record IsLeftBy (read written : List ℕ) : Type 0 where
+  pub held : Held
+  pub folder : Option (List ℕ)
+  pub whole : List ℕ
+  pub judged : IsJudgedOf held folder read whole
+  pub left : IsRecordOn read whole written
+
+-- The text is a record that such a run left, and the iCNF text that it names is the bundle's where
+-- it has the digest of the bundle's: they don't collide.
+abbrev pub IsOwnRecord : List ℕ → List ℕ → Type 0
+IsOwnRecord bundle written =
+    (read : List ℕ) × IsLeftBy read written
+    × (digest_line (icnf_text read) ≡ digest_line (icnf_text bundle)
+    → icnf_text read ≡ icnf_text bundle)
 
 -- each text is the report on the formula and the cubes of this bundle, with some proofs
 abbrev pub AreReportsOn : List ℕ → List (List ℕ) → Type 0
 AreReportsOn bundle reports =
     (case : CaseOf) × IsCaseOf bundle case × AreReportsWith case.formula case.tree reports
 
--- the text is that of a join of these reports on the bundle
-abbrev pub IsJoinOn : List ℕ → List (List ℕ) → List ℕ → Type 0
-IsJoinOn bundle reports text = (answer : Bool) × IsJoined bundle reports text answer
+-- what is taken for granted of the RECORDs: that `cubeboard` wrote them, on whichever files; with
+-- `--unbound` that they are reports on FILE's formula and cubes
+abbrev pub AreTrusted : Bool → List ℕ → List (List ℕ) → Type 0
+AreTrusted true bundle texts = AreReportsOn bundle texts
+AreTrusted false bundle texts = All (IsOwnRecord bundle) texts
+
+-- ---- what is said
+
+-- what stands before the report in each RECORD: the line that names FILE's iCNF text, or nothing
+-- with `--unbound`
+abbrev pub line_before : Bool → List ℕ → List ℕ
+line_before true bundle = []
+line_before false bundle = digest_line (icnf_text bundle)
+
+-- each text is this line, and the report behind it
+abbrev pub behind_each : List ℕ → List (List ℕ) → List (List ℕ)
+behind_each line reports = map (λ report. line ++ report) reports
+
+-- what a join of these texts on the bundle promises: each is that line and a report, and the
+-- reports are joined
+abbrev pub IsJoinOf : Bool → List ℕ → List (List ℕ) → List ℕ → Bool → Type 0
+IsJoinOf unbound bundle texts text answer =
+    (reports : List (List ℕ)) × (texts ≡ behind_each (line_before unbound bundle) reports)
+    × IsJoined bundle reports text answer
+
+-- the text is that of a join of these texts on the bundle
+abbrev pub IsJoinOn : Bool → List ℕ → List (List ℕ) → List ℕ → Type 0
+IsJoinOn unbound bundle texts text = (answer : Bool) × IsJoinOf unbound bundle texts text answer
 
 -- The joined report was written, and nothing more; its last line gives this answer, and where it
--- says refuted, and each REPORT is the report on FILE's formula and cubes with some proofs, the
--- formula of FILE has no model.
-pub record IsJoinWritten (held : Held) (file : List ℕ) (paths : List (List ℕ))
-    (old new : Option (List ℕ)) (answer : Bool) : Type 0 where
+-- says refuted, and the RECORDs are what is taken for granted, the formula of FILE has no model.
+pub record IsJoinWritten (held : Held) (asked : Asked) (old new : Option (List ℕ)) (answer : Bool)
+    : Type 0 where
   pub bundle : List ℕ
-  pub reports : List (List ℕ)
-  pub read : AreRead held file paths bundle reports
+  pub texts : List (List ℕ)
+  pub read : AreRead held asked bundle texts
   pub text : List ℕ
-  pub joined : IsJoined bundle reports text answer
+  pub joined : IsJoinOf asked.unbound bundle texts text answer
   pub written : Appends old new text
-  pub sound : AreReportsOn bundle reports → answer ≡ true → IsUnsatisfiable bundle
+  pub sound : AreTrusted asked.unbound bundle texts → answer ≡ true → IsUnsatisfiable bundle
 
 -- a beginning of the joined report was written
-pub record IsJoinBegun (held : Held) (file : List ℕ) (paths : List (List ℕ))
-    (old new : Option (List ℕ)) : Type 0 where
+pub record IsJoinBegun (held : Held) (asked : Asked) (old new : Option (List ℕ)) : Type 0 where
   pub bundle : List ℕ
-  pub reports : List (List ℕ)
-  pub read : AreRead held file paths bundle reports
+  pub texts : List (List ℕ)
+  pub read : AreRead held asked bundle texts
   pub text : List ℕ
-  pub joined : IsJoinOn bundle reports text
+  pub joined : IsJoinOn asked.unbound bundle texts text
   pub written : AppendsBeginning old new text
 
 -- ---- faults
 
--- The text at the path of this number, from 1, is no report on the tree, and those before it are
--- reports.
-pub record IsStrangerAt (held : Held) (tree : SplitTree) (paths : List (List ℕ)) (number : ℕ)
-    : Type 0 where
+-- The text at the path of this number, from 1, isn't this line and a report on the tree, and each of
+-- those before it is.
+pub record IsStrangerAt (held : Held) (line : List ℕ) (tree : SplitTree) (paths : List (List ℕ))
+    (number : ℕ) : Type 0 where
   pub index : ℕ
   pub is_number : number ≡ index + 1
   pub inside : index < length paths
   pub before : List (List ℕ)
-  pub files : AreFiles held (take index paths) before
+  pub files : AreFiles held (take index paths) (behind_each line before)
   pub marks : List Mark
   pub reports : IsJoinedSoFar tree before marks
   pub text : List ℕ
   pub file : Gives held (get_or paths index []) (Some text)
-  pub stranger : IsStranger tree text
+  pub stranger : (report : List ℕ) → text ≡ line ++ report → IsStranger tree report
 
 -- a fault of what was read, neither of memory, nor of a device, nor of a thread
 abbrev pub IsReadingFault : JoinFault → Type 0
 IsReadingFault (Run fault) = IsInputFault fault
 IsReadingFault (Stranger number) = Unit {0}
 
--- FILE has this fault, its first; or it has none, and the REPORT of this number is the first that
--- is no report on its cubes
-abbrev pub IsRefused : Held → List ℕ → List (List ℕ) → JoinFault → Type 0
-IsRefused held file paths (Run fault) =
-    (bundle : List ℕ) × Gives held file (Some bundle) × IsFaultOn bundle fault
-IsRefused held file paths (Stranger number) =
-    (bundle : List ℕ) × Gives held file (Some bundle)
-    × (case : CaseOf) × IsCaseOf bundle case × IsStrangerAt held case.tree paths number
+-- FILE has this fault, its first; or it has none, and the RECORD of this number is the first that
+-- isn't one of its formula and cubes
+abbrev pub IsRefused : Held → Asked → JoinFault → Type 0
+IsRefused held asked (Run fault) =
+    (bundle : List ℕ) × Gives held asked.file (Some bundle) × IsFaultOn bundle fault
+IsRefused held asked (Stranger number) =
+    (bundle : List ℕ) × Gives held asked.file (Some bundle)
+    × (case : CaseOf) × IsCaseOf bundle case
+    × IsStrangerAt held (line_before asked.unbound bundle) case.tree asked.records number
 
 -- the line that tells a fault
 abbrev pub join_fault_text : JoinFault → List ℕ
@@ -111,7 +156,7 @@ join_fault_line fault = codes "cubejoin: " ++ join_fault_text fault ++ codes "\n
 
 -- These texts have the line of each fault that a run may end with: of the faults of what was read,
 -- that of the files that the words ask for.
-abbrev pub AllowsJoinFaults : (List ℕ → Type 0) → Held → List ℕ → List (List ℕ) → Type 0
-AllowsJoinFaults texts held file paths =
-    (fault : JoinFault) → (IsReadingFault fault → IsRefused held file paths fault)
+abbrev pub AllowsJoinFaults : (List ℕ → Type 0) → Held → Asked → Type 0
+AllowsJoinFaults texts held asked =
+    (fault : JoinFault) → (IsReadingFault fault → IsRefused held asked fault)
     → texts (join_fault_line fault)

@@ -1,17 +1,24 @@
 -- Which words `cubejoin` takes, and what they ask for.
-use Rattle.std.specs.Prelude.{◌≡◌, ℕ, List, [], ◌∷◌, codes, true, Option, Some, unwrap_or}
+use Rattle.std.specs.Prelude.{◌≡◌, Bool, List, [], codes, true, false, Option, None, Some}
+use Rattle.std.specs.Prelude.{unwrap_or}
+use Rattle.std.specs.Str.{bytes_eq}
 use Rattle.clap.specs.Lexer.{usize_max}
 use Rattle.clap.specs.Words.{App, Rule, Text, all_of, fault_of, first_of, matches_of, new_app}
 use Rattle.clap.specs.Words.{new_rule, with_rule}
-use Rattle.clap.specs.declared.builder.action.ArgAction.TheVariants.{Append}
+use Rattle.clap.specs.declared.builder.action.ArgAction.TheVariants.{Append, SetTrue}
+
+-- `--unbound`, without a value
+abbrev pub unbound_word : Rule
+unbound_word =
+    record (new_rule (codes "unbound")) { long = Some (codes "unbound"); action = Some SetTrue }
 
 -- one text without a name, which has to be there
 abbrev pub file_word : Rule
 file_word = record (new_rule (codes "file")) { value_names = 1; required = true }
 
 -- texts without a name, one at least
-abbrev pub reports_word : Rule
-reports_word = record (new_rule (codes "reports")) {
+abbrev pub records_word : Rule
+records_word = record (new_rule (codes "records")) {
   value_names = 1;
   required = true;
   action = Some Append;
@@ -24,16 +31,29 @@ with_version parser =
     record parser { top = record parser.top { no_binary_name = true; has_version = true } }
 
 abbrev pub words_taken : App
-words_taken = with_rule (with_rule (with_version (new_app (codes "cubejoin"))) file_word) reports_word
+words_taken =
+    with_rule (with_rule (with_rule (with_version (new_app (codes "cubejoin"))) unbound_word)
+    file_word) records_word
 
 -- these words fit that: `clap` finds no fault in them, and they ask for neither help nor the
 -- version
 abbrev pub AreTaken : List Text → Type 0
 AreTaken words = fault_of words_taken words ≡ []
 
--- FILE, and the REPORTs in order
-abbrev pub file_of : List Text → Text
-file_of words = unwrap_or (first_of (codes "file") (matches_of words_taken words)) []
+-- what `clap` finds for a flag that is given
+abbrev pub is_given : Option Text → Bool
+is_given None = false
+is_given (Some text) = bytes_eq text (codes "true")
 
-abbrev pub reports_of : List Text → List Text
-reports_of words = unwrap_or (all_of (codes "reports") (matches_of words_taken words)) []
+-- what words ask for: FILE, the RECORDs in order, and whether they are plain reports
+pub record Asked : Type 0 where
+  pub file : Text
+  pub records : List Text
+  pub unbound : Bool
+
+abbrev pub asked_of : List Text → Asked
+asked_of words = record {
+  file = unwrap_or (first_of (codes "file") (matches_of words_taken words)) [];
+  records = unwrap_or (all_of (codes "records") (matches_of words_taken words)) [];
+  unbound = is_given (first_of (codes "unbound") (matches_of words_taken words));
+}

@@ -7,12 +7,12 @@ use case_core::CaseFault;
 use cube_report::Fault;
 use std::alloc::AllocError;
 
-/// Why reports aren't joined: what a run of `cubeboard` may end with, too, or a REPORT that is none.
+/// Why reports aren't joined: what a run of `cubeboard` may end with, too, or a RECORD that is none.
 #[derive(Clone, Copy, Debug, PartialEq, Eq)]
 pub enum JoinFault {
     /// FILE's first fault, want of memory, or a device that failed.
     Run(Fault),
-    /// The REPORT of this number, from 1, is no report on the cubes of FILE.
+    /// The RECORD of this number, from 1, isn't one of the formula and the cubes of FILE.
     Stranger(u64),
 }
 

@@ -1,19 +1,20 @@
 //! The files of a join, read one at a time.
 
-ghost use Rattle.std.specs.Prelude.{◌≡◌, ◌<◌, ◌^◌, ◌-◌, ℕ, List, Some, map};
-ghost use Rattle.std.specs.Prelude.{IfOk, IfErr, OnOk};
+ghost use Rattle.std.specs.Prelude.{◌≡◌, ◌≢◌, ◌<◌, ◌^◌, ◌-◌, ◌++◌, ℕ, List, Some, map};
+ghost use Rattle.std.specs.Prelude.{IfOk, IfErr, MatchOption, OnOk};
 ghost use Rattle.cube_report.specs.Mark.{Mark};
 ghost use Rattle.bundle_files.specs.Files.{Gives, IsUnread};
 ghost use Rattle.cube_join.specs.Joined.{IsJoinedSoFar, IsLegible, IsToldBy, joined};
 ghost use Rattle.cube_join.specs.Joined.{none_marked};
-ghost use Rattle.join_command.specs.Program.{AreFiles};
+ghost use Rattle.join_command.specs.Program.{AreFiles, behind_each, line_before};
 ghost use Rattle.join_command.specs.Inner.Files.{AreNotAdded, IsNotAdded};
 
 use crate::fault::JoinFault;
 use bundle_files::Store;
+use cube_command::digest_line_of;
 use cube_join::Join;
 use cube_report::Fault;
-use std::alloc::Global;
+use std::alloc::{AllocError, Global};
 
 /// The bytes of the file at this path. `Device` where a call failed or no file is there, `Memory`
 /// where a growth was refused.
@@ -36,11 +37,37 @@ pub(crate) fn read_whole<D: Store>(
     Ok(text)
 }
 
-/// Reads the REPORT of this number, from 1, and joins it.
+/// The line that names the iCNF text of this bundle, which stands before the report in each RECORD;
+/// nothing where these are plain reports.
+pub(crate) fn line_before(
+    alloc: Global,
+    unbound: bool,
+    bundle: &[u8],
+) -> Result<Vec<u8>, AllocError>
+    ensures { IfOk result (λ line. line.items ≡ line_before unbound bundle.now) }
+{
+    if unbound {
+        Ok(Vec::new(alloc))
+    } else {
+        digest_line_of(alloc, bundle)
+    }
+}
+
+/// What stands in a text behind the line with which it has to begin.
+fn behind_line<'t>(text: &'t [u8], line: &[u8]) -> Option<&'t [u8]>
+    ensures { MatchOption result ((report : List ℕ) → text.now ≢ line.now ++ report)
+        (λ report. text.now ≡ line.now ++ report.now) }
+{
+    text.strip_prefix(line)
+}
+
+/// Reads the RECORD of this number, from 1, and joins the report behind the line with which it has
+/// to begin.
 fn join_file<D: Store>(
     alloc: Global,
     store: &mut D,
     join: &mut Join<'_>,
+    line: &[u8],
     path: &str,
     number: u64,
 ) -> Result<(), JoinFault>
@@ -48,26 +75,31 @@ fn join_file<D: Store>(
     requires legible { IsLegible join.old.tree }
     ensures held { D.held store.new ≡ D.held store.old }
     ensures tree { join.new.tree ≡ join.old.tree }
-    ensures joined { OnOk result ((text : List ℕ) × Gives (D.held store.old) path.now (Some text)
-        × (told : List Mark) × IsToldBy join.old.tree text told
+    ensures joined { OnOk result ((report : List ℕ)
+        × Gives (D.held store.old) path.now (Some (line.now ++ report))
+        × (told : List Mark) × IsToldBy join.old.tree report told
         × (join.new.marks ≡ joined join.old.marks told)) }
     ensures ok { OnOk result (D.failures store.new ≡ D.failures store.old) }
-    ensures err { IfErr result (IsNotAdded (D.held store.old) join.old.tree path.now number
+    ensures err { IfErr result (IsNotAdded (D.held store.old) line.now join.old.tree path.now number
         (D.failures store.old) (D.failures store.new)) }
 {
     let text = read_whole(alloc, store, path)?;
-    if join.add(alloc, &text)? {
-        Ok(())
-    } else {
-        Err(JoinFault::Stranger(number))
+    let Some(report) = behind_line(&text, line) else {
+        return Err(JoinFault::Stranger(number));
+    };
+    let is_report = join.add(alloc, report)?;
+    if !is_report {
+        return Err(JoinFault::Stranger(number));
     }
+    Ok(())
 }
 
-/// Reads all REPORTs, one at a time, and joins them.
+/// Reads all RECORDs, one at a time, and joins them.
 pub(crate) fn join_files<D: Store>(
     alloc: Global,
     store: &mut D,
     join: &mut Join<'_>,
+    line: &[u8],
     paths: &[&str],
 ) -> Result<(), JoinFault>
     requires store { D.failures store.old < 2 ^ 64 - 1 }
@@ -76,14 +108,15 @@ pub(crate) fn join_files<D: Store>(
     ensures held { D.held store.new ≡ D.held store.old }
     ensures tree { join.new.tree ≡ join.old.tree }
     ensures joined { OnOk result ((reports : List (List ℕ))
-        × AreFiles (D.held store.old) (map (λ path. path.now) paths.now) reports
+        × AreFiles (D.held store.old) (map (λ path. path.now) paths.now)
+        (behind_each line.now reports)
         × IsJoinedSoFar join.old.tree reports join.new.marks) }
     ensures ok { OnOk result (D.failures store.new ≡ D.failures store.old) }
-    ensures err { IfErr result (AreNotAdded (D.held store.old) join.old.tree
+    ensures err { IfErr result (AreNotAdded (D.held store.old) line.now join.old.tree
         (map (λ path. path.now) paths.now) (D.failures store.old) (D.failures store.new)) }
 {
     for index in 0..paths.len() {
-        join_file(alloc, store, join, paths[index], index as u64 + 1)?;
+        join_file(alloc, store, join, line, paths[index], index as u64 + 1)?;
     }
     Ok(())
 }

@@ -8,14 +8,16 @@ ghost use Rattle.cube_report.specs.declared.fault.Fault.TheVariants.{Memory, Dev
 ghost use Rattle.cube_report.specs.Correct.{IsUnsatisfiable};
 ghost use Rattle.cube_join.specs.Joined.{IsJoined};
 ghost use Rattle.cube_command.specs.Program.{IsLineWritten, IsStatus};
-ghost use Rattle.join_command.specs.Words.{AreTaken, file_of, reports_of};
-ghost use Rattle.join_command.specs.Program.{AllowsJoinFaults, AreFiles, AreRead, AreReportsOn};
+ghost use Rattle.join_command.specs.Words.{AreTaken, asked_of};
+ghost use Rattle.join_command.specs.Program.{AllowsJoinFaults, AreFiles, AreRead, AreTrusted};
 ghost use Rattle.join_command.specs.Program.{IsAbsentAmong, IsJoinBegun, IsJoinOn, IsJoinWritten};
-ghost use Rattle.join_command.specs.Program.{IsReadingFault, IsRefused, join_fault_line};
+ghost use Rattle.join_command.specs.Program.{IsReadingFault, IsRefused, behind_each};
+ghost use Rattle.join_command.specs.Program.{join_fault_line};
 ghost use Rattle.join_command.specs.Inner.Files.{IsUnjoined, IsUnwritten};
+ghost use Rattle.join_command.specs.Inner.Words.{asked_in};
 
 use crate::fault::JoinFault;
-use crate::files::{join_files, read_whole};
+use crate::files::{join_files, line_before, read_whole};
 use crate::telling::{tell_join, tell_memory};
 use crate::words::{Request, request_of};
 use bundle_files::Store;
@@ -27,18 +29,19 @@ use cube_report::{Sink, write_all};
 use std::alloc::Global;
 use std::convert::AsStr;
 
-/// The program `cubejoin` on these words, which are those after its name: `FILE REPORT [REPORT
-/// ..]`. FILE is a bundle as `cubeboard` reads it; its sections, if it has any, aren't judged. Each
-/// REPORT is a report on its formula and its cubes, with some proofs. The joined report goes to
-/// `output` or, where there is none, one line to `errors`. Both writers have to write at once,
-/// without a buffer of their own. REPORTs are read one at a time, in order; files are found by
-/// `store`, and none is written.
+/// The program `cubejoin` on these words, which are those after its name: `[--unbound] FILE RECORD
+/// [RECORD ..]`. FILE is a bundle as `cubeboard` reads it; its sections, if it has any, aren't
+/// judged. Each RECORD is one that `cubeboard --record` wrote, with some proofs: it has to name
+/// FILE's iCNF text by its SHA-256. With `--unbound` each is a report instead, which names none.
+/// The joined report goes to `output` or, where there is none, one line to `errors`. Both writers
+/// have to write at once, without a buffer of their own. RECORDs are read one at a time, in order;
+/// files are found by `store`, and none is written.
 ///
 /// Answers the status: 0 for a report that says refuted, 1 for one that says open, 2 where the
 /// words can't be taken or ask for help or the version, after the parser's text on `errors`, 3
-/// where FILE is refused or a REPORT is no report on its cubes, 4 where memory is refused, 5 where
-/// a device failed: also where FILE or a REPORT isn't there. A failed write to `errors` doesn't
-/// change it.
+/// where FILE is refused or a RECORD isn't one of its formula and cubes, 4 where memory is refused,
+/// 5 where a device failed: also where FILE or a RECORD isn't there. A failed write to `errors`
+/// doesn't change it.
 pub fn join_command<R, D, S, O, E>(
     rt: &R,
     store: &mut D,
@@ -57,32 +60,31 @@ where
     requires errors { E.failures errors.old < 2 ^ 64 - 1 }
 
     // All that is written, also where the call doesn't return. To `output`: the joined report.
-    requires reports { (bundle : List ℕ) (reports : List (List ℕ)) (text : List ℕ)
-        → AreRead (D.held store.old) (file_of (map S.text words.now))
-        (reports_of (map S.text words.now)) bundle reports
-        → IsJoinOn bundle reports text → O.allows output.old text }
+    requires reports { (bundle : List ℕ) (texts : List (List ℕ)) (text : List ℕ)
+        → AreRead (D.held store.old) (asked_of (map S.text words.now)) bundle texts
+        → IsJoinOn (asked_of (map S.text words.now)).unbound bundle texts text
+        → O.allows output.old text }
     // To `errors`: the line of a fault, which the files have where it is one of what was read; or
     // the parser's text, which no contract knows, where the words can't be taken.
     requires faults { AllowsJoinFaults (E.allows errors.old) (D.held store.old)
-        (file_of (map S.text words.now)) (reports_of (map S.text words.now)) }
+        (asked_of (map S.text words.now)) }
     requires words { ¬ AreTaken (map S.text words.now)
         → (text : List ℕ) → E.allows errors.old text }
 
     ensures status { IsStatus result }
 
-    // Status 0: where each REPORT that was read is the report on FILE's formula and cubes with some
-    // proofs, the formula of FILE has no model.
-    ensures sound { result ≡ 0 → (bundle : List ℕ) × (reports : List (List ℕ))
-        × AreRead (D.held store.old) (file_of (map S.text words.now))
-        (reports_of (map S.text words.now)) bundle reports
-        × (AreReportsOn bundle reports → IsUnsatisfiable bundle) }
+    // Status 0: where the RECORDs that were read are what is taken for granted, that `cubeboard`
+    // wrote them and that no digest collides, or with `--unbound` that they are reports on FILE's
+    // formula and cubes, the formula of FILE has no model.
+    ensures sound { result ≡ 0 → (bundle : List ℕ) × (texts : List (List ℕ))
+        × AreRead (D.held store.old) (asked_of (map S.text words.now)) bundle texts
+        × (AreTrusted (asked_of (map S.text words.now)).unbound bundle texts
+        → IsUnsatisfiable bundle) }
     // And exactly the joined report was written: it says refuted. Status 1: it says open.
     ensures refuted { result ≡ 0 → IsJoinWritten (D.held store.old)
-        (file_of (map S.text words.now)) (reports_of (map S.text words.now))
-        (O.contents output.old) (O.contents output.new) true }
+        (asked_of (map S.text words.now)) (O.contents output.old) (O.contents output.new) true }
     ensures open { result ≡ 1 → IsJoinWritten (D.held store.old)
-        (file_of (map S.text words.now)) (reports_of (map S.text words.now))
-        (O.contents output.old) (O.contents output.new) false }
+        (asked_of (map S.text words.now)) (O.contents output.old) (O.contents output.new) false }
     // Then nothing is written to `errors`.
     ensures quiet { result < 2 → errors.new ≡ errors.old }
 
@@ -95,19 +97,18 @@ where
         (O.contents output.new) }
     ensures beginning { result ≡ 5 → Keeps (O.contents output.old) (O.contents output.new)
         ⊎ ((O.failures output.old < O.failures output.new)
-        × IsJoinBegun (D.held store.old) (file_of (map S.text words.now))
-        (reports_of (map S.text words.now)) (O.contents output.old) (O.contents output.new)) }
+        × IsJoinBegun (D.held store.old) (asked_of (map S.text words.now))
+        (O.contents output.old) (O.contents output.new)) }
 
     // Status 2: the words can't be taken. They are refused exactly then, unless memory is refused,
     // and nothing is read.
     ensures usage { AreTaken (map S.text words.now) → result ≢ 2 }
     ensures unread { result ≡ 2 → store.new ≡ store.old }
     ensures taken { result ≢ 2 → result ≢ 4 → AreTaken (map S.text words.now) }
-    // Status 3: FILE has a fault, and its first one is told; or it has none, and the first REPORT
-    // that is no report on its cubes is told.
+    // Status 3: FILE has a fault, and its first one is told; or it has none, and the first RECORD
+    // is told that doesn't name FILE's iCNF text, or has no report on its cubes.
     ensures fault { result ≡ 3 → (fault : JoinFault) × IsReadingFault fault
-        × IsRefused (D.held store.old) (file_of (map S.text words.now))
-        (reports_of (map S.text words.now)) fault
+        × IsRefused (D.held store.old) (asked_of (map S.text words.now)) fault
         × IsLineWritten (E.contents errors.old) (E.contents errors.new) (E.failures errors.old)
         (E.failures errors.new) (join_fault_line fault) }
     // Status 4: want of memory is told.
@@ -124,8 +125,8 @@ where
     ensures broken { result ≡ 5 →
         (D.failures store.old + O.failures output.old
         < D.failures store.new + O.failures output.new)
-        ⊎ IsAbsentAmong (D.held store.old)
-        (file_of (map S.text words.now) ∷ reports_of (map S.text words.now)) }
+        ⊎ IsAbsentAmong (D.held store.old) ((asked_of (map S.text words.now)).file
+        ∷ (asked_of (map S.text words.now)).records) }
 {
     match request_of(rt.alloc(), words) {
         Ok(request) => {
@@ -146,53 +147,52 @@ fn run_request<D: Store, O: Sink>(
 ) -> Result<bool, JoinFault>
     requires store { D.failures store.old < 2 ^ 64 - 1 }
     requires output { O.failures output.old < 2 ^ 64 - 1 }
-    requires reports { (bundle : List ℕ) (reports : List (List ℕ)) (text : List ℕ)
-        → AreRead (D.held store.old) request.now.file.now
-        (map (λ path. path.now) request.now.reports.items) bundle reports
-        → IsJoinOn bundle reports text → O.allows output.old text }
+    requires reports { (bundle : List ℕ) (texts : List (List ℕ)) (text : List ℕ)
+        → AreRead (D.held store.old) (asked_in request.now) bundle texts
+        → IsJoinOn request.now.unbound bundle texts text → O.allows output.old text }
     ensures held { D.held store.new ≡ D.held store.old }
-    ensures written { IfOk result (IsJoinWritten (D.held store.old) request.now.file.now
-        (map (λ path. path.now) request.now.reports.items) (O.contents output.old)
-        (O.contents output.new)) }
+    ensures written { IfOk result (IsJoinWritten (D.held store.old) (asked_in request.now)
+        (O.contents output.old) (O.contents output.new)) }
     ensures ok { OnOk result ((D.failures store.new ≡ D.failures store.old)
         × (O.failures output.new ≡ O.failures output.old)) }
     ensures nothing { IfErr result (λ fault. fault ≢ JoinFault.Run Device
         → Keeps (O.contents output.old) (O.contents output.new)) }
     ensures beginning { OnErr result (Keeps (O.contents output.old) (O.contents output.new)
         ⊎ ((O.failures output.old < O.failures output.new)
-        × IsJoinBegun (D.held store.old) request.now.file.now
-        (map (λ path. path.now) request.now.reports.items) (O.contents output.old)
+        × IsJoinBegun (D.held store.old) (asked_in request.now) (O.contents output.old)
         (O.contents output.new))) }
-    ensures err { IfErr result (IsUnwritten (D.held store.old) request.now.file.now
-        (map (λ path. path.now) request.now.reports.items)
+    ensures err { IfErr result (IsUnwritten (D.held store.old) (asked_in request.now)
         (D.failures store.old + O.failures output.old)
         (D.failures store.new + O.failures output.new)) }
 {
     let bundle = read_whole(alloc, store, request.file)?;
-    let joined = join_all(alloc, store, bundle, &request.reports)?;
+    let line = line_before(alloc, request.unbound, &bundle)?;
+    let joined = join_all(alloc, store, bundle, &line, &request.records)?;
     write_all(output, &joined.text)?;
     Ok(joined.refuted)
 }
 
-/// The report by all REPORTs on the cubes of a bundle.
+/// The report by all RECORDs on the cubes of a bundle, each of which has to begin with this line.
 fn join_all<D: Store>(
     alloc: Global,
     store: &mut D,
     bundle: Vec<u8>,
+    line: &[u8],
     paths: &[&str],
 ) -> Result<Joined, JoinFault>
     requires store { D.failures store.old < 2 ^ 64 - 1 }
     ensures held { D.held store.new ≡ D.held store.old }
     ensures joined { IfOk result (λ joined. (reports : List (List ℕ))
-        × AreFiles (D.held store.old) (map (λ path. path.now) paths.now) reports
+        × AreFiles (D.held store.old) (map (λ path. path.now) paths.now)
+        (behind_each line.now reports)
         × IsJoined bundle.items reports joined.text.items joined.refuted) }
     ensures ok { OnOk result (D.failures store.new ≡ D.failures store.old) }
-    ensures err { IfErr result (IsUnjoined (D.held store.old) bundle.items
+    ensures err { IfErr result (IsUnjoined (D.held store.old) bundle.items line.now
         (map (λ path. path.now) paths.now) (D.failures store.old) (D.failures store.new)) }
 {
     let case = take_bundle(alloc, bundle)?;
     let mut join = Join::new(alloc, case.tree())?;
-    join_files(alloc, store, &mut join, paths)?;
+    join_files(alloc, store, &mut join, line, paths)?;
     Ok(join.report(alloc)?)
 }
 

@@ -1,10 +1,10 @@
 //! The words of the program: what they ask for, and the help.
 
-ghost use Rattle.std.specs.Prelude.{◌≡◌, false, map, codes, IfOk, IfErr};
+ghost use Rattle.std.specs.Prelude.{◌≡◌, false, map, option_map, codes, IfOk, IfErr};
 ghost use Rattle.clap.specs.Words.{app_of, found_of, kind_of, new_app, rule_of};
-ghost use Rattle.join_command.specs.Words.{AreTaken, file_of, file_word, reports_of, reports_word};
-ghost use Rattle.join_command.specs.Words.{with_version, words_taken};
-ghost use Rattle.join_command.specs.Inner.Words.{reports_found};
+ghost use Rattle.join_command.specs.Words.{AreTaken, asked_of, file_word, is_given, records_word};
+ghost use Rattle.join_command.specs.Words.{unbound_word, with_version, words_taken};
+ghost use Rattle.join_command.specs.Inner.Words.{asked_in, records_found};
 
 use clap::error::ErrorKind;
 use clap::{Arg, ArgAction, ArgMatches, Command, Error};
@@ -16,8 +16,10 @@ use std::convert::AsStr;
 pub(crate) struct Request<'a> {
     /// The file with the bundle.
     pub file: &'a str,
-    /// The files with the reports, in order.
-    pub reports: Vec<&'a str>,
+    /// The files with the records, in order.
+    pub records: Vec<&'a str>,
+    /// Whether these are plain reports, which name no formula.
+    pub unbound: bool,
 }
 
 /// The version, and what `rt version` of the kit that proved it ends in: kits of one logic may have
@@ -26,25 +28,23 @@ const VERSION: &str = "0.1.0 (proved by a Rattle kit with logic dac8208d650f15bf
 
 /// What `--help` says below the words.
 const FORMATS: &str = "\
-FILE is a bundle as cubeboard takes it: a formula and cubes in iCNF. Each REPORT is
-one that cubeboard wrote on this formula and these cubes, with some of the proofs.
+FILE is a bundle as cubeboard takes it: a formula and cubes in iCNF. Each RECORD is
+one that cubeboard --record wrote on this formula and these cubes, with some of the
+proofs. With --unbound each is a report, which doesn't say of which formula it is.
 
 The report that is written has what they say together: a node is refuted where some
-REPORT says so, else rejected as the first REPORT says that rejects it, else open.
-It is a report again, so it can be joined with others.
+RECORD says so, else rejected as the first RECORD says that rejects it, else open.
 
-Status: 0 REFUTED, 1 OPEN, 2 words or help, 3 FILE refused, or REPORT number R is no
-report on its cubes (F15 report R), 4 memory, 5 device.
-Example: cubejoin case.icnf *.report > joined";
+Status: 0 REFUTED, 1 OPEN, 2 words or help, 3 FILE refused, or RECORD number R isn't
+one of its formula and cubes (F15 report R), 4 memory, 5 device.
+Example: cubejoin case.icnf *.record > joined";
 
 /// What these words, without the program's name, ask for; or the parser's text, which is the help
 /// or the version where that is asked for.
 pub(crate) fn request_of<'a, S: AsStr>(alloc: Global, words: &'a [S]) -> Result<Request<'a>, Error>
     // The request is what the words say.
-    ensures file { IfOk result
-        (λ request. request.file.now ≡ file_of (map S.text words.now)) }
-    ensures reports { IfOk result (λ request.
-        map (λ path. path.now) request.reports.items ≡ reports_of (map S.text words.now)) }
+    ensures asked { IfOk result
+        (λ request. asked_in request ≡ asked_of (map S.text words.now)) }
     // Only words that are taken make a request, and they are refused only for want of memory.
     ensures taken { IfOk result (λ _. AreTaken (map S.text words.now)) }
     ensures refused { IfErr result
@@ -53,27 +53,41 @@ pub(crate) fn request_of<'a, S: AsStr>(alloc: Global, words: &'a [S]) -> Result<
     let matches = parser(alloc)?.try_get_matches_from(words)?;
     Ok(Request {
         file: matches.get_str("file").unwrap_or(""),
-        reports: reports_in(alloc, &matches)?,
+        records: records_in(alloc, &matches)?,
+        unbound: is_given(matches.get_str("unbound")),
     })
 }
 
-/// The REPORTs that were matched.
-fn reports_in<'a>(alloc: Global, matches: &ArgMatches<'a>) -> Result<Vec<&'a str>, AllocError>
-    ensures { IfOk result (λ reports. map (λ path. path.now) reports.items
-        ≡ reports_found (found_of matches.now)) }
+/// The RECORDs that were matched.
+fn records_in<'a>(alloc: Global, matches: &ArgMatches<'a>) -> Result<Vec<&'a str>, AllocError>
+    ensures { IfOk result (λ records. map (λ path. path.now) records.items
+        ≡ records_found (found_of matches.now)) }
 {
-    let mut reports = Vec::new(alloc);
-    if let Some(paths) = matches.get_strs("reports") {
-        reports.extend_from_slice(paths)?;
+    let mut records = Vec::new(alloc);
+    if let Some(paths) = matches.get_strs("records") {
+        records.extend_from_slice(paths)?;
     }
-    Ok(reports)
+    Ok(records)
+}
+
+/// Whether a flag is given, by the text that was matched for it.
+fn is_given(text: Option<&str>) -> bool
+    ensures { result ≡ is_given (option_map (λ text. text.now) text.entry) }
+{
+    match text {
+        Some(text) => text == "true",
+        None => false,
+    }
 }
 
 /// The parser of the program's words.
 fn parser<'a>(alloc: Global) -> Result<Command<'a>, AllocError>
     ensures { IfOk result (λ parser. app_of parser ≡ words_taken) }
 {
-    texts(alloc).arg(file_word(alloc))?.arg(reports_word(alloc))
+    texts(alloc)
+        .arg(unbound_word(alloc))?
+        .arg(file_word(alloc))?
+        .arg(records_word(alloc))
 }
 
 /// A parser that takes no words yet, with the texts of the help.
@@ -83,8 +97,19 @@ fn texts<'a>(alloc: Global) -> Command<'a>
     Command::new(alloc, "cubejoin")
         .no_binary_name(true)
         .version(VERSION)
-        .about("Joins reports on one formula and its cubes, and prints their report.")
+        .about("Joins records of runs on one formula and its cubes, and prints their report.")
         .after_help(FORMATS)
+}
+
+/// Whether the records are plain reports.
+fn unbound_word<'a>(alloc: Global) -> Arg<'a>
+    ensures rule { rule_of result ≡ unbound_word }
+    ensures own { result.global ≡ false }
+{
+    Arg::new(alloc, "unbound")
+        .long("unbound")
+        .action(ArgAction::SetTrue)
+        .help("Take reports, which don't say of which formula they are")
 }
 
 /// The bundle's file.
@@ -98,15 +123,15 @@ fn file_word<'a>(alloc: Global) -> Arg<'a>
         .help("The file with the formula and the cubes")
 }
 
-/// The files with the reports.
-fn reports_word<'a>(alloc: Global) -> Arg<'a>
-    ensures rule { rule_of result ≡ reports_word }
+/// The files with the records.
+fn records_word<'a>(alloc: Global) -> Arg<'a>
+    ensures rule { rule_of result ≡ records_word }
     ensures own { result.global ≡ false }
 {
-    Arg::new(alloc, "reports")
-        .value_name("REPORT")
+    Arg::new(alloc, "records")
+        .value_name("RECORD")
         .required(true)
         .num_args(1..)
         .action(ArgAction::Append)
-        .help("The files with the reports")
+        .help("The files with the records")
 }

@@ -52,6 +52,18 @@ w 288230376151711744\ns OPEN\n";
 const ANOTHER_TREE: &[u8] =
     b"t 2 0 1152921504606846976\na 1 refuted\na 2 refuted\nw 0\ns REFUTED\n";
 
+/// The record of the run on `MIXED` with the proofs of its cubes: the line with the SHA-256 of
+/// `MIXED`, as `sha256sum` prints it, and the report.
+const CUBES_RECORD: &[u8] = b"i 2fae1a08fffa0062e32fa793be493a8f34c5cc26e97893b23bc0525b198330ac\n\
+t 2 2 1152921504606846976\na 1 refuted\na 2 refuted\n\
+m 1 1 -2 0 open\nm 2 -1 -2 0 open\no 1 -2 0\no -1 -2 0\nw 576460752303423488\ns OPEN\n";
+
+/// That of the run with the proofs of its missing leaves.
+const MISSING_RECORD: &[u8] =
+    b"i 2fae1a08fffa0062e32fa793be493a8f34c5cc26e97893b23bc0525b198330ac\n\
+t 2 2 1152921504606846976\na 1 open\na 2 open\n\
+m 1 1 -2 0 refuted\nm 2 -1 -2 0 refuted\no 1 2 0\no -1 2 0\nw 576460752303423488\ns OPEN\n";
+
 const FILES: &[File<'static>] = &[
     ("FILE", MIXED),
     ("cubes", CUBES),
@@ -84,90 +96,199 @@ m 1 1 -2 0 refuted\nm 2 -1 -2 0 refuted\nw 0\ns REFUTED\n",
 m 1 1 -2 0 open\nm 2 -1 -2 0 open\no 0\nw 1152921504606846976\ns OPEN\n",
     ),
     ("FAULTY", b"p inccnf\na 1 0\na 1 0\n"),
+    ("cubes_record", CUBES_RECORD),
+    ("missing_record", MISSING_RECORD),
+    // The same text with a section behind it.
+    (
+        "LABELLED",
+        b"p inccnf\n1 2 0\n1 -2 0\n-1 2 0\n-1 -2 0\na 1 2 0\na -1 2 0\nl 1\nno proof\n",
+    ),
+    // Another formula with the same cubes, and a record of it.
+    (
+        "OTHER",
+        b"p inccnf\n1 2 0\n1 -2 0\n-1 2 0\n-1 -2 1 0\na 1 2 0\na -1 2 0\n",
+    ),
+    (
+        "other_record",
+        b"i 2625c6ecc54ae6111e7c73b562f7d5e2c57ca90b55e5536ef502455709b65734\n\
+t 2 2 1152921504606846976\na 1 refuted\na 2 refuted\n\
+m 1 1 -2 0 open\nm 2 -1 -2 0 open\no 1 -2 0\no -1 -2 0\nw 576460752303423488\ns OPEN\n",
+    ),
+    (
+        "line_alone",
+        b"i 2fae1a08fffa0062e32fa793be493a8f34c5cc26e97893b23bc0525b198330ac\n",
+    ),
+    ("line_cut", b"i 2fae1a08fffa0062e32fa793be493a8f34c5cc26"),
+    (
+        "upper_case",
+        b"i 2FAE1A08FFFA0062E32FA793BE493A8F34C5CC26E97893B23BC0525B198330AC\n\
+t 2 2 1152921504606846976\na 1 refuted\na 2 refuted\n\
+m 1 1 -2 0 open\nm 2 -1 -2 0 open\no 1 -2 0\no -1 -2 0\nw 576460752303423488\ns OPEN\n",
+    ),
 ];
 
 /// Words, and how the program ends: its status, its report and its line of errors.
 type Call<'t> = (&'t [&'t str], u8, &'t [u8], &'t [u8]);
 
 const JOINS: &[Call<'static>] = &[
-    (&["FILE", "cubes", "missing"], 0, ALL, b""),
-    (&["FILE", "missing", "cubes"], 0, ALL, b""),
-    (&["FILE", "cubes"], 1, CUBES, b""),
-    (&["FILE", "bare"], 1, BARE, b""),
-    (&["FILE", "cubes", "cubes", "bare"], 1, CUBES, b""),
-    (&["FILE", "all", "hint", "bare"], 0, ALL, b""),
-    // A refutation wins, whichever comes first; of two rejections the first.
-    (&["FILE", "hint", "cubes"], 1, CUBES, b""),
-    (&["FILE", "cubes", "hint"], 1, CUBES, b""),
+    (&["--unbound", "FILE", "cubes", "missing"], 0, ALL, b""),
+    (&["--unbound", "FILE", "missing", "cubes"], 0, ALL, b""),
+    (&["--unbound", "FILE", "cubes"], 1, CUBES, b""),
+    (&["--unbound", "FILE", "bare"], 1, BARE, b""),
     (
-        &["FILE", "hint", "greatest", "missing"],
+        &["--unbound", "FILE", "cubes", "cubes", "bare"],
+        1,
+        CUBES,
+        b"",
+    ),
+    (&["--unbound", "FILE", "all", "hint", "bare"], 0, ALL, b""),
+    // A refutation wins, whichever comes first; of two rejections the first.
+    (&["--unbound", "FILE", "hint", "cubes"], 1, CUBES, b""),
+    (&["--unbound", "FILE", "cubes", "hint"], 1, CUBES, b""),
+    (
+        &["--unbound", "FILE", "hint", "greatest", "missing"],
         1,
         HINT_AND_MISSING,
         b"",
     ),
-    (&["FILE", "missing", "hint"], 1, HINT_AND_MISSING, b""),
-    (&["FILE", "greatest", "hint"], 1, GREATEST, b""),
+    (
+        &["--unbound", "FILE", "missing", "hint"],
+        1,
+        HINT_AND_MISSING,
+        b"",
+    ),
+    (&["--unbound", "FILE", "greatest", "hint"], 1, GREATEST, b""),
     // Proofs of inner nodes.
-    (&["FILE", "nodes"], 1, NODES, b""),
-    (&["FILE", "nodes", "cubes"], 1, NODES_AND_CUBES, b""),
+    (&["--unbound", "FILE", "nodes"], 1, NODES, b""),
+    (
+        &["--unbound", "FILE", "nodes", "cubes"],
+        1,
+        NODES_AND_CUBES,
+        b"",
+    ),
 ];
 
 const REFUSED: &[Call<'static>] = &[
-    (&["FILE", "another"], 3, b"", b"cubejoin: F15 report 1\n"),
     (
-        &["FILE", "cubes", "empty", "missing"],
+        &["--unbound", "FILE", "another"],
+        3,
+        b"",
+        b"cubejoin: F15 report 1\n",
+    ),
+    (
+        &["--unbound", "FILE", "cubes", "empty", "missing"],
         3,
         b"",
         b"cubejoin: F15 report 2\n",
     ),
     (
-        &["FILE", "cubes", "missing", "longer"],
+        &["--unbound", "FILE", "cubes", "missing", "longer"],
         3,
         b"",
         b"cubejoin: F15 report 3\n",
     ),
     (
-        &["FILE", "shorter", "another"],
+        &["--unbound", "FILE", "shorter", "another"],
         3,
         b"",
         b"cubejoin: F15 report 1\n",
     ),
     (
-        &["FILE", "wrong_weight"],
+        &["--unbound", "FILE", "wrong_weight"],
         3,
         b"",
         b"cubejoin: F15 report 1\n",
     ),
     (
-        &["FILE", "zero_before"],
+        &["--unbound", "FILE", "zero_before"],
         3,
         b"",
         b"cubejoin: F15 report 1\n",
     ),
-    (&["FILE", "FILE"], 3, b"", b"cubejoin: F15 report 1\n"),
     (
-        &["FAULTY", "another"],
+        &["--unbound", "FILE", "FILE"],
+        3,
+        b"",
+        b"cubejoin: F15 report 1\n",
+    ),
+    (
+        &["--unbound", "FAULTY", "another"],
         3,
         b"",
         b"cubejoin: F7 cube 2 repeats\n",
     ),
-    (&["NONE", "cubes"], 5, b"", b"cubejoin: F13 device\n"),
     (
-        &["FILE", "cubes", "none"],
+        &["--unbound", "NONE", "cubes"],
+        5,
+        b"",
+        b"cubejoin: F13 device\n",
+    ),
+    (
+        &["--unbound", "FILE", "cubes", "none"],
         5,
         b"",
         b"cubejoin: F13 device\n",
     ),
     // What is no report is told before what isn't there, where it stands before it.
     (
-        &["FILE", "another", "none"],
+        &["--unbound", "FILE", "another", "none"],
         3,
         b"",
         b"cubejoin: F15 report 1\n",
     ),
 ];
 
-/// The program on these words ends so, and asks for FILE and then for each REPORT.
+const RECORDS: &[Call<'static>] = &[
+    (&["FILE", "cubes_record", "missing_record"], 0, ALL, b""),
+    (
+        &["FILE", "missing_record", "cubes_record", "missing_record"],
+        0,
+        ALL,
+        b"",
+    ),
+    (&["FILE", "cubes_record"], 1, CUBES, b""),
+    // FILE's sections count neither for the digest nor for the report.
+    (&["LABELLED", "cubes_record", "missing_record"], 0, ALL, b""),
+    (&["OTHER", "other_record"], 1, CUBES, b""),
+    // The flag may stand anywhere.
+    (&["FILE", "cubes", "--unbound", "missing"], 0, ALL, b""),
+];
+
+const NO_RECORDS: &[Call<'static>] = &[
+    // A record of another formula with the same cubes.
+    (
+        &["FILE", "cubes_record", "other_record"],
+        3,
+        b"",
+        b"cubejoin: F15 report 2\n",
+    ),
+    (
+        &["OTHER", "cubes_record"],
+        3,
+        b"",
+        b"cubejoin: F15 report 1\n",
+    ),
+    // A report is no record, and a record is no report.
+    (&["FILE", "all"], 3, b"", b"cubejoin: F15 report 1\n"),
+    (
+        &["--unbound", "FILE", "cubes_record"],
+        3,
+        b"",
+        b"cubejoin: F15 report 1\n",
+    ),
+    (&["FILE", "line_alone"], 3, b"", b"cubejoin: F15 report 1\n"),
+    (&["FILE", "line_cut"], 3, b"", b"cubejoin: F15 report 1\n"),
+    (&["FILE", "upper_case"], 3, b"", b"cubejoin: F15 report 1\n"),
+    (&["FILE", "empty"], 3, b"", b"cubejoin: F15 report 1\n"),
+    (
+        &["FAULTY", "cubes_record"],
+        3,
+        b"",
+        b"cubejoin: F7 cube 2 repeats\n",
+    ),
+];
+
+/// The program on these words ends so, and asks for FILE and then for each RECORD.
 fn ends_so<R: AllocGlobal + Abort>(rt: &R, call: Call<'_>) -> Result<(), Fail> {
     let (words, status, report, line) = call;
     let mut store = FileStore::new(Shelf::new(rt.alloc(), FILES)?);
@@ -204,6 +325,22 @@ fn refused_reports(rt: HostRuntime) -> Result<(), Fail> {
     Ok(())
 }
 
+#[test]
+fn joins_records(rt: HostRuntime) -> Result<(), Fail> {
+    for call in RECORDS {
+        ends_so(&rt, *call)?;
+    }
+    Ok(())
+}
+
+#[test]
+fn refused_records(rt: HostRuntime) -> Result<(), Fail> {
+    for call in NO_RECORDS {
+        ends_so(&rt, *call)?;
+    }
+    Ok(())
+}
+
 /// These words can't be taken, or ask for help or the version: the parser's text goes to standard
 /// error, and nothing is read.
 fn is_refused<R: AllocGlobal + Abort>(rt: &R, words: &[&str]) -> Result<(), Fail> {
@@ -229,6 +366,9 @@ fn is_refused<R: AllocGlobal + Abort>(rt: &R, words: &[&str]) -> Result<(), Fail
 fn other_words(rt: HostRuntime) -> Result<(), Fail> {
     is_refused(&rt, &[])?;
     is_refused(&rt, &["FILE"])?;
+    is_refused(&rt, &["--unbound", "FILE"])?;
+    is_refused(&rt, &["--unbound", "--unbound", "FILE", "cubes"])?;
+    is_refused(&rt, &["--unbound=true", "FILE", "cubes"])?;
     is_refused(&rt, &["--workers", "4", "FILE", "cubes"])?;
     is_refused(&rt, &["--help"])?;
     is_refused(&rt, &["--version"])

@@ -1,5 +1,5 @@
 -- Why reports weren't joined.
-use Rattle.std.specs.Prelude.{◌≡◌, ◌+◌, ◌⊎◌, ℕ, List, [], ◌∷◌, Some}
+use Rattle.std.specs.Prelude.{◌≡◌, ◌+◌, ◌⊎◌, ◌++◌, ℕ, List, ◌∷◌, Some}
 use Rattle.case_core.specs.Case.{CaseOf}
 use Rattle.case_core.specs.SplitTree.{SplitTree}
 use Rattle.case_core.specs.Sections.{IsCaseOf}
@@ -12,6 +12,7 @@ use Rattle.cube_join.specs.Joined.{IsStranger}
 use Rattle.join_command.specs.declared.fault.JoinFault.{JoinFault}
 use Rattle.join_command.specs.declared.fault.JoinFault.TheVariants.{Run, Stranger}
 use Rattle.join_command.specs.Program.{IsAbsentAmong, IsRefused, IsStrangerAt}
+use Rattle.join_command.specs.Words.{Asked}
 
 -- Why one of these files wasn't read, where so many calls had failed and have: want of memory,
 -- without a failed call; or a fault of the device, where a call failed or no file is there.
@@ -20,33 +21,35 @@ IsUnreadAmong held paths before after fault =
     ((fault ≡ Memory) × (after ≡ before))
     ⊎ ((fault ≡ Device) × ((after ≡ before + 1) ⊎ ((after ≡ before) × IsAbsentAmong held paths)))
 
--- why one report, of this number, wasn't joined
-abbrev pub IsNotAdded : Held → SplitTree → List ℕ → ℕ → ℕ → ℕ → JoinFault → Type 0
-IsNotAdded held tree path number before after (Run fault) =
+-- why one record, of this number, wasn't joined
+abbrev pub IsNotAdded : Held → List ℕ → SplitTree → List ℕ → ℕ → ℕ → ℕ → JoinFault → Type 0
+IsNotAdded held line tree path number before after (Run fault) =
     IsUnread held (Some path) before after fault
-IsNotAdded held tree path number before after (Stranger other) =
+IsNotAdded held line tree path number before after (Stranger other) =
     (other ≡ number) × (after ≡ before)
-    × ((text : List ℕ) × Gives held path (Some text) × IsStranger tree text)
+    × ((text : List ℕ) × Gives held path (Some text)
+    × ((report : List ℕ) → text ≡ line ++ report → IsStranger tree report))
 
--- why one of these reports wasn't joined
-abbrev pub AreNotAdded : Held → SplitTree → List (List ℕ) → ℕ → ℕ → JoinFault → Type 0
-AreNotAdded held tree paths before after (Run fault) = IsUnreadAmong held paths before after fault
-AreNotAdded held tree paths before after (Stranger number) =
-    (after ≡ before) × IsStrangerAt held tree paths number
+-- why one of these records wasn't joined
+abbrev pub AreNotAdded : Held → List ℕ → SplitTree → List (List ℕ) → ℕ → ℕ → JoinFault → Type 0
+AreNotAdded held line tree paths before after (Run fault) =
+    IsUnreadAmong held paths before after fault
+AreNotAdded held line tree paths before after (Stranger number) =
+    (after ≡ before) × IsStrangerAt held line tree paths number
 
 -- why they weren't joined on a bundle
-abbrev pub IsUnjoined : Held → List ℕ → List (List ℕ) → ℕ → ℕ → JoinFault → Type 0
-IsUnjoined held bundle paths before after (Run fault) =
+abbrev pub IsUnjoined : Held → List ℕ → List ℕ → List (List ℕ) → ℕ → ℕ → JoinFault → Type 0
+IsUnjoined held bundle line paths before after (Run fault) =
     (IsInputFault fault × (after ≡ before) × IsFaultOn bundle fault)
     ⊎ IsUnreadAmong held paths before after fault
-IsUnjoined held bundle paths before after (Stranger number) =
+IsUnjoined held bundle line paths before after (Stranger number) =
     (after ≡ before)
-    × ((case : CaseOf) × IsCaseOf bundle case × IsStrangerAt held case.tree paths number)
+    × ((case : CaseOf) × IsCaseOf bundle case × IsStrangerAt held line case.tree paths number)
 
 -- why no joined report was written
-abbrev pub IsUnwritten : Held → List ℕ → List (List ℕ) → ℕ → ℕ → JoinFault → Type 0
-IsUnwritten held file paths before after (Run fault) =
-    (IsInputFault fault × (after ≡ before) × IsRefused held file paths (Run fault))
-    ⊎ IsUnreadAmong held (file ∷ paths) before after fault
-IsUnwritten held file paths before after (Stranger number) =
-    (after ≡ before) × IsRefused held file paths (Stranger number)
+abbrev pub IsUnwritten : Held → Asked → ℕ → ℕ → JoinFault → Type 0
+IsUnwritten held asked before after (Run fault) =
+    (IsInputFault fault × (after ≡ before) × IsRefused held asked (Run fault))
+    ⊎ IsUnreadAmong held (asked.file ∷ asked.records) before after fault
+IsUnwritten held asked before after (Stranger number) =
+    (after ≡ before) × IsRefused held asked (Stranger number)

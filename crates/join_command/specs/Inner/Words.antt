@@ -1,7 +1,18 @@
--- The REPORTs that the parser has found.
-use Rattle.std.specs.Prelude.{List, [], codes, option_map, unwrap_or}
+-- What the parser has found, and what was made of it.
+use Rattle.std.specs.Prelude.{List, [], codes, map, option_map, unwrap_or}
 use Rattle.clap.specs.Words.{Text, matched_of, raw_values}
 use Rattle.clap.specs.declared.parser.matches.Found.{Found}
+use Rattle.join_command.specs.declared.words.Request.{Request}
+use Rattle.join_command.specs.Words.{Asked}
 
-abbrev pub reports_found : Found → List Text
-reports_found found = unwrap_or (option_map raw_values (matched_of found (codes "reports"))) []
+-- the RECORDs
+abbrev pub records_found : Found → List Text
+records_found found = unwrap_or (option_map raw_values (matched_of found (codes "records"))) []
+
+-- what a request asks for
+abbrev pub asked_in : Request → Asked
+asked_in request = record {
+  file = request.file.now;
+  records = map (λ path. path.now) request.records.items;
+  unbound = request.unbound;
+}

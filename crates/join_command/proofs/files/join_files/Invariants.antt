@@ -1,6 +1,6 @@
 use Rattle.std.proofs.Common.{◌≡◌, List, ℕ, map, take}
 use Rattle.cube_join.specs.Joined.{IsJoinedSoFar}
-use Rattle.join_command.specs.Program.{AreFiles}
+use Rattle.join_command.specs.Program.{AreFiles, behind_each}
 use Rattle.join_command.proofs.files.join_files.Given as goal
 
 abbrev pub invariant-loop-index : goal.invariant-loop-index
@@ -10,6 +10,6 @@ invariant-loop-index g l = record {
   tree : l.join.tree ≡ l.initial.join.tree;
   files : (reports : List (List ℕ))
       × AreFiles (g.D.Store.held l.initial.store)
-      (take l.index (map (λ path. path.now) l.paths)) reports
+      (take l.index (map (λ path. path.now) l.paths)) (behind_each l.line reports)
       × IsJoinedSoFar l.initial.join.tree reports l.join.marks;
 }

@@ -1,14 +1,11 @@
-use Rattle.std.proofs.Common.{◌≡◌, ◌∙◌, List, ℕ, map, sym, refl, Bor}
-use Rattle.cube_join.proofs.JoinedAll.{is_joined}
+use Rattle.std.proofs.Common.{◌∙◌, List, ℕ, map, Bor}
 use Rattle.cube_join.proofs.JoinedLegible.{legible_in}
-use Rattle.join_command.specs.Inner.Files.{IsUnjoined}
 use Rattle.join_command.proofs.ProgramFiles.{bundle_fault, joined_on}
-use Rattle.join_command.proofs.WordsRequests.{handed_on}
 use Rattle.join_command.proofs.program.join_all.Goals as goal
 
 pub returns-in_err-case-clause-err : goal.returns-in_err-case-clause-err
 returns-in_err-case-clause-err g c =
-    bundle_fault (g.D.Store.held c.args.store.now) c.args.bundle.items
+    bundle_fault (g.D.Store.held c.args.store.now) c.args.bundle.items c.args.line.now
     (map {A = Bor (List ℕ)} {B = List ℕ} (λ path. path.now) c.args.paths.now)
     (g.D.Store.failures c.args.store.now) c.in_err-case.field-0.0 c.from_residual.result
     c.in_err-case.ensures.err c.from_residual.ensures.1
@@ -21,7 +18,8 @@ join_files-requires-clause-legible g c = λ κs within.
 pub returns-clause-joined : goal.returns-clause-joined
 returns-clause-joined g c =
     joined_on (g.D.Store.held c.args.store.now)
-    (map {A = Bor (List ℕ)} {B = List ℕ} (λ path. path.now) c.args.paths.now) c.args.bundle.items
+    (map {A = Bor (List ℕ)} {B = List ℕ} (λ path. path.now) c.args.paths.now) c.args.line.now
+    c.args.bundle.items
     c.in_ok-case.case c.join_files.new.join.tree c.join_files.new.join.marks
     c.in_ok-report.field-0.text.items c.in_ok-report.field-0.refuted c.in_ok-case.ensures.ok
     (c.join_files.ensures.tree ∙ (c.in_ok-join.ensures.tree ∙ c.tree.ensures.tree))

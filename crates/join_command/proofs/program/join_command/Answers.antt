@@ -1,5 +1,5 @@
 use Rattle.std.proofs.Common.{map}
-use Rattle.join_command.specs.Words.{file_of, reports_of}
+use Rattle.join_command.specs.Words.{asked_of}
 use Rattle.join_command.proofs.ProgramRuns.{device_join, fault_join, memory_allowed, memory_join}
 use Rattle.join_command.proofs.ProgramRuns.{sound_join}
 use Rattle.join_command.proofs.program.join_command.Goals as goal
@@ -7,42 +7,40 @@ use Rattle.join_command.proofs.program.join_command.Goals as goal
 pub tell_join-requires-clause-memory : goal.tell_join-requires-clause-memory
 tell_join-requires-clause-memory g c =
     memory_allowed (g.E.Sink.allows c.args.errors.now) (g.D.Store.held c.args.store.now)
-    (file_of (map g.S.AsStr.text c.args.words.now))
-    (reports_of (map g.S.AsStr.text c.args.words.now)) c.requires.faults
+    (asked_of (map g.S.AsStr.text c.args.words.now)) c.requires.faults
 
 pub refused-requires-clause-memory : goal.refused-requires-clause-memory
 refused-requires-clause-memory g c =
     memory_allowed (g.E.Sink.allows c.args.errors.now) (g.D.Store.held c.args.store.now)
-    (file_of (map g.S.AsStr.text c.args.words.now))
-    (reports_of (map g.S.AsStr.text c.args.words.now)) c.requires.faults
+    (asked_of (map g.S.AsStr.text c.args.words.now)) c.requires.faults
 
 pub returns-in-Ok-clause-sound : goal.returns-in-Ok-clause-sound
 returns-in-Ok-clause-sound g c = λ zero.
-    rw (c.in-Ok.ensures.file, c.in-Ok.ensures.reports) at
-    (sound_join (g.D.Store.held c.args.store.now) _ _ (g.O.Sink.contents c.args.output.now)
+    sound_join (g.D.Store.held c.args.store.now) (asked_of (map g.S.AsStr.text c.args.words.now))
+    (g.O.Sink.contents c.args.output.now)
     (g.O.Sink.contents c.run_request-run.new.output) c.run_request-run.result c.tell_join.result _
     (g.E.Sink.contents c.args.errors.now) (g.E.Sink.contents c.tell_join.new.errors)
     (g.E.Sink.failures c.args.errors.now) (g.E.Sink.failures c.tell_join.new.errors)
-    c.tell_join.ensures.told c.run_request-run.ensures.written zero)
+    c.tell_join.ensures.told (rw c.in-Ok.ensures.asked at c.run_request-run.ensures.written) zero
 
 pub returns-in-Ok-clause-fault : goal.returns-in-Ok-clause-fault
 returns-in-Ok-clause-fault g c = λ three.
-    rw (c.in-Ok.ensures.file, c.in-Ok.ensures.reports) at
-    (fault_join (g.D.Store.held c.args.store.now) _ _ c.run_request-run.result c.tell_join.result _
+    rw c.in-Ok.ensures.asked at
+    (fault_join (g.D.Store.held c.args.store.now) _ c.run_request-run.result c.tell_join.result _
     (g.E.Sink.contents c.args.errors.now) (g.E.Sink.contents c.tell_join.new.errors)
     (g.E.Sink.failures c.args.errors.now) (g.E.Sink.failures c.tell_join.new.errors) _ _
     c.tell_join.ensures.told c.run_request-run.ensures.err three)
 
 pub returns-in-Ok-clause-memory : goal.returns-in-Ok-clause-memory
 returns-in-Ok-clause-memory g c = λ four.
-    memory_join (g.D.Store.held c.args.store.now) _ _ c.run_request-run.result c.tell_join.result _
+    memory_join (g.D.Store.held c.args.store.now) _ c.run_request-run.result c.tell_join.result _
     (g.E.Sink.contents c.args.errors.now) (g.E.Sink.contents c.tell_join.new.errors)
     (g.E.Sink.failures c.args.errors.now) (g.E.Sink.failures c.tell_join.new.errors) _ _
     c.tell_join.ensures.told c.run_request-run.ensures.err four
 
 pub returns-in-Ok-clause-device : goal.returns-in-Ok-clause-device
 returns-in-Ok-clause-device g c = λ five.
-    device_join (g.D.Store.held c.args.store.now) _ _ c.run_request-run.result c.tell_join.result _
+    device_join (g.D.Store.held c.args.store.now) _ c.run_request-run.result c.tell_join.result _
     (g.E.Sink.contents c.args.errors.now) (g.E.Sink.contents c.tell_join.new.errors)
     (g.E.Sink.failures c.args.errors.now) (g.E.Sink.failures c.tell_join.new.errors) _ _
     c.tell_join.ensures.told c.run_request-run.ensures.err five
