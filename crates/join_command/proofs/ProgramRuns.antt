@@ -299,7 +299,8 @@ refused_why held asked (Run fault) out_before out_after why is =
       | inr (inr device) ↦ absurd (is.1 device)
     ]
 
-pub fault_allowed : (texts : List ℕ → Type 0) (held : Held) (asked : Asked) (run : Result Bool JoinFault) (out_before out_after : ℕ)
+pub fault_allowed : (texts : List ℕ → Type 0) (held : Held) (asked : Asked)
+    (run : Result Bool JoinFault) (out_before out_after : ℕ)
     → AllowsJoinFaults texts held asked
     → IfErr run (IsUnwritten held asked out_before out_after)
     → IfErr run (λ fault. texts (join_fault_line fault))
