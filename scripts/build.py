@@ -430,6 +430,8 @@ def main(words):
         build(crates, kept, sums)
     if mode == "--run":
         signal.signal(signal.SIGTERM, signal.SIG_DFL)
+        # A large list is then asked for in huge pages, where the C library (glibc 2.35 or later) and the system can give them.
+        os.environ.setdefault("GLIBC_TUNABLES", "glibc.malloc.hugetlb=1")
         os.execv(kept.made(crates[-1]), [str(kept.made(crates[-1])), *words[2:]])
     return 0
 

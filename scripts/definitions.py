@@ -18,22 +18,38 @@ from pathlib import Path
 # The claims: a title, what it says, and its clauses, each by file, function (or type) and names; - is a clause without one.
 CLAIMS = [
     ("`s REFUTED` means that the formula has no model", """
-Where the program ends with status 0, no assignment makes all clauses true of the formula of the bundle that it read, from FILE or from
-its input: `command` is the call that `main` makes. The libraries say the same of a report that ends with the line `s REFUTED`, and of `run_io`
-where it answers true. To say that, no definition of trees, proofs or marks is needed.""",
+Where the program ends with status 0, no assignment makes all clauses true of the formula of the bundle that it read,
+from FILE or from its input, whatever the words, the number of workers and the schedule of their threads: `command` is
+the call that `main` makes. Whoever chose the cubes and made the proofs is trusted for nothing. The libraries say the
+same of a report that ends with the line `s REFUTED`, and of `run_io` where it answers true. To say that, no definition
+of trees, proofs or marks is needed.
+
+What there is to read says what a clause, an assignment and a model are (`Literal`, `Formula`), which clauses a text
+has, however many and long (`Tokens`, `Numbers`, `Icnf`), where in a bundle that text ends (`Bundle`), which words are
+FILE and which bundle is read (`Words`, `Files`), and the statement: `IsFormulaOf`, `IsUnsatisfiable`, and for callers
+of the libraries `SaysRefuted` (`Correct`).""",
      ["cube_command/program.rt command sound",
       "cube_report/engine.rt run_one sound",
       "cube_report/engine.rt run sound",
       "cube_report/engine.rt run_io sound"]),
+    ("With `--formula` the formula of a published file has no model", """
+Where the program ends with status 0 and `--formula CNF` is asked for, the text of that file is a DIMACS text of a formula of which no assignment makes all clauses true. What a bundle is, how the
+file and FILE become one, and what a cube or a label line is, has no part in it.""",
+     ["cube_command/program.rt command published"]),
     ("A refusal names the first fault", """
-Where a bundle is refused for its own sake, not for want of memory, a failed device or a refused thread, the fault is its first one.""",
+Where a bundle is refused for its own sake, not for want of memory, a failed device or a refused thread, the fault is
+its first one. With status 3 the bundle has a fault, nothing is written to standard output, and standard error gets,
+behind what `--progress` tells, exactly one line, that of the bundle's first fault, or a beginning of it where a write
+to it fails.""",
      ["cube_command/program.rt command fault",
       "cube_report/engine.rt run_one fault",
       "cube_report/engine.rt run fault",
       "cube_report/engine.rt run_io fault"]),
     ("Every line of the report is the definition's", """
 The report is one text, fixed by the case that the bundle stands for and by the mark of each node: what its section's
-proof is judged to be from the formula and the node's path, or open where it has no section. With `--map` the picture is another text of the same case and marks.""",
+proof is judged to be from the formula and the node's path alone, or open where it has no section. With DIR the case is
+that of the bundle and, for each leaf in order and each at most once, a section under the leaf's own label where its
+file is there. With `--map` the picture is another text of the same case and marks.""",
      ["cube_command/program.rt command refuted open",
       "cube_report/engine.rt run_one text correct",
       "cube_report/engine.rt run text correct",
@@ -46,15 +62,22 @@ SHA-256 gives two texts one digest. `refuted` and `open` say it beside the repor
      ["cube_command/program.rt command refuted open records",
       "cube_command/record.rt digest_line_of -"]),
     ("Streams and status", """
-What the program and `run_io` have written where something fails, which files they leave as they are, which lines go to standard error, and which status comes when.""",
+What the program and `run_io` have written where something fails, which files they leave as they are, which lines go to
+standard error, and which status comes when. Of `command`: 2 stands exactly where the words can't be taken, unless
+memory is refused (`usage`, `taken`); with 4, standard error gets the line of F6 or of F14 (`memory`); 5 stands where a
+call that reads or writes failed, and otherwise only where FILE isn't there (`failed`, `broken`), with the line of F13
+(`device`), after nothing or, where a write failed, a beginning of the report (`beginning`).""",
      ["cube_command/program.rt command status quiet elsewhere undrawn nothing beginning usage unread taken none memory device failed broken",
       "cube_command/telling.rt own_words ok err",
       "cube_report/engine.rt run_io nothing beginning device"]),
     ("Nothing else is written, also by a call that never returns", """
-A call that may wait need not return, and then its clauses on what it has written say nothing. So each write asks for its leave: a text has to be one that the outlet
-allows, and `command` and `run_io` are proved for all outlets that allow the report on the bundle that is judged, its picture at the path of `--map` and its record at that of `--record`, and nowhere else,
-the line of a fault that this bundle has, the lines of want of memory, of a thread or of a device, and where the words can't be taken the parser's text. Whatever they
-write is one of these, and after a report nothing is known to be allowed. That the program's own outlets allow each text changes nothing: `command` can't ask which they are.""",
+A call that may wait need not return, and then its clauses on what it has written say nothing. So each write asks for
+its leave: a text has to be one that the outlet allows, and `command` and `run_io` are proved for all outlets that allow
+the report on the bundle that is judged, its picture at the path of `--map` and its record at that of `--record`, and
+nowhere else, the line of a fault that this bundle has, the lines of want of memory, of a thread or of a device, which
+are allowed at any time, and where the words can't be taken the parser's text. Whatever they write is one of these,
+before they end or never ending, since each `write` of `Sink` and `Store` asks for that; and after a report nothing is
+known to be allowed. That the program's own outlets allow each text changes nothing: `command` can't ask which they are.""",
      ["cube_command/program.rt command reports pictures records faults words",
       "cube_command/telling.rt own_words words memory",
       "cube_report/engine.rt run_io allowed",
@@ -64,9 +87,14 @@ write is one of these, and after a report nothing is known to be allowed. That t
       "bundle_files/store.rt Store::write allowed beside",
       "bundle_files/store.rt Store::write_counted allowed beside"]),
     ("Reports of several runs, joined: `s REFUTED` means that the formula has no model", """
-Where `cubejoin` ends with status 0, and each RECORD that it has read is one that `cubeboard` wrote, on whichever files, none of which has FILE's SHA-256 with another text, no assignment makes all clauses of FILE true: `join_command`
-is the call that `main` of `cubejoin` makes. With `--unbound` the texts are plain reports, and the premise is that each is the report on FILE's formula and cubes with some proofs. What it writes is the report by the joined marks. It is
-a report again, so it can be joined with others; where two runs split the sections between them, what they say together is what the one run says; and no true record or report is refused.""",
+Where `cubejoin` ends with status 0, and each RECORD that it has read is one that `cubeboard` wrote, on whichever files,
+none of which has FILE's SHA-256 with another text, no assignment makes all clauses of FILE true: `join_command` is the
+call that `main` of `cubejoin` makes. What is assumed is where the texts come from, and no more on which formula: a
+record of another formula, or of the same in other bytes, is refused. With `--unbound` the texts are plain reports, and
+the premise is that each is the report on FILE's formula and cubes with some proofs. What it writes is the report by the
+joined marks, where a node is refuted that some RECORD refutes. It is a report again, so it can be joined with others;
+where two runs split the sections between them, the joined marks of what they found are those of the one run; and no
+true record or report is refused.""",
      ["join_command/program.rt join_command sound refuted open",
       "join_command/program.rt join_command status quiet held nothing beginning usage unread taken fault memory device failed broken",
       "join_command/program.rt join_command reports faults words",
@@ -81,6 +109,7 @@ a report again, so it can be joined with others; where two runs split the sectio
 It is the file's or the input's, with the proofs of a folder added for the leaves of its tree, in order and each under its own label. What a run says that reads each of
 these proofs when a worker comes to its leaf is what a run on this bundle promises.""",
      ["bundle_files/source.rt read_given held bundle ok err kept",
+      "bundle_files/formula.rt read_from held bundle fault ok err kept",
       "bundle_files/judge.rt judge_given held outcome fault ok err",
       "bundle_files/folder.rt add_proofs held whole ok err",
       "bundle_files/store.rt Store::read held found ok err",
@@ -88,9 +117,10 @@ these proofs when a worker comes to its leaf is what a run on this bundle promis
       "bundle_files/store.rt Store::write_counted written elsewhere ok err failed",
       "bundle_files/store.rt Store::reader held none",
       "bundle_files/store.rt Store::settle held failures"]),
-    ("cnf_text: the iCNF text", """
-The file that is read is what the text stands for, or the fault is the text's first one.""",
-     ["cnf_text/icnf.rt read_icnf ok only err"]),
+    ("cnf_text: the iCNF text and the DIMACS text", """
+The file that is read is what the text stands for, or the fault is the text's first one. So it is with what the problem line of a DIMACS text says.""",
+     ["cnf_text/icnf.rt read_icnf ok only err",
+      "cnf_text/dimacs.rt read_problem ok only err"]),
     ("lrat_text: the steps of a proof", """
 A reader starts with all whole steps of its text; each call takes the next of them, or says that the rest is blank, or
 that it is unreadable.""",
@@ -149,8 +179,14 @@ state in which a hall ends.""",
       "board_hall/hall.rt Hall::open_weight own stays nothing seen weight",
       "board_hall/closing.rt Hall::close all boards same"]),
     ("cube_jobs and check_crew: one report for every number of threads", """
-Each section's place is claimed once. Once all workers are joined, each node of the boards has the mark of its finding, for every number of
-workers, every cut and every gate.""",
+Each section's place is claimed once. Once all workers are joined, each node of the boards has the mark of its finding,
+for every number of workers, every cut, every gate and every schedule. `command` makes the report by `judge_given` of
+bundle_files, over `conquer` of check_crew, and writes it by `write_all` of cube_report.
+
+With DIR each proof is read when a worker comes to its leaf, judged and dropped, over `conquer_leaves`, in a hall for
+FILE's case whose leaves have their proofs elsewhere. There the laws of board_hall hold word for word, and what a board
+marks refuted has no model; that a leaf is marked by the judgement of its own file is no law of that hall: it is
+compared, for each leaf, when all workers are joined, and `conquer_leaves` gives boards only where it is so.""",
      ["cube_jobs/jobs.rt Jobs::fill sections count passes",
       "cube_jobs/jobs.rt Jobs::claim same place later claimed none",
       "cube_jobs/jobs.rt Jobs::finish exactly once",

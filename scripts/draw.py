@@ -4,8 +4,9 @@ import sys
 
 HEAD = (
     '<svg xmlns="http://www.w3.org/2000/svg" viewBox="0 0 2048 330" width="2048" height="330">\n'
-    "<style>text{font:18px sans-serif}rect{fill:#FFFFFF;stroke:#FFFFFF;stroke-width:0.2}.c{fill:#BBBBBB}.r{fill:#0072B2}"
-    ".x{fill:#D55E00}.o{fill:#F0E442}.p{fill:#56B4E9}.n{stroke:#000000;stroke-width:2}</style>\n"
+    "<style>text{font:18px sans-serif}rect{fill:#FFFFFF;stroke:#FFFFFF;stroke-width:0.2}"
+    'rect[width="1"],rect[width="2"]{stroke-width:0}'
+    ".c{fill:#BBBBBB}.r{fill:#0072B2}.x{fill:#D55E00}.o{fill:#F0E442}.p{fill:#56B4E9}rect.n{stroke:#000000;stroke-width:2}</style>\n"
 )
 LEGEND = (
     ("r", 760, "refuted"),
@@ -105,7 +106,7 @@ def draw(nodes):
     for name, left, word in LEGEND:
         lines.append(f'{rectangle(name, left, 8, 22)}</rect><text x="{left + 30}" y="26">{word}</text>\n')
     answer = "REFUTED" if root.marked else "OPEN"
-    lines.append(f'<text x="8" y="26">s {answer}\nw {root.open} of {root.weight}</text>\n')
+    lines.append(f'<text x="8" y="26">s {answer}\n</text>\n<text x="130" y="26">w {root.open} of {root.weight}</text>\n')
     pending = [(root, 0, 0, False)]
     while pending:
         node, row, left, covered = pending.pop()

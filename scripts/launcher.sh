@@ -2,7 +2,7 @@
 # Tries the launchers in a copy of this folder under a stand-in for the kit that proves nothing and notes on which crate it is called: which crates
 # a launcher builds, when it builds anew, what it does where it can't, and what the two programs share. Then it tries wrong launchers, each of which
 # a claim has to refuse. It takes a minute, and no proof. Last, with the word `build`, the launchers of this folder themselves build the programs, over
-# the libraries that are proved here but the last; the first example of README runs through the first, and the second joins its report: a minute
+# the libraries that are proved here but the last; an example of README runs through the first, and the second joins its report: a minute
 # or two. The last line counts.
 root=$(CDPATH= cd -- "$(dirname -- "$0")/.." && pwd) || exit 1
 here=$(mktemp -d) || exit 1
@@ -54,6 +54,7 @@ wrong "two builds at once" 's/fcntl.flock(lock, fcntl.LOCK_EX.*)/pass/'
 wrong "nothing kept after an interrupt" 's/^    signal.signal(signal.SIGTERM, signal.default_int_handler)/    shutil.rmtree(ROOT \/ "crates\/cubeboard\/out\/rlib", ignore_errors=True)/'
 wrong "silence" 's/^    print(f"{Speaker.name}: {text}", .*/    pass/'
 wrong "what changes while it is proved taken as proved" 's/ and crate.sum() == crate.own//'
+wrong "small pages" 's/^        os.environ.setdefault("GLIBC_TUNABLES".*/        pass/'
 wrong "words that are lost" 's/, \*words\[2:\]\])/])/'
 two=claims_of_two_programs
 wrong "libraries of its own for each program" 's/self.libraries = SHARED /self.libraries = self.out /' "$two"

@@ -57,7 +57,7 @@ RATTLE
     cat > "$here/kit/bin/rattle-link" << 'LINK'
 #!/bin/sh
 while [ "$1" != -o ]; do shift; done
-printf '#!/bin/sh\necho "${0##*/} $*"\nexit 7\n' > "$2"
+printf '#!/bin/sh\necho "${0##*/} $*"\necho "$GLIBC_TUNABLES" > "$HERE/pages"\nexit 7\n' > "$2"
 chmod +x "$2"
 LINK
     chmod +x "$here/bin/rt" "$here/kit/bin/rattle" "$here/kit/bin/rattle-link"
@@ -94,6 +94,11 @@ call() {
     "$here/copy/$program" "$@" < /dev/null > "$here/out" 2> "$here/err"
     [ $? -eq "$wanted" ] && [ "$(sort "$here/notes")" = "$crates" ]
     count "$claim" $?
+}
+
+# Whether the program that was run last got these words on the memory that it asks for.
+pages() {
+    [ "$(cat "$here/pages")" = "$1" ]
 }
 
 # Whether the last call has built and run the program that was called, said so under that name alone, and run it on these words.
@@ -171,6 +176,11 @@ claims_of_builds() {
     call "the second call proves nothing" 7 ""
     [ ! -s "$here/err" ]
     count "it says nothing" $?
+    pages glibc.malloc.hugetlb=1
+    count "the program is to ask for huge pages" $?
+    (GLIBC_TUNABLES=glibc.malloc.perturb=1 && export GLIBC_TUNABLES && "$here/copy/$program" < /dev/null > /dev/null 2>&1)
+    pages glibc.malloc.perturb=1
+    count "unless the caller says something else of memory" $?
     for crate in $all; do
         file=$(find "$here/copy/crates/$crate/proofs" "$here/copy/crates/$crate/src" -type f 2> /dev/null | sort | head -n 1)
         echo "// more" >> "$file"
@@ -310,8 +320,8 @@ claims() {
     claims_of_failures
 }
 
-# The launchers of this folder: without the first program and the last library, that of the first has to prove both, and to run README's first
-# example; that of the second has then to prove its program alone, and to join that example's report with itself.
+# The launchers of this folder: without the first program and the last library, that of the first has to prove both, and to run an example of
+# README; that of the second has then to prove its program alone, and to join that example's report with itself.
 build_here() {
     PATH=${PATH#"$here/bin:"}
     out=$root/crates/cubeboard/out
@@ -320,7 +330,7 @@ build_here() {
     [ $? -eq 0 ] && cmp -s "$here/out" "$root/examples/pigeons-7-in-6.report"
     is_well=$?
     [ "$is_well" -eq 0 ] || cat "$here/err"
-    count "the launcher builds the program, and README's first example runs" "$is_well"
+    count "the launcher builds the program, and an example of README runs" "$is_well"
     grep -q "proved .* of .*: cubeboard" "$here/err"
     count "it has built it itself" $?
     example=$root/examples/pigeons-7-in-6

@@ -1,8 +1,8 @@
 #!/bin/sh
-# Makes cubeboard-VERSION-x86_64.tar.gz of the built programs, for machines that have no kit: cubeboard, cubejoin, README, CHANGELOG, docs/USING.md,
-# docs/FORMATS.md, the examples, the file PROVED, which says of which commit and with which kit each program was proved, and the file SHA256SUMS. Then it
-# unpacks the archive elsewhere, runs the first program out of it on every example, and joins each report with itself by the second; the last line
-# counts.
+# Makes cubeboard-VERSION-x86_64.tar.gz of the built programs, for machines that have no kit: cubeboard and cubejoin, which are scripts/packed.sh and
+# run the programs in lib/, README, CHANGELOG, docs/USING.md, docs/FORMATS.md, the examples, the file PROVED, which says of which commit and with which
+# kit each program was proved, and the file SHA256SUMS. Then it unpacks the archive elsewhere, runs the first program out of it on every example, and
+# joins each report with itself by the second; the last line counts.
 #
 #     sh scripts/package.sh [FOLDER]
 #
@@ -31,8 +31,12 @@ date=$(git -C "$root" log -1 --format=@%ct 2> /dev/null)
 lay_out_package() {
     package=$here/$archived
     mkdir -p "$package/docs"
-    cp "$program" "$package/cubeboard"
-    cp "$join" "$package/cubejoin"
+    mkdir "$package/lib"
+    cp "$program" "$package/lib/cubeboard"
+    cp "$join" "$package/lib/cubejoin"
+    for name in cubeboard cubejoin; do
+        cp "$root/scripts/packed.sh" "$package/$name"
+    done
     cp "$root/README.md" "$root/CHANGELOG.md" "$package/"
     cp "$root/docs/USING.md" "$root/docs/FORMATS.md" "$package/docs/"
     cp -r "$root/examples" "$package/"

@@ -5,7 +5,7 @@
 # and differs. The last line counts.
 #
 # A row NAME has NAME.in (standard input), NAME.out, NAME.err and NAME.status. NAME.args has the program's words, one a
-# line; it runs in a folder of its own, where NAME.icnf lies as case.icnf and NAME.proofs as proofs. A row without a word for the
+# line; it runs in a folder of its own, where NAME.icnf lies as case.icnf, NAME.cnf as formula.cnf and NAME.proofs as proofs. A row without a word for the
 # workers or the cut runs three times: as it is, with `--workers 1`, and with `--workers 4 --cut 3`.
 root=$(CDPATH= cd -- "$(dirname -- "$0")/.." && pwd) || exit 1
 . "$root/scripts/runs.sh"
@@ -50,7 +50,7 @@ for word in --version -V; do
     count "the word $word" $?
 done
 refuses --no-such-word --no-such-word
-for word in --workers --cut --proofs --map --record; do
+for word in --workers --cut --formula --proofs --map --record; do
     refuses "$word" "$word"
     refuses "$word" "$word" ''
     refuses "$word" "$word="
@@ -194,8 +194,14 @@ rm "$here/run/a.record"
 run "$refuted.in" --record a.record --map tree.svg
 has_given "$refuted.out" "$refuted.err" "$refuted.status" && is_record "$here/text" && [ "$(head -c 5 "$here/run/tree.svg")" = "<svg " ]
 count "a record and a picture" $?
+lay_out "$root/tests/rows/formula_and_cubes_in_files"
+{ printf 'p inccnf \n' && tail -n +2 "$here/run/formula.cnf" && echo && sed '/^l /,$d' "$here/run/case.icnf"; } > "$here/text"
+run /dev/null --formula formula.cnf --record a.record case.icnf
+has_given "$refuted.out" "$refuted.err" "$refuted.status" && is_record "$here/text"
+count "a record of a formula in a file" $?
+lay_out "$folder"
 for path in no_such_folder/a.record proofs; do
-    rm "$here/run/tree.svg"
+    rm -f "$here/run/tree.svg"
     run "$refuted.in" --record "$path" --map tree.svg
     is_device "a record at $path"
     [ "$(head -c 5 "$here/run/tree.svg")" = "<svg " ]

@@ -112,6 +112,7 @@ lay_out() {
     rm -rf "$here/run"
     mkdir "$here/run"
     [ ! -f "$1.icnf" ] || cp "$1.icnf" "$here/run/case.icnf"
+    [ ! -f "$1.cnf" ] || cp "$1.cnf" "$here/run/formula.cnf"
     [ ! -d "$1.proofs" ] || cp -r "$1.proofs" "$here/run/proofs"
 }
 

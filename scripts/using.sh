@@ -1,11 +1,11 @@
 #!/bin/sh
 # Runs the commands of docs/USING.md, its indented lines, from top to bottom in an empty folder, and looks whether what the page
 # says of them holds: of the page's example, and from the bundle on of a formula that isn't split, five pigeons in four holes with one
-# empty cube. First without a solver, up to the report without proofs, and the check of an example whose proofs are there; then each way of the
-# page to solve a leaf where there is what it needs: `cadical` with `--lrat`; any `cadical` and a Rust compiler for bench/tools/drat2lrat.rs, or
-# drat-trim; `cryptominisat5` and that compiler. The others are skipped, also where CI is set: the script isn't part of `./check`. The page's run over
-# many machines is tried by its plain loop where its solve.sh has what it needs; its other engines are those of examples/cluster, which scripts/cluster.sh
-# tries, by the same commands. The last line counts.
+# empty cube; and of the example with cubes left out, whose leaves are then solved by examples/solve_leaf.sh, too. First without a solver, up to the
+# report without proofs, and the check of an example whose proofs are there; then each way of the page to solve a leaf where there is what it needs:
+# `cadical` with `--lrat`; any `cadical` and a Rust compiler for bench/tools/drat2lrat.rs, or drat-trim; `cryptominisat5` and that compiler. The others are
+# skipped, also where CI is set: the script isn't part of `./check`. The page's run over many machines is tried by its plain loop where its solve.sh has
+# what it needs; its other engines are those of examples/cluster, which scripts/cluster.sh tries, by the same commands. The last line counts.
 root=$(CDPATH= cd -- "$(dirname -- "$0")/.." && pwd) || exit 1
 . "$root/scripts/runs.sh"
 
@@ -28,6 +28,10 @@ to_the_bundle() {
     block 3.1
     [ "$status" -eq 1 ] && grep -q "^t $2 0 " "$here/out" && grep -q '^o 0$' "$here/out" && [ ! -s "$here/err" ]
     count "$1: the status is 1 and the root is open before there are proofs" $?
+    cp "$here/out" "$here/of_bundle"
+    block 3.2
+    [ "$status" -eq 1 ] && cmp -s "$here/out" "$here/of_bundle" && [ ! -s "$here/err" ]
+    count "$1: the report is the same where the formula stays in its file" $?
 }
 
 # The check of the bundle and its folder of proofs: whose they are.
@@ -43,12 +47,44 @@ check() {
     count "$1: the record has the checksum of the bundle's file, and the report" $?
 }
 
-# From the bundle to the check, with the formula, its numbers and the cubes there: whose they are, and how many cubes.
+# Whether the last block has told of so many leaves of a kind that the solver refutes them, and has printed nothing else: the kind, and how many.
+are_solved() {
+    [ "$(grep -c "^$1 [0-9]*: status 20\$" "$here/out")" -eq "$2" ] && [ "$(wc -l < "$here/out")" -eq "$2" ] && [ ! -s "$here/err" ]
+}
+
+# From the bundle to the check, with the formula, its numbers and the cubes there: whose they are, how many cubes, and how many missing leaves.
 from_the_bundle() {
-    for step in 4.1 $way 4.7; do block "$step"; done
-    [ "$(grep -c '^cube [0-9]*: status 20$' "$here/out")" -eq "$2" ] && [ "$(ls proofs | wc -l)" -eq "$2" ] && [ ! -s "$here/err" ]
-    count "$1: the solver refutes each leaf" $?
+    for step in 4.1 $way 4.3; do block "$step"; done
+    are_solved cube "$2"
+    count "$1: the solver refutes each cube" $?
+    block 4.4
+    are_solved "missing leaf" "$3" && [ "$(ls proofs | wc -l)" -eq "$(($2 + $3))" ]
+    count "$1: the solver refutes each missing leaf" $?
     check "$1"
+}
+
+# The page from its third part on where cubes are left out, and then its leaves as so many calls of solve_leaf.sh, by which the same solver writes the same
+# proofs: who tries it.
+left_out() {
+    rm -rf "$here/left out"
+    mkdir "$here/left out"
+    cp formula.cnf "$here/left out/"
+    [ ! -e drat2lrat ] || cp drat2lrat "$here/left out/"
+    sed '3,4d; 9d' cubes > "$here/left out/cubes"
+    cd "$here/left out" || exit 1
+    block 3.1
+    [ "$status" -eq 1 ] && grep -q '^t 13 2 ' "$here/out" && grep -q '^o 0$' "$here/out" && [ ! -s "$here/err" ]
+    count "$1: two missing leaves are open" $?
+    from_the_bundle "$1" 13 2
+    case $way in
+        4.2 | "4.6 4.7")
+            mv proofs solved
+            block 4.5
+            [ "$status" -eq 0 ] && [ ! -s "$here/out" ] && [ ! -s "$here/err" ] && diff -r solved proofs > "$here/out"
+            count "$1: solve_leaf.sh leaves the same proofs" $?
+            ;;
+    esac
+    cd "$here/example" || exit 1
 }
 
 # Five pigeons, each in one of four holes, and no two in one hole: variable 4 (P - 1) + H says that pigeon P is in hole H.
@@ -119,7 +155,8 @@ two_days() {
 try() {
     way=$1
     begin "$2"
-    from_the_bundle "$2: the example" 16
+    from_the_bundle "$2: the example" 16 0
+    left_out "$2: the example with cubes left out"
     block 5.3
     [ "$status" -eq 0 ] && grep -q '^n 16 17 0 refuted$' "$here/out" && [ ! -s "$here/err" ]
     count "$2: the example: a proof for an inner node is accepted" $?
@@ -127,7 +164,9 @@ try() {
     [ "$status" -eq 0 ] && [ "$(tail -n 1 "$here/out")" = "s REFUTED" ] && python3 "$root/scripts/draw.py" case.icnf "$here/out" | cmp -s - tree.svg \
         && tail -n 1 "$here/err" | grep -q -x 'cubeboard: 16 of 16 judged, \([0-9]*\) of \1 bytes, 16 refuted, 0 rejected, 0.000 % open'
     count "$2: the example: the last line of progress, and the picture" $?
-    [ "$way" = 4.5 ] || [ "$way" = "4.3 4.6" ] || many_machines "$2: the example"
+    case $way in
+        4.2 | "4.6 4.7") many_machines "$2: the example" ;;
+    esac
     rm proofs/1.lrat proofs/2.lrat proofs/14.lrat
     echo 'garbage' > proofs/8.lrat
     "$root/cubeboard" --proofs proofs case.icnf > report
@@ -140,7 +179,7 @@ try() {
     cd "$here/unsplit" || exit 1
     variables=20
     clauses=45
-    from_the_bundle "$2: one empty cube" 1
+    from_the_bundle "$2: one empty cube" 1 0
     [ "$(head -n 1 leaf.cnf)" = "p cnf 20 45" ] && cmp -s formula.cnf leaf.cnf
     count "$2: one empty cube: the solver's input is the formula" $?
 }
@@ -164,7 +203,7 @@ awk -v page="$here/page" '
     /[^ ]/ { inside = 0 }
 ' "$root/docs/USING.md"
 blocks=$(ls "$here/page" | tr '\n' ' ')
-if [ "$blocks" != "1.1 2.1 3.1 4.1 4.2 4.3 4.4 4.5 4.6 4.7 5.1 5.2 5.3 5.4 5.5 8.1 8.2 8.3 8.4 8.5 8.6 8.7 " ]; then
+if [ "$blocks" != "1.1 2.1 3.1 3.2 4.1 4.2 4.3 4.4 4.5 4.6 4.7 4.8 4.9 5.1 5.2 5.3 5.4 5.5 8.1 8.2 8.3 8.4 8.5 8.6 8.7 " ]; then
     fail "the page has the blocks $blocks, which this script doesn't know"
     finish
 fi
@@ -192,17 +231,17 @@ else
     skip "cadical with --lrat" "there is no cadical that has it"
 fi
 if has cadical && has rustc; then
-    try "4.3 4.4" "cadical and drat2lrat"
+    try "4.6 4.7" "cadical and drat2lrat"
 else
     skip "cadical and drat2lrat" "there isn't cadical and a Rust compiler"
 fi
 if has cadical && has drat-trim; then
-    try 4.5 "cadical and drat-trim"
+    try 4.8 "cadical and drat-trim"
 else
     skip "cadical and drat-trim" "they aren't both there"
 fi
 if has cryptominisat5 && has rustc; then
-    try "4.3 4.6" "cryptominisat5 and drat2lrat"
+    try "4.6 4.9" "cryptominisat5 and drat2lrat"
 else
     skip "cryptominisat5 and drat2lrat" "there isn't cryptominisat5 and a Rust compiler"
 fi

@@ -1,125 +1,135 @@
-//! The clauses and the cubes.
-use crate::text::*;
-use std::collections::HashMap;
-use std::hash::{BuildHasherDefault, Hasher};
+//! The iCNF text: its clauses and its cubes.
+use crate::literal::{code, is_literal_or_end};
+use crate::numbers::Numbers;
+use crate::text::{Text, line_of, number_of, words_of};
+use crate::tokens::{END, Tokens, WORD_A};
 
-pub type IdMap = HashMap<u64, u32, BuildHasherDefault<IdHasher>>;
+const MAX_CLAUSES: usize = 16_777_216;
+const MAX_CUBES: usize = 1_048_576;
+/// Of all clauses together, and of all cubes together.
+const MAX_LITERALS: usize = 16_777_216;
+const MAX_CUBE_LITERALS: usize = 4_096;
+/// A variable up to here always stands under itself in tables by literal.
+const NEAR: usize = 1 << 18;
 
-/// Literals of all clauses in one list; clause i is `lits[starts[i]..starts[i + 1]]`.
-/// A variable above `near` stands under another number, so that tables by literal follow what occurs: the next
-/// free number above `near`, in the order of the text. `names` knows the new numbers.
-#[derive(Default)]
+/// Clause i has the literals from `starts[i]` to `starts[i + 1]`. A variable above `near` stands
+/// under a number of its own there, so that tables by literal are as long as what occurs.
 pub struct Formula {
-    pub lits: Vec<u32>,
+    pub literals: Vec<u32>,
     pub starts: Vec<usize>,
     pub near: u32,
-    pub names: IdMap,
-    pub max_code: u32,
+    pub numbers: Numbers,
+    /// The greatest code of a literal, 0 without one.
+    pub greatest: u32,
 }
 
 impl Formula {
-    pub fn give_names(&mut self) {
-        self.near = NEAR.max(self.lits.len()) as u32;
-        for lit in &mut self.lits {
-            if *lit >> 1 > self.near {
-                let free = self.near + 1 + self.names.len() as u32;
-                let name = *self.names.entry((*lit >> 1) as u64).or_insert(free);
-                *lit = name << 1 | (*lit & 1);
-            }
-            self.max_code = self.max_code.max(*lit);
+    fn new(mut literals: Vec<u32>, starts: Vec<usize>) -> Self {
+        let near = NEAR.max(literals.len()) as u32;
+        let mut numbers = Numbers::starting_at(near + 1);
+        for literal in literals.iter_mut().filter(|literal| **literal >> 1 > near) {
+            *literal = numbers.of(*literal);
         }
+        let greatest = literals.iter().copied().max().unwrap_or(0);
+        Formula {
+            literals,
+            starts,
+            near,
+            numbers,
+            greatest,
+        }
+    }
+
+    /// The clauses' literals, in the order of the text.
+    pub fn clauses(&self) -> impl Iterator<Item = &[u32]> {
+        self.starts
+            .windows(2)
+            .map(|ends| &self.literals[ends[0]..ends[1]])
     }
 }
 
-pub struct Icnf {
-    pub formula: Formula,
-    pub cubes: Vec<Vec<u32>>,
-}
-
-pub fn read_icnf(text: &[u8]) -> Result<Icnf, String> {
-    let mut reader = Reader::new(text);
-    let header = (|| {
-        reader.seek()?;
-        let rest = &text[reader.pos..];
-        let line = rest.split(|&b| b == b'\n').next()?;
-        let mut words = line.split(|b| matches!(b, b' ' | b'\t' | b'\r')).filter(|w| !w.is_empty());
-        (words.next()? == b"p" && words.next()? == b"inccnf").then_some(())
-    })();
-    header.ok_or("F1 header")?;
-    reader.skip_line();
-    let mut formula = Formula { starts: vec![0], ..Default::default() };
-    let mut cubes: Vec<Vec<u32>> = Vec::new();
-    let mut cube_lits = 0;
-    let mut cube: Option<Vec<u32>> = None;
-    let mut fresh = true;
-    loop {
-        let before = reader.pos;
-        match reader.token() {
-            END if fresh => {
-                formula.give_names();
-                return Ok(Icnf { formula, cubes });
-            }
-            END => return Err("F3 unfinished".into()),
-            WORD_A if fresh => {
-                if cubes.len() == MAX_CUBES {
-                    return Err("F5 limit".into());
-                }
-                cube = Some(Vec::new());
-                fresh = false;
-            }
-            n if (-MAX_VAR..=MAX_VAR).contains(&n) => {
-                if fresh && formula.starts.len() > MAX_CLAUSES {
-                    return Err("F5 limit".into());
-                }
-                fresh = n == 0;
-                match &mut cube {
-                    Some(lits) if n != 0 => {
-                        if lits.len() == MAX_CUBE_LITS || cube_lits == MAX_LITS {
-                            return Err("F5 limit".into());
-                        }
-                        cube_lits += 1;
-                        lits.push(code(n));
-                    }
-                    Some(lits) => {
-                        cubes.push(std::mem::take(lits));
-                        cube = None;
-                    }
-                    None if n != 0 => {
-                        if formula.lits.len() == MAX_LITS {
-                            return Err("F5 limit".into());
-                        }
-                        formula.lits.push(code(n));
-                    }
-                    None => formula.starts.push(formula.lits.len()),
-                }
-            }
-            _ => {
-                let mut bad = Reader { text, pos: before };
-                bad.seek();
-                let token = text[bad.pos..].split(|&b| is_blank(b)).next().unwrap_or_default();
-                let line = line_of(text, bad.pos);
-                return Err(match number_of(token) {
-                    None => format!("F2 token, line {line}"),
-                    Some(_) => format!("F4 too large, line {line}"),
-                });
-            }
-        }
-    }
-}
-
-/// Ids are spread by one multiplication.
+/// What was read so far: the clauses, the cubes, and the cube that hasn't ended.
 #[derive(Default)]
-pub struct IdHasher(u64);
+struct Items {
+    literals: Vec<u32>,
+    starts: Vec<usize>,
+    cubes: Vec<Vec<u32>>,
+    cube: Option<Vec<u32>>,
+    cube_literals: usize,
+    inside: bool,
+}
 
-impl Hasher for IdHasher {
-    fn finish(&self) -> u64 {
-        self.0
+impl Items {
+    fn start_cube(&mut self) -> Result<(), String> {
+        within(self.cubes.len(), MAX_CUBES)?;
+        self.cube = Some(Vec::new());
+        self.inside = true;
+        Ok(())
     }
-    fn write(&mut self, bytes: &[u8]) {
-        bytes.iter().for_each(|&b| self.write_u64(b as u64));
+
+    /// A literal, or 0 for the end of a clause or a cube.
+    fn number(&mut self, number: i64) -> Result<(), String> {
+        if !self.inside {
+            within(self.starts.len() - 1, MAX_CLAUSES)?;
+        }
+        self.inside = number != 0;
+        match &mut self.cube {
+            Some(literals) if self.inside => {
+                within(literals.len(), MAX_CUBE_LITERALS)?;
+                within(self.cube_literals, MAX_LITERALS)?;
+                self.cube_literals += 1;
+                literals.push(code(number));
+            }
+            Some(_) => self.cubes.extend(self.cube.take()),
+            None if self.inside => {
+                within(self.literals.len(), MAX_LITERALS)?;
+                self.literals.push(code(number));
+            }
+            None => self.starts.push(self.literals.len()),
+        }
+        Ok(())
     }
-    fn write_u64(&mut self, n: u64) {
-        let x = (self.0 ^ n).wrapping_mul(0x9e37_79b9_7f4a_7c15);
-        self.0 = x ^ (x >> 32);
+}
+
+/// Whether one more fits.
+fn within(count: usize, limit: usize) -> Result<(), String> {
+    if count < limit {
+        Ok(())
+    } else {
+        Err("F5 limit".into())
     }
+}
+
+/// The formula and the cubes of the text before `end`.
+pub fn read_icnf(text: &Text, end: usize) -> Result<(Formula, Vec<Vec<u32>>), String> {
+    let mut tokens = Tokens::new(text, 0..end);
+    tokens.seek();
+    if !words_of(tokens.line()).take(2).eq([&b"p"[..], b"inccnf"]) {
+        return Err("F1 header".into());
+    }
+    tokens.skip_line();
+    let mut items = Items {
+        starts: vec![0],
+        ..Items::default()
+    };
+    loop {
+        let place = tokens.place();
+        match tokens.signed() {
+            END if items.inside => return Err("F3 unfinished".into()),
+            END => return Ok((Formula::new(items.literals, items.starts), items.cubes)),
+            WORD_A if !items.inside => items.start_cube()?,
+            number if is_literal_or_end(number) => items.number(number)?,
+            _ => {
+                tokens.back_to(place);
+                return Err(fault_of(text, tokens));
+            }
+        }
+    }
+}
+
+/// The fault of the next token, which can't stand where it does.
+fn fault_of(text: &Text, mut tokens: Tokens) -> String {
+    tokens.seek();
+    let fault = number_of(tokens.word()).map_or("F2 token", |_| "F4 too large");
+    format!("{fault}, line {}", line_of(text.bytes(), tokens.place()))
 }

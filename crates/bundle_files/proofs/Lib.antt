@@ -1,5 +1,9 @@
 pub mod FilesFormula
 mod FilesSections
+mod FormulaLines
+pub mod FormulaText
+mod FormulaPlace
+mod FormulaReading
 mod FilesOpened
 mod FilesPaths
 mod FilesApart

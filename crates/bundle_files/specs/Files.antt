@@ -78,13 +78,6 @@ abbrev pub IsJudgedOf : Held → Option (List ℕ) → List ℕ → List ℕ →
 IsJudgedOf held None bundle whole = whole ≡ bundle
 IsJudgedOf held (Some folder) bundle whole = IsWithProofs held folder bundle whole
 
--- for these words, FILE and DIR, and this input, the bundle that is read, and the one that is
--- judged
-pub record IsBundleOf (held : Held) (file folder input : Option (List ℕ)) (read whole : List ℕ)
-    : Type 0 where
-  pub is_read : IsRead held file input read
-  pub is_judged : IsJudgedOf held folder read whole
-
 -- ---- what single calls do
 
 -- what lies at a path, where it is known what lies there

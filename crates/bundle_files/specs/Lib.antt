@@ -1,4 +1,5 @@
 pub mod Files
+pub mod Formula
 pub mod Laws
 pub mod Judging
 pub mod Inner

@@ -2,6 +2,7 @@
 ghost use Rattle.std.specs.Prelude.{◌≡◌, ◌<◌, ◌^◌, ◌-◌, ◌+◌, option_map, IfSome, IfOk};
 ghost use Rattle.std.specs.Prelude.{IfErr, OnOk};
 ghost use Rattle.bundle_files.specs.Files.{IsRead, IsUnread, StaysAllowed};
+ghost use Rattle.bundle_files.specs.Inner.Formula.{IsAppended};
 
 use crate::store::Store;
 use cube_report::{Fault, Source, read_to_end};
@@ -35,13 +36,40 @@ pub fn read_given<D: Store, I: Source>(
     ensures kept { IfSome file.entry (λ _. input.new ≡ input.old) }
 {
     let mut bundle = Vec::new(alloc);
+    append_given(store, input, file, &mut bundle)?;
+    Ok(bundle)
+}
+
+/// Appends the bytes of the file at this path, or those of the input where there is none.
+pub(crate) fn append_given<D: Store, I: Source>(
+    store: &mut D,
+    input: &mut I,
+    file: Option<&str>,
+    bytes: &mut Vec<u8>,
+) -> Result<(), Fault>
+    requires store { D.failures store.old < 2 ^ 64 - 1 }
+    requires input { I.failures input.old < 2 ^ 64 - 1 }
+    ensures held { D.held store.new ≡ D.held store.old }
+    ensures allowed { StaysAllowed (D.allows store.old) (D.allows store.new) }
+    ensures appended { OnOk result
+        (IsAppended (D.held store.old) (option_map (λ path. path.now) file.entry)
+        (I.remaining input.old) bytes.old.items bytes.new.items) }
+    ensures ok { OnOk result
+        ((D.failures store.new ≡ D.failures store.old) ×
+        (I.failures input.new ≡ I.failures input.old)) }
+    ensures err { IfErr result
+        (IsUnread (D.held store.old) (option_map (λ path. path.now) file.entry)
+        (D.failures store.old + I.failures input.old)
+        (D.failures store.new + I.failures input.new)) }
+    ensures kept { IfSome file.entry (λ _. input.new ≡ input.old) }
+{
     match file {
-        None => read_to_end(input, &mut bundle)?,
+        None => read_to_end(input, bytes),
         Some(path) => {
-            if !store.read(path, &mut bundle)? {
+            if !store.read(path, bytes)? {
                 return Err(Fault::Device);
             }
+            Ok(())
         }
     }
-    Ok(bundle)
 }

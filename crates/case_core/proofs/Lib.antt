@@ -13,6 +13,9 @@ pub mod BundleMore
 mod ScanLabels
 mod ScanTaken
 mod ScanWhole
+pub use Rattle.cnf_text.proofs.DimacsFormula
+pub use Rattle.cnf_text.proofs.DimacsLine
+pub use Rattle.cnf_text.proofs.DimacsUnique
 pub use Rattle.cnf_text.proofs.IcnfUnique
 pub use Rattle.hint_check.proofs.JudgementShort
 pub use Rattle.hint_check.proofs.JudgementSound

@@ -9,11 +9,15 @@ pub mod Sections
 pub mod Laws
 pub mod Scan
 pub mod Inner
+pub use Rattle.cnf_text.specs.Dimacs
 pub use Rattle.cnf_text.specs.Formula
 pub use Rattle.cnf_text.specs.Icnf
 pub use Rattle.cnf_text.specs.Literal
 pub use Rattle.cnf_text.specs.Numbers
 pub use Rattle.cnf_text.specs.Tokens
+pub use Rattle.cnf_text.specs.declared.dimacs.DimacsFault
+pub use Rattle.cnf_text.specs.declared.dimacs.Problem
+pub use Rattle.cnf_text.specs.declared.icnf.TextFault
 pub use Rattle.hint_check.specs.Addition
 pub use Rattle.hint_check.specs.Grammar
 pub use Rattle.hint_check.specs.Judgement

@@ -13,7 +13,10 @@ mod sections;
 
 pub use bundle::{has_label_line, icnf_part, read_bundle, read_tree, take_bundle};
 pub use case::{Case, Section};
-pub use cnf_text::{Clause, Formula, Lit};
+pub use cnf_text::tokens::{first_word, is_comment, split_line};
+pub use cnf_text::{
+    Clause, DimacsFault, Formula, Lit, Problem, TextFault, read_icnf, read_problem,
+};
 pub use fault::CaseFault;
 pub use finding::{Finding, examine, examine_text, examine_with};
 pub use hint_check::{Judged, Reason, Scratch};

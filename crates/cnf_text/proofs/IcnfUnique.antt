@@ -25,7 +25,7 @@ one_spelling a b e =
     found.1 ∙ ap (λ m. b ++ m) (none_more found.0 found.2) ∙ append-nil b
 
 -- a fault's token is none of a list of items within the limits
-broken_anyway : (before : List Symbol) (s : Symbol) (line : ℕ) (fault : TextFault) →
+pub broken_anyway : (before : List Symbol) (s : Symbol) (line : ℕ) (fault : TextFault) →
     FaultAt before s line fault → Begins Within (before ++ s ∷ []) → ⊥
 broken_anyway before s line (BadToken at_line) h begins = h.1 (begins.0, tt, begins.2)
 broken_anyway before s line (TooLarge at_line) h begins =
@@ -35,7 +35,7 @@ broken_anyway before s line Header h begins = h
 broken_anyway before s line Unfinished h begins = h
 broken_anyway before s line Memory h begins = h
 
-front_begins : (front rest : List Symbol) (items : List Item) → Within items →
+pub front_begins : (front rest : List Symbol) (items : List Item) → Within items →
     spelled items ≡ front ++ rest → Begins Within front
 front_begins front rest items w e = (items, w, (rest, e))
 

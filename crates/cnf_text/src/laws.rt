@@ -1,5 +1,6 @@
 //! Laws of the definitions. The calls do nothing.
 
+ghost use Rattle.cnf_text.specs.Dimacs.{NoFaultBesideDimacs, OneDimacsFormula};
 ghost use Rattle.cnf_text.specs.Laws.{ItemsOrAFault, OneFault, OneListOfItems, NoFaultBesideItems};
 
 /// Each text stands for items, or has a fault.
@@ -20,4 +21,14 @@ pub fn one_list_of_items()
 /// A text that stands for items has no fault.
 pub fn no_fault_beside_items()
     ensures { NoFaultBesideItems }
+{}
+
+/// A DIMACS text is that of one formula at most.
+pub fn one_dimacs_formula()
+    ensures { OneDimacsFormula }
+{}
+
+/// A DIMACS text of a formula within the limits has no fault.
+pub fn no_fault_beside_dimacs()
+    ensures { NoFaultBesideDimacs }
 {}

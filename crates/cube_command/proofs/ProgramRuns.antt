@@ -1,10 +1,12 @@
 -- What a run says of the bundle and of what was written, and what its status says.
 use Rattle.std.proofs.Common.{◌≡◌, ◌<◌, ◌⊎◌, ◌∙◌, sym, refl, ap, subst, ℕ, Bool, true, false, List}
 use Rattle.std.proofs.Common.{[], Option, None, Some, ◌++◌}
-use Rattle.std.specs.Prelude.{is_some, option_map, if◌then◌else◌}
+use Rattle.std.specs.Prelude.{IfSome, is_some, option_map, if◌then◌else◌}
 use Rattle.std.proofs.Common.{Result, Ok, Err, IfOk, IfErr, OnErr, MatchResult, inl, inr, arith}
 use Rattle.std.specs.Io.KnownBytes.{Appends, Keeps}
-use Rattle.bundle_files.specs.Files.{Held, Gives, IsBundleOf, IsJudgedOf, IsRead}
+use Rattle.bundle_files.specs.Files.{Held, Gives, IsJudgedOf}
+use Rattle.bundle_files.specs.Formula.{Sources, IsBundleOf, IsReadBy, IsReadFrom, IsFormulaFault}
+use Rattle.bundle_files.proofs.FormulaText.{published}
 use Rattle.bundle_files.specs.Judging.{IsRefusedOf}
 use Rattle.bundle_files.proofs.FilesFormula.{judged_unsatisfiable}
 use Rattle.cube_report.specs.declared.fault.Fault.{Fault}
@@ -12,6 +14,10 @@ use Rattle.cube_report.specs.declared.fault.Fault.TheVariants.{Header, Token, Un
 use Rattle.cube_report.specs.declared.fault.Fault.TheVariants.{Limit, Memory, Repeats, NotATree}
 use Rattle.cube_report.specs.declared.fault.Fault.TheVariants.{Overlap, BadLabel, NoSuchLeaf}
 use Rattle.cube_report.specs.declared.fault.Fault.TheVariants.{ProofTwice, Device, Thread}
+use Rattle.cube_report.specs.declared.fault.Fault.TheVariants.{NoProblem, Counts}
+use Rattle.cube_report.specs.Dimacs.{IsDimacs}
+use Rattle.cube_report.specs.Formula.{HasNoModel}
+use Rattle.cube_report.specs.Literal.{Literal}
 use Rattle.cube_report.specs.Faults.{IsInputFault}
 use Rattle.cube_report.specs.Correct.{AllowsReports, IsOutcome, IsReportOn, IsUnsatisfiable}
 use Rattle.cube_report.specs.Device.{AppendsBeginning}
@@ -39,8 +45,8 @@ some_mapped f None there is = is
 some_mapped f (Some path) there is = is
 
 -- a bundle that was read, and the one that is judged for it
-pub bundle_of : (held : Held) (file folder input : Option (List ℕ)) (read whole : List ℕ) →
-    IsRead held file input read → IsJudgedOf held folder read whole →
+pub bundle_of : (held : Held) (file : Sources) (folder input : Option (List ℕ)) (read whole : List ℕ) →
+    IsReadFrom held file input read → IsJudgedOf held folder read whole →
     IsBundleOf held file folder input read whole
 bundle_of held file folder input read whole is_read is_judged = record {
   is_read = is_read;
@@ -48,19 +54,20 @@ bundle_of held file folder input read whole is_read is_judged = record {
 }
 
 -- its first fault is that of what the words ask for
-pub refused_of : (held : Held) (file folder input : Option (List ℕ)) (read : List ℕ)
-    (fault : Fault) → IsRead held file input read → IsRefusedOf held folder read fault →
+pub refused_of : (held : Held) (file : Sources) (folder input : Option (List ℕ)) (read : List ℕ)
+    (fault : Fault) → IsReadFrom held file input read → IsRefusedOf held folder read fault →
     IsRefused held file folder input fault
-refused_of held file folder input read fault is_read refused = record {
+refused_of held file folder input read fault is_read refused = inl (record {
   read = read;
   whole = refused.whole;
   bundle = bundle_of held file folder input read refused.whole is_read refused.is_judged;
   first = refused.first;
-}
+})
 
 -- the report that was written, the picture and the record are those on the bundle that was asked
 -- for
-pub reported : (held after : Held) (file folder map out input old new : Option (List ℕ))
+pub reported : (held after : Held) (file : Sources)
+    (folder map out input old new : Option (List ℕ))
     (read whole text picture made : List ℕ) (draws answer : Bool)
     → IsBundleOf held file folder input read whole → IsOutcome whole draws text picture answer →
     draws ≡ is_some map
@@ -97,7 +104,8 @@ whole_record out read text bytes report begun ended made same same_text same_mad
 
 -- what was written of a report that failed, if anything, is a beginning of that on the bundle
 pub begun_of : {E : Type 0} (run : Result Bool E) (held : Held)
-    (file folder input old new : Option (List ℕ)) (read whole text : List ℕ) (before after : ℕ)
+    (file : Sources) (folder input old new : Option (List ℕ)) (read whole text : List ℕ)
+    (before after : ℕ)
     → IsBundleOf held file folder input read whole → IsReportOn whole text
     → Keeps old new ⊎ ((before < after) × AppendsBeginning old new text)
     → OnErr run (Keeps old new ⊎ ((before < after) × IsBegun held file folder input old new))
@@ -135,7 +143,8 @@ picture_on whole text picture path map draws answer asked is outcome = (
 
 -- what is allowed for the words is allowed for the request that they make
 pub reports_asked : (texts : List ℕ → Type 0) (held : Held)
-    (file folder asked_file asked_folder input : Option (List ℕ))
+    (file : Sources) (folder : Option (List ℕ)) (asked_file : Sources)
+    (asked_folder input : Option (List ℕ))
     → file ≡ asked_file → folder ≡ asked_folder
     → ((read whole : List ℕ) → IsBundleOf held asked_file asked_folder input read whole →
     AllowsReports texts whole)
@@ -145,7 +154,8 @@ reports_asked texts held file folder asked_file asked_folder input same_file sam
     whole bundle = may read whole (rw (same_file, same_folder) at bundle)
 
 pub files_asked : (Allowed : List ℕ → List ℕ → List ℕ → Type 0) (held : Held)
-    (file folder at asked_file asked_folder asked_at input : Option (List ℕ))
+    (file : Sources) (folder at : Option (List ℕ)) (asked_file : Sources)
+    (asked_folder asked_at input : Option (List ℕ))
     → file ≡ asked_file → folder ≡ asked_folder → at ≡ asked_at
     → ((path read whole : List ℕ) → asked_at ≡ Some path →
     IsBundleOf held asked_file asked_folder input read whole → Allowed path read whole)
@@ -157,7 +167,8 @@ files_asked Allowed held file folder at asked_file asked_folder asked_at input s
 
 -- the line of a fault with which a run ended
 pub fault_asked : (texts : List ℕ → Type 0) (held : Held)
-    (file folder asked_file asked_folder input : Option (List ℕ)) (run : Result Bool Fault)
+    (file : Sources) (folder : Option (List ℕ)) (asked_file : Sources)
+    (asked_folder input : Option (List ℕ)) (run : Result Bool Fault)
     → file ≡ asked_file → folder ≡ asked_folder
     → AllowsFaults texts held asked_file asked_folder input
     → IfErr run (λ fault. IsInputFault fault → IsRefused held file folder input fault)
@@ -168,7 +179,8 @@ fault_asked texts held file folder asked_file asked_folder input (Err fault) sam
     may refused = may fault (λ of_input. rw (same_file, same_folder) at (refused of_input))
 
 -- want of memory may be told of any bundle
-pub memory_asked : (texts : List ℕ → Type 0) (held : Held) (file folder input : Option (List ℕ))
+pub memory_asked : (texts : List ℕ → Type 0) (held : Held) (file : Sources)
+    (folder input : Option (List ℕ))
     → AllowsFaults texts held file folder input → texts (fault_line Memory)
 memory_asked texts held file folder input may =
     may Memory (λ of_input. absurd (of_input.0 refl))
@@ -194,6 +206,8 @@ above_two (Overlap first second) = omega arith
 above_two (BadLabel line) = omega arith
 above_two (NoSuchLeaf line) = omega arith
 above_two (ProofTwice line) = omega arith
+above_two NoProblem = omega arith
+above_two (Counts variables clauses greatest found) = omega arith
 above_two Memory = omega arith
 above_two Device = omega arith
 above_two Thread = omega arith
@@ -210,6 +224,8 @@ input_of_three (Overlap first second) is = (λ e. cc, λ e. cc, λ e. cc)
 input_of_three (BadLabel line) is = (λ e. cc, λ e. cc, λ e. cc)
 input_of_three (NoSuchLeaf line) is = (λ e. cc, λ e. cc, λ e. cc)
 input_of_three (ProofTwice line) is = (λ e. cc, λ e. cc, λ e. cc)
+input_of_three NoProblem is = (λ e. cc, λ e. cc, λ e. cc)
+input_of_three (Counts variables clauses greatest found) is = (λ e. cc, λ e. cc, λ e. cc)
 input_of_three Memory is = absurd (omega arith)
 input_of_three Device is = absurd (omega arith)
 input_of_three Thread is = absurd (omega arith)
@@ -229,6 +245,8 @@ with_four (Overlap first second) is = absurd (omega arith)
 with_four (BadLabel line) is = absurd (omega arith)
 with_four (NoSuchLeaf line) is = absurd (omega arith)
 with_four (ProofTwice line) is = absurd (omega arith)
+with_four NoProblem is = absurd (omega arith)
+with_four (Counts variables clauses greatest found) is = absurd (omega arith)
 with_four Device is = absurd (omega arith)
 
 with_five : (fault : Fault) → status_of fault ≡ 5 → fault ≡ Device
@@ -246,18 +264,20 @@ with_five (Overlap first second) is = absurd (omega arith)
 with_five (BadLabel line) is = absurd (omega arith)
 with_five (NoSuchLeaf line) is = absurd (omega arith)
 with_five (ProofTwice line) is = absurd (omega arith)
+with_five NoProblem is = absurd (omega arith)
+with_five (Counts variables clauses greatest found) is = absurd (omega arith)
 
 -- status 0
-pub sound_run : (held later : Held)
-    (asked file folder map out input out_old out_new : Option (List ℕ)) (run : Result Bool Fault)
+pub sound_run : (held later : Held) (asked file : Sources)
+    (folder map out input out_old out_new : Option (List ℕ)) (run : Result Bool Fault)
     (status : ℕ) (Same : Type 0) (old new : Option (List ℕ)) (before after : ℕ)
     → file ≡ asked → ToldRun run status Same old new before after
     → IfOk run (IsReported held later file folder map out input out_old out_new) → status ≡ 0
-    → (read : List ℕ) × IsRead held asked input read × IsUnsatisfiable read
+    → (read : List ℕ) × IsReadFrom held asked input read × IsUnsatisfiable read
 sound_run held later asked file folder map out input out_old out_new (Ok true) status Same old new
     before after same told report is = (
       report.read,
-      subst (λ (f : Option (List ℕ)). IsRead held f input report.read) same report.bundle.is_read,
+      subst (λ (f : Sources). IsReadFrom held f input report.read) same report.bundle.is_read,
       report.sound refl,
     )
 sound_run held later asked file folder map out input out_old out_new (Ok false) status Same old new
@@ -269,9 +289,47 @@ sound_run held later asked file folder map out input out_old out_new (Err fault)
 sound_run held later asked file folder map out input out_old out_new (Err fault) status Same old new
     before after same (inr told) report is = let four : status ≡ 4 = told.1 in absurd (omega arith)
 
+-- status 0, where the formula has a file of its own
+abbrev pub IsPublished : Held → List ℕ → Type 0
+IsPublished held path =
+    (text : List ℕ) × Gives held path (Some text)
+    × (formula : List (List Literal)) × IsDimacs text formula × HasNoModel formula
+
+published_by : (held later : Held) (sources : Sources)
+    (folder map out input out_old out_new : Option (List ℕ)) (formula : Option (List ℕ))
+    → sources.formula ≡ formula
+    → IsReported held later sources folder map out input out_old out_new true
+    → IfSome formula (IsPublished held)
+published_by held later sources folder map out input out_old out_new None same report = tt
+published_by held later sources folder map out input out_old out_new (Some path) same report =
+    published held path sources.file input folder report.read report.whole report.correct.case
+    (subst (λ (f : Option (List ℕ)). IsReadBy held f sources.file input report.read) same
+    report.bundle.is_read) report.bundle.is_judged report.correct.judged.case_is
+    (report.sound refl)
+
+pub published_run : (held later : Held) (formula : Option (List ℕ)) (sources : Sources)
+    (folder map out input out_old out_new : Option (List ℕ)) (run : Result Bool Fault)
+    (status : ℕ) (Same : Type 0) (old new : Option (List ℕ)) (before after : ℕ)
+    → sources.formula ≡ formula → ToldRun run status Same old new before after
+    → IfOk run (IsReported held later sources folder map out input out_old out_new) → status ≡ 0
+    → IfSome formula (IsPublished held)
+published_run held later formula sources folder map out input out_old out_new (Ok true) status Same
+    old new before after same told report is =
+    published_by held later sources folder map out input out_old out_new formula same report
+published_run held later formula sources folder map out input out_old out_new (Ok false) status Same
+    old new before after same told report is =
+    let one : status ≡ 1 = told.0 in absurd (omega arith)
+published_run held later formula sources folder map out input out_old out_new (Err fault) status Same
+    old new before after same (inl told) report is =
+    let above : 2 < status_of fault = above_two fault in
+    let has : status ≡ status_of fault = told.0 in absurd (omega arith)
+published_run held later formula sources folder map out input out_old out_new (Err fault) status Same
+    old new before after same (inr told) report is =
+    let four : status ≡ 4 = told.1 in absurd (omega arith)
+
 -- status 3
-pub fault_run : (held : Held) (asked_file asked_folder file folder input : Option (List ℕ))
-    (run : Result Bool Fault) (status : ℕ) (Same : Type 0) (old new : Option (List ℕ))
+pub fault_run : (held : Held) (asked_file : Sources) (asked_folder : Option (List ℕ))
+    (file : Sources) (folder input : Option (List ℕ)) (run : Result Bool Fault) (status : ℕ) (Same : Type 0) (old new : Option (List ℕ))
     (before after : ℕ)
     → file ≡ asked_file → folder ≡ asked_folder → ToldRun run status Same old new before after
     → IfErr run (λ fault. IsInputFault fault → IsRefused held file folder input fault) → status ≡ 3
@@ -287,7 +345,7 @@ fault_run held asked_file asked_folder file folder input (Err fault) status Same
     let input_is : IsInputFault fault = input_of_three fault (sym told.0 ∙ is) in (
       fault,
       input_is,
-      subst (λ (f : Option (List ℕ)). IsRefused held f asked_folder input fault) same
+      subst (λ (f : Sources). IsRefused held f asked_folder input fault) same
           (subst (λ (f : Option (List ℕ)). IsRefused held file f input fault) same_too
           (refused input_is)),
       told.1,

@@ -16,7 +16,7 @@ use Rattle.clap.specs.Words.{one_text, HasKind, Kinds}
 use Rattle.clap.proofs.OnLiterals.{clap_on_literals}
 use Rattle.clap.proofs.WalkLemmas.{first_value-rows, one_text-rows}
 use Rattle.cube_command.specs.Words.{AreApart, AreTaken, asked_for, file_of, folder_of, map_of}
-use Rattle.cube_command.specs.Words.{record_of, words_taken}
+use Rattle.cube_command.specs.Words.{formula_of, record_of, words_taken}
 use Rattle.cube_command.specs.Inner.Words.{Reads, SaysFlag, SaysNumber, flag_text}
 
 -- what the parser's matches hold under a name is what the words ask for
@@ -113,6 +113,10 @@ no_proofs : asked_for (codes "proofs") [] ≡ None
 unfolding clap_on_literals
 no_proofs = refl
 
+no_formula : asked_for (codes "formula") [] ≡ None
+unfolding clap_on_literals
+no_formula = refl
+
 no_file : asked_for (codes "file") [] ≡ None
 unfolding clap_on_literals
 no_file = refl
@@ -128,8 +132,10 @@ nothing_taken text words none = subst AreTaken (sym (no_words text words none)) 
 
 -- no words ask for nothing
 pub nothing_asked : {A : Type 0} (text : A → Text) (words : List A) → length words ≡ 0
-    → (file_of (map text words) ≡ None) × (folder_of (map text words) ≡ None)
+    → (formula_of (map text words) ≡ None) × (file_of (map text words) ≡ None)
+    × (folder_of (map text words) ≡ None)
 nothing_asked text words none = (
+  ap formula_of (no_words text words none) ∙ no_formula,
   ap file_of (no_words text words none) ∙ no_file,
   ap folder_of (no_words text words none)
       ∙ no_proofs,

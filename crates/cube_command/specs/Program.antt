@@ -2,7 +2,8 @@
 use Rattle.std.specs.Prelude.{◌≡◌, ◌<◌, ℕ, Bool, List, ◌++◌, true, ⊤, ◌⊎◌, codes, Option, None}
 use Rattle.std.specs.Prelude.{Some}
 use Rattle.std.specs.Io.KnownBytes.{Appends}
-use Rattle.bundle_files.specs.Files.{Held, Gives, IsBundleOf}
+use Rattle.bundle_files.specs.Files.{Held, Gives}
+use Rattle.bundle_files.specs.Formula.{Sources, IsBundleOf, IsFormulaFault}
 use Rattle.cube_report.specs.Case.{CaseOf}
 use Rattle.cube_report.specs.Mark.{Mark}
 use Rattle.cube_report.specs.Picture.{map_text}
@@ -26,11 +27,11 @@ IsMade held (Some path) bytes = Gives held path (Some bytes)
 -- gives this answer, and where it says refuted, the formula of the bundle that was read has no
 -- model. Where a picture is asked for, that of the same case by the same marks was written; where a
 -- record is, that of the bundle that was read and of the very report.
-pub record IsReported (held after : Held) (file folder map out input old new : Option (List ℕ))
-    (answer : Bool) : Type 0 where
+pub record IsReported (held after : Held) (sources : Sources)
+    (folder map out input old new : Option (List ℕ)) (answer : Bool) : Type 0 where
   pub read : List ℕ
   pub whole : List ℕ
-  pub bundle : IsBundleOf held file folder input read whole
+  pub bundle : IsBundleOf held sources folder input read whole
   pub text : List ℕ
   pub correct : IsCorrect whole text answer
   pub written : Appends old new text
@@ -39,18 +40,26 @@ pub record IsReported (held after : Held) (file folder map out input old new : O
   pub recorded : IsMade after out (record_text read text)
 
 -- the bundle that the words ask for has this fault, its first
-pub record IsRefused (held : Held) (file folder input : Option (List ℕ)) (fault : Fault)
+pub record IsBundleRefused (held : Held) (sources : Sources) (folder input : Option (List ℕ))
+    (fault : Fault) : Type 0 where
+  pub read : List ℕ
+  pub whole : List ℕ
+  pub bundle : IsBundleOf held sources folder input read whole
+  pub first : IsFaultOn whole fault
+
+-- the bundle that the words ask for has this fault; or the formula's own file has it, or there are
+-- clauses that aren't in that file
+abbrev pub IsRefused : Held → Sources → Option (List ℕ) → Option (List ℕ) → Fault → Type 0
+IsRefused held sources folder input fault =
+    IsBundleRefused held sources folder input fault
+    ⊎ IsFormulaFault held sources.formula sources.file input fault
+
+-- a beginning of the report on the bundle that the words ask for was written
+pub record IsBegun (held : Held) (sources : Sources) (folder input old new : Option (List ℕ))
     : Type 0 where
   pub read : List ℕ
   pub whole : List ℕ
-  pub bundle : IsBundleOf held file folder input read whole
-  pub first : IsFaultOn whole fault
-
--- a beginning of the report on the bundle that the words ask for was written
-pub record IsBegun (held : Held) (file folder input old new : Option (List ℕ)) : Type 0 where
-  pub read : List ℕ
-  pub whole : List ℕ
-  pub bundle : IsBundleOf held file folder input read whole
+  pub bundle : IsBundleOf held sources folder input read whole
   pub text : List ℕ
   pub report : IsReportOn whole text
   pub written : AppendsBeginning old new text
@@ -79,8 +88,8 @@ AllowsPictures texts bundle = (picture : List ℕ) → IsPictureOn bundle pictur
 
 -- These texts have the line of each fault that a run may end with: of the faults of an input, that
 -- of the bundle that the words ask for.
-abbrev pub AllowsFaults : (List ℕ → Type 0) → Held → Option (List ℕ) → Option (List ℕ) →
+abbrev pub AllowsFaults : (List ℕ → Type 0) → Held → Sources → Option (List ℕ) →
     Option (List ℕ) → Type 0
-AllowsFaults texts held file folder input =
-    (fault : Fault) → (IsInputFault fault → IsRefused held file folder input fault)
+AllowsFaults texts held sources folder input =
+    (fault : Fault) → (IsInputFault fault → IsRefused held sources folder input fault)
     → texts (fault_line fault)

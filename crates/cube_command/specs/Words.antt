@@ -2,6 +2,7 @@
 use Rattle.std.specs.Prelude.{◌≡◌, ◌≢◌, List, [], ◌∷◌, codes, pos, true, Option, Some}
 use Rattle.clap.specs.Words.{App, Rule, Text, fault_of, first_of, matches_of, new_app, new_rule}
 use Rattle.clap.specs.Words.{with_rule}
+use Rattle.bundle_files.specs.Formula.{Sources, sources_by}
 use Rattle.clap.specs.declared.builder.action.ArgAction.TheVariants.{SetTrue}
 use Rattle.clap.specs.declared.builder.value_parser.ValueParser.TheVariants.{Signed, NonEmptyString}
 
@@ -22,6 +23,10 @@ cut_word = record (valued (codes "cut")) {
   parser = Some (Signed (pos 0) (pos 6));
   defaults = codes "3" ∷ [];
 }
+
+-- `--formula` with a text that isn't empty
+abbrev pub formula_word : Rule
+formula_word = record (valued (codes "formula")) { parser = Some NonEmptyString }
 
 -- `--proofs` with a text that isn't empty
 abbrev pub proofs_word : Rule
@@ -51,9 +56,9 @@ with_version parser =
 
 abbrev pub words_taken : App
 words_taken =
-    with_rule (with_rule (with_rule (with_rule (with_rule
+    with_rule (with_rule (with_rule (with_rule (with_rule (with_rule
     (with_rule (with_rule (with_version (new_app (codes "cubeboard"))) workers_word) cut_word)
-    proofs_word) progress_word) map_word) record_word) file_word
+    formula_word) proofs_word) progress_word) map_word) record_word) file_word
 
 -- the value that `clap` finds in these words
 abbrev pub asked_for : Text → List Text → Option Text
@@ -65,6 +70,14 @@ file_of words = first_of (codes "file") (matches_of words_taken words)
 
 abbrev pub folder_of : List Text → Option Text
 folder_of words = first_of (codes "proofs") (matches_of words_taken words)
+
+-- the formula's own file
+abbrev pub formula_of : List Text → Option Text
+formula_of words = first_of (codes "formula") (matches_of words_taken words)
+
+-- the files that are read
+abbrev pub sources_of : List Text → Sources
+sources_of words = sources_by (formula_of words) (file_of words)
 
 -- the file for the picture
 abbrev pub map_of : List Text → Option Text

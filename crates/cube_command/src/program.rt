@@ -2,25 +2,31 @@
 
 ghost use Rattle.std.specs.Prelude.{◌≡◌, ◌≢◌, ◌⊎◌, ◌<◌, ◌+◌, ◌^◌, ◌-◌, List, ℕ, length, map};
 ghost use Rattle.std.specs.Prelude.{option_map, true, false, None, Some, IfOk, IfErr, OnOk, OnErr};
-ghost use Rattle.std.specs.Prelude.{IsErrOf};
+ghost use Rattle.std.specs.Prelude.{IfSome, IsErrOf};
 ghost use Rattle.std.specs.Io.KnownBytes.{Appends, Keeps};
 ghost use Rattle.cube_report.specs.Device.{AppendsBeginning, IsReadFault};
 ghost use Rattle.clap.specs.Words.{kind_of};
-ghost use Rattle.bundle_files.specs.Files.{IsAbsent, IsBundleOf, IsRead};
+ghost use Rattle.bundle_files.specs.Files.{Gives};
+ghost use Rattle.bundle_files.specs.Formula.{IsBundleOf, IsOneAbsent, IsReadFrom};
+ghost use Rattle.cube_report.specs.Dimacs.{IsDimacs};
+ghost use Rattle.cube_report.specs.Formula.{HasNoModel};
+ghost use Rattle.cube_report.specs.Literal.{Literal};
 ghost use Rattle.cube_report.specs.Correct.{AllowsReports, IsUnsatisfiable};
 ghost use Rattle.cube_report.specs.Faults.{IsInputFault};
 ghost use Rattle.cube_command.specs.Words.{AreApart, AreTaken, file_of, folder_of, map_of};
+ghost use Rattle.cube_command.specs.Words.{formula_of, sources_of};
 ghost use Rattle.cube_command.specs.Words.{record_of};
 ghost use Rattle.cube_command.specs.Record.{AllowsRecords};
 ghost use Rattle.cube_command.specs.Program.{IsStatus, IsMade, IsReported, IsRefused, IsBegun};
 ghost use Rattle.cube_command.specs.Program.{IsLineWritten, fault_line, AllowsFaults};
 ghost use Rattle.cube_command.specs.Program.{AllowsPictures};
+ghost use Rattle.cube_command.specs.Inner.Program.{sources_in};
 
 use crate::progress::Watched;
 use crate::record::{begin_record, end_record};
 use crate::telling::{tell_fault, tell_run};
 use crate::words::{Request, request_of};
-use bundle_files::{Store, judge_given, read_given};
+use bundle_files::{Store, judge_given, read_from};
 use clap::Error as WordsError;
 use clap::error::ErrorKind as WordsFault;
 use cube_report::{Fault, Gate, Outcome, Sink, Source, write_all};
@@ -29,11 +35,15 @@ use std::convert::AsStr;
 use std::sync::Wait;
 use std::thread::Threads;
 
-/// The program on these words, which are those after its name: `[--workers N] [--cut D] [--proofs
-/// DIR] [--progress] [--map SVG] [--record OUT] [FILE]`. It reads a bundle from FILE, or from
-/// `input` where there is none, and writes the report to `output` or, where there is no report, one
-/// line to `errors`. Files are found by `store`. Both writers have to write at once, without a
-/// buffer of their own.
+/// The program on these words, which are those after its name: `[--workers N] [--cut D] [--formula
+/// CNF] [--proofs DIR] [--progress] [--map SVG] [--record OUT] [FILE]`. It reads a bundle from
+/// FILE, or from `input` where there is none, and writes the report to `output` or, where there is
+/// no report, one line to `errors`. Files are found by `store`. Both writers have to write at once,
+/// without a buffer of their own.
+///
+/// With `--formula CNF` the clauses come from that file, a DIMACS text, and FILE adds cubes and
+/// sections, and no clause: the bundle is that text with its problem line overwritten by `p inccnf`
+/// and blanks, a line end, and FILE's text.
 ///
 /// With `--proofs DIR` the proofs of that folder are added to the bundle: for each cube K and after
 /// that for each missing leaf J, in order, the file `DIR/K.lrat` or `DIR/mJ.lrat`, where it is
@@ -78,23 +88,23 @@ where
     // All that is written, also where the call doesn't return. To `output`: the report on the
     // bundle that is judged.
     requires reports { (read whole : List ℕ)
-        → IsBundleOf (D.held store.old) (file_of (map S.text words.now))
+        → IsBundleOf (D.held store.old) (sources_of (map S.text words.now))
         (folder_of (map S.text words.now)) (I.remaining input.old) read whole
         → AllowsReports (O.allows output.old) whole }
     // To the file for the picture, and to no other: the picture of that bundle.
     requires pictures { (path read whole : List ℕ) → map_of (map S.text words.now) ≡ Some path
-        → IsBundleOf (D.held store.old) (file_of (map S.text words.now))
+        → IsBundleOf (D.held store.old) (sources_of (map S.text words.now))
         (folder_of (map S.text words.now)) (I.remaining input.old) read whole
         → AllowsPictures (D.allows store.old path) whole }
     // To the file for the record, and to no other: the record of that bundle.
     requires records { (path read whole : List ℕ) → record_of (map S.text words.now) ≡ Some path
-        → IsBundleOf (D.held store.old) (file_of (map S.text words.now))
+        → IsBundleOf (D.held store.old) (sources_of (map S.text words.now))
         (folder_of (map S.text words.now)) (I.remaining input.old) read whole
         → AllowsRecords (D.allows store.old path) read whole }
     // To `errors`: the line of a fault, which is that bundle's where it is one of the input; or the
     // parser's text, which no contract knows, where the words can't be taken.
     requires faults { AllowsFaults (E.allows errors.old) (D.held store.old)
-        (file_of (map S.text words.now)) (folder_of (map S.text words.now))
+        (sources_of (map S.text words.now)) (folder_of (map S.text words.now))
         (I.remaining input.old) }
     requires words { ¬ AreTaken (map S.text words.now)
         → (text : List ℕ) → E.allows errors.old text }
@@ -103,16 +113,20 @@ where
 
     // Status 0: the formula of the bundle that was read has no model.
     ensures sound { result ≡ 0 → (read : List ℕ)
-        × IsRead (D.held store.old) (file_of (map S.text words.now)) (I.remaining input.old) read
+        × IsReadFrom (D.held store.old) (sources_of (map S.text words.now)) (I.remaining input.old) read
         × IsUnsatisfiable read }
+    // With `--formula` the text of that file is a DIMACS text of a formula that has no model.
+    ensures published { result ≡ 0 → IfSome (formula_of (map S.text words.now)) (λ path.
+        (text : List ℕ) × Gives (D.held store.old) path (Some text)
+        × (formula : List (List Literal)) × IsDimacs text formula × HasNoModel formula) }
     // And exactly the report was written, on that bundle with the proofs of DIR: it says refuted.
     // Status 1: it says open.
     ensures refuted { result ≡ 0 → IsReported (D.held store.old) (D.held store.new)
-        (file_of (map S.text words.now)) (folder_of (map S.text words.now))
+        (sources_of (map S.text words.now)) (folder_of (map S.text words.now))
         (map_of (map S.text words.now)) (record_of (map S.text words.now)) (I.remaining input.old)
         (O.contents output.old) (O.contents output.new) true }
     ensures open { result ≡ 1 → IsReported (D.held store.old) (D.held store.new)
-        (file_of (map S.text words.now)) (folder_of (map S.text words.now))
+        (sources_of (map S.text words.now)) (folder_of (map S.text words.now))
         (map_of (map S.text words.now)) (record_of (map S.text words.now)) (I.remaining input.old)
         (O.contents output.old) (O.contents output.new) false }
     // Then nothing is written to `errors`.
@@ -131,7 +145,7 @@ where
         (O.contents output.new) }
     ensures beginning { result ≡ 5 → Keeps (O.contents output.old) (O.contents output.new)
         ⊎ ((O.failures output.old < O.failures output.new)
-        × IsBegun (D.held store.old) (file_of (map S.text words.now))
+        × IsBegun (D.held store.old) (sources_of (map S.text words.now))
         (folder_of (map S.text words.now))
         (I.remaining input.old) (O.contents output.old) (O.contents output.new)) }
 
@@ -141,10 +155,12 @@ where
     ensures unread { result ≡ 2 → (store.new ≡ store.old) × (input.new ≡ input.old) }
     ensures taken { result ≢ 2 → result ≢ 4 → AreTaken (map S.text words.now) }
     ensures none { length words.now ≡ 0 → (result ≢ 2)
-        × (file_of (map S.text words.now) ≡ None) × (folder_of (map S.text words.now) ≡ None) }
-    // Status 3: the bundle has a fault, and its first one is told.
+        × (formula_of (map S.text words.now) ≡ None) × (file_of (map S.text words.now) ≡ None)
+        × (folder_of (map S.text words.now) ≡ None) }
+    // Status 3: the bundle has a fault, and its first one is told; with `--formula` that file has
+    // one, or the other text has clauses.
     ensures fault { result ≡ 3 → (fault : Fault) × IsInputFault fault
-        × IsRefused (D.held store.old) (file_of (map S.text words.now))
+        × IsRefused (D.held store.old) (sources_of (map S.text words.now))
         (folder_of (map S.text words.now)) (I.remaining input.old) fault
         × IsLineWritten (E.contents errors.old) (E.contents errors.new) (E.failures errors.old)
         (E.failures errors.new) (fault_line fault) }
@@ -155,7 +171,7 @@ where
         ⊎ IsLineWritten (E.contents errors.old) (E.contents errors.new) (E.failures errors.old)
         (E.failures errors.new) (fault_line Fault.Thread) }
     // Status 5: a device failed, and this is told. It stands where a call failed that reads or
-    // writes the report, and only there or where FILE isn't there.
+    // writes the report, and only there or where a file that is asked for isn't there.
     ensures device { result ≡ 5 →
         IsLineWritten (E.contents errors.old) (E.contents errors.new) (E.failures errors.old)
         (E.failures errors.new) (fault_line Fault.Device) }
@@ -164,7 +180,7 @@ where
     ensures broken { result ≡ 5 →
         (D.failures store.old + I.failures input.old + O.failures output.old
         < D.failures store.new + I.failures input.new + O.failures output.new)
-        ⊎ IsAbsent (D.held store.old) (file_of (map S.text words.now)) }
+        ⊎ IsOneAbsent (D.held store.old) (sources_of (map S.text words.now)) }
 {
     match request_of(rt.alloc(), words) {
         Ok(request) => {
@@ -200,24 +216,24 @@ where
     requires input { I.failures input.old < 2 ^ 64 - 1 }
     requires output { O.failures output.old < 2 ^ 64 - 1 }
     requires reports { (read whole : List ℕ)
-        → IsBundleOf (D.held store.old) (option_map (λ text. text.now) request.now.file)
+        → IsBundleOf (D.held store.old) (sources_in request.now)
         (option_map (λ text. text.now) request.now.proofs) (I.remaining input.old) read whole
         → AllowsReports (O.allows output.old) whole }
     requires pictures { (path read whole : List ℕ)
         → option_map (λ text. text.now) request.now.map ≡ Some path
-        → IsBundleOf (D.held store.old) (option_map (λ text. text.now) request.now.file)
+        → IsBundleOf (D.held store.old) (sources_in request.now)
         (option_map (λ text. text.now) request.now.proofs) (I.remaining input.old) read whole
         → AllowsPictures (D.allows store.old path) whole }
     requires records { (path read whole : List ℕ)
         → option_map (λ text. text.now) request.now.out ≡ Some path
-        → IsBundleOf (D.held store.old) (option_map (λ text. text.now) request.now.file)
+        → IsBundleOf (D.held store.old) (sources_in request.now)
         (option_map (λ text. text.now) request.now.proofs) (I.remaining input.old) read whole
         → AllowsRecords (D.allows store.old path) read whole }
     requires apart { AreApart (option_map (λ text. text.now) request.now.map)
         (option_map (λ text. text.now) request.now.out) }
     ensures report { IfOk result
         (IsReported (D.held store.old) (D.held store.new)
-        (option_map (λ text. text.now) request.now.file)
+        (sources_in request.now)
         (option_map (λ text. text.now) request.now.proofs)
         (option_map (λ text. text.now) request.now.map)
         (option_map (λ text. text.now) request.now.out) (I.remaining input.old)
@@ -229,13 +245,13 @@ where
         (λ fault. fault ≢ Fault.Device → D.held store.new ≡ D.held store.old) }
     ensures fault { IfErr result
         (λ fault. IsInputFault fault → IsRefused (D.held store.old)
-        (option_map (λ text. text.now) request.now.file)
+        (sources_in request.now)
         (option_map (λ text. text.now) request.now.proofs) (I.remaining input.old) fault) }
     ensures nothing { IfErr result
         (λ fault. fault ≢ Fault.Device → Keeps (O.contents output.old) (O.contents output.new)) }
     ensures beginning { OnErr result (Keeps (O.contents output.old) (O.contents output.new)
         ⊎ ((O.failures output.old < O.failures output.new)
-        × IsBegun (D.held store.old) (option_map (λ text. text.now) request.now.file)
+        × IsBegun (D.held store.old) (sources_in request.now)
         (option_map (λ text. text.now) request.now.proofs)
         (I.remaining input.old) (O.contents output.old) (O.contents output.new))) }
     ensures failed { D.failures store.old + I.failures input.old + O.failures output.old
@@ -244,9 +260,9 @@ where
     ensures broken { IsErrOf result Fault.Device →
         (D.failures store.old + I.failures input.old + O.failures output.old
         < D.failures store.new + I.failures input.new + O.failures output.new)
-        ⊎ IsAbsent (D.held store.old) (option_map (λ text. text.now) request.now.file) }
+        ⊎ IsOneAbsent (D.held store.old) (sources_in request.now) }
 {
-    let read = read_given(rt.alloc(), store, input, request.file)?;
+    let read = read_from(rt.alloc(), store, input, request.formula, request.file)?;
     let draws = request.map.is_some();
     let mut record = begin_record(rt.alloc(), request.out, &read)?;
     let outcome = judge_given(

@@ -103,7 +103,9 @@ fn status_of(fault: Fault) -> u8
         | Fault::Overlap { .. }
         | Fault::BadLabel { .. }
         | Fault::NoSuchLeaf { .. }
-        | Fault::ProofTwice { .. } => 3,
+        | Fault::ProofTwice { .. }
+        | Fault::NoProblem
+        | Fault::Counts { .. } => 3,
         Fault::Memory | Fault::Thread => 4,
         Fault::Device => 5,
     }

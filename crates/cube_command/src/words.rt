@@ -4,6 +4,7 @@ ghost use Rattle.std.specs.Prelude.{◌≡◌, ◌<◌, ◌≤◌, ℕ, Bool, So
 ghost use Rattle.std.specs.Prelude.{IfOk, IfErr, IsTrue, ◌↔◌};
 ghost use Rattle.clap.specs.Words.{app_of, found_of, kind_of, new_app, one_text, rule_of};
 ghost use Rattle.cube_command.specs.Words.{AreApart, AreTaken, asked_for, cut_word, file_word};
+ghost use Rattle.cube_command.specs.Words.{formula_word};
 ghost use Rattle.cube_command.specs.Words.{map_word, progress_word, proofs_word, record_word};
 ghost use Rattle.cube_command.specs.Words.{with_version, words_taken, workers_word};
 ghost use Rattle.cube_command.specs.Inner.Words.{with_numbers, Reads, SaysFlag, SaysNumber};
@@ -20,6 +21,8 @@ use std::convert::AsStr;
 pub struct Request<'a> {
     /// How many workers check the proofs, and where the tree is cut.
     pub settings: Settings,
+    /// The file with the formula, where it has one of its own.
+    pub formula: Option<&'a str>,
     /// The folder with the proofs of leaves, where one is given.
     pub proofs: Option<&'a str>,
     /// The file with the bundle, or `None` for the program's input.
@@ -65,6 +68,9 @@ Example: printf 'p inccnf\\n1 0\\n-1 0\\na 0\\nl 1\\n3 0 1 2 0\\n' | cubeboard";
 /// or the version where that is asked for.
 pub fn request_of<'a, S: AsStr>(alloc: Global, words: &'a [S]) -> Result<Request<'a>, Error>
     // The request is what the words say.
+    ensures formula { IfOk result
+        (λ request. option_map (λ text. text.now) request.formula ≡ asked_for (codes "formula")
+        (map S.text words.now)) }
     ensures proofs { IfOk result
         (λ request. option_map (λ text. text.now) request.proofs ≡ asked_for (codes "proofs")
         (map S.text words.now)) }
@@ -96,6 +102,7 @@ pub fn request_of<'a, S: AsStr>(alloc: Global, words: &'a [S]) -> Result<Request
     }
     Ok(Request {
         settings: settings_in(&matches),
+        formula: matches.get_str("formula"),
         proofs: matches.get_str("proofs"),
         file: matches.get_str("file"),
         progress: matches.get_flag("progress"),
@@ -158,6 +165,7 @@ fn parser<'a>(alloc: Global) -> Result<Command<'a>, AllocError>
     ensures { IfOk result (λ parser. app_of parser ≡ words_taken) }
 {
     numbers(alloc)?
+        .arg(formula_word(alloc))?
         .arg(proofs_word(alloc))?
         .arg(progress_word(alloc))?
         .arg(map_word(alloc))?
@@ -207,6 +215,18 @@ fn cut_word<'a>(alloc: Global) -> Arg<'a>
         .value_parser(value_parser!(u32).range(0..=6))
         .default_value("3")
         .help("The depth at which the tree is cut into parts, from 0 to 6")
+}
+
+/// The formula's own file.
+fn formula_word<'a>(alloc: Global) -> Arg<'a>
+    ensures rule { rule_of result ≡ formula_word }
+    ensures own { result.global ≡ false }
+{
+    Arg::new(alloc, "formula")
+        .long("formula")
+        .value_name("CNF")
+        .value_parser(ValueParser::NonEmptyString)
+        .help("A DIMACS file with the formula; FILE then has the cubes")
 }
 
 /// The folder of proofs.

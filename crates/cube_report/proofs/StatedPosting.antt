@@ -1,10 +1,10 @@
 -- The marks while the findings of a case's sections are posted, one after the other.
-use Rattle.std.proofs.Common.{◌≡◌, ◌↔◌, ℕ, zero, suc, ◌+◌, ◌<◌, List, [], ◌∷◌, ◌++◌, length}
+use Rattle.std.proofs.Common.{◌≡◌, ◌↔◌, ℕ, zero, suc, ◌+◌, ◌<◌, ◌≤◌, List, [], ◌∷◌, ◌++◌, length}
 use Rattle.std.proofs.Common.{length-set, take, drop, map, get_or, set, Bool, true}
 use Rattle.std.proofs.Common.{false, refl, sym, ap, ◌∙◌, subst, arith, inl, inr, get_or-set_other}
 use Rattle.std.proofs.Common.{get_or-set_same, None, Some}
 use Rattle.std.proofs.lemmas.Bool.{cases_Bool, cases_eq}
-use Rattle.std.proofs.lemmas.List.{take-append-drop, drop_more, take_more}
+use Rattle.std.proofs.lemmas.List.{take-append-drop, drop_more, take_all, take_more}
 use Rattle.std.specs.Prelude.{MatchOption}
 use Rattle.case_core.specs.Literal.{Literal}
 use Rattle.case_core.specs.Proof.{Proof, IsProofOf}
@@ -25,7 +25,7 @@ use Rattle.check_crew.proofs.SeenSections.{IsSectionHere, as_many}
 use Rattle.mark_board.specs.declared.mark.Mark.{Mark}
 use Rattle.mark_board.specs.declared.mark.Mark.TheVariants.{Open}
 use Rattle.mark_board.specs.Marking.{mark_at}
-use Rattle.mark_board.specs.Findings.{mark_as}
+use Rattle.mark_board.specs.Findings.{mark_as, AreFindings}
 use Rattle.mark_board.specs.Boards.{marks_with}
 
 -- the mark of a proof's judgement from the target's path
@@ -40,6 +40,17 @@ pub record ArePostedOf (case : CaseOf) (done : List SectionOf) (marks : List Mar
   pub each : (node : ℕ) (target : Target) → IsTargetAt case.tree node target →
       MatchOption (proof_for done target) (mark_at marks node ≡ Open)
       (IsMark case target (mark_at marks node))
+
+-- the findings of all sections are posted
+pub all_posted : (case : CaseOf) (sections : List Section) (i : ℕ) (marks : List Mark) →
+    map (λ s. s.target) sections ≡ targets_of case.sections → length sections ≤ i →
+    ArePostedOf case (take i case.sections) marks → AreFindings case marks
+all_posted case sections i marks targets behind p =
+    let long = as_many case sections targets in
+    let whole : take i case.sections ≡ case.sections =
+    take_all i case.sections (omega (arith, long, behind)) in
+    let all : ArePostedOf case case.sections marks = rw whole at p in
+    record { long = all.long; each = all.each }
 
 -- ---- the next section
 

@@ -2,6 +2,9 @@
 use Rattle.std.specs.Prelude.{◌≢◌, ℕ, List, ◌++◌, codes, decimal}
 use Rattle.case_core.specs.declared.fault.CaseFault.{CaseFault}
 use Rattle.case_core.specs.declared.fault.CaseFault.TheVariants as case
+use Rattle.case_core.specs.Faults.{of_text}
+use Rattle.case_core.specs.DimacsFault.{DimacsFault}
+use Rattle.case_core.specs.DimacsFault.TheVariants as dimacs
 use Rattle.check_crew.specs.declared.fault.CrewFault.{CrewFault}
 use Rattle.check_crew.specs.declared.fault.CrewFault.TheVariants as crew
 use Rattle.cube_report.specs.declared.fault.Fault.{Fault}
@@ -9,6 +12,7 @@ use Rattle.cube_report.specs.declared.fault.Fault.TheVariants.{Header, Token, Un
 use Rattle.cube_report.specs.declared.fault.Fault.TheVariants.{Limit, Memory, Repeats, NotATree}
 use Rattle.cube_report.specs.declared.fault.Fault.TheVariants.{Overlap, BadLabel, NoSuchLeaf}
 use Rattle.cube_report.specs.declared.fault.Fault.TheVariants.{ProofTwice, Device, Thread}
+use Rattle.cube_report.specs.declared.fault.Fault.TheVariants.{NoProblem, Counts}
 
 -- a fault of the bundle, as a fault of the run
 abbrev pub fault_of_case : CaseFault → Fault
@@ -30,13 +34,26 @@ abbrev pub fault_of_crew : CrewFault → Fault
 fault_of_crew crew.Memory = Memory
 fault_of_crew crew.Thread = Thread
 
+-- a fault of the formula's own file, as a fault of the run
+abbrev pub fault_of_dimacs : DimacsFault → Fault
+fault_of_dimacs dimacs.NoProblem = NoProblem
+fault_of_dimacs (dimacs.Text fault) = fault_of_case (of_text fault)
+fault_of_dimacs (dimacs.Counts variables clauses greatest found) =
+    Counts variables clauses greatest found
+
 -- a fault of what was read, neither of memory, nor of a device, nor of a thread
 abbrev pub IsInputFault : Fault → Type 0
 IsInputFault fault = (fault ≢ Memory) × (fault ≢ Device) × (fault ≢ Thread)
 
--- the numbers of two cubes
+-- two numbers
 unfoldable pub pair_text : ℕ → ℕ → List ℕ
 pair_text first second = decimal first ++ codes " and " ++ decimal second
+
+-- numbers of variables and of clauses, and what stands behind them
+unfoldable pub said_text : ℕ → ℕ → List ℕ
+said_text variables clauses =
+    decimal variables ++ codes " variables and " ++ decimal clauses
+    ++ codes " clauses, there are "
 
 -- the text of a fault: its name, and the lines or cubes that it is about
 abbrev pub fault_text : Fault → List ℕ
@@ -55,3 +72,6 @@ fault_text (NoSuchLeaf line) = codes "F11 no such leaf, line " ++ decimal line
 fault_text (ProofTwice line) = codes "F12 second proof, line " ++ decimal line
 fault_text Device = codes "F13 device"
 fault_text Thread = codes "F14 thread"
+fault_text NoProblem = codes "F16 no DIMACS header"
+fault_text (Counts variables clauses greatest found) =
+    codes "F17 the header says " ++ said_text variables clauses ++ pair_text greatest found

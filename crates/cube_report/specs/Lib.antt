@@ -6,6 +6,9 @@ pub mod Stated
 pub mod Laws
 pub use Rattle.case_core.specs.Bundle
 pub use Rattle.case_core.specs.Case
+pub use Rattle.case_core.specs.Dimacs
+pub use Rattle.case_core.specs.Formula
+pub use Rattle.case_core.specs.Literal
 pub use Rattle.check_crew.specs.Halls
 pub use Rattle.check_crew.specs.Seen
 pub use Rattle.mark_board.specs.declared.mark.Mark

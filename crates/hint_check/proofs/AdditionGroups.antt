@@ -4,6 +4,8 @@ use Rattle.std.proofs.Common.{Some, None, List, [], ◌∷◌, length, drop, get
 use Rattle.std.proofs.Common.{inl, inr, subst, arith}
 use Rattle.std.specs.Option.{IfSome, option_or, option_map_or}
 use Rattle.hint_check.specs.Inner.Grouped.{has_group}
+use Rattle.hint_check.specs.Inner.Index.{shows}
+use Rattle.hint_check.proofs.IndexIds.{part-whole}
 use Rattle.hint_check.specs.Inner.Needed.{is_needed, NamesNeeded}
 use Rattle.std.specs.List.{list_any, list_all, filter}
 use Rattle.std.specs.FinMap as fin
@@ -65,6 +67,10 @@ unparted true false true h = refl
 unparted true false false h = absurd (false≢true (sym h))
 unparted false clash met h = refl
 
+neither : (a b : Bool) → not (a || b) ≡ true → a ≡ false
+neither true b h = absurd (false≢true h)
+neither false b h = refl
+
 module _ (live : Live) (reached : Literals) (pivot : Literal) where
   -- the first fault is the next group's, or that of those after it
   pub groups_fault-turn : (groups : List Group) (i : ℕ) (group : Group) → i < length groups →
@@ -84,23 +90,29 @@ module _ (live : Live) (reached : Literals) (pivot : Literal) where
   unfolding groups_fault
   groups_fault-end groups i past = at_drop_all (groups_fault live reached pivot) groups i past
 
-  -- a clause that needs a group is a holder of the pivot's negation
+  -- a clause that needs a group shows the pivot's negation
   needed_is_named : (ids : List ℕ) → NamesHolders live (negation pivot) ids → (id : ℕ) →
       is_needed live reached pivot id ≡ true → list_any (λ n. n == id) ids ≡ true
   unfolding needs_group
   needed_is_named ids named id =
       elim (fin.get live id) as
       (λ o. IfSome o
-      (λ clause. has clause (negation pivot) ≡ true → list_any (λ n. n == id) ids ≡ true) →
+      (λ clause. shows clause (negation pivot) ≡ true → list_any (λ n. n == id) ids ≡ true) →
       option_map_or (needs_group reached pivot) o false ≡ true →
       list_any (λ n. n == id) ids ≡ true) [
         | None ↦ λ _ h. absurd (false≢true h)
         | Some clause ↦ λ names h.
-            names (and_parts (has clause (negation pivot))
-            (not (is_tautology clause || meets reached (side_literals pivot clause))) h).0
+            let held =
+            and_parts (has clause (negation pivot))
+            (not (is_tautology clause || meets reached (side_literals pivot clause))) h in
+            names
+            (ap (λ part. has part (negation pivot))
+            (part-whole clause
+            (neither (is_tautology clause) (meets reached (side_literals pivot clause)) held.1))
+            ∙ held.0)
       ] (named id)
 
-  -- it is enough to look at the clauses that hold the pivot's negation
+  -- it is enough to look at the clauses that show the pivot's negation
   pub filter-NamesNeeded : (ids kept : List ℕ) → NamesHolders live (negation pivot) ids →
       kept ≡ filter (is_needed live reached pivot) ids → NamesNeeded live reached pivot kept
   filter-NamesNeeded ids kept named is id =
@@ -131,13 +143,12 @@ module _ (live : Live) (reached : Literals) (pivot : Literal) where
   -- tautology or not
   module _ (id : ℕ) (clause : List Literal) (found : Some clause ≡ fin.get live id) where
     -- any other clause needs one where it is no tautology
-    pub is_needed-held : (clash : Bool) → IfSome (fin.get live id) (λ c. clash ≡ is_tautology c) →
-        (has clause (negation pivot) && not (meets reached (side_literals pivot clause))) ≡ true →
-        not clash ≡ is_needed live reached pivot id
+    pub is_needed-held : (has clause (negation pivot)
+        && not (meets reached (side_literals pivot clause))) ≡ true →
+        not (is_tautology clause) ≡ is_needed live reached pivot id
     unfolding needs_group
-    is_needed-held clash told held =
-        ap not (subst (λ o. IfSome o (λ c. clash ≡ is_tautology c)) (sym found) told)
-        ∙ parted (has clause (negation pivot)) (is_tautology clause)
+    is_needed-held held =
+        parted (has clause (negation pivot)) (is_tautology clause)
         (meets reached (side_literals pivot clause)) held
         ∙ ap (λ o. option_map_or (needs_group reached pivot) o false) found
 

@@ -22,7 +22,6 @@ use Rattle.hint_check.proofs.LiteralsSets.{has-push, same-true}
 use Rattle.hint_check.specs.declared.holders.Slots.{Slots}
 use Rattle.std.specs.List.Sorted.{IsStrictlyIncreasing}
 use Rattle.hint_check.specs.declared.holders.Holders.{Holders}
-use Rattle.hint_check.specs.Inner.Index.{NamesEntries}
 use Rattle.hint_check.specs.Inner.Holders.{place_in, slot_of, slot_count, hit, hits, occurrences}
 use Rattle.hint_check.specs.Inner.Holders.{begin, AreLeft, IsThere, IsWhole, ids_of, NamesEach}
 
@@ -469,7 +468,7 @@ module _ (h : Holders) (clauses : List (List Literal)) (starts ids : List ℕ)
       has (get_or clauses place []) l ≡ true
       → IsThere h.slots clauses starts ids (place + 1) (slot_of h.slots (literal_number l))) →
       NamesEach h (enumerate_from 1 clauses)
-  unfolding NamesEach NamesEntries
+  unfolding NamesEach
   names-all there l = names-from 1 clauses l (ids_of h l) (λ k below holds.
       let slot = slot_of h.slots (literal_number l) in
       let lies = there k l below holds in

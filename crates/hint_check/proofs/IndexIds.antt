@@ -1,20 +1,21 @@
 -- The ids listed for each literal.
 use Rattle.std.proofs.Common.{◌≡◌, ◌==◌, ◌||◌, ◌&&◌, ℕ, Bool, true, false, cond, nat_eq, Option}
-use Rattle.std.proofs.Common.{Some, None, List, [], ◌∷◌, ◌++◌, refl, sym, ap, ◌∙◌, inl, inr, subst}
+use Rattle.std.proofs.Common.{◌+◌, map, Some, None, List, [], ◌∷◌, ◌++◌, refl, sym, ap, ◌∙◌, inl, inr, subst}
 use Rattle.std.specs.Prelude.{if◌then◌else◌}
 use Rattle.std.specs.Option.{IfSome}
 use Rattle.std.specs.FinMap as fin
 use Rattle.std.specs.Ordering.{nat_cmp, eq_by_cmp}
 use Rattle.hint_check.proofs.LiveMaps.{same_key}
 use Rattle.hint_check.proofs.LiveOverlay.{find-lookup, IfSome-weaker}
-use Rattle.std.specs.List.{list_any}
+use Rattle.std.specs.List.{list_any, enumerate_from}
 use Rattle.std.specs.Map.{lookup}
 use Rattle.std.proofs.lemmas.Bool.{false≢true, or_cases, or_left, or_right, and_parts, and_from}
-use Rattle.std.proofs.lemmas.Bool.{eqb-true, eq-eqb, cond-true}
+use Rattle.std.proofs.lemmas.Bool.{eqb-true, eq-eqb, cond-true, cond-false}
 use Rattle.cnf_text.specs.Literal.{Literal, literal_number, same}
-use Rattle.hint_check.specs.Literals.{has, with_literal}
+use Rattle.hint_check.specs.Literals.{has, is_tautology, with_literal}
 use Rattle.hint_check.specs.Inner.Index.{Links, once, ids_at, Adds, is_listed, Lists, Indexes}
 use Rattle.hint_check.specs.Inner.Index.{MayList, NamesEntries, still_has, Awaits}
+use Rattle.hint_check.specs.Inner.Index.{indexed_part, shows}
 use Rattle.hint_check.proofs.LiteralsSets.{same-true, has-push}
 
 none_listed : (b : Bool) → false ≡ true → b ≡ true
@@ -95,7 +96,7 @@ module _ (before after : Links) (m : Literal) (id : ℕ)
             ]
       ]
 
--- the ids listed for a literal name all clauses that hold it
+-- the ids listed for a literal name all clauses that show it
 pub Indexes-names : (rows : Links) (entries : List (ℕ × List Literal)) (l : Literal)
     (ids : List ℕ) → Indexes rows entries → ids ≡ ids_at rows (literal_number l) →
     NamesEntries entries l ids
@@ -103,42 +104,42 @@ unfolding Indexes NamesEntries
 Indexes-names rows entries l ids h is q =
     subst (λ named.
     IfSome (fin.find nat_cmp q entries)
-    (λ clause. has clause l ≡ true → list_any (λ n. n == q) named ≡ true)) (sym is) (h q l)
+    (λ clause. shows clause l ≡ true → list_any (λ n. n == q) named ≡ true)) (sym is) (h q l)
 
 -- ---- entries by ids, one put or taken out
 
 put-Indexes : (before after : Links) (clause : List Literal) (id q : ℕ) (l : Literal)
-    (old : Option (List Literal)) (b : Bool) → nat_eq id q ≡ b → Lists before after clause id →
-    IfSome old (λ c. has c l ≡ true → is_listed before l q ≡ true) →
-    IfSome (cond b (Some clause) old) (λ c. has c l ≡ true → is_listed after l q ≡ true)
+    (old : Option (List Literal)) (b : Bool) → nat_eq id q ≡ b → Lists before after (indexed_part clause) id →
+    IfSome old (λ c. shows c l ≡ true → is_listed before l q ≡ true) →
+    IfSome (cond b (Some clause) old) (λ c. shows c l ≡ true → is_listed after l q ≡ true)
 unfolding Lists
 put-Indexes before after clause id q l old true here lists was =
     λ holds. lists l q
-    (or_right (is_listed before l q) (has clause l && (id == q))
-    (and_from (has clause l) (id == q) holds here))
+    (or_right (is_listed before l q) (shows clause l && (id == q))
+    (and_from (shows clause l) (id == q) holds here))
 put-Indexes before after clause id q l old false apart lists was =
     IfSome-weaker old was
     (λ c listed holds.
-    lists l q (or_left (is_listed before l q) (has clause l && (id == q)) (listed holds)))
+    lists l q (or_left (is_listed before l q) (shows clause l && (id == q)) (listed holds)))
 
 take-Indexes : (rows : Links) (q : ℕ) (l : Literal) (old : Option (List Literal)) (b : Bool) →
-    IfSome old (λ c. has c l ≡ true → is_listed rows l q ≡ true) →
-    IfSome (cond b None old) (λ c. has c l ≡ true → is_listed rows l q ≡ true)
+    IfSome old (λ c. shows c l ≡ true → is_listed rows l q ≡ true) →
+    IfSome (cond b None old) (λ c. shows c l ≡ true → is_listed rows l q ≡ true)
 take-Indexes rows q l old true was = tt
 take-Indexes rows q l old false was = was
 
 module _ (own own' : List (ℕ × List Literal)) (id : ℕ) where
   Indexes-put : (before after : Links) (clause : List Literal) → Indexes before own →
-      Lists before after clause id →
+      Lists before after (indexed_part clause) id →
       ((q : ℕ) →
       lookup (nat_eq q) own' ≡ cond (nat_eq id q) (Some clause) (lookup (nat_eq q) own)) →
       Indexes after own'
   unfolding Indexes
   Indexes-put before after clause h lists put q l =
-      subst (λ o. IfSome o (λ c. has c l ≡ true → is_listed after l q ≡ true))
+      subst (λ o. IfSome o (λ c. shows c l ≡ true → is_listed after l q ≡ true))
       (sym (find-lookup q own' ∙ put q))
       (put-Indexes before after clause id q l (lookup (nat_eq q) own) (nat_eq id q) refl lists
-      (subst (λ o. IfSome o (λ c. has c l ≡ true → is_listed before l q ≡ true)) (find-lookup q own)
+      (subst (λ o. IfSome o (λ c. shows c l ≡ true → is_listed before l q ≡ true)) (find-lookup q own)
       (h q l)))
 
   Indexes-take : (rows : Links) → Indexes rows own →
@@ -146,15 +147,15 @@ module _ (own own' : List (ℕ × List Literal)) (id : ℕ) where
       Indexes rows own'
   unfolding Indexes
   Indexes-take rows h taken q l =
-      subst (λ o. IfSome o (λ c. has c l ≡ true → is_listed rows l q ≡ true))
+      subst (λ o. IfSome o (λ c. shows c l ≡ true → is_listed rows l q ≡ true))
       (sym (find-lookup q own' ∙ taken q))
       (take-Indexes rows q l (lookup (nat_eq q) own) (nat_eq id q)
-      (subst (λ o. IfSome o (λ c. has c l ≡ true → is_listed rows l q ≡ true)) (find-lookup q own)
+      (subst (λ o. IfSome o (λ c. shows c l ≡ true → is_listed rows l q ≡ true)) (find-lookup q own)
       (h q l)))
 
   -- a clause that was listed, and then put under its id, is in the index where there is one
   pub MayIndex-put : (index after : Option (Links)) (clause : List Literal) →
-      IfSome index (λ rows. Indexes rows own) → MayList index after clause id →
+      IfSome index (λ rows. Indexes rows own) → MayList index after (indexed_part clause) id →
       ((q : ℕ) →
       lookup (nat_eq q) own' ≡ cond (nat_eq id q) (Some clause) (lookup (nat_eq q) own)) →
       IfSome after (λ rows. Indexes rows own')
@@ -171,17 +172,17 @@ module _ (own own' : List (ℕ × List Literal)) (id : ℕ) where
   MayIndex-take (Some rows) h taken = Indexes-take rows h taken
 
 Indexes-more : (before after : Links) (own : List (ℕ × List Literal)) (id : ℕ)
-    (clause : List Literal) → Indexes before own → Lists before after clause id → Indexes after own
+    (clause : List Literal) → Indexes before own → Lists before after (indexed_part clause) id → Indexes after own
 unfolding Indexes Lists
 Indexes-more before after own id clause h lists q l =
     IfSome-weaker (fin.find nat_cmp q own) (h q l)
     (λ c was holds.
-    lists l q (or_left (is_listed before l q) (has clause l && (id == q)) (was holds)))
+    lists l q (or_left (is_listed before l q) (shows clause l && (id == q)) (was holds)))
 
 -- an index that names more than the entries is an index of them still
 pub MayIndex-more : (own : List (ℕ × List Literal)) (id : ℕ) (index after : Option (Links))
     (clause : List Literal) → IfSome index (λ rows. Indexes rows own) →
-    MayList index after clause id → IfSome after (λ rows. Indexes rows own)
+    MayList index after (indexed_part clause) id → IfSome after (λ rows. Indexes rows own)
 MayIndex-more own id index None clause h lists = tt
 MayIndex-more own id None (Some after) clause h lists = absurd lists
 MayIndex-more own id (Some before) (Some after) clause h lists =
@@ -191,20 +192,20 @@ MayIndex-more own id (Some before) (Some after) clause h lists =
 
 find-still_has : (entries : List (ℕ × List Literal)) (q : ℕ) (l : Literal) →
     IfSome (fin.find nat_cmp q entries)
-    (λ clause. has clause l ≡ true → still_has entries l q ≡ true)
+    (λ clause. shows clause l ≡ true → still_has entries l q ≡ true)
 find-still_has [] q l = tt
 find-still_has (e ∷ es) q l =
     elim (eq_by_cmp nat_cmp q e.0) as
     (λ b. eq_by_cmp nat_cmp q e.0 ≡ b →
     IfSome (cond b (Some e.1) (fin.find nat_cmp q es))
-    (λ clause. has clause l ≡ true → still_has (e ∷ es) l q ≡ true)) [
+    (λ clause. shows clause l ≡ true → still_has (e ∷ es) l q ≡ true)) [
       | true ↦ λ here holds.
-          or_left (has e.1 l && (e.0 == q)) (still_has es l q)
-          (and_from (has e.1 l) (e.0 == q) holds (eq-eqb e.0 q (sym (same_key q e.0 here))))
+          or_left (shows e.1 l && (e.0 == q)) (still_has es l q)
+          (and_from (shows e.1 l) (e.0 == q) holds (eq-eqb e.0 q (sym (same_key q e.0 here))))
       | false ↦ λ apart.
           IfSome-weaker (fin.find nat_cmp q es) (find-still_has es q l)
           (λ clause later holds.
-          or_right (has e.1 l && (e.0 == q)) (still_has es l q) (later holds))
+          or_right (shows e.1 l && (e.0 == q)) (still_has es l q) (later holds))
     ] refl
 
 -- before the first entry is listed, any links await all entries
@@ -215,17 +216,17 @@ Awaits-all rows entries q l =
     (λ clause still holds. or_right (is_listed rows l q) (still_has entries l q) (still holds))
 
 next-listed : (before after : Links) (e : ℕ × List Literal) (rest : List (ℕ × List Literal))
-    (l : Literal) (q : ℕ) → Lists before after e.1 e.0 →
+    (l : Literal) (q : ℕ) → Lists before after (indexed_part e.1) e.0 →
     (is_listed before l q || still_has (e ∷ rest) l q) ≡ true →
     (is_listed after l q || still_has rest l q) ≡ true
 unfolding Lists
 next-listed before after e rest l q lists h =
     elim (or_cases (is_listed before l q) (still_has (e ∷ rest) l q) h) [
       | inl old ↦ or_left (is_listed after l q) (still_has rest l q)
-          (lists l q (or_left (is_listed before l q) (has e.1 l && (e.0 == q)) old))
-      | inr still ↦ elim (or_cases (has e.1 l && (e.0 == q)) (still_has rest l q) still) [
+          (lists l q (or_left (is_listed before l q) (shows e.1 l && (e.0 == q)) old))
+      | inr still ↦ elim (or_cases (shows e.1 l && (e.0 == q)) (still_has rest l q) still) [
         | inl this ↦ or_left (is_listed after l q) (still_has rest l q)
-            (lists l q (or_right (is_listed before l q) (has e.1 l && (e.0 == q)) this))
+            (lists l q (or_right (is_listed before l q) (shows e.1 l && (e.0 == q)) this))
         | inr later ↦ or_right (is_listed after l q) (still_has rest l q) later
       ]
     ]
@@ -233,7 +234,7 @@ next-listed before after e rest l q lists h =
 -- links that await entries await one fewer when the first of them has been listed
 pub Awaits-next : (before after : Links) (e : ℕ × List Literal)
     (rest entries : List (ℕ × List Literal)) → Awaits before (e ∷ rest) entries →
-    Lists before after e.1 e.0 → Awaits after rest entries
+    Lists before after (indexed_part e.1) e.0 → Awaits after rest entries
 unfolding Awaits
 Awaits-next before after e rest entries h lists q l =
     IfSome-weaker (fin.find nat_cmp q entries) (h q l)
@@ -250,3 +251,32 @@ unfolding Awaits Indexes
 Awaits-none rows entries h q l =
     IfSome-weaker (fin.find nat_cmp q entries) (h q l)
     (λ clause was holds. or_none (is_listed rows l q) (was holds))
+
+-- ---- what an index shows of a clause
+
+-- nothing of a tautology
+pub part-tautology : (clause : List Literal) → is_tautology clause ≡ true →
+    indexed_part clause ≡ []
+unfolding indexed_part
+part-tautology clause clash = cond-true (is_tautology clause) [] clause clash
+
+-- and all of any other
+pub part-whole : (clause : List Literal) → is_tautology clause ≡ false →
+    indexed_part clause ≡ clause
+unfolding indexed_part
+part-whole clause clear = cond-false (is_tautology clause) [] clause clear
+
+-- what is said of what a formula's clauses show is said of the clauses
+pub parts-named : (n : ℕ) (clauses : List (List Literal)) (q : ℕ) (P : List Literal → Type 0) →
+    IfSome (fin.find nat_cmp q (enumerate_from n (map indexed_part clauses))) P →
+    IfSome (fin.find nat_cmp q (enumerate_from n clauses)) (λ clause. P (indexed_part clause))
+parts-named n [] q P = λ _. tt
+parts-named n (clause ∷ clauses) q P =
+    elim (eq_by_cmp nat_cmp q n) as
+    (λ b. IfSome (cond b (Some (indexed_part clause))
+    (fin.find nat_cmp q (enumerate_from (n + 1) (map indexed_part clauses)))) P →
+    IfSome (cond b (Some clause) (fin.find nat_cmp q (enumerate_from (n + 1) clauses)))
+    (λ c. P (indexed_part c))) [
+      | true ↦ λ h. h
+      | false ↦ parts-named (n + 1) clauses q P
+    ]

@@ -12,12 +12,11 @@ use Rattle.std.specs.Cmp.{nat_cmp_total, eq_by_cmp_equiv}
 use Rattle.std.specs.FinMap as fin
 use Rattle.std.proofs.lemmas.Bool.{cases_Bool, cases_lt, cond-true, cond-false}
 use Rattle.cnf_text.specs.Literal.{Literal}
-use Rattle.hint_check.specs.Literals.{has}
 use Rattle.hint_check.specs.Live.{Live}
 use Rattle.hint_check.specs.Inner.Live.{NamesHolders, overlay, base_clause}
 use Rattle.std.proofs.lemmas.Bool.{or_left, or_right}
 use Rattle.std.proofs.lemmas.List.Folds.{list_any-append}
-use Rattle.hint_check.specs.Inner.Index.{NamesEntries}
+use Rattle.hint_check.specs.Inner.Index.{NamesEntries, shows}
 use Rattle.hint_check.specs.Inner.Dropped.{is_dropped}
 use Rattle.hint_check.proofs.LiveMaps.{same_key, eq_by_cmp-same, eqb-eq_by_cmp}
 
@@ -343,7 +342,7 @@ or_here p xs ys h = list_any-append p xs ys ∙ or_left (list_any p xs) (list_an
 or_there : (p : ℕ → Bool) (xs ys : List ℕ) → list_any p ys ≡ true → list_any p (xs ++ ys) ≡ true
 or_there p xs ys h = list_any-append p xs ys ∙ or_right (list_any p xs) (list_any p ys) h
 
--- the ids of own clauses and of the base's name all live clauses that hold a literal
+-- the ids of own clauses and of the base's name all live clauses that show a literal
 pub overlay-NamesHolders : (base : List (List Literal)) (dropped : List Bool)
     (own : List (ℕ × List Literal)) (live : Live) (l : Literal) (ids of_own of_base : List ℕ) →
     overlay base dropped own ≡ live → ids ≡ of_own ++ of_base → NamesEntries own l of_own →
@@ -351,10 +350,10 @@ pub overlay-NamesHolders : (base : List (List Literal)) (dropped : List Bool)
 unfolding NamesEntries
 overlay-NamesHolders base dropped own live l ids of_own of_base is listed own_named named q =
     subst (λ named.
-    IfSome (fin.get live q) (λ clause. has clause l ≡ true → list_any (λ n. n == q) named ≡ true))
+    IfSome (fin.get live q) (λ clause. shows clause l ≡ true → list_any (λ n. n == q) named ≡ true))
     (sym listed)
     (overlay-each
-    (λ clause. has clause l ≡ true → list_any (λ n. n == q) (of_own ++ of_base) ≡ true) base dropped
+    (λ clause. shows clause l ≡ true → list_any (λ n. n == q) (of_own ++ of_base) ≡ true) base dropped
     own live q is
     (IfSome-weaker (fin.find nat_cmp q (enumerate_from 1 base)) (named q)
     (λ clause later holds. or_there (λ n. n == q) of_own of_base (later holds)))

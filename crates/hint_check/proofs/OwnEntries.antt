@@ -24,8 +24,8 @@ use Rattle.hint_check.specs.Inner.Own.{no_slot, slot_at, slot_clause, span_claus
 use Rattle.hint_check.specs.Inner.Own.{entry_of, near_entries, far_entries, own_clauses, SlotsEndBy}
 use Rattle.hint_check.specs.Inner.Own.{SpansEndBy, SetsSlot, ListsAll}
 use Rattle.hint_check.proofs.LiveOverlay.{find-append, same_test, same_test_back}
-use Rattle.hint_check.specs.Literals.{has}
-use Rattle.hint_check.specs.Inner.Index.{Links, is_listed, Lists, Indexes, Awaits}
+use Rattle.hint_check.specs.Inner.Index.{Links, is_listed, Lists, Indexes, Awaits, shows}
+use Rattle.hint_check.specs.Inner.Index.{indexed_part}
 use Rattle.hint_check.proofs.IndexIds.{Awaits-all, Awaits-next, Awaits-none}
 
 -- ---- look-ups in the map of far ids
@@ -665,7 +665,8 @@ near-next rows lits id slots i rest all within h =
 
 -- the clause of one entry is listed
 pub listed-one : (before after : Links) (id : ℕ) (clause : List Literal) (x : Option (List Literal))
-    (rest all : List (ℕ × List Literal)) → x ≡ Some clause → Lists before after clause id
+    (rest all : List (ℕ × List Literal)) → x ≡ Some clause →
+    Lists before after (indexed_part clause) id
     → Awaits before (entry_of id x ++ rest) all → Awaits after rest all
 listed-one before after id clause x rest all is lists h =
     Awaits-next before after (id, clause) rest all
@@ -693,6 +694,6 @@ own-Indexes start middle rows lits first slots far near beyond q l =
     (beyond [] all
     (subst (λ es. Awaits middle es all) (sym (append-nil (far_entries lits far)))
     (near (far_entries lits far) all (Awaits-all start all)))) in
-    subst (λ o. IfSome o (λ clause. has clause l ≡ true → is_listed rows l q ≡ true))
+    subst (λ o. IfSome o (λ clause. shows clause l ≡ true → is_listed rows l q ≡ true))
     (sym (fin.get-from_entries nat_cmp_total all q) ∙ fin.get-entries (fin.from_entries all) q)
     (done q l)

@@ -1,7 +1,7 @@
 -- Unit propagation, one literal and one hint at a time.
 use Rattle.std.proofs.Common.{◌≡◌, ◌+◌, ◌*◌, ◌<◌, ◌≤◌, ℕ, Bool, true, false, not, cond, ◌&&◌}
 use Rattle.std.proofs.Common.{Option, Some, None, List, [], ◌∷◌, length, drop, get_or, refl, sym}
-use Rattle.std.proofs.Common.{ap, ◌∙◌, arith, inl, inr}
+use Rattle.std.proofs.Common.{ap, ◌∙◌, subst, arith, inl, inr}
 use Rattle.std.specs.List.{list_all, filter, slice_get}
 use Rattle.std.proofs.lemmas.List.{at_drop_more, at_drop_all}
 use Rattle.std.proofs.lemmas.Bool.{cases_Bool, cond-true, cond-false, not_from_false, not_from_true}
@@ -10,6 +10,8 @@ use Rattle.cnf_text.specs.Literal.{Literal, negation, literal_number, same}
 use Rattle.hint_check.specs.Literals.{Literals, with_literal}
 use Rattle.hint_check.specs.Live.{Live}
 use Rattle.hint_check.specs.declared.Reason.TheVariants.{Hint, Unit as NotUnit}
+use Rattle.hint_check.specs.declared.propagate.Followed.{Followed}
+use Rattle.hint_check.specs.Inner.Propagate.{chain_after}
 use Rattle.hint_check.specs.Propagation.{unfalsified, effect_of, Reached, Bad, Conflict}
 use Rattle.hint_check.specs.Propagation.{after_effect, after_hint, chain}
 use Rattle.hint_check.specs.declared.propagate.Effect.{Effect}
@@ -268,3 +270,15 @@ pub chain-end : (live : Live) (set : Literals) (hints : List ℕ) (i : ℕ) → 
     chain live set (drop i hints) ≡ Reached set
 unfolding chain
 chain-end live set hints i past = at_drop_all (chain live set) hints i past
+
+-- what the hints from a place on lead to, by what the first of them does
+pub chain-followed : (live seen : Live) (start set : Literals) (hints : List ℕ) (i : ℕ)
+    (followed : Followed) → i < length hints → seen ≡ live →
+    chain live start hints ≡ chain live set (drop i hints) →
+    ((rest : List ℕ) → chain seen set (get_or hints i 0 ∷ rest) ≡ chain_after followed seen set rest)
+    → chain live start hints ≡ chain_after followed live set (drop (i + 1) hints)
+chain-followed live seen start set hints i followed within same so_far follows =
+    let rest = drop (i + 1) hints in
+    so_far ∙ chain-turn live set hints i within
+    ∙ subst (λ (l : Live). chain l set (get_or hints i 0 ∷ rest) ≡ chain_after followed l set rest)
+    same (follows rest)

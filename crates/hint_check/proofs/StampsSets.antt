@@ -1,20 +1,24 @@
--- Stamps, and the literals that they say are set.
-use Rattle.std.proofs.Common.{◌≡◌, ◌==◌, ◌+◌, ◌-◌, ◌<◌, ◌≤◌, ℕ, zero, suc, Bool, true, false, ◌||◌}
-use Rattle.std.proofs.Common.{List, [], ◌∷◌, ◌++◌, length, get_or, take, slice_index, min, subst}
+-- Stamps, and the set of literals that they say.
+use Rattle.std.proofs.Common.{◌≡◌, ◌==◌, ◌+◌, ◌<◌, ◌≤◌, ℕ, Bool, true, false, not, ◌||◌, ◌&&◌}
+use Rattle.std.proofs.Common.{List, [], ◌∷◌, ◌++◌, length, get_or, take, slice_index, map, subst}
 use Rattle.std.proofs.Common.{refl, sym, ap, ◌∙◌, arith, inl, inr}
 use Rattle.std.proofs.lemmas.Bool.{cases_Bool, cases_lt, cond-true, cond-false, lt-ltb, le-ltb}
-use Rattle.std.proofs.lemmas.Bool.{ne_eqb, or_left, eqb-true, eq-eqb}
-use Rattle.std.specs.Prelude.{if◌then◌else◌, nat_eq, nat_lt, is_some, cond, Option, Some, None}
+use Rattle.std.proofs.lemmas.Bool.{ne_eqb, eqb-true, eq-eqb}
+use Rattle.std.specs.Prelude.{if◌then◌else◌, nat_eq, nat_lt, cond, Some, None}
 use Rattle.std.specs.Map.{lookup}
+use Rattle.std.specs.Result.{OnOk, OnErr}
+use Rattle.std.proofs.Common.{Result, Ok, Err}
 use Rattle.std.specs.Option.{unwrap_or}
-use Rattle.std.proofs.lemmas.List.{get_or_past, take_at}
-use Rattle.std.proofs.lemmas.List.{take_all, take-append-le, take-take, length_push, length-take}
-use Rattle.std.proofs.lemmas.List.{length-take-le}
+use Rattle.std.proofs.lemmas.List.{get_or_past, take_more, map-append}
+use Rattle.std.proofs.lemmas.List.Folds.{list_any-append}
 use Rattle.cnf_text.specs.Literal.{Literal, literal_number, same}
-use Rattle.hint_check.specs.Literals.{has, with_literal}
-use Rattle.hint_check.specs.Inner.Stamps.{Marks, stamp_at, mapped_at, HasRoom, StampsAre, NoneAbove}
-use Rattle.hint_check.specs.Inner.Stamps.{NoRepeats, Extends, is_shown, Shows}
-use Rattle.hint_check.proofs.LiteralsSets.{number-same, same-true, same-refl, has-push}
+use Rattle.hint_check.specs.Literals.{Literals, has, with_literal}
+use Rattle.hint_check.specs.Addition.{no_literals}
+use Rattle.hint_check.specs.Inner.Resets.{is_named}
+use Rattle.hint_check.specs.Inner.Stamps.{Marks, stamp_at, mapped_at, NoneAbove, Forgets}
+use Rattle.hint_check.specs.Inner.Stamps.{is_shown, Shows}
+use Rattle.hint_check.specs.Inner.Assignment.{Stamped, set_of, kept_of}
+use Rattle.hint_check.proofs.LiteralsSets.{number-same, same-true, has-push, and_false, or_false}
 
 -- ---- near numbers and others
 
@@ -28,257 +32,257 @@ far-at marks n far =
     cond-false (nat_lt n 2097152) (slice_index marks.0 n) (mapped_at marks.1 n)
     (le-ltb n 2097152 far)
 
--- ---- the literals that are set
+-- ---- the set
 
--- stamps of this epoch are those of the literals set, no stamp is above it, and no literal is set
--- twice
-abbrev pub Sound : Marks → ℕ → List Literal → Type 0
-Sound marks epoch trail =
-    (1 ≤ epoch) × StampsAre marks epoch trail × NoneAbove marks epoch × NoRepeats trail
-
--- a literal has the epoch's stamp exactly where it is set
-pub Sound-parts : (marks : Marks) (epoch : ℕ) (trail : List Literal) → Sound marks epoch trail →
-    (l : Literal) → (stamp_at marks (literal_number l) == epoch) ≡ has trail l
-unfolding StampsAre
-Sound-parts marks epoch trail h = h.1
+-- the set of these stamps is determined by what they answer
+pub set-alike : (marks after : Marks) (epoch : ℕ) (trail more : List Literal) →
+    ((n : ℕ) → stamp_at after n ≡ stamp_at marks n) →
+    set_of (record { marks = after; epoch = epoch; trail = more })
+    ≡ set_of (record { marks = marks; epoch = epoch; trail = trail })
+unfolding set_of
+set-alike marks after epoch trail more same = λ i l. same (literal_number l) i == epoch
 
 -- what the near stamps at hand show
-pub shows-trail : (marks : Marks) (epoch : ℕ) (trail : List Literal) → Sound marks epoch trail
-    → length marks.0 ≤ 2097152
-    → Shows marks.0 epoch (has trail)
-shows-trail marks epoch trail sound few = record {
+pub shows-set : (stamped : Stamped) → 1 ≤ stamped.epoch → length stamped.marks.0 ≤ 2097152 →
+    Shows stamped.marks.0 stamped.epoch (set_of stamped)
+unfolding set_of
+shows-set stamped some few = record {
   real = λ l shown. elim (cases_lt (literal_number l) 2097152) [
     | inl low ↦ sym (is_near l low) ∙ shown
     | inr high ↦
-        let none : slice_index marks.0 (literal_number l) ≡ 0 =
-        get_or_past marks.0 (literal_number l) 0 (omega (arith, few, high)) in
-        let is : slice_index marks.0 (literal_number l) ≡ epoch =
-        eqb-true (slice_index marks.0 (literal_number l)) epoch shown in
-        let some : 1 ≤ epoch = sound.0 in
+        let none : slice_index stamped.marks.0 (literal_number l) ≡ 0 =
+        get_or_past stamped.marks.0 (literal_number l) 0 (omega (arith, few, high)) in
+        let is : slice_index stamped.marks.0 (literal_number l) ≡ stamped.epoch =
+        eqb-true (slice_index stamped.marks.0 (literal_number l)) stamped.epoch shown in
         absurd (omega (arith, none, is, some))
   ];
   near = λ l low. is_near l low;
 }
   where
-    is_near : (l : Literal) → literal_number l < 2097152 → is_shown marks.0 epoch l ≡ has trail l
+    is_near : (l : Literal) → literal_number l < 2097152 →
+        is_shown stamped.marks.0 stamped.epoch l ≡ (stamp_at stamped.marks (literal_number l)
+        == stamped.epoch)
     is_near l low =
-        ap (λ stamp. stamp == epoch) (sym (near-at marks (literal_number l) low))
-        ∙ Sound-parts marks epoch trail sound l
-
-none-NoRepeats : NoRepeats []
-unfolding NoRepeats
-none-NoRepeats i d below = absurd (omega arith)
+        ap (λ stamp. stamp == stamped.epoch) (sym (near-at stamped.marks (literal_number l) low))
 
 low-apart : (stamp epoch : ℕ) → stamp < epoch → (stamp == epoch) ≡ false
 low-apart stamp epoch low = ne_eqb stamp epoch (λ e. omega (arith, low, e))
 
--- nothing is set where no stamp is as high as the epoch
-pub Sound-none : (marks : Marks) (epoch : ℕ) (trail : List Literal) → trail ≡ [] →
-    ((n : ℕ) → stamp_at marks n < epoch) → Sound marks epoch trail
-unfolding StampsAre NoneAbove has
-Sound-none marks epoch trail none low = (
-  let h = low 0 in omega (arith, h),
-  λ l. low-apart (stamp_at marks (literal_number l)) epoch (low (literal_number l))
-      ∙ ap (λ t. has t l) (sym none),
-  λ n. let h = low n in omega (arith, h),
-  subst NoRepeats (sym none) none-NoRepeats,
-)
+-- nothing is in the set where no stamp is as high as the epoch
+set-low : (marks : Marks) (epoch : ℕ) (trail : List Literal) →
+    ((n : ℕ) → stamp_at marks n < epoch) →
+    set_of (record { marks = marks; epoch = epoch; trail = trail }) ≡ no_literals
+unfolding set_of
+set-low marks epoch trail low = λ i l.
+    low-apart (stamp_at marks (literal_number l)) epoch (low (literal_number l)) i
 
--- in the next epoch no literal is set
-pub Sound-next : (marks : Marks) (epoch : ℕ) (trail after : List Literal) →
-    Sound marks epoch trail → after ≡ [] → Sound marks (epoch + 1) after
+-- in the next epoch nothing is in the set
+pub set-next : (marks : Marks) (epoch : ℕ) (trail : List Literal) → NoneAbove marks epoch →
+    set_of (record { marks = marks; epoch = epoch + 1; trail = trail }) ≡ no_literals
 unfolding NoneAbove
-Sound-next marks epoch trail after h none =
-    Sound-none marks (epoch + 1) after none (λ n. let low = h.2 n in omega (arith, low))
+set-next marks epoch trail h =
+    set-low marks (epoch + 1) trail (λ n. let low = h n in omega (arith, low))
+
+-- stamps that aren't above an epoch aren't above the next one
+pub NoneAbove-next : (marks : Marks) (epoch : ℕ) → NoneAbove marks epoch →
+    NoneAbove marks (epoch + 1)
+unfolding NoneAbove
+NoneAbove-next marks epoch h n = let low = h n in omega (arith, low)
 
 stamp_at-none : (n : ℕ) → stamp_at ([], []) n ≡ 0
 stamp_at-none n =
     elim (nat_lt n 2097152) as
     (λ b. (if b then slice_index [] n else mapped_at [] n) ≡ 0) [ true ↦ refl | false ↦ refl ]
 
--- without stamps no literal is set
-pub Sound-start : (marks : Marks) (trail : List Literal) → marks ≡ ([], []) → trail ≡ [] →
-    Sound marks 1 trail
-Sound-start marks trail empty none =
-    Sound-none marks 1 trail none
-    (λ n. let zero_there = ap (λ ms. stamp_at ms n) empty ∙ stamp_at-none n in
-    omega (arith, zero_there))
+zero_there : (marks : Marks) → marks ≡ ([], []) → (n : ℕ) → stamp_at marks n ≡ 0
+zero_there marks empty n = ap (λ ms. stamp_at ms n) empty ∙ stamp_at-none n
+
+-- without stamps nothing is in the set
+pub set-start : (marks : Marks) (trail : List Literal) → marks ≡ ([], []) →
+    set_of (record { marks = marks; epoch = 1; trail = trail }) ≡ no_literals
+set-start marks trail empty =
+    set-low marks 1 trail (λ n. let none = zero_there marks empty n in omega (arith, none))
+
+pub NoneAbove-start : (marks : Marks) → marks ≡ ([], []) → NoneAbove marks 1
+unfolding NoneAbove
+NoneAbove-start marks empty n = let none = zero_there marks empty n in omega (arith, none)
 
 -- the same for stamps that answer alike
-pub Sound-same : (marks after : Marks) (epoch : ℕ) (trail : List Literal) →
-    Sound marks epoch trail → ((n : ℕ) → stamp_at after n ≡ stamp_at marks n) →
-    Sound after epoch trail
-unfolding StampsAre NoneAbove
-Sound-same marks after epoch trail h same = (
-  h.0,
-  λ l. ap (λ s. s == epoch) (same (literal_number l)) ∙ h.1 l,
-  λ n. let low = h.2 n in
-      let e = same n in omega (arith, low, e),
-  h.3,
-)
-
-at_end : (xs : List Literal) (y d : Literal) → get_or (xs ++ y ∷ []) (length xs) d ≡ y
-at_end [] y d = refl
-at_end (x ∷ xs) y d = at_end xs y d
-
-before_end : (xs : List Literal) (y d : Literal) (i : ℕ) → i < length xs →
-    get_or (xs ++ y ∷ []) i d ≡ get_or xs i d
-before_end [] y d i below = absurd (omega arith)
-before_end (x ∷ xs) y d zero below = refl
-before_end (x ∷ xs) y d (suc i) below = before_end xs y d i (omega arith)
-
-NoRepeats-push : (trail : List Literal) (l : Literal) → NoRepeats trail → has trail l ≡ false →
-    NoRepeats (trail ++ l ∷ [])
-unfolding NoRepeats
-NoRepeats-push trail l h new i d below =
-    let longer = length_push trail l in
-    elim (cases_lt i (length trail)) [
-      | inl before ↦ ap (λ m. has (take i (trail ++ l ∷ [])) m) (before_end trail l d i before)
-          ∙ ap (λ ms. has ms (get_or trail i d))
-          (take-append-le i trail (l ∷ []) (omega (arith, before))) ∙ h i d before
-      | inr last ↦ let e : i ≡ length trail = omega (arith, longer, below, last) in
-          ap (λ k. has (take k (trail ++ l ∷ [])) (get_or (trail ++ l ∷ []) k d)) e
-          ∙ ap (λ m. has (take (length trail) (trail ++ l ∷ [])) m) (at_end trail l d)
-          ∙ ap (λ ms. has ms l) (take_at trail (l ∷ []) (length trail) refl) ∙ new
-    ]
-
-NoRepeats-last : (trail : List Literal) (l : Literal) → NoRepeats (trail ++ l ∷ []) →
-    has trail l ≡ false
-unfolding NoRepeats
-NoRepeats-last trail l h =
-    let longer = length_push trail l in
-    ap (λ ms. has ms l) (sym (take_at trail (l ∷ []) (length trail) refl))
-    ∙ ap (λ m. has (take (length trail) (trail ++ l ∷ [])) m) (sym (at_end trail l l))
-    ∙ h (length trail) l (omega (arith, longer))
-
-NoRepeats-pop : (trail : List Literal) (l : Literal) → NoRepeats (trail ++ l ∷ []) → NoRepeats trail
-unfolding NoRepeats
-NoRepeats-pop trail l h i d below =
-    let longer = length_push trail l in
-    ap (λ ms. has ms (get_or trail i d))
-    (sym (take-append-le i trail (l ∷ []) (omega (arith, below))))
-    ∙ ap (λ m. has (take i (trail ++ l ∷ [])) m) (sym (before_end trail l d i below))
-    ∙ h i d (omega (arith, longer, below))
-
-stamped : (b : Bool) (stamp epoch : ℕ) →
-    ((if b then epoch else stamp) == epoch) ≡ (b || (stamp == epoch))
-stamped true stamp epoch = eq-eqb epoch epoch refl
-stamped false stamp epoch = refl
+pub NoneAbove-same : (marks after : Marks) (epoch : ℕ) → NoneAbove marks epoch →
+    ((n : ℕ) → stamp_at after n ≡ stamp_at marks n) → NoneAbove after epoch
+unfolding NoneAbove
+NoneAbove-same marks after epoch h same n =
+    let low = h n in let e = same n in omega (arith, low, e)
 
 no-higher : (b : Bool) (new old epoch : ℕ) → new ≤ epoch → old ≤ epoch →
     (if b then new else old) ≤ epoch
 no-higher true new old epoch h k = h
 no-higher false new old epoch h k = k
 
-module _ (marks after : Marks) (epoch : ℕ) (trail : List Literal) (l : Literal) where
-  -- one more literal is set, and stamped
-  pub Sound-push : Sound marks epoch trail → has trail l ≡ false →
+stamped : (b : Bool) (stamp epoch : ℕ) →
+    ((if b then epoch else stamp) == epoch) ≡ (b || (stamp == epoch))
+stamped true stamp epoch = eq-eqb epoch epoch refl
+stamped false stamp epoch = refl
+
+module _ (marks after : Marks) (epoch : ℕ) (l : Literal) where
+  -- one more literal is stamped
+  pub NoneAbove-put : NoneAbove marks epoch →
       ((n : ℕ) → stamp_at after n ≡ (if literal_number l == n then epoch else stamp_at marks n)) →
-      Sound after epoch (trail ++ l ∷ [])
-  unfolding StampsAre NoneAbove with_literal
-  Sound-push h new set = (
-    h.0,
-    λ m. ap (λ s. s == epoch) (set (literal_number m))
-        ∙ stamped (literal_number l == literal_number m) (stamp_at marks (literal_number m)) epoch
-        ∙ ap (λ b. b || (stamp_at marks (literal_number m) == epoch)) (number-same l m)
-        ∙ ap (λ b. same l m || b) (h.1 m) ∙ sym (ap (λ s. s m) (has-push trail l)),
-    λ n. rw (set n)
-        (no-higher (literal_number l == n) epoch (stamp_at marks n) epoch (omega arith) (h.2 n)),
-    NoRepeats-push trail l h.3 new,
-  )
+      NoneAbove after epoch
+  unfolding NoneAbove
+  NoneAbove-put h set n =
+      rw (set n)
+      (no-higher (literal_number l == n) epoch (stamp_at marks n) epoch (omega arith) (h n))
 
-  unset : (m : Literal) (b : Bool) → same l m ≡ b → 1 ≤ epoch → has trail l ≡ false →
-      (stamp_at marks (literal_number m) == epoch) ≡ (b || has trail m) →
-      ((if b then 0 else stamp_at marks (literal_number m)) == epoch) ≡ has trail m
-  unset m true here some new old =
-      low-apart 0 epoch (omega (arith, some))
-      ∙ sym (ap (has trail) (sym (same-true l m here)) ∙ new)
-  unset m false here some new old = old
-
-  -- the last literal that was set is set no more, and its stamp is gone
-  pub Sound-pop : Sound marks epoch (trail ++ l ∷ []) →
-      ((n : ℕ) → stamp_at after n ≡ (if literal_number l == n then 0 else stamp_at marks n)) →
-      Sound after epoch trail
-  unfolding StampsAre NoneAbove with_literal
-  Sound-pop h set = (
-    h.0,
-    λ m. ap (λ s. s == epoch) (set (literal_number m))
-        ∙ ap (λ b. (if b then 0 else stamp_at marks (literal_number m)) == epoch) (number-same l m)
-        ∙ unset m (same l m) refl h.0 (NoRepeats-last trail l h.3)
-        (h.1 m ∙ ap (λ s. s m) (has-push trail l)),
-    λ n. rw (set n)
-        (no-higher (literal_number l == n) 0 (stamp_at marks n) epoch (omega arith) (h.2 n)),
-    NoRepeats-pop trail l h.3,
-  )
-
-past : (xs : List ℕ) (i : ℕ) → length xs ≤ i → slice_index xs i ≡ 0
-past [] i h = refl
-past (x ∷ xs) zero h = absurd (omega arith)
-past (x ∷ xs) (suc i) h = past xs i (omega arith)
-
--- a stamp other than 0 has an entry
-entry-of_stamp : (found : Option ℕ) → 1 ≤ unwrap_or found 0 → is_some found ≡ true
-entry-of_stamp (Some stamp) some = refl
-entry-of_stamp None some = absurd (omega (arith, some))
-
--- a stamp other than 0 has room
-room-of_stamp : (marks : Marks) (number : ℕ) → 1 ≤ stamp_at marks number → HasRoom marks number
-room-of_stamp marks number some = (
-  λ near. elim (cases_lt number (length marks.0)) [
-    | inl within ↦ within
-    | inr beyond ↦ let none = near-at marks number near ∙ past marks.0 number beyond in
-        absurd (omega (arith, none, some))
-  ],
-  λ far. entry-of_stamp (lookup (nat_eq number) marks.1)
-      (let is = far-at marks number far in omega (arith, is, some)),
-)
-
--- the last literal that was set has room
-pub Sound-room : (marks : Marks) (epoch : ℕ) (trail : List Literal) (l : Literal) →
-    Sound marks epoch (trail ++ l ∷ []) → HasRoom marks (literal_number l)
-unfolding StampsAre with_literal
-Sound-room marks epoch trail l h =
-    let here : (stamp_at marks (literal_number l) == epoch) ≡ true =
-    h.1 l ∙ ap (λ s. s l) (has-push trail l) ∙ or_left (same l l) (has trail l) (same-refl l) in
-    let is = eqb-true (stamp_at marks (literal_number l)) epoch here in
-    let some = h.0 in
-    room-of_stamp marks (literal_number l) (omega (arith, is, some))
+  pub set-put : (trail more : List Literal) →
+      ((n : ℕ) → stamp_at after n ≡ (if literal_number l == n then epoch else stamp_at marks n)) →
+      set_of (record { marks = after; epoch = epoch; trail = more })
+      ≡ with_literal (set_of (record { marks = marks; epoch = epoch; trail = trail })) l
+  unfolding set_of with_literal
+  set-put trail more set = λ i m.
+      (ap (λ s. s == epoch) (set (literal_number m))
+      ∙ stamped (literal_number l == literal_number m) (stamp_at marks (literal_number m)) epoch
+      ∙ ap (λ b. b || (stamp_at marks (literal_number m) == epoch)) (number-same l m)) i
 
 there : (b c : Bool) → (b ≡ true → c ≡ true) → c ≡ (b || c)
 there true c h = h refl
 there false c h = refl
 
--- a literal that is set needn't join the set
-pub with_literal-there : (trail : List Literal) (l : Literal) → has trail l ≡ true →
-    has trail ≡ with_literal (has trail) l
+-- a literal that is in a set needn't join it
+pub with_literal-there : (set : Literals) (l : Literal) → set l ≡ true → set ≡ with_literal set l
 unfolding with_literal
-with_literal-there trail l h =
-    λ i m. there (same l m) (has trail m) (λ e. ap (has trail) (sym (same-true l m e)) ∙ h) i
+with_literal-there set l h = λ i m.
+    there (same l m) (set m) (λ e. ap set (sym (same-true l m e)) ∙ h) i
 
--- a list extends itself
-pub Extends-same : (before : List Literal) → Extends before before
-Extends-same before = take_all (length before) before (omega arith)
+-- ---- what can be taken out again
 
--- a list with one more at its end extends it
-pub Extends-push : (before : List Literal) (l : Literal) → Extends before (before ++ l ∷ [])
-Extends-push before l = take_at before (l ∷ []) (length before) refl
+and_true : (b : Bool) → (b && true) ≡ b
+and_true true = refl
+and_true false = refl
 
--- what extends an extension extends the list
-pub Extends-trans : (first second third : List Literal) → Extends first second →
-    Extends second third → Extends first third
-Extends-trans first second third h k =
-    let shorter : length first ≤ length second =
-    let e : length first ≡ min (length first) (length second) =
-    sym (ap length h) ∙ length-take (length first) second in omega (arith, e) in
-    sym (take-take (length first) (length second) third shorter) ∙ ap (take (length first)) k ∙ h
+-- where nothing can be taken out, all stay
+pub kept-none : (stamped : Stamped) → stamped.trail ≡ [] → kept_of stamped ≡ set_of stamped
+unfolding kept_of has
+kept-none stamped none = λ i l.
+    (ap (λ trail. set_of stamped l && not (has trail l)) none ∙ and_true (set_of stamped l)) i
 
--- what is left after one more is taken off the end
-pub take_one_less : (all now : List Literal) (n m : ℕ) → now ≡ take n all → n ≡ m + 1 →
-    n ≤ length all → take (length now - 1) now ≡ take m all
-take_one_less all now n m is one within =
-    let long : length now ≡ n = ap length is ∙ length-take-le n all within in
-    let less : length now - 1 ≡ m = omega (arith, long, one) in
-    ap (λ k. take k now) less ∙ ap (take m) is ∙ take-take m n all (omega (arith, one))
+kept_more : (old this there : Bool) → (this ≡ true → old ≡ false) →
+    ((this || old) && not (this || there)) ≡ (old && not there)
+kept_more old true there new = ap (λ b. b && not there) (sym (new refl))
+kept_more old false there new = refl
+
+kept_less : (old this there : Bool) → (this ≡ true → old ≡ false) →
+    (old && not (this || there)) ≡ (old && not there)
+kept_less old true there new =
+    and_false old ∙ ap (λ b. b && not there) (sym (new refl))
+kept_less old false there new = refl
+
+module _ (before after : Stamped) (l : Literal) (new : set_of before l ≡ false)
+    (longer : after.trail ≡ before.trail ++ l ∷ []) where
+  apart : (m : Literal) → same l m ≡ true → set_of before m ≡ false
+  apart m e = ap (set_of before) (sym (same-true l m e)) ∙ new
+
+  trail_there : (m : Literal) → has after.trail m ≡ (same l m || has before.trail m)
+  unfolding with_literal
+  trail_there m = ap (λ trail. has trail m) longer ∙ ap (λ s. s m) (has-push before.trail l)
+
+  -- a literal that wasn't in the set and can be taken out again changes nothing of what stays
+  pub kept-more : set_of after ≡ with_literal (set_of before) l → kept_of after ≡ kept_of before
+  unfolding kept_of with_literal
+  kept-more joined = λ i m.
+      (ap (λ s. s m && not (has after.trail m)) joined
+      ∙ ap (λ b. (same l m || set_of before m) && not b) (trail_there m)
+      ∙ kept_more (set_of before m) (same l m) (has before.trail m) (apart m)) i
+
+  -- nor does one that was about to join
+  pub kept-same : set_of after ≡ set_of before → kept_of after ≡ kept_of before
+  unfolding kept_of
+  kept-same stays = λ i m.
+      (ap (λ s. s m && not (has after.trail m)) stays
+      ∙ ap (λ b. set_of before m && not b) (trail_there m)
+      ∙ kept_less (set_of before m) (same l m) (has before.trail m) (apart m)) i
+
+-- nothing changes of what stays, whether a literal has joined the others that can be taken out or
+-- there was no memory for it
+pub kept-supposed : {E : Type 0} (r : Result (Unit {0}) E) (before middle after : Stamped)
+    (l : Literal) → set_of middle ≡ set_of before → set_of before l ≡ false →
+    after.trail ≡ before.trail ++ l ∷ [] →
+    OnOk r (set_of after ≡ with_literal (set_of middle) l) →
+    OnErr r (set_of after ≡ set_of middle) → kept_of after ≡ kept_of before
+kept-supposed (Ok x) before middle after l same new longer ok err =
+    kept-more before after l new longer (ok ∙ ap (λ set. with_literal set l) same)
+kept-supposed (Err e) before middle after l same new longer ok err =
+    kept-same before after l new longer (err ∙ same)
+
+named-has : (trail : List Literal) (l : Literal) →
+    is_named (map literal_number trail) (literal_number l) ≡ has trail l
+unfolding has
+named-has [] l = refl
+named-has (m ∷ trail) l =
+    ap (λ b. b || is_named (map literal_number trail) (literal_number l)) (number-same m l)
+    ∙ ap (λ b. same m l || b) (named-has trail l)
+
+forgotten : (b : Bool) (stamp epoch : ℕ) → 1 ≤ epoch →
+    ((if b then 0 else stamp) == epoch) ≡ ((stamp == epoch) && not b)
+forgotten true stamp epoch some =
+    low-apart 0 epoch (omega (arith, some)) ∙ sym (and_false (stamp == epoch))
+forgotten false stamp epoch some = sym (and_true (stamp == epoch))
+
+-- without the stamps of what can be taken out, those that stay are the set
+pub set-undone : (stamped : Stamped) (after : Marks) (trail : List Literal) → 1 ≤ stamped.epoch →
+    Forgets (map literal_number stamped.trail) stamped.marks after →
+    set_of (record { marks = after; epoch = stamped.epoch; trail = trail }) ≡ kept_of stamped
+unfolding set_of kept_of
+set-undone stamped after trail some forgets = λ i l.
+    (ap (λ s. s == stamped.epoch) (forgets (literal_number l))
+    ∙ forgotten (is_named (map literal_number stamped.trail) (literal_number l))
+    (stamp_at stamped.marks (literal_number l)) stamped.epoch some
+    ∙ ap (λ b. (stamp_at stamped.marks (literal_number l) == stamped.epoch) && not b)
+    (named-has stamped.trail l)) i
+
+-- stamps that are gone are above nothing
+pub NoneAbove-forgets : (marks after : Marks) (numbers : List ℕ) (epoch : ℕ) →
+    NoneAbove marks epoch → Forgets numbers marks after → NoneAbove after epoch
+unfolding NoneAbove
+NoneAbove-forgets marks after numbers epoch h forgets n =
+    rw (forgets n)
+    (no-higher (is_named numbers n) 0 (stamp_at marks n) epoch (omega arith) (h n))
+
+-- no stamp is gone by no numbers
+pub Forgets-none : (marks : Marks) → Forgets [] marks marks
+Forgets-none marks n = refl
+
+forget_more : (named this : Bool) (old : ℕ) →
+    (if this then 0 else (if named then 0 else old)) ≡ (if named || this then 0 else old)
+forget_more true true old = refl
+forget_more true false old = refl
+forget_more false true old = refl
+forget_more false false old = refl
+
+-- one number more
+Forgets-push : (numbers : List ℕ) (number : ℕ) (before middle after : Marks) →
+    Forgets numbers before middle →
+    ((n : ℕ) → stamp_at after n ≡ (if number == n then 0 else stamp_at middle n)) →
+    Forgets (numbers ++ number ∷ []) before after
+Forgets-push numbers number before middle after h one n =
+    one n ∙ ap (λ stamp. if number == n then 0 else stamp) (h n)
+    ∙ forget_more (is_named numbers n) (number == n) (stamp_at before n)
+    ∙ ap (λ b. if b then 0 else stamp_at before n)
+    (ap (λ b. is_named numbers n || b) (sym (or_false (number == n)))
+    ∙ sym (list_any-append (λ named. nat_eq named n) numbers (number ∷ [])))
+
+-- one literal more
+pub Forgets-literal : (lits : List Literal) (i : ℕ) (l : Literal) (number : ℕ)
+    (before middle after : Marks) → i < length lits → l ≡ get_or lits i l →
+    number ≡ literal_number l → Forgets (map literal_number (take i lits)) before middle →
+    ((n : ℕ) → stamp_at after n ≡ (if number == n then 0 else stamp_at middle n)) →
+    Forgets (map literal_number (take (i + 1) lits)) before after
+Forgets-literal lits i l number before middle after within is named h one =
+    subst (λ numbers. Forgets numbers before after)
+    (ap (λ k. map literal_number (take i lits) ++ k ∷ []) (named ∙ ap literal_number is)
+    ∙ sym (ap (map literal_number) (take_more lits i l within)
+    ∙ map-append literal_number (take i lits) (get_or lits i l ∷ [])))
+    (Forgets-push (map literal_number (take i lits)) number before middle after h one)
 
 -- ---- stamps in a map
 

@@ -5,10 +5,10 @@ pub mod Propagate
 pub mod Apply
 pub mod Checker
 pub mod Stamps
+pub mod Assignment
 pub mod Index
 pub mod Resets
 pub mod Own
 pub mod Grouped
 pub mod Needed
-pub mod Marked
 pub mod Holders

@@ -11,7 +11,7 @@ use std::collections::BTreeSet;
 
 /// The candidates of a step's groups, to be looked up in one step each, and no set where the groups
 /// or the look-ups are few.
-pub fn candidates(
+pub fn grouped_ids(
     alloc: Global,
     step: &StepBuffer,
     look_ups: usize,

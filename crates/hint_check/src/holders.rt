@@ -11,9 +11,40 @@ ghost use Rattle.hint_check.specs.Inner.Holders.{place_in, slot_of, slot_count, 
 ghost use Rattle.hint_check.specs.Inner.Holders.{begin, AreLeft, IsThere, IsWhole, ids_of};
 ghost use Rattle.hint_check.specs.Inner.Holders.{NamesEach};
 
-use cnf_text::formula::Clause;
 use cnf_text::literal::Lit;
 use std::alloc::{AllocError, Global};
+use std::marker::Model;
+
+/// The literals for which a clause is listed.
+#[derive(Drop)]
+pub struct Indexed<'c> {
+    lits: &'c [Lit],
+}
+
+impl<'c> Model for Indexed<'c> {
+    ghost use Rattle.std.specs.Prelude.{List};
+    ghost use Rattle.cnf_text.specs.Literal.{Literal};
+
+    ghost Value = { List Literal };
+
+    ghost view = { λ indexed. indexed.lits.now };
+}
+
+impl<'c> Indexed<'c> {
+    /// A clause that is listed for these literals.
+    pub fn new(lits: &'c [Lit]) -> Indexed<'c>
+        ensures { result ≡ lits.now }
+    {
+        Indexed { lits }
+    }
+
+    /// These literals.
+    fn lits(&self) -> &[Lit]
+        ensures { result.now ≡ self.now }
+    {
+        self.lits
+    }
+}
 
 /// Numbers below this are near in each formula that has greater ones.
 const REACH: u32 = 65536;
@@ -107,7 +138,7 @@ fn is_repeated(named: &[u32], place: usize) -> bool
 }
 
 /// How far the near numbers reach: over all, unless these are many more than the literals.
-fn reach_for(clauses: &[Clause]) -> u32 {
+fn reach_for(clauses: &[Indexed]) -> u32 {
     let mut literals: usize = 0;
     let mut numbers: u32 = 0;
     for clause in clauses {
@@ -132,7 +163,7 @@ fn numbers_of(lits: &[Lit]) -> u32 {
 }
 
 /// The far numbers of the clauses, in order.
-fn far_numbers(alloc: Global, clauses: &[Clause], reach: u32) -> Result<Vec<u32>, AllocError>
+fn far_numbers(alloc: Global, clauses: &[Indexed], reach: u32) -> Result<Vec<u32>, AllocError>
     ensures { IfOk result (λ far. IsStrictlyIncreasing far.items) }
 {
     let mut far: Vec<u32> = Vec::new(alloc);
@@ -183,7 +214,7 @@ fn count_clause(slots: &Slots, lits: &[Lit], counts: &mut [u32]) -> Result<(), A
 }
 
 /// For each slot, and for one more, how often its literals come in the clauses.
-fn counts_of(alloc: Global, slots: &Slots, clauses: &[Clause]) -> Result<Vec<u32>, AllocError>
+fn counts_of(alloc: Global, slots: &Slots, clauses: &[Indexed]) -> Result<Vec<u32>, AllocError>
     requires { IsStrictlyIncreasing slots.now.far.items }
     ensures { IfOk result (λ counts. (length counts.items ≡ slot_count slots.now + 1)
         × ((slot : ℕ) → slot < length counts.items
@@ -214,7 +245,7 @@ fn sum_up(counts: &mut [u32]) -> Result<(), AllocError>
 }
 
 /// Where the ids of each slot end, and of one more.
-fn ends_of(alloc: Global, slots: &Slots, clauses: &[Clause]) -> Result<Vec<u32>, AllocError>
+fn ends_of(alloc: Global, slots: &Slots, clauses: &[Indexed]) -> Result<Vec<u32>, AllocError>
     requires { IsStrictlyIncreasing slots.now.far.items }
     ensures { IfOk result (λ ends. (length ends.items ≡ slot_count slots.now + 1)
         × ((slot : ℕ) → slot < length ends.items
@@ -240,7 +271,7 @@ fn put(starts: &mut [u32], ids: &mut [u32], slot: usize, id: u32)
 
 /// Puts the id of the clause in this place before those that are there, in the slot of each of its
 /// literals.
-fn put_clause(slots: &Slots, clauses: &[Clause], place: usize, starts: &mut [u32], ids: &mut [u32])
+fn put_clause(slots: &Slots, clauses: &[Indexed], place: usize, starts: &mut [u32], ids: &mut [u32])
     requires rises { IsStrictlyIncreasing slots.now.far.items }
     requires place { place < length clauses.now }
     requires few { length clauses.now < 2 ^ 32 }
@@ -267,7 +298,7 @@ fn put_clause(slots: &Slots, clauses: &[Clause], place: usize, starts: &mut [u32
 
 /// Puts the ids of all clauses into the slots of their literals, where each slot has the place in
 /// which its ids end.
-fn put_all(slots: &Slots, clauses: &[Clause], starts: &mut [u32], ids: &mut [u32])
+fn put_all(slots: &Slots, clauses: &[Indexed], starts: &mut [u32], ids: &mut [u32])
     requires rises { IsStrictlyIncreasing slots.now.far.items }
     requires few { length clauses.now < 2 ^ 32 }
     requires room { slot_count slots.now ≤ length starts.old }
@@ -287,7 +318,7 @@ fn put_all(slots: &Slots, clauses: &[Clause], starts: &mut [u32], ids: &mut [u32
 }
 
 /// The ids of clauses by their literals, where the clauses have the ids from 1 on.
-pub fn holders_of(alloc: Global, clauses: &[Clause]) -> Result<Holders, AllocError>
+pub fn holders_of(alloc: Global, clauses: &[Indexed]) -> Result<Holders, AllocError>
     ensures whole { IfOk result (λ holders. IsWhole holders) }
     ensures names { IfOk result (λ holders. NamesEach holders (enumerate_from 1 clauses.now)) }
 {

@@ -1,15 +1,15 @@
 //! The live clauses that need a group of hints, by their ids.
-ghost use Rattle.std.specs.Prelude.{◌≡◌, ◌==◌, IfOk};
+ghost use Rattle.std.specs.Prelude.{◌≡◌, ◌==◌, IfOk, OnOk};
 ghost use Rattle.std.specs.BTreeSet.{contains};
 ghost use Rattle.std.specs.List.{list_any};
 ghost use Rattle.cnf_text.specs.Literal.{negation};
-ghost use Rattle.hint_check.specs.Literals.{has};
+ghost use Rattle.hint_check.specs.Inner.Assignment.{set_of};
 ghost use Rattle.hint_check.specs.Inner.Live.{NamesHolders};
 ghost use Rattle.hint_check.specs.Inner.Needed.{is_needed, HasAll, NamesNeeded};
 
 use crate::assignment::Assignment;
 use crate::live::LiveClauses;
-use crate::tautology::holds_with_none_true;
+use crate::tautology::{holds_with_none_true, is_found_tautology};
 use cnf_text::literal::Lit;
 use std::alloc::{AllocError, Global};
 use std::collections::BTreeSet;
@@ -83,31 +83,48 @@ fn set_of(alloc: Global, ids: &[u64]) -> Result<BTreeSet<u64>, AllocError>
     Ok(set)
 }
 
-/// Whether the clause that is live under an id needs a group.
-fn is_needed(live: &LiveClauses, reached: &Assignment, pivot: Lit, id: u64) -> bool
-    ensures { result ≡ is_needed live.now (has reached.now) pivot id }
+/// Whether the clause that is live under an id needs a group. The scratch assignment is for nothing
+/// else.
+fn is_needed(
+    live: &LiveClauses,
+    reached: &Assignment,
+    scratch: &mut Assignment,
+    pivot: Lit,
+    id: u64,
+) -> Result<bool, AllocError>
+    ensures { IfOk result
+        (λ needed. needed ≡ is_needed live.now (set_of reached.now) pivot id) }
 {
-    match live.get(id) {
-        Some(clause) => {
-            holds_with_none_true(clause, pivot.negated(), reached) && !live.is_tautology(id)
-        }
-        None => false,
+    let Some(clause) = live.get(id) else {
+        return Ok(false);
+    };
+    if !holds_with_none_true(clause, pivot.negated(), reached) {
+        return Ok(false);
     }
+    let tautology = is_found_tautology(scratch, clause)?;
+    Ok(!tautology)
 }
 
 /// Keeps of these ids, which name the holders of the pivot's negation, those whose clauses need a
 /// group.
-pub fn keep_needed(live: &LiveClauses, reached: &Assignment, pivot: Lit, ids: &mut Vec<u64>)
+pub fn keep_needed(
+    live: &LiveClauses,
+    reached: &Assignment,
+    scratch: &mut Assignment,
+    pivot: Lit,
+    ids: &mut Vec<u64>,
+) -> Result<(), AllocError>
     requires { NamesHolders live.now (negation pivot) ids.old.items }
-    ensures { NamesNeeded live.now (has reached.now) pivot ids.new.items }
+    ensures { OnOk result (NamesNeeded live.now (set_of reached.now) pivot ids.new.items) }
 {
     let mut kept = 0;
     for place in 0..ids.len() {
         let id = ids[place];
-        if is_needed(live, reached, pivot, id) {
+        if is_needed(live, reached, scratch, pivot, id)? {
             ids[kept] = id;
             kept += 1;
         }
     }
     ids.truncate(kept);
+    Ok(())
 }

@@ -9,7 +9,9 @@ ghost use Rattle.hint_check.specs.Inner.Own.{no_slot, slot_at, near_at, far_at, 
 ghost use Rattle.hint_check.specs.Inner.Own.{SpansEndBy, slot_clause, span_clause, near_entries};
 ghost use Rattle.hint_check.specs.Inner.Own.{far_entries, slot_length, SetsSlot, ListsAll};
 
+use crate::assignment::Assignment;
 use crate::index::Index;
+use crate::tautology::indexed_part;
 use cnf_text::literal::Lit;
 use std::alloc::{AllocError, Global};
 use std::collections::BTreeMap;
@@ -200,12 +202,13 @@ impl OwnClauses {
         self.held.saturating_add(self.slots.len())
     }
 
-    /// Lists each clause's id for its literals, beside what the index lists already.
-    pub fn list_in(&self, index: &mut Index) -> Result<(), AllocError>
+    /// Lists the id of each clause that is no tautology for its literals, beside what the index
+    /// lists already. The scratch assignment is for nothing else.
+    pub fn list_in(&self, index: &mut Index, scratch: &mut Assignment) -> Result<(), AllocError>
         ensures { OnOk result (Indexes index.new (map.entries self.now)) }
     {
-        list_near(index, &self.lits, &self.slots, self.first)?;
-        list_far(index, &self.lits, &self.far)?;
+        list_near(index, scratch, &self.lits, &self.slots, self.first)?;
+        list_far(index, scratch, &self.lits, &self.far)?;
         Ok(())
     }
 }
@@ -431,27 +434,38 @@ fn take_far(far: &mut BTreeMap<u64, Span>, id: u64) -> usize
     span_len(far.remove(&id))
 }
 
-/// Lists the near ids for the literals of their clauses.
-fn list_near(index: &mut Index, lits: &[Lit], slots: &[Slot], first: u64) -> Result<(), AllocError>
+/// Lists the near ids for what their clauses show.
+fn list_near(
+    index: &mut Index,
+    scratch: &mut Assignment,
+    lits: &[Lit],
+    slots: &[Slot],
+    first: u64,
+) -> Result<(), AllocError>
     requires ends { SlotsEndBy slots.now (length lits.now) }
     requires fits { first + length slots.now ≤ 2 ^ 64 }
     ensures { OnOk result (ListsAll index.old index.new (near_entries lits.now first slots.now)) }
 {
     for (place, slot) in slots.iter().enumerate() {
         if let Some(clause) = slot_clause(lits, *slot) {
-            index.push_all(clause, first + place as u64)?;
+            index.push_all(indexed_part(scratch, clause)?, first + place as u64)?;
         }
     }
     Ok(())
 }
 
-/// Lists the far ids for the literals of their clauses.
-fn list_far(index: &mut Index, lits: &[Lit], far: &BTreeMap<u64, Span>) -> Result<(), AllocError>
+/// Lists the far ids for what their clauses show.
+fn list_far(
+    index: &mut Index,
+    scratch: &mut Assignment,
+    lits: &[Lit],
+    far: &BTreeMap<u64, Span>,
+) -> Result<(), AllocError>
     requires { SpansEndBy far.now.entries (length lits.now) }
     ensures { OnOk result (ListsAll index.old index.new (far_entries lits.now far.now.entries)) }
 {
     for (id, span) in far {
-        index.push_all(span_clause(lits, *span), *id)?;
+        index.push_all(indexed_part(scratch, span_clause(lits, *span))?, *id)?;
     }
     Ok(())
 }

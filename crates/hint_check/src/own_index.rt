@@ -5,6 +5,7 @@ ghost use Rattle.std.specs.FinMap as map;
 ghost use Rattle.cnf_text.specs.Literal.{literal_number};
 ghost use Rattle.hint_check.specs.Inner.Index.{ids_at, Indexes, MayList};
 
+use crate::assignment::Assignment;
 use crate::index::Index;
 use crate::own::OwnClauses;
 use cnf_text::literal::Lit;
@@ -46,8 +47,9 @@ impl OwnIndex {
         self.is_made = false;
     }
 
-    /// Makes the index of these clauses where none is made.
-    pub fn make(&mut self, own: &OwnClauses) -> Result<(), AllocError>
+    /// Makes the index of these clauses where none is made. The scratch assignment is for nothing
+    /// else.
+    pub fn make(&mut self, own: &OwnClauses, scratch: &mut Assignment) -> Result<(), AllocError>
         requires { IfSome self.old (λ rows. Indexes rows (map.entries own.now)) }
         ensures made { OnOk result (Indexes (unwrap_or self.new []) (map.entries own.now)) }
         ensures kept { IfSome self.new (λ rows. Indexes rows (map.entries own.now)) }
@@ -56,7 +58,7 @@ impl OwnIndex {
             return Ok(());
         }
         self.index.clear();
-        own.list_in(&mut self.index)?;
+        own.list_in(&mut self.index, scratch)?;
         self.is_made = true;
         Ok(())
     }

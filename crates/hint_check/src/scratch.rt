@@ -6,6 +6,25 @@ use lrat_text::StepBuffer;
 use std::alloc::Global;
 use std::marker::Model;
 
+/// What is written on to find the candidates of a step.
+#[derive(Drop)]
+pub struct Candidates {
+    /// The ids of the clauses that may be candidates.
+    pub(crate) ids: Vec<u64>,
+    /// The literals of a clause that is looked at.
+    pub(crate) literals: Assignment,
+}
+
+impl Candidates {
+    /// With room for nothing. It takes no memory yet.
+    fn new(alloc: Global) -> Candidates {
+        Candidates {
+            ids: Vec::new(alloc),
+            literals: Assignment::new(alloc),
+        }
+    }
+}
+
 /// What judgements write on: the step that is read, a set of literals, a list of ids and the
 /// lists of the live clauses. No judgement sees what an earlier one left there. What it has room
 /// for it keeps, so that judging many proofs with one of them takes memory only where a proof needs
@@ -15,8 +34,8 @@ pub struct Scratch {
     pub(crate) step: StepBuffer,
     /// The literals that the hints of a step have made true.
     pub(crate) reached: Assignment,
-    /// The ids of the clauses that may be a step's candidates.
-    pub(crate) holders: Vec<u64>,
+    /// The clauses that may be a step's candidates.
+    pub(crate) candidates: Candidates,
     /// Where the lists of the live clauses are kept between two judgements.
     pub(crate) room: Room,
 }
@@ -36,7 +55,7 @@ impl Scratch {
         Scratch {
             step: StepBuffer::new(alloc),
             reached: Assignment::new(alloc),
-            holders: Vec::new(alloc),
+            candidates: Candidates::new(alloc),
             room: Room::new(alloc),
         }
     }

@@ -80,6 +80,15 @@ impl StampList {
         self.stamps[place] = stamp;
     }
 
+    /// Sets the stamp of a number to 0, where it has room.
+    pub fn forget(&mut self, place: usize)
+        ensures { self.new ≡ slice_set self.old place 0 }
+    {
+        if place < self.stamps.len() {
+            self.stamps[place] = 0;
+        }
+    }
+
     /// Takes all stamps out.
     pub fn clear(&mut self)
         ensures { self.new ≡ [] }
@@ -147,6 +156,14 @@ impl StampMap {
         set_entry(&mut self.stamps, number, stamp);
     }
 
+    /// Sets the stamp of a number to 0, where it has an entry.
+    pub fn forget(&mut self, number: u32)
+        ensures { (n : ℕ)
+            → mapped_at self.new n ≡ (if number == n then 0 else mapped_at self.old n) }
+    {
+        forget_entry(&mut self.stamps, number);
+    }
+
     /// Gives all stamps up.
     pub fn clear(&mut self)
         ensures { self.new ≡ [] }
@@ -173,5 +190,15 @@ fn set_entry(stamps: &mut BTreeMap<u32, u32>, number: u32, stamp: u32)
 {
     if let Some(place) = stamps.get_mut(&number) {
         *place = stamp;
+    }
+}
+
+/// Sets the stamp of a number to 0, where it has an entry.
+fn forget_entry(stamps: &mut BTreeMap<u32, u32>, number: u32)
+    ensures { (n : ℕ) → mapped_at stamps.new.entries n
+        ≡ (if number == n then 0 else mapped_at stamps.old.entries n) }
+{
+    if let Some(place) = stamps.get_mut(&number) {
+        *place = 0;
     }
 }

@@ -1,10 +1,12 @@
 //! A stamp for each number: in one list for the near numbers, which are most, and in a map for the
 //! others.
 ghost use Rattle.std.specs.Prelude.{◌≡◌, ℕ, ◌<◌, ◌≤◌, ◌==◌, if◌then◌else◌, ◌↔◌, IsTrue, [], length};
-ghost use Rattle.std.specs.Prelude.{OnOk};
-ghost use Rattle.hint_check.specs.Inner.Stamps.{stamp_at, HasRoom};
+ghost use Rattle.std.specs.Prelude.{OnOk, map};
+ghost use Rattle.cnf_text.specs.Literal.{literal_number};
+ghost use Rattle.hint_check.specs.Inner.Stamps.{stamp_at, HasRoom, Forgets};
 
 use crate::stamp_parts::{StampList, StampMap};
+use cnf_text::literal::Lit;
 use std::alloc::{AllocError, Global};
 use std::marker::Model;
 
@@ -121,6 +123,27 @@ impl Stamps {
             self.near.set(number as usize, stamp);
         } else {
             self.far.set(number, stamp);
+        }
+    }
+
+    /// Sets the stamp of a number to 0.
+    fn forget(&mut self, number: u32)
+        ensures { (n : ℕ)
+            → stamp_at self.new n ≡ (if number == n then 0 else stamp_at self.old n) }
+    {
+        if number < NEAR {
+            self.near.forget(number as usize);
+        } else {
+            self.far.forget(number);
+        }
+    }
+
+    /// Sets the stamps of these literals' numbers to 0.
+    pub fn forget_all(&mut self, lits: &[Lit])
+        ensures { Forgets (map literal_number lits.now) self.old self.new }
+    {
+        for lit in lits {
+            self.forget(lit.number());
         }
     }
 

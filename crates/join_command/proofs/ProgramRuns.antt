@@ -8,6 +8,7 @@ use Rattle.cube_report.specs.declared.fault.Fault.TheVariants.{Header, Token, Un
 use Rattle.cube_report.specs.declared.fault.Fault.TheVariants.{Limit, Memory, Repeats, NotATree}
 use Rattle.cube_report.specs.declared.fault.Fault.TheVariants.{Overlap, BadLabel, NoSuchLeaf}
 use Rattle.cube_report.specs.declared.fault.Fault.TheVariants.{ProofTwice, Device, Thread}
+use Rattle.cube_report.specs.declared.fault.Fault.TheVariants.{NoProblem, Counts}
 use Rattle.cube_report.specs.Faults.{IsInputFault}
 use Rattle.cube_report.specs.Correct.{IsUnsatisfiable}
 use Rattle.cube_command.specs.Program.{IsLineWritten}
@@ -41,6 +42,8 @@ above_two_run (Overlap first second) = omega arith
 above_two_run (BadLabel line) = omega arith
 above_two_run (NoSuchLeaf line) = omega arith
 above_two_run (ProofTwice line) = omega arith
+above_two_run NoProblem = omega arith
+above_two_run (Counts variables clauses greatest found) = omega arith
 above_two_run Memory = omega arith
 above_two_run Device = omega arith
 above_two_run Thread = omega arith
@@ -61,6 +64,8 @@ with_three (Overlap first second) is = (λ e. cc, λ e. cc, λ e. cc)
 with_three (BadLabel line) is = (λ e. cc, λ e. cc, λ e. cc)
 with_three (NoSuchLeaf line) is = (λ e. cc, λ e. cc, λ e. cc)
 with_three (ProofTwice line) is = (λ e. cc, λ e. cc, λ e. cc)
+with_three NoProblem is = (λ e. cc, λ e. cc, λ e. cc)
+with_three (Counts variables clauses greatest found) is = (λ e. cc, λ e. cc, λ e. cc)
 with_three Memory is = absurd (omega arith)
 with_three Device is = absurd (omega arith)
 with_three Thread is = absurd (omega arith)
@@ -86,6 +91,8 @@ input_status (Overlap first second) is = refl
 input_status (BadLabel line) is = refl
 input_status (NoSuchLeaf line) is = refl
 input_status (ProofTwice line) is = refl
+input_status NoProblem is = refl
+input_status (Counts variables clauses greatest found) is = refl
 input_status Memory is = absurd (is.0 refl)
 input_status Device is = absurd (is.1 refl)
 input_status Thread is = absurd (is.2 refl)

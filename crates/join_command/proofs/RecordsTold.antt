@@ -17,6 +17,7 @@ use Rattle.cube_report.specs.Mark.{Mark}
 use Rattle.cube_report.specs.Report.{report_text}
 use Rattle.bundle_files.specs.Files.{Held}
 use Rattle.bundle_files.proofs.FilesFormula.{judged_keeps_items}
+use Rattle.bundle_files.specs.Formula.{Sources}
 use Rattle.cube_command.specs.Program.{IsReported}
 use Rattle.cube_command.specs.Record.{digest_line, record_text}
 use Rattle.cube_command.proofs.RecordLines.{one_line}
@@ -84,10 +85,11 @@ reports_told false bundle texts reports case is parts are =
 
 -- ---- a run that leaves a record
 
-pub left_by_run : (held after : Held) (file folder map out input old new : Option (List ℕ))
-    (answer : Bool) (run : IsReported held after file folder map out input old new answer) →
+pub left_by_run : (held after : Held) (sources : Sources)
+    (folder map out input old new : Option (List ℕ)) (answer : Bool)
+    (run : IsReported held after sources folder map out input old new answer) →
     IsLeftBy run.read (record_text run.read run.text)
-left_by_run held after file folder map out input old new answer run =
+left_by_run held after sources folder map out input old new answer run =
     let correct = run.correct in record {
       held = held;
       folder = folder;

@@ -3,6 +3,7 @@ use crate::literals::are_lits;
 use cnf_text::formula::Clause;
 use cnf_text::icnf::{TextFault, read_icnf};
 use cnf_text::literal::Lit;
+use cnf_text::read_problem;
 use std::alloc::Global;
 
 /// A text, and its fault if it has one.
@@ -86,4 +87,14 @@ fn short_and_long_clauses(rt: HostRuntime) {
     let file = read_icnf(rt.alloc(), text).expect(&rt, "a fault");
     let lists: &[&[i32]] = &[&[1, -2, 3, -4, 5, -6, 7], &[8, 7, 6, 5, -4, 3, 2, 1], &[-9]];
     assert!(rt; are_clauses(file.formula.clauses(), lists));
+}
+
+/// What the problem line of a DIMACS text says, and the greatest variable of a formula.
+#[test]
+fn problems(rt: HostRuntime) {
+    let text = b"c a formula\np cnf 5 2\n1 -4 0 3\n0\n";
+    let said = read_problem(text).expect(&rt, "a fault");
+    assert!(rt; said.variables == 5 && said.clauses == 2);
+    let file = read_icnf(rt.alloc(), b"p inccnf\n1 -4 0 3 0 a 9 0\n").expect(&rt, "a fault");
+    assert!(rt; file.formula.greatest_variable() == 4);
 }

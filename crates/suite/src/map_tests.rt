@@ -33,9 +33,10 @@ const HEAD: &str = concat!(
     r##"<svg xmlns="http://www.w3.org/2000/svg" viewBox="0 0 2048 330" "##,
     r##"width="2048" height="330">"##,
     "\n<style>text{font:18px sans-serif}",
-    "rect{fill:#FFFFFF;stroke:#FFFFFF;stroke-width:0.2}.c{fill:#BBBBBB}.r{fill:#0072B2}",
-    ".x{fill:#D55E00}.o{fill:#F0E442}.p{fill:#56B4E9}.n{stroke:#000000;stroke-width:2}",
-    "</style>\n",
+    "rect{fill:#FFFFFF;stroke:#FFFFFF;stroke-width:0.2}",
+    r##"rect[width="1"],rect[width="2"]{stroke-width:0}"##,
+    ".c{fill:#BBBBBB}.r{fill:#0072B2}.x{fill:#D55E00}.o{fill:#F0E442}.p{fill:#56B4E9}",
+    "rect.n{stroke:#000000;stroke-width:2}</style>\n",
     r##"<rect class="r" x="760" y="8" width="22" height="22"></rect>"##,
     r##"<text x="790" y="26">refuted</text>"##,
     "\n",
@@ -73,8 +74,9 @@ const DEEP: &str = four!(
 /// A picture with this answer, this open weight, and these cells.
 fn picture(rt: &impl Abort, alloc: Global, answer: &str, weight: u64, cells: &str) -> String {
     let title = r##"<text x="8" y="26">s"##;
+    let under = r##"<text x="130" y="26">w"##;
     format!(in alloc;
-        "{HEAD}{title} {answer}\nw {weight} of 1152921504606846976</text>\n{cells}</svg>\n"
+        "{HEAD}{title} {answer}\n</text>\n{under} {weight} of 1152921504606846976</text>\n{cells}</svg>\n"
     ).expect(rt, "memory")
 }
 

@@ -106,14 +106,15 @@ cells case marks (suc level) left node covered (split v positive negative) =
 
 -- ---- the whole picture
 
--- its size and its colours
+-- its size and its colours: cells that are narrower than 4 have no edge, which would hide them
 unfoldable pub head : List ℕ
 head =
     codes "<svg xmlns=\"http://www.w3.org/2000/svg\" viewBox=\"0 0 2048 330\" "
     ++ codes "width=\"2048\" height=\"330\">\n<style>text{font:18px sans-serif}"
-    ++ codes "rect{fill:#FFFFFF;stroke:#FFFFFF;stroke-width:0.2}.c{fill:#BBBBBB}.r{fill:#0072B2}"
-    ++ codes ".x{fill:#D55E00}.o{fill:#F0E442}.p{fill:#56B4E9}.n{stroke:#000000;stroke-width:2}"
-    ++ codes "</style>\n"
+    ++ codes "rect{fill:#FFFFFF;stroke:#FFFFFF;stroke-width:0.2}"
+    ++ codes "rect[width=\"1\"],rect[width=\"2\"]{stroke-width:0}"
+    ++ codes ".c{fill:#BBBBBB}.r{fill:#0072B2}.x{fill:#D55E00}.o{fill:#F0E442}.p{fill:#56B4E9}"
+    ++ codes "rect.n{stroke:#000000;stroke-width:2}</style>\n"
 
 -- a word of the first line
 unfoldable pub word_at : ℕ → List ℕ → List ℕ
@@ -136,13 +137,14 @@ legend =
 -- how much of the whole weight is open
 unfoldable pub weights : ℕ → ℕ → List ℕ
 weights open_under whole =
-    codes "w" ++ number_field open_under ++ codes " of" ++ number_field whole
+    codes "<text x=\"130\" y=\"26\">w" ++ number_field open_under ++ codes " of"
+    ++ number_field whole ++ codes "</text>\n"
 
--- the answer and the weights
+-- the answer and the weights, each in a text of its own
 unfoldable pub title : Bool → ℕ → ℕ → List ℕ
 title refuted open_under whole =
-    codes "<text x=\"8\" y=\"26\">" ++ answer_line refuted ++ weights open_under whole
-    ++ codes "</text>\n"
+    codes "<text x=\"8\" y=\"26\">" ++ answer_line refuted ++ codes "</text>\n"
+    ++ weights open_under whole
 
 -- the picture of a case whose nodes have these marks
 abbrev pub map_text : CaseOf → List Mark → List ℕ

@@ -28,16 +28,17 @@ pub fn map_of(alloc: Global, boards: &Boards<'_>) -> Result<Vec<u8>, AllocError>
     Ok(text)
 }
 
-/// The picture's size and its colours.
+/// The picture's size and its colours. Cells that are narrower than 4 have no edge.
 #[tactic(auto, unfolding(crate::specs::Picture::head))]
 fn head() -> &'static [u8]
     ensures { result.now ≡ head }
 {
     b"<svg xmlns=\"http://www.w3.org/2000/svg\" viewBox=\"0 0 2048 330\" \
 width=\"2048\" height=\"330\">\n<style>text{font:18px sans-serif}\
-rect{fill:#FFFFFF;stroke:#FFFFFF;stroke-width:0.2}.c{fill:#BBBBBB}.r{fill:#0072B2}\
-.x{fill:#D55E00}.o{fill:#F0E442}.p{fill:#56B4E9}.n{stroke:#000000;stroke-width:2}\
-</style>\n"
+rect{fill:#FFFFFF;stroke:#FFFFFF;stroke-width:0.2}\
+rect[width=\"1\"],rect[width=\"2\"]{stroke-width:0}\
+.c{fill:#BBBBBB}.r{fill:#0072B2}.x{fill:#D55E00}.o{fill:#F0E442}.p{fill:#56B4E9}\
+rect.n{stroke:#000000;stroke-width:2}</style>\n"
 }
 
 /// What each colour means.
@@ -91,8 +92,8 @@ fn write_title(
 {
     text.extend_from_slice(b"<text x=\"8\" y=\"26\">")?;
     text.extend_from_slice(answer(refuted))?;
-    write_weights(text, open_under, whole)?;
     text.extend_from_slice(b"</text>\n")?;
+    write_weights(text, open_under, whole)?;
     Ok(())
 }
 
@@ -101,10 +102,11 @@ fn write_title(
 fn write_weights(text: &mut Vec<u8>, open_under: u64, whole: u64) -> Result<(), AllocError>
     ensures { OnOk result (text.new.items ≡ text.old.items ++ weights open_under whole) }
 {
-    text.extend_from_slice(b"w")?;
+    text.extend_from_slice(b"<text x=\"130\" y=\"26\">w")?;
     write_number(text, open_under)?;
     text.extend_from_slice(b" of")?;
     write_number(text, whole)?;
+    text.extend_from_slice(b"</text>\n")?;
     Ok(())
 }
 

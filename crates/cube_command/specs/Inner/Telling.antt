@@ -5,6 +5,7 @@ use Rattle.cube_report.specs.declared.fault.Fault.TheVariants.{Header, Token, Un
 use Rattle.cube_report.specs.declared.fault.Fault.TheVariants.{Limit, Memory, Repeats, NotATree}
 use Rattle.cube_report.specs.declared.fault.Fault.TheVariants.{Overlap, BadLabel, NoSuchLeaf}
 use Rattle.cube_report.specs.declared.fault.Fault.TheVariants.{ProofTwice, Device, Thread}
+use Rattle.cube_report.specs.declared.fault.Fault.TheVariants.{NoProblem, Counts}
 use Rattle.cube_report.specs.Faults.{IsInputFault}
 use Rattle.cube_command.specs.Program.{fault_line, IsLineWritten}
 
@@ -20,6 +21,8 @@ status_of (Overlap first second) = 3
 status_of (BadLabel line) = 3
 status_of (NoSuchLeaf line) = 3
 status_of (ProofTwice line) = 3
+status_of NoProblem = 3
+status_of (Counts variables clauses greatest found) = 3
 status_of Memory = 4
 status_of Device = 5
 status_of Thread = 4

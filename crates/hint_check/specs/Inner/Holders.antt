@@ -1,12 +1,15 @@
 -- For each literal the ids of a formula's clauses that hold it, slot by slot.
 use Rattle.std.specs.Prelude.{◌≡◌, ℕ, zero, suc, ◌+◌, ◌<◌, ◌≤◌, nat_eq, nat_lt, if◌then◌else◌}
-use Rattle.std.specs.Prelude.{slice_index, slice_range, length, List, [], ◌∷◌}
-use Rattle.std.specs.List.{sum_by}
+use Rattle.std.specs.Prelude.{◌==◌, true, slice_index, slice_range, length, List, [], ◌∷◌}
+use Rattle.std.specs.FinMap as map
+use Rattle.std.specs.Ordering.{nat_cmp}
+use Rattle.std.specs.Option.{IfSome}
+use Rattle.std.specs.List.{list_any, sum_by}
 use Rattle.std.specs.List.Sorted.{IsStrictlyIncreasing}
 use Rattle.cnf_text.specs.Literal.{Literal, literal_number}
 use Rattle.hint_check.specs.declared.holders.Slots.{Slots}
 use Rattle.hint_check.specs.declared.holders.Holders.{Holders}
-use Rattle.hint_check.specs.Inner.Index.{NamesEntries}
+use Rattle.hint_check.specs.Literals.{has}
 
 -- the first place of a number in a list; where it isn't there, the list's length
 abbrev pub place_in : List ℕ → ℕ → ℕ
@@ -69,4 +72,6 @@ ids_of holders l =
 
 -- the ids name each clause that holds the literal
 unfoldable pub NamesEach : Holders → List (ℕ × List Literal) → Type 0
-NamesEach holders entries = (l : Literal) → NamesEntries entries l (ids_of holders l)
+NamesEach holders entries =
+    (l : Literal) (q : ℕ) → IfSome (map.find nat_cmp q entries)
+    (λ clause. has clause l ≡ true → list_any (λ named. named == q) (ids_of holders l) ≡ true)

@@ -8,7 +8,7 @@ use Rattle.std.specs.Map.{lookup}
 use Rattle.std.specs.Ordering.{nat_cmp}
 use Rattle.std.specs.FinMap as map
 use Rattle.cnf_text.specs.Literal.{Literal, literal_number}
-use Rattle.hint_check.specs.Literals.{has}
+use Rattle.hint_check.specs.Literals.{has, is_tautology}
 use Rattle.hint_check.specs.declared.index.Link.{Link}
 
 -- the links, in the order in which they were made
@@ -81,17 +81,25 @@ Lists before after literals id =
     (l : Literal) (q : ℕ) → (is_listed before l q || (has literals l && (id == q))) ≡ true
     → is_listed after l q ≡ true
 
--- an id is listed for each literal of its clause
+-- what an index shows of a clause: nothing of a tautology, since that needs no group
+unfoldable pub indexed_part : List Literal → List Literal
+indexed_part clause = if is_tautology clause then [] else clause
+
+-- whether an index has to name the clause for the literal
+abbrev pub shows : List Literal → Literal → Bool
+shows clause l = has (indexed_part clause) l
+
+-- an id is listed for each literal that its clause shows
 unfoldable pub Indexes : Links → List (ℕ × List Literal) → Type 0
 Indexes links entries =
     (q : ℕ) (l : Literal) → IfSome (map.find nat_cmp q entries)
-    (λ clause. has clause l ≡ true → is_listed links l q ≡ true)
+    (λ clause. shows clause l ≡ true → is_listed links l q ≡ true)
 
--- the ids name each entry whose clause holds the literal
+-- the ids name each entry whose clause shows the literal
 unfoldable pub NamesEntries : List (ℕ × List Literal) → Literal → List ℕ → Type 0
 NamesEntries entries l ids =
     (q : ℕ) → IfSome (map.find nat_cmp q entries)
-    (λ clause. has clause l ≡ true → list_any (λ named. named == q) ids ≡ true)
+    (λ clause. shows clause l ≡ true → list_any (λ named. named == q) ids ≡ true)
 
 -- where there are links, the later ones list the id for each of these literals
 abbrev pub MayList : Option (Links) → Option (Links) → List Literal → ℕ → Type 0
@@ -99,17 +107,17 @@ MayList before None literals id = Unit {0}
 MayList None (Some after) literals id = ⊥
 MayList (Some before) (Some after) literals id = Lists before after literals id
 
--- whether one of these entries has the id, and a clause that holds the literal
+-- whether one of these entries has the id, and a clause that shows the literal
 abbrev pub still_has : List (ℕ × List Literal) → Literal → ℕ → Bool
-still_has rest l q = list_any (λ entry. has entry.1 l && (entry.0 == q)) rest
+still_has rest l q = list_any (λ entry. shows entry.1 l && (entry.0 == q)) rest
 
--- an id is listed for each literal of its clause, or its entry is still to come
+-- an id is listed for each literal that its clause shows, or its entry is still to come
 unfoldable pub Awaits : Links → List (ℕ × List Literal) → List (ℕ × List Literal) → Type 0
 Awaits links rest entries =
     (q : ℕ) (l : Literal) → IfSome (map.find nat_cmp q entries)
-    (λ clause. has clause l ≡ true → (is_listed links l q || still_has rest l q) ≡ true)
+    (λ clause. shows clause l ≡ true → (is_listed links l q || still_has rest l q) ≡ true)
 
--- the later ids are the earlier ones and others, which name each entry whose clause holds the
+-- the later ids are the earlier ones and others, which name each entry whose clause shows the
 -- literal
 unfoldable pub AddsHolders : List (ℕ × List Literal) → Literal → List ℕ → List ℕ → Type 0
 AddsHolders entries l before after =

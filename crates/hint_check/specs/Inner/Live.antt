@@ -4,17 +4,17 @@ use Rattle.std.specs.List.{list_any, enumerate_from, filter}
 use Rattle.std.specs.Ordering.{nat_cmp}
 use Rattle.std.specs.FinMap as map
 use Rattle.cnf_text.specs.Literal.{Literal}
-use Rattle.hint_check.specs.Literals.{has}
+use Rattle.hint_check.specs.Inner.Index.{shows}
 use Rattle.hint_check.specs.Live.{Live}
 use Rattle.hint_check.specs.Inner.Own.{own_seen}
 use Rattle.hint_check.specs.declared.live.LiveView.{LiveView}
 use Rattle.hint_check.specs.Inner.Dropped.{is_dropped}
 
--- The list names each live clause that holds the literal. It may name other ids too.
+-- The list names each live clause that shows the literal. It may name other ids too.
 abbrev pub NamesHolders : Live → Literal → List ℕ → Type 0
 NamesHolders live l ids =
     (id : ℕ) → IfSome (map.get live id)
-    (λ clause. has clause l ≡ true → list_any (λ named. named == id) ids ≡ true)
+    (λ clause. shows clause l ≡ true → list_any (λ named. named == id) ids ≡ true)
 
 -- the base's clauses under the ids from 1 on, without those dropped, and then the proof's own
 -- clauses

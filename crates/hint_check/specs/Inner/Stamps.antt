@@ -1,10 +1,11 @@
 -- Numbers stamped in a list and a map, for the contracts of private functions.
 use Rattle.std.specs.Prelude.{◌≡◌, ℕ, ◌<◌, ◌≤◌, ◌==◌, nat_eq, nat_lt, is_some, if◌then◌else◌, Bool}
-use Rattle.std.specs.Prelude.{true, false, List, length, take, slice_index, slice_index_or}
+use Rattle.std.specs.Prelude.{true, List, length, slice_index}
 use Rattle.std.specs.Map.{lookup}
 use Rattle.std.specs.Option.{unwrap_or}
 use Rattle.cnf_text.specs.Literal.{Literal, literal_number}
-use Rattle.hint_check.specs.Literals.{Literals, has}
+use Rattle.hint_check.specs.Literals.{Literals}
+use Rattle.hint_check.specs.Inner.Resets.{is_named}
 
 -- the stamp of a number in a map, and 0 where it has no entry
 abbrev pub mapped_at : List (ℕ × ℕ) → ℕ → ℕ
@@ -28,24 +29,14 @@ abbrev pub HasRoom : Marks → ℕ → Type 0
 HasRoom marks number =
     (number < 2097152 → number < length marks.0) × (2097152 ≤ number → HasEntry marks.1 number)
 
--- the literals that have this stamp are those of the list
-unfoldable pub StampsAre : Marks → ℕ → List Literal → Type 0
-StampsAre marks stamp literals =
-    (l : Literal) → (stamp_at marks (literal_number l) == stamp) ≡ has literals l
-
 -- no stamp is above this one
 unfoldable pub NoneAbove : Marks → ℕ → Type 0
 NoneAbove marks stamp = (number : ℕ) → stamp_at marks number ≤ stamp
 
--- no literal stands twice
-unfoldable pub NoRepeats : List Literal → Type 0
-NoRepeats literals =
-    (i : ℕ) (d : Literal) → i < length literals
-    → has (take i literals) (slice_index_or literals i d) ≡ false
-
--- the later list begins with the earlier one
-abbrev pub Extends : List Literal → List Literal → Type 0
-Extends before after = take (length before) after ≡ before
+-- the stamps of these numbers are gone, and the others are as before
+abbrev pub Forgets : List ℕ → Marks → Marks → Type 0
+Forgets numbers before after =
+    (n : ℕ) → stamp_at after n ≡ (if is_named numbers n then 0 else stamp_at before n)
 
 -- whether a literal has a stamp in the list that says that it is in the set
 abbrev pub is_shown : List ℕ → ℕ → Literal → Bool

@@ -1,24 +1,25 @@
 use Rattle.cube_command.proofs.WordsRequests.{nothing_asked, nothing_taken}
 use Rattle.cube_command.proofs.ProgramRuns.{device_run, fault_run, memory_run, sound_run}
 use Rattle.cube_command.proofs.ProgramRuns.{fault_asked, files_asked, memory_asked}
-use Rattle.cube_command.proofs.ProgramRuns.{reports_asked}
+use Rattle.cube_command.proofs.ProgramRuns.{published_run, reports_asked}
 use Rattle.cube_command.specs.Program.{AllowsPictures}
 use Rattle.cube_command.specs.Record.{AllowsRecords}
-use Rattle.std.proofs.Common.{◌≡◌, arith, List, ℕ}
+use Rattle.bundle_files.specs.Formula.{sources_by}
+use Rattle.std.proofs.Common.{◌≡◌, ap₂, arith, List, ℕ}
 use Rattle.cube_command.proofs.program.command.Goals as goal
 
 pub run_request-run-requires-clause-reports : goal.run_request-run-requires-clause-reports
 run_request-run-requires-clause-reports g c = λ κs within.
     reports_asked (g.O.Sink.allows c.args.output.now) (g.D.Store.held c.args.store.now) _ _ _ _
     (g.I.Source.remaining c.args.input.now)
-    c.in-Ok.ensures.file c.in-Ok.ensures.proofs c.requires.reports
+    (ap₂ sources_by c.in-Ok.ensures.formula c.in-Ok.ensures.file) c.in-Ok.ensures.proofs c.requires.reports
 
 pub run_request-run-requires-clause-pictures : goal.run_request-run-requires-clause-pictures
 run_request-run-requires-clause-pictures g c = λ κs within.
     files_asked
     (λ (path read whole : List ℕ). AllowsPictures (g.D.Store.allows c.args.store.now path) whole)
     (g.D.Store.held c.args.store.now) _ _ _ _ _ _ (g.I.Source.remaining c.args.input.now)
-    c.in-Ok.ensures.file c.in-Ok.ensures.proofs c.in-Ok.ensures.map c.requires.pictures
+    (ap₂ sources_by c.in-Ok.ensures.formula c.in-Ok.ensures.file) c.in-Ok.ensures.proofs c.in-Ok.ensures.map c.requires.pictures
 
 pub run_request-run-requires-clause-records : goal.run_request-run-requires-clause-records
 run_request-run-requires-clause-records g c = λ κs within.
@@ -26,7 +27,7 @@ run_request-run-requires-clause-records g c = λ κs within.
     (λ (path read whole : List ℕ).
     AllowsRecords (g.D.Store.allows c.args.store.now path) read whole)
     (g.D.Store.held c.args.store.now) _ _ _ _ _ _ (g.I.Source.remaining c.args.input.now)
-    c.in-Ok.ensures.file c.in-Ok.ensures.proofs c.in-Ok.ensures.out c.requires.records
+    (ap₂ sources_by c.in-Ok.ensures.formula c.in-Ok.ensures.file) c.in-Ok.ensures.proofs c.in-Ok.ensures.out c.requires.records
 
 pub run_request-run-requires-clause-apart : goal.run_request-run-requires-clause-apart
 run_request-run-requires-clause-apart g c = λ κs within.
@@ -36,7 +37,7 @@ pub tell_run-requires-clause-fault : goal.tell_run-requires-clause-fault
 tell_run-requires-clause-fault g c =
     fault_asked (g.E.Sink.allows c.args.errors.now) (g.D.Store.held c.args.store.now) _ _ _ _
     (g.I.Source.remaining c.args.input.now) c.run_request-run.result
-    c.in-Ok.ensures.file c.in-Ok.ensures.proofs c.requires.faults c.run_request-run.ensures.fault
+    (ap₂ sources_by c.in-Ok.ensures.formula c.in-Ok.ensures.file) c.in-Ok.ensures.proofs c.requires.faults c.run_request-run.ensures.fault
 
 pub tell_run-requires-clause-memory : goal.tell_run-requires-clause-memory
 tell_run-requires-clause-memory g c =
@@ -56,7 +57,16 @@ returns-in-Ok-clause-sound g c = λ zero.
     (g.O.Sink.contents c.run_request-run.new.output) c.run_request-run.result c.tell_run.result _
     (g.E.Sink.contents c.args.errors.now) (g.E.Sink.contents c.tell_run.new.errors)
     (g.E.Sink.failures c.args.errors.now) (g.E.Sink.failures c.tell_run.new.errors)
-    c.in-Ok.ensures.file c.tell_run.ensures.told c.run_request-run.ensures.report zero
+    (ap₂ sources_by c.in-Ok.ensures.formula c.in-Ok.ensures.file) c.tell_run.ensures.told c.run_request-run.ensures.report zero
+
+pub returns-in-Ok-clause-published : goal.returns-in-Ok-clause-published
+returns-in-Ok-clause-published g c = λ zero.
+    published_run (g.D.Store.held c.args.store.now) _ _ _ _ _ _ _
+    (g.O.Sink.contents c.args.output.now)
+    (g.O.Sink.contents c.run_request-run.new.output) c.run_request-run.result c.tell_run.result _
+    (g.E.Sink.contents c.args.errors.now) (g.E.Sink.contents c.tell_run.new.errors)
+    (g.E.Sink.failures c.args.errors.now) (g.E.Sink.failures c.tell_run.new.errors)
+    c.in-Ok.ensures.formula c.tell_run.ensures.told c.run_request-run.ensures.report zero
 
 pub returns-in-Ok-clause-fault : goal.returns-in-Ok-clause-fault
 returns-in-Ok-clause-fault g c = λ three.
@@ -64,7 +74,7 @@ returns-in-Ok-clause-fault g c = λ three.
     _
     (g.E.Sink.contents c.args.errors.now) (g.E.Sink.contents c.tell_run.new.errors)
     (g.E.Sink.failures c.args.errors.now) (g.E.Sink.failures c.tell_run.new.errors)
-    c.in-Ok.ensures.file c.in-Ok.ensures.proofs c.tell_run.ensures.told
+    (ap₂ sources_by c.in-Ok.ensures.formula c.in-Ok.ensures.file) c.in-Ok.ensures.proofs c.tell_run.ensures.told
     c.run_request-run.ensures.fault three
 
 pub returns-in-Ok-clause-memory : goal.returns-in-Ok-clause-memory
@@ -86,4 +96,4 @@ returns-in-Err-clause-none g c = λ empty.
     let four : c.refused.result ≡ 4 =
     c.refused.ensures.usage (c.in-Err.ensures.refused (nothing_taken _ _ empty)) in
     let asked = nothing_asked g.S.AsStr.text c.args.words.now empty in
-    (λ two. omega (arith, four, two), asked.0, asked.1)
+    (λ two. omega (arith, four, two), asked.0, asked.1, asked.2)

@@ -1,17 +1,28 @@
-use Rattle.std.proofs.Common.{List, ℕ, option_map, Bor, ◌∙◌}
+use Rattle.std.proofs.Common.{List, ℕ, option_map, Bor, ◌∙◌, inr}
 use Rattle.cube_report.specs.Faults.{IsInputFault}
 use Rattle.cube_command.specs.Program.{IsRefused}
+use Rattle.cube_command.specs.Inner.Program.{sources_in}
 use Rattle.cube_report.proofs.CorrectReports.{report_on}
 use Rattle.cube_command.proofs.ProgramRuns.{bundle_of, refused_of, picture_on, reported}
 use Rattle.cube_command.proofs.ProgramRuns.{begun_of, some_mapped, whole_record}
 use Rattle.cube_command.proofs.WordsRequests.{handed_on}
 use Rattle.cube_command.proofs.program.run_request.Goals as goal
 
+pub returns-in_err-read-clause-fault : goal.returns-in_err-read-clause-fault
+returns-in_err-read-clause-fault g c =
+    handed_on c.from_residual.result
+    (λ fault. IsInputFault fault → IsRefused (g.D.Store.held c.args.store.now)
+    (sources_in c.args.request.now)
+    (option_map {T = Bor (List ℕ)} {U = List ℕ} (λ text. text.now) c.args.request.now.proofs)
+    (g.I.Source.remaining c.args.input.now) fault)
+    c.in_err-read.field-0.0
+    (λ input. inr (c.in_err-read.ensures.fault input)) c.from_residual.ensures.1
+
 pub returns-in_err-outcome-clause-fault : goal.returns-in_err-outcome-clause-fault
 returns-in_err-outcome-clause-fault g c =
     handed_on c.from_residual-in_err-outcome.result
     (λ fault. IsInputFault fault → IsRefused (g.D.Store.held c.args.store.now)
-    (option_map {T = Bor (List ℕ)} {U = List ℕ} (λ text. text.now) c.args.request.now.file)
+    (sources_in c.args.request.now)
     (option_map {T = Bor (List ℕ)} {U = List ℕ} (λ text. text.now) c.args.request.now.proofs)
     (g.I.Source.remaining c.args.input.now) fault)
     c.in_err-outcome.field-0.0

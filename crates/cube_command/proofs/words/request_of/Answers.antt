@@ -26,11 +26,14 @@ returns-then-not-are_apart-clause-refused g c = λ taken.
 
 pub returns : goal.returns
 returns g c = record {
-  proofs =
+  formula =
       c.get_str.ensures
       ∙ found_asked _ _ _ _ c.in_ok-parser.ensures c.in_ok-matches.ensures.matches;
-  file =
+  proofs =
       c.get_str-2.ensures
+      ∙ found_asked _ _ _ _ c.in_ok-parser.ensures c.in_ok-matches.ensures.matches;
+  file =
+      c.get_str-3.ensures
       ∙ found_asked _ _ _ _ c.in_ok-parser.ensures c.in_ok-matches.ensures.matches;
   map =
       c.get_str-map.ensures

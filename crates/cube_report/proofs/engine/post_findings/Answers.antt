@@ -1,5 +1,5 @@
-use Rattle.std.proofs.Common.{◌≡◌, ◌∙◌}
-use Rattle.cube_report.proofs.StatedPosting.{section_target, section_none, one_turn}
+use Rattle.std.proofs.Common.{◌≡◌, ◌∙◌, arith}
+use Rattle.cube_report.proofs.StatedPosting.{section_target, section_none, one_turn, all_posted}
 use Rattle.cube_report.proofs.engine.post_findings.Goals as goal
 
 pub examine_with-requires : goal.examine_with-requires
@@ -31,3 +31,9 @@ loop-section-preserved c =
           (rw same at c.in-Some.finding.only) (rw target is) c.post.ensures.new
           c.post.ensures.marks,
     )
+
+pub returns-clause-findings : goal.returns-clause-findings
+returns-clause-findings c =
+    all_posted c.args.case.now c.sections-sections.result.now c.loop-section.section-index
+    c.loop-section.boards.marks c.sections-sections.ensures.targets_are
+    (omega (arith, c.loop-section-test.false)) c.loop-section.invariant.1

@@ -2,26 +2,25 @@ use Rattle.std.proofs.Common.{◌&&◌, not, Bool, sym, ap, ◌∙◌}
 use Rattle.cnf_text.specs.Literal.{Literal}
 use Rattle.hint_check.specs.Literals.{has, meets}
 use Rattle.hint_check.specs.Addition.{others}
+use Rattle.hint_check.specs.Inner.Assignment.{set_of}
 use Rattle.hint_check.proofs.AdditionGroups.{is_needed-held, is_needed-free}
 use Rattle.hint_check.proofs.needed.is_needed.Goals as goal
 
-pub returns-then-holds_with_none_true : goal.returns-then-holds_with_none_true
-returns-then-holds_with_none_true c =
-    let set = has c.args.reached.now in
+pub returns-then-not-holds_with_none_true : goal.returns-then-not-holds_with_none_true
+returns-then-not-holds_with_none_true c =
+    let set = set_of c.args.reached.now in
     let clause = c.in-Some.clause.now in
     let test : Literal → Bool = λ lit. has clause lit && not (meets set (others lit clause)) in
-    is_needed-held c.args.live.now set c.args.pivot c.args.id clause c.in-Some.ensures
-    c.is_tautology.result
-    c.is_tautology.ensures
+    is_needed-free c.args.live.now set c.args.pivot c.args.id clause c.in-Some.ensures
     (ap test (sym c.negated.ensures) ∙ sym c.holds_with_none_true.ensures
-    ∙ c.if-holds_with_none_true.true)
+    ∙ c.if-not-holds_with_none_true.true)
 
-pub returns-else-holds_with_none_true : goal.returns-else-holds_with_none_true
-returns-else-holds_with_none_true c =
-    let set = has c.args.reached.now in
+pub returns : goal.returns
+returns c =
+    let set = set_of c.args.reached.now in
     let clause = c.in-Some.clause.now in
     let test : Literal → Bool = λ lit. has clause lit && not (meets set (others lit clause)) in
-    c.if-holds_with_none_true.false
-    ∙ is_needed-free c.args.live.now set c.args.pivot c.args.id clause c.in-Some.ensures
+    ap not c.in_ok-tautology.ensures
+    ∙ is_needed-held c.args.live.now set c.args.pivot c.args.id clause c.in-Some.ensures
     (ap test (sym c.negated.ensures) ∙ sym c.holds_with_none_true.ensures
-    ∙ c.if-holds_with_none_true.false)
+    ∙ c.if-not-holds_with_none_true.false)

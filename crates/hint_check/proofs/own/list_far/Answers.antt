@@ -1,5 +1,6 @@
-use Rattle.std.proofs.Common.{◌≡◌, ℕ, ◌++◌, length, sym, subst}
-use Rattle.hint_check.specs.Inner.Index.{Lists, Awaits}
+use Rattle.std.proofs.Common.{◌≡◌, ℕ, ◌++◌, List, length, sym, ap, ◌∙◌, subst}
+use Rattle.cnf_text.specs.Literal.{Literal}
+use Rattle.hint_check.specs.Inner.Index.{Lists, Awaits, indexed_part}
 use Rattle.hint_check.specs.declared.own.Span.{Span}
 use Rattle.hint_check.specs.Inner.Own.{far_entries, span_clause, SpansEndBy}
 use Rattle.hint_check.proofs.IndexIds.{Awaits-next}
@@ -39,7 +40,8 @@ loop-id-preserved c =
           (far_entries lits c.next.new.self ++ rest) all
           (subst (λ far. Awaits before (far_entries lits far ++ rest) all) c.in-Some.ensures.steps
           (c.loop-id.invariant.listed rest all h))
-          (subst (λ clause. Lists before after clause e.0) c.span_clause.ensures
+          (subst (λ (part : List Literal). Lists before after part e.0)
+          (c.in_ok-indexed_part.ensures ∙ ap indexed_part c.span_clause.ensures)
           c.in_ok-push_all.ensures);
     }
 

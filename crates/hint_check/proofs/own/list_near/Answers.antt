@@ -1,11 +1,12 @@
-use Rattle.std.proofs.Common.{◌≡◌, ◌+◌, ◌++◌, drop, sym, ap, ◌∙◌, subst, arith}
-use Rattle.hint_check.specs.Inner.Index.{Awaits}
+use Rattle.std.proofs.Common.{◌≡◌, ◌+◌, ◌++◌, List, drop, sym, ap, ◌∙◌, subst, arith}
+use Rattle.cnf_text.specs.Literal.{Literal}
+use Rattle.hint_check.specs.Inner.Index.{Awaits, Lists}
 use Rattle.hint_check.specs.Inner.Own.{no_slot, slot_at, slot_clause, near_entries}
 use Rattle.hint_check.proofs.OwnEntries.{ListsAll-end, near-next, all-slots, any_default}
 use Rattle.hint_check.proofs.OwnEntries.{slot-within}
 use Rattle.hint_check.proofs.OwnEntries.{listed-one, listed-none}
 use Rattle.hint_check.proofs.own.list_near.Goals as goal
-use Rattle.hint_check.proofs.own.list_near.Goals.{in-Some+in_ok-push_all, in_default}
+use Rattle.hint_check.proofs.own.list_near.Goals.{in-Some+in_ok-indexed_part+in_ok-push_all, in_default}
 
 pub loop-place-init : goal.loop-place-init
 loop-place-init c rest all h =
@@ -32,11 +33,13 @@ loop-place-preserved c rest all h =
     (c.loop-place.invariant rest all h) in
     let done : Awaits c.match-slot_clause.index behind all =
     elim c.match-slot_clause.branch [
-      | in-Some+in_ok-push_all w ↦
+      | in-Some+in_ok-indexed_part+in_ok-push_all w ↦
           subst (λ rows. Awaits rows behind all) (sym w.index-is)
           (listed-one c.loop-place.index w.push_all.new.self id w.in-Some.clause.now found behind
           all
-          (sym (w.in-Some.ensures ∙ at)) w.in_ok-push_all.ensures was)
+          (sym (w.in-Some.ensures ∙ at))
+          (subst (λ (part : List Literal). Lists c.loop-place.index w.push_all.new.self part id)
+          w.in_ok-indexed_part.ensures w.in_ok-push_all.ensures) was)
       | in_default w ↦
           subst (λ rows. Awaits rows behind all) (sym w.index-is)
           (listed-none c.loop-place.index id found behind all (sym (w.in_default.ensures ∙ at)) was)

@@ -1,7 +1,7 @@
 use Rattle.std.proofs.Common.{◌≡◌, ◌+◌, false, ◌∷◌, drop, sym, ap, ◌∙◌, arith}
 use Rattle.std.proofs.lemmas.Bool.{not-true, not-false}
 use Rattle.cnf_text.specs.Literal.{negation, same}
-use Rattle.hint_check.specs.Literals.{has}
+use Rattle.hint_check.specs.Inner.Assignment.{set_of}
 use Rattle.hint_check.proofs.PropagationSteps.{effect_after, effect_after-start, effect_after-first}
 use Rattle.hint_check.proofs.PropagationSteps.{effect_after-same, effect_after-other}
 use Rattle.hint_check.proofs.PropagationSteps.{effect_after-falsified, effect_after-none}
@@ -13,11 +13,11 @@ use Rattle.hint_check.proofs.propagate.effect_by_literal.Goals.{then-not-contain
 use Rattle.hint_check.proofs.propagate.effect_by_literal.Goals.{else-not-contains}
 
 pub loop-lit-init : goal.loop-lit-init
-loop-lit-init c = sym (effect_after-start (has c.args.assignment.now) c.args.clause.now)
+loop-lit-init c = sym (effect_after-start (set_of c.args.assignment.now) c.args.clause.now)
 
 pub returns-then-ne : goal.returns-then-ne
 returns-then-ne c =
-    let set = has c.args.assignment.now in
+    let set = set_of c.args.assignment.now in
     let l = c.lit-item.result in
     let rest = drop (c.loop-lit.lit-index + 1) c.args.clause.now in
     let left : set (negation l) ≡ false = ap set (sym c.negated.ensures) ∙ sym c.contains.ensures
@@ -32,7 +32,7 @@ returns-then-ne c =
 
 pub loop-lit-preserved : goal.loop-lit-preserved
 loop-lit-preserved c =
-    let set = has c.args.assignment.now in
+    let set = set_of c.args.assignment.now in
     let l = c.lit-item.result in
     let rest = drop (c.loop-lit.lit-index + 1) c.args.clause.now in
     let so_far =
@@ -61,7 +61,7 @@ loop-lit-preserved c =
 
 pub returns-in-None-forced : goal.returns-in-None-forced
 returns-in-None-forced c =
-    let set = has c.args.assignment.now in
+    let set = set_of c.args.assignment.now in
     sym (c.loop-lit.invariant
     ∙ effect_after-end set c.loop-lit.forced c.args.clause.now c.loop-lit.lit-index (omega arith)
     ∙ ap (λ forced. effect_after set forced _) c.in-None-forced.is
@@ -69,7 +69,7 @@ returns-in-None-forced c =
 
 pub returns-in-Some-forced : goal.returns-in-Some-forced
 returns-in-Some-forced c =
-    let set = has c.args.assignment.now in
+    let set = set_of c.args.assignment.now in
     sym (c.loop-lit.invariant
     ∙ effect_after-end set c.loop-lit.forced c.args.clause.now c.loop-lit.lit-index (omega arith)
     ∙ ap (λ forced. effect_after set forced _) c.in-Some-forced.is

@@ -1,8 +1,9 @@
 use Rattle.std.proofs.Common.{◌+◌, ◌||◌, drop, sym, ap, ◌∙◌, arith}
 use Rattle.std.proofs.lemmas.List.{at_drop_all}
 use Rattle.cnf_text.specs.Literal.{negation}
-use Rattle.hint_check.specs.Literals.{has, meets, negations, with_literal, with_literals}
+use Rattle.hint_check.specs.Literals.{meets, negations, with_literal, with_literals}
 use Rattle.hint_check.specs.Addition.{no_literals}
+use Rattle.hint_check.specs.Inner.Assignment.{set_of}
 use Rattle.hint_check.proofs.AdditionCandidates.{at_literal, with_literals-none, with_literals-more}
 use Rattle.hint_check.proofs.AdditionCandidates.{meets-negations, found-turn, found-end}
 use Rattle.hint_check.proofs.tautology.falsify_clause.Goals as goal
@@ -18,7 +19,7 @@ loop-lit-preserved c =
     let clause = c.args.clause.now in
     let i = c.loop-lit.lit-index in
     let l = c.lit-item.result in
-    let before = has c.loop-lit.assignment in
+    let before = set_of c.loop-lit.assignment in
     let full = with_literals no_literals (negations clause) in
     let rest = drop (i + 1) clause in
     let at_it = c.loop-lit-test.true in
@@ -27,7 +28,7 @@ loop-lit-preserved c =
     ∙ c.loop-lit.invariant.set in
     record {
       set = ap (λ set. with_literals set (negations rest))
-          (c.in_ok-insert.ensures.set ∙ ap (with_literal before) c.negated.ensures)
+          (c.in_ok-put.ensures.set ∙ ap (with_literal before) c.negated.ensures)
           ∙ sym (with_literals-more before (negation l) (negations rest)) ∙ here;
       tautology = found-turn full before c.loop-lit.found _ l rest here
           (ap (λ b. c.loop-lit.found || b) c.contains-found.ensures)
@@ -47,7 +48,7 @@ returns-clause-tautology c =
 
 pub returns-clause-set : goal.returns-clause-set
 returns-clause-set c =
-    let before = has c.loop-lit.assignment in
+    let before = set_of c.loop-lit.assignment in
     sym (with_literals-none before)
     ∙ sym (at_drop_all (λ ls. with_literals before (negations ls)) c.args.clause.now
     c.loop-lit.lit-index (omega arith))

@@ -1,6 +1,6 @@
 use Rattle.std.proofs.Common.{◌+◌, drop, sym, ap, ◌∙◌, arith}
 use Rattle.std.proofs.lemmas.List.{at_drop_all}
-use Rattle.hint_check.specs.Literals.{has}
+use Rattle.hint_check.specs.Inner.Assignment.{set_of}
 use Rattle.hint_check.proofs.AdditionCandidates.{at_literal, held_after, held_after-start}
 use Rattle.hint_check.proofs.AdditionCandidates.{held_after-here}
 use Rattle.hint_check.proofs.AdditionCandidates.{held_after-true, held_after-other, held_after-end}
@@ -8,11 +8,11 @@ use Rattle.hint_check.proofs.tautology.holds_with_none_true.Goals as goal
 use Rattle.hint_check.proofs.tautology.holds_with_none_true.Goals.{then-eq, else-eq+else-contains}
 
 pub loop-other-init : goal.loop-other-init
-loop-other-init c = sym (held_after-start (has c.args.reached.now) c.args.lit c.args.clause.now)
+loop-other-init c = sym (held_after-start (set_of c.args.reached.now) c.args.lit c.args.clause.now)
 
 pub returns-then-contains : goal.returns-then-contains
 returns-then-contains c =
-    let set = has c.args.reached.now in
+    let set = set_of c.args.reached.now in
     let clause = c.args.clause.now in
     let i = c.loop-other.other-index in
     let l = c.other-item.result in
@@ -24,7 +24,7 @@ returns-then-contains c =
 
 pub loop-other-preserved : goal.loop-other-preserved
 loop-other-preserved c =
-    let set = has c.args.reached.now in
+    let set = set_of c.args.reached.now in
     let clause = c.args.clause.now in
     let i = c.loop-other.other-index in
     let l = c.other-item.result in
@@ -45,7 +45,7 @@ loop-other-preserved c =
 
 pub returns : goal.returns
 returns c =
-    let set = has c.args.reached.now in
+    let set = set_of c.args.reached.now in
     let held = c.loop-other.is_held in
     sym (c.loop-other.invariant
     ∙ at_drop_all (held_after set c.args.lit held) c.args.clause.now c.loop-other.other-index

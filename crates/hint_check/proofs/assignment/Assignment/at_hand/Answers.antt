@@ -1,17 +1,18 @@
 use Rattle.std.proofs.Common.{ℕ, List, ◌≤◌, length, sym, subst}
-use Rattle.cnf_text.specs.Literal.{Literal}
-use Rattle.hint_check.specs.Literals.{has}
 use Rattle.hint_check.specs.Inner.Stamps.{Shows}
-use Rattle.hint_check.proofs.StampsSets.{shows-trail}
+use Rattle.hint_check.specs.Inner.Assignment.{Stamped, set_of}
+use Rattle.hint_check.proofs.StampsSets.{shows-set}
 use Rattle.hint_check.proofs.assignment.Assignment.at_hand.Goals as goal
 
 pub returns : goal.returns
 returns c =
     let inside = c.self.inside in
+    let now : Stamped =
+    record { marks = inside.stamps; epoch = inside.epoch; trail = inside.trail.items } in
     let few =
     subst (λ (stamps : List ℕ). length stamps ≤ 2097152) c.at_hand.ensures.stamps
     c.at_hand.ensures.near in
-    subst (λ (stamps : List ℕ). Shows stamps inside.epoch (has c.args.self.now))
+    subst (λ (stamps : List ℕ). Shows stamps inside.epoch (set_of c.args.self.now))
     (sym c.at_hand.ensures.stamps)
-    (subst (λ (trail : List Literal). Shows inside.stamps.0 inside.epoch (has trail)) c.self.view_is
-    (shows-trail inside.stamps inside.epoch inside.trail.items c.self.invariant few))
+    (subst (λ (stamped : Stamped). Shows inside.stamps.0 inside.epoch (set_of stamped))
+    c.self.view_is (shows-set now c.self.invariant.0 few))

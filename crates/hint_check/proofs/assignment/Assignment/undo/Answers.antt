@@ -1,50 +1,30 @@
-use Rattle.std.proofs.Common.{◌≡◌, ◌-◌, ◌+◌, length, take, sym, ap, ◌∙◌, arith, inl, inr}
-use Rattle.std.proofs.lemmas.Bool.{cases_lt}
-use Rattle.std.proofs.lemmas.List.{take_all}
-use Rattle.hint_check.proofs.StampsSets.{take_one_less}
+use Rattle.std.proofs.Common.{List, map, ap, ◌∙◌, subst}
+use Rattle.cnf_text.specs.Literal.{Literal, literal_number}
+use Rattle.hint_check.specs.Inner.Stamps.{Forgets}
+use Rattle.hint_check.specs.Inner.Assignment.{Stamped, kept_of}
+use Rattle.hint_check.proofs.StampsSets.{NoneAbove-forgets, set-undone}
 use Rattle.hint_check.proofs.assignment.Assignment.undo.Goals as goal
 
-pub loop-init : goal.loop-init
-loop-init c = record {
-  left =
-      sym (take_all (length c.args.self.now - (c.args.mark - c.args.mark)) c.args.self.now
-      (omega arith));
-  from = omega arith;
-  within = omega arith;
-}
-
-pub loop-preserved : goal.loop-preserved
-loop-preserved c =
-    let h = c.loop.invariant in
-    let from = h.from in
-    let within = h.within in
-    let more = c.loop-test.true in
-    let all = c.len-end.ensures in
-    record {
-      left =
-          c.pop.ensures
-          ∙ take_one_less c.args.self.now c.loop.self
-          (length c.args.self.now - (c.loop.counter - c.args.mark))
-          (length c.args.self.now - (c.loop.counter + 1 - c.args.mark)) h.left
-          (omega (arith, from, within, more, all)) (omega arith);
-      from = omega (arith, from);
-      within = omega (arith, from, within, more, all);
-    }
+-- the stamps of the trail are gone
+forgets : (c : goal.After-clear) →
+    Forgets (map literal_number c.self.inside.trail.items) c.self.inside.stamps
+    c.forget_all.new.self
+forgets c =
+    subst (λ (lits : List Literal). Forgets (map literal_number lits) c.self.inside.stamps
+    c.forget_all.new.self) c.deref.ensures.value c.forget_all.ensures
 
 pub returns : goal.returns
 returns c =
-    let h = c.loop.invariant in
-    let from = h.from in
-    let within = h.within in
-    let done = c.loop-test.false in
-    let all = c.len-end.ensures in
-    elim (cases_lt c.args.mark (length c.args.self.now)) [
-      | inl below ↦ h.left
-          ∙ ap (λ n. take n c.args.self.now)
-          (let e : length c.args.self.now - (c.loop.counter - c.args.mark)
-          ≡ c.args.mark = omega (arith, from, within, done, all, below) in e)
-      | inr above ↦ h.left
-          ∙ take_all (length c.args.self.now - (c.loop.counter - c.args.mark)) c.args.self.now
-          (omega (arith, within, above))
-          ∙ sym (take_all c.args.mark c.args.self.now (omega (arith, above)))
-    ]
+    let inside = c.self.inside in
+    let now : Stamped =
+    record { marks = inside.stamps; epoch = inside.epoch; trail = inside.trail.items } in
+    set-undone now c.forget_all.new.self c.clear.new.self.items c.self.invariant.0 (forgets c)
+    ∙ ap kept_of c.self.view_is
+
+pub invariant_of-self : goal.invariant_of-self
+invariant_of-self c =
+    let inside = c.self.inside in (
+      c.self.invariant.0,
+      NoneAbove-forgets inside.stamps c.forget_all.new.self
+          (map literal_number inside.trail.items) inside.epoch c.self.invariant.1 (forgets c),
+    )

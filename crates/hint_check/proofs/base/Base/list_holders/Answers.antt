@@ -1,9 +1,11 @@
-use Rattle.std.proofs.Common.{◌≡◌, ◌==◌, ◌++◌, subst, List, ℕ, true}
+use Rattle.std.proofs.Common.{◌≡◌, ◌==◌, ◌++◌, subst, List, map, ℕ, true}
 use Rattle.std.specs.FinMap as fin
 use Rattle.std.specs.Ordering.{nat_cmp}
 use Rattle.std.specs.List.{enumerate_from, list_any}
 use Rattle.std.specs.Cow.{cow_value}
-use Rattle.hint_check.specs.Inner.Index.{NamesEntries, AddsHolders}
+use Rattle.hint_check.specs.Literals.{has}
+use Rattle.hint_check.specs.Inner.Index.{NamesEntries, AddsHolders, indexed_part}
+use Rattle.hint_check.proofs.IndexIds.{parts-named}
 use Rattle.hint_check.specs.Inner.Holders.{ids_of, NamesEach}
 use Rattle.hint_check.proofs.LiveOverlay.{OnOk-weaker, IfSome-weaker}
 use Rattle.hint_check.proofs.base.Base.list_holders.Goals as goal
@@ -15,6 +17,7 @@ returns c =
     let lit = c.args.lit in
     let ids = c.args.ids.now.items in
     let found = c.list.new.ids.items in
+    let clauses = cow_value inside.formula in
     OnOk-weaker c.list.result
     ((more : List ℕ) × (found ≡ ids ++ more)
     × ((id : ℕ) → list_any (λ named. named == id) (ids_of inside.holders lit) ≡ true →
@@ -23,8 +26,10 @@ returns c =
     (λ is. (
       is.0,
       is.1,
-      subst (λ clauses. NamesEntries (enumerate_from 1 clauses) lit is.0) c.self.view_is
-          (λ q. IfSome-weaker (fin.find nat_cmp q (enumerate_from 1 (cow_value inside.formula)))
-          (c.self.invariant.1.1 lit q) (λ clause names holds. is.2 q (names holds))),
+      subst (λ all. NamesEntries (enumerate_from 1 all) lit is.0) c.self.view_is
+          (λ q. parts-named 1 clauses q
+          (λ part. has part lit ≡ true → list_any (λ named. named == q) is.0 ≡ true)
+          (IfSome-weaker (fin.find nat_cmp q (enumerate_from 1 (map indexed_part clauses)))
+          (c.self.invariant.1.1 lit q) (λ clause names holds. is.2 q (names holds)))),
     ))
     c.list.ensures

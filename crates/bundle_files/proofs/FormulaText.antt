@@ -1,0 +1,204 @@
+-- The bundle of a formula's file and another text has the formula's clauses first.
+use Rattle.std.proofs.Common.{◌≡◌, ◌≢◌, ◌∙◌, sym, ap, refl, subst, ℕ, ◌+◌, false, List}
+use Rattle.std.proofs.Common.{[], ◌∷◌, ◌++◌, length, append_assoc, Option, None, Some}
+use Rattle.std.specs.List.{AllByRecursion}
+use Rattle.std.specs.Option.{option_map}
+use Rattle.case_core.specs.Literal.{Literal}
+use Rattle.case_core.specs.Formula.{HasNoModel}
+use Rattle.case_core.specs.Tokens.{Token, line_tokens, lines_from, token_lines, joined}
+use Rattle.case_core.specs.Icnf.{Item, StandsFor, after_header, clauses_of}
+use Rattle.case_core.specs.Icnf.{symbols_of}
+use Rattle.case_core.specs.Dimacs.{Problem, problem_of, after_problem, clause_symbols, IsDimacs}
+use Rattle.case_core.specs.Bundle.{lines_of, is_label, text_before, icnf_text}
+use Rattle.case_core.specs.Case.{CaseOf}
+use Rattle.case_core.specs.Sections.{IsCaseOf}
+use Rattle.case_core.proofs.BundleMore.{no_lines, lines_more}
+use Rattle.case_core.proofs.DimacsFormula.{formula_of_tokens}
+use Rattle.case_core.proofs.IcnfUnique.{one_text_of, text_of}
+use Rattle.proof_folder.proofs.AddedLines.{with_ends, text_is_lines}
+use Rattle.cube_report.specs.Correct.{IsUnsatisfiable}
+use Rattle.bundle_files.specs.Files.{Held, Gives, IsJudgedOf}
+use Rattle.bundle_files.specs.Formula.{header_over, IsOverwritten, IsUnderFormula}
+use Rattle.bundle_files.proofs.FilesFormula.{judged_keeps_items}
+use Rattle.bundle_files.proofs.FormulaLines.{bare_plain, clauses_plain, header_plain, header_tokens}
+
+-- ---- lines one after the other
+
+joined_more : (n : ℕ) (lines more : List (List ℕ)) → (rest : List Token)
+    × (joined (lines_from n (lines ++ more)) ≡ joined (lines_from n lines) ++ rest)
+joined_more n [] more = (joined (lines_from n more), refl)
+joined_more n (line ∷ lines) more =
+    let found = joined_more (n + 1) lines more in (
+      found.0,
+      ap (λ (t : List Token). line_tokens n line ++ t) found.1
+          ∙ sym (append_assoc (line_tokens n line) (joined (lines_from (n + 1) lines)) found.0),
+    )
+
+-- the text before the first label line, where the first lines are none
+plain_front : (lines more : List (List ℕ)) → AllByRecursion (λ line. is_label line ≡ false) lines
+    → (lines ≡ [] → ⊥) → (more ≡ [] → ⊥)
+    → text_before (lines ++ more) ≡ with_ends lines ++ 10 ∷ text_before more
+plain_front [] more plain some others = absurd (some refl)
+plain_front (line ∷ lines) [] plain some others = absurd (others refl)
+plain_front (line ∷ []) (next ∷ more) plain some others = rw plain.0 refl
+plain_front (line ∷ second ∷ lines) (next ∷ more) plain some others =
+    rw plain.0
+    (ap (λ (t : List ℕ). line ++ 10 ∷ t)
+    (plain_front (second ∷ lines) (next ∷ more) plain.1 (λ e. cc) others)
+    ∙ sym (append_assoc line (10 ∷ with_ends (second ∷ lines)) (10 ∷ text_before (next ∷ more))))
+
+-- ---- below the problem line, and below the header over it
+
+problem_first : (tokens : List Token) (lines : List (List Token)) → tokens ≢ []
+    → after_problem (tokens ∷ lines)
+    ≡ option_map {U = Problem × List Token} (λ (problem : Problem). (problem, joined lines))
+    (problem_of tokens)
+problem_first [] lines some = absurd (some refl)
+problem_first (token ∷ tokens) lines some = refl
+
+below_is : (found : Option Problem) (below : List Token) (problem : Problem) (tokens : List Token)
+    → option_map {U = Problem × List Token} (λ (p : Problem). (p, below)) found
+    ≡ Some (problem, tokens)
+    → (found ≡ Some problem) × (below ≡ tokens)
+below_is None below problem tokens is = absurd (cc)
+below_is (Some p) below problem tokens is =
+    let pair : (p, below) ≡ (problem, tokens) = cc in (
+      ap (λ (x : Problem × List Token). Some x.0) pair,
+      ap (λ (x : Problem × List Token). x.1) pair,
+    )
+
+-- the lines before it have no token
+pub record IsBelow (n : ℕ) (line : List ℕ) (after : List (List ℕ)) (problem : Problem)
+    (tokens : List Token) : Type 0 where
+  pub at : ℕ
+  pub problem_is : problem_of (line_tokens at line) ≡ Some problem
+  pub tokens_are : joined (lines_from (at + 1) after) ≡ tokens
+
+pub below_problem : (n : ℕ) (before : List (List ℕ)) (line : List ℕ) (after : List (List ℕ))
+    (problem : Problem) (tokens : List Token)
+    → AllByRecursion (λ other. (m : ℕ) → line_tokens m other ≡ []) before
+    → ((m : ℕ) → line_tokens m line ≢ [])
+    → after_problem (lines_from n (before ++ line ∷ after)) ≡ Some (problem, tokens)
+    → IsBelow n line after problem tokens
+below_problem n [] line after problem tokens bare first is =
+    let found =
+    below_is (problem_of (line_tokens n line)) (joined (lines_from (n + 1) after)) problem tokens
+    (sym (problem_first (line_tokens n line) (lines_from (n + 1) after) (first n)) ∙ is) in
+    record { at = n; problem_is = found.0; tokens_are = found.1 }
+below_problem n (other ∷ before) line after problem tokens bare first is =
+    let same : after_problem (lines_from (n + 1) (before ++ line ∷ after))
+    ≡ Some (problem, tokens) = rw (bare.0 n) at is in
+    let more = below_problem (n + 1) before line after problem tokens bare.1 first same in
+    record { at = more.at; problem_is = more.problem_is; tokens_are = more.tokens_are }
+
+-- what is below the header are the formula's tokens, and then others
+pub below_header : (n : ℕ) (before : List (List ℕ)) (line : List ℕ)
+    (after others : List (List ℕ)) (problem : Problem) (tokens : List Token)
+    → AllByRecursion (λ other. (m : ℕ) → line_tokens m other ≡ []) before
+    → ((m : ℕ) → line_tokens m line ≢ [])
+    → after_problem (lines_from n (before ++ line ∷ after)) ≡ Some (problem, tokens)
+    → (more : List Token)
+    × (after_header (lines_from n ((before ++ header_over line ∷ after) ++ others))
+    ≡ Some (tokens ++ more))
+below_header n [] line after others problem tokens bare first is =
+    let found =
+    below_is (problem_of (line_tokens n line)) (joined (lines_from (n + 1) after)) problem tokens
+    (sym (problem_first (line_tokens n line) (lines_from (n + 1) after) (first n)) ∙ is) in
+    let more = joined_more (n + 1) after others in (
+      more.0,
+      rw (header_tokens n line)
+          (ap Some (more.1 ∙ ap (λ (t : List Token). t ++ more.0) found.1)),
+    )
+below_header n (other ∷ before) line after others problem tokens bare first is =
+    let same : after_problem (lines_from (n + 1) (before ++ line ∷ after))
+    ≡ Some (problem, tokens) = rw (bare.0 n) at is in
+    let more = below_header (n + 1) before line after others problem tokens bare.1 first same in
+    (more.0, rw (bare.0 n) more.1)
+
+all_plain : (before after : List (List ℕ)) (line : List ℕ)
+    → AllByRecursion (λ other. (m : ℕ) → line_tokens m other ≡ []) before
+    → AllByRecursion (λ other. is_label other ≡ false) after
+    → AllByRecursion (λ other. is_label other ≡ false) (before ++ header_over line ∷ after)
+all_plain [] after line bare plain = (header_plain line, plain)
+all_plain (other ∷ before) after line bare plain =
+    (bare_plain other bare.0, all_plain before after line bare.1 plain)
+
+-- ---- the whole bundle
+
+pub by_lines : {T : Type 0} (f : List (List Token) → T) (n : ℕ) (text : List ℕ)
+    → f (token_lines n text) ≡ f (lines_from n (lines_of text))
+unfolding token_lines
+by_lines f n text = refl
+
+-- the tokens below the bundle's header are the formula's, and then others
+pub bundle_tokens : (text over rest : List ℕ) (formula : List (List Literal))
+    → (is : IsDimacs text formula) → IsOverwritten text over
+    → (more : List Token)
+    × (after_header (token_lines 1 (icnf_text (over ++ 10 ∷ rest)))
+    ≡ Some (is.has.tokens ++ more))
+bundle_tokens text over rest formula is made =
+    let there : after_problem (lines_from 1 (made.before ++ made.line ∷ made.after))
+    ≡ Some (is.problem, is.has.tokens) =
+    ap (λ (l : List (List ℕ)). after_problem (lines_from 1 l)) (sym made.lines)
+    ∙ sym (by_lines after_problem 1 text) ∙ is.has.below in
+    let below =
+    below_problem 1 made.before made.line made.after is.problem is.has.tokens made.bare made.first
+    there in
+    let plain : AllByRecursion (λ other. is_label other ≡ false) (lines_of over) =
+    subst (AllByRecursion (λ other. is_label other ≡ false)) (sym made.header)
+    (all_plain made.before made.after made.line made.bare
+    (clauses_plain [] (below.at + 1) made.after formula
+    (ap clause_symbols below.tokens_are ∙ is.has.written))) in
+    let front : icnf_text (over ++ 10 ∷ rest) ≡ over ++ 10 ∷ text_before (lines_of rest) =
+    ap text_before (lines_more over rest)
+    ∙ plain_front (lines_of over) (lines_of rest) plain (no_lines over) (no_lines rest)
+    ∙ ap (λ (t : List ℕ). t ++ 10 ∷ text_before (lines_of rest)) (text_is_lines over) in
+    let found =
+    below_header 1 made.before made.line made.after
+    (lines_of (text_before (lines_of rest))) is.problem is.has.tokens made.bare made.first there in (
+      found.0,
+      ap (λ (t : List ℕ). after_header (token_lines 1 t)) front
+          ∙ by_lines after_header 1 (over ++ 10 ∷ text_before (lines_of rest))
+          ∙ ap (λ (l : List (List ℕ)). after_header (lines_from 1 l))
+          (lines_more over (text_before (lines_of rest))
+          ∙ ap (λ (l : List (List ℕ)). l ++ lines_of (text_before (lines_of rest))) made.header)
+          ∙ found.1,
+    )
+
+some_tokens : (a b : List Token) → Some a ≡ Some b → a ≡ b
+some_tokens a b e = cc
+
+-- a bundle that adds no clause has the formula's clauses
+pub bundle_formula : (text over rest : List ℕ) (formula : List (List Literal)) (items : List Item)
+    → (is : IsDimacs text formula) → IsOverwritten text over
+    → StandsFor (icnf_text (over ++ 10 ∷ rest)) items
+    → length (clauses_of items) ≡ length formula → clauses_of items ≡ formula
+bundle_formula text over rest formula items is made stands count =
+    let found = bundle_tokens text over rest formula is made in
+    formula_of_tokens is.has.tokens found.0 formula items is.has.written
+    (ap symbols_of (some_tokens _ stands.0 (sym found.1 ∙ stands.1)) ∙ stands.2.0) count
+
+-- so where the bundle has no model, the published formula has none
+pub published : (held : Held) (path : List ℕ) (file input folder : Option (List ℕ))
+    (read whole : List ℕ) (case : CaseOf)
+    → IsUnderFormula held path file input read → IsJudgedOf held folder read whole
+    → IsCaseOf whole case → IsUnsatisfiable read
+    → (text : List ℕ) × Gives held path (Some text)
+    × (formula : List (List Literal)) × IsDimacs text formula × HasNoModel formula
+published held path file input folder read whole case under judged is none =
+    let stands : StandsFor (icnf_text read) is.items =
+    judged_keeps_items held folder read whole is.items judged is.text in
+    let same : clauses_of is.items ≡ under.formula =
+    bundle_formula under.text under.over under.rest under.formula is.items under.dimacs
+    under.overwritten
+    (subst (λ (t : List ℕ). StandsFor (icnf_text t) is.items) under.whole stands)
+    (under.no_clause_more is.items stands) in
+    let one : none.1.0 ≡ is.items =
+    one_text_of (icnf_text read) none.1.0 is.items none.1.1
+    (text_of (icnf_text read) is.items stands) in (
+      under.text,
+      under.given,
+      under.formula,
+      under.dimacs,
+      subst HasNoModel (none.1.2 ∙ ap clauses_of one ∙ same) none.2,
+    )

@@ -1,0 +1,113 @@
+-- A formula in a DIMACS file of its own: the bundle that it makes with a text of cubes and proofs.
+-- (DIMACS: the satisfiability suggested format of 1993; iCNF: HVC 2011.)
+use Rattle.std.specs.Prelude.{◌≡◌, ◌≢◌, ◌⊎◌, ◌+◌, ◌-◌, ℕ, List, [], ◌∷◌, ◌++◌, length, replicate}
+use Rattle.std.specs.Prelude.{codes, Option, None, Some}
+use Rattle.std.specs.List.{AllByRecursion}
+use Rattle.case_core.specs.Literal.{Literal}
+use Rattle.case_core.specs.Tokens.{line_tokens}
+use Rattle.case_core.specs.Icnf.{Item, StandsFor, clauses_of}
+use Rattle.case_core.specs.Dimacs.{greatest_of, told, IsDimacs, IsDimacsFault}
+use Rattle.case_core.specs.DimacsFault.{DimacsFault}
+use Rattle.case_core.specs.Bundle.{lines_of, icnf_text}
+use Rattle.cube_report.specs.declared.fault.Fault.{Fault}
+use Rattle.cube_report.specs.declared.fault.Fault.TheVariants.{Counts, Device}
+use Rattle.cube_report.specs.Faults.{fault_of_dimacs}
+use Rattle.bundle_files.specs.Files.{Held, Gives, IsRead, IsJudgedOf, IsAbsent}
+
+-- the header of an iCNF text, and blanks: as long as this line, where that has 8 bytes at least
+abbrev pub header_over : List ℕ → List ℕ
+header_over line = codes "p inccnf" ++ replicate (length line - 8) 32
+
+-- the text with its first line that has a token overwritten by such a header: all other lines stay
+pub record IsOverwritten (text over : List ℕ) : Type 0 where
+  pub before : List (List ℕ)
+  pub line : List ℕ
+  pub after : List (List ℕ)
+  pub lines : lines_of text ≡ before ++ line ∷ after
+  pub bare : AllByRecursion (λ other. (n : ℕ) → line_tokens n other ≡ []) before
+  pub first : (n : ℕ) → line_tokens n line ≢ []
+  pub header : lines_of over ≡ before ++ header_over line ∷ after
+
+-- the bundle of a formula's file and of a text of cubes and proofs: the file's text, which is a
+-- DIMACS text, with a header over its problem line, a line end, and the other text, which adds no
+-- clause
+pub record IsUnderFormula (held : Held) (path : List ℕ) (file input : Option (List ℕ))
+    (read : List ℕ) : Type 0 where
+  pub text : List ℕ
+  pub given : Gives held path (Some text)
+  pub formula : List (List Literal)
+  pub dimacs : IsDimacs text formula
+  pub over : List ℕ
+  pub overwritten : IsOverwritten text over
+  pub rest : List ℕ
+  pub is_rest : IsRead held file input rest
+  pub whole : read ≡ over ++ 10 ∷ rest
+  pub no_clause_more : (items : List Item) → StandsFor (icnf_text read) items →
+      length (clauses_of items) ≡ length formula
+
+-- the files that are read: that of the formula, where one is asked for, and that of the bundle, or
+-- the input
+pub record Sources : Type 0 where
+  pub formula : Option (List ℕ)
+  pub file : Option (List ℕ)
+
+abbrev pub sources_by : Option (List ℕ) → Option (List ℕ) → Sources
+sources_by formula file = record { formula = formula; file = file }
+
+-- the bundle that is read: that of the file, or of the input; under the formula where that has a
+-- file of its own
+abbrev pub IsReadBy : Held → Option (List ℕ) → Option (List ℕ) → Option (List ℕ) → List ℕ → Type 0
+IsReadBy held None file input read = IsRead held file input read
+IsReadBy held (Some path) file input read = IsUnderFormula held path file input read
+
+abbrev pub IsReadFrom : Held → Sources → Option (List ℕ) → List ℕ → Type 0
+IsReadFrom held sources input read = IsReadBy held sources.formula sources.file input read
+
+-- for these words, the files and DIR, and this input, the bundle that is read, and the one that is
+-- judged
+pub record IsBundleOf (held : Held) (sources : Sources) (folder input : Option (List ℕ))
+    (read whole : List ℕ) : Type 0 where
+  pub is_read : IsReadFrom held sources input read
+  pub is_judged : IsJudgedOf held folder read whole
+
+-- ---- faults of the formula's file
+
+-- the text isn't a DIMACS text: its first fault
+abbrev pub HasDimacsFault : List ℕ → Fault → Type 0
+HasDimacsFault text fault =
+    (kind : DimacsFault) × (fault ≡ fault_of_dimacs kind) × IsDimacsFault text kind
+
+-- it is one, and the other text adds clauses: the bundle has so many, with this greatest variable
+pub record AddsClauses (held : Held) (text : List ℕ) (file input : Option (List ℕ))
+    (fault : Fault) : Type 0 where
+  pub formula : List (List Literal)
+  pub dimacs : IsDimacs text formula
+  pub over : List ℕ
+  pub overwritten : IsOverwritten text over
+  pub rest : List ℕ
+  pub is_rest : IsRead held file input rest
+  pub items : List Item
+  pub stands : StandsFor (icnf_text (over ++ 10 ∷ rest)) items
+  pub more : length (clauses_of items) ≢ length formula
+  pub is : fault ≡ Counts (told dimacs.problem.variables) (told dimacs.problem.clauses)
+      (greatest_of (clauses_of items)) (length (clauses_of items))
+
+-- the file of the formula has this fault, or the bundle has clauses that aren't in it
+abbrev pub IsFormulaFault : Held → Option (List ℕ) → Option (List ℕ) → Option (List ℕ) → Fault →
+    Type 0
+IsFormulaFault held None file input fault = ⊥
+IsFormulaFault held (Some path) file input fault =
+    (text : List ℕ) × Gives held path (Some text)
+    × (HasDimacsFault text fault ⊎ AddsClauses held text file input fault)
+
+-- no file lies at a path that is asked for, as far as is known
+abbrev pub IsOneAbsent : Held → Sources → Type 0
+IsOneAbsent held sources = IsAbsent held sources.formula ⊎ IsAbsent held sources.file
+
+-- Why a bundle wasn't read, where so many calls had failed and have: a fault of the input or want
+-- of memory, without a failed call; or a fault of the device, where a call failed or a file isn't
+-- there.
+abbrev pub IsUnreadFrom : Held → Sources → ℕ → ℕ → Fault → Type 0
+IsUnreadFrom held sources before after fault =
+    ((fault ≢ Device) × (after ≡ before))
+    ⊎ ((fault ≡ Device) × ((after ≡ before + 1) ⊎ ((after ≡ before) × IsOneAbsent held sources)))

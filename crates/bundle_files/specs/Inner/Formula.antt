@@ -1,0 +1,72 @@
+-- Where in a text its first line with a token stands, and what reading a formula's file gives.
+use Rattle.std.specs.Prelude.{◌≡◌, ◌≢◌, ◌⊎◌, ℕ, ◌+◌, ◌≤◌, List, [], ◌∷◌, ◌++◌, length, Some}
+use Rattle.std.specs.Prelude.{None, Option}
+use Rattle.std.specs.List.{AllByRecursion}
+use Rattle.case_core.specs.Literal.{Literal}
+use Rattle.case_core.specs.Tokens.{Token, line_tokens, token_lines}
+use Rattle.case_core.specs.Dimacs.{Problem, after_problem, greatest_of, IsDimacs, told_problem}
+use Rattle.case_core.specs.Problem as code
+use Rattle.case_core.specs.Icnf.{Item, StandsFor, clauses_of}
+use Rattle.case_core.specs.Bundle.{lines_of, icnf_text}
+use Rattle.cube_report.specs.declared.fault.Fault.{Fault}
+use Rattle.cube_report.specs.declared.fault.Fault.TheVariants.{Counts, Device, Memory}
+use Rattle.bundle_files.specs.Files.{Held, Gives, IsRead}
+use Rattle.bundle_files.specs.Formula.{HasDimacsFault, IsOverwritten}
+
+-- a problem line is there
+abbrev pub HasProblem : List ℕ → Type 0
+HasProblem text =
+    (problem : Problem) × (tokens : List Token)
+    × (after_problem (token_lines 1 text) ≡ Some (problem, tokens))
+
+-- the first line with a token begins behind so many bytes, and has so many
+pub record IsFirstLine (text : List ℕ) (start count : ℕ) : Type 0 where
+  pub front : List ℕ
+  pub line : List ℕ
+  pub tail : List ℕ
+  pub before : List (List ℕ)
+  pub after : List (List ℕ)
+  pub parts : text ≡ front ++ (line ++ tail)
+  pub start_is : start ≡ length front
+  pub count_is : count ≡ length line
+  pub long : 9 ≤ count
+  pub bare : AllByRecursion (λ other. (n : ℕ) → line_tokens n other ≡ []) before
+  pub first : (n : ℕ) → line_tokens n line ≢ []
+  pub one : lines_of line ≡ line ∷ []
+  pub lines : (other : List ℕ) → lines_of other ≡ other ∷ [] →
+      lines_of (front ++ (other ++ tail)) ≡ before ++ other ∷ after
+
+-- the text of a formula's file, with a header over its problem line, and what that line says
+pub record IsFormulaRead (held : Held) (path over : List ℕ) (said : code.Problem) : Type 0 where
+  pub text : List ℕ
+  pub given : Gives held path (Some text)
+  pub formula : List (List Literal)
+  pub dimacs : IsDimacs text formula
+  pub said_is : said ≡ told_problem dimacs.problem
+  pub overwritten : IsOverwritten text over
+
+-- bytes grew by the text of the file, or of the input where no file is asked for
+abbrev pub IsAppended : Held → Option (List ℕ) → Option (List ℕ) → List ℕ → List ℕ → Type 0
+IsAppended held file input old new =
+    (rest : List ℕ) × IsRead held file input rest × (new ≡ old ++ rest)
+
+-- the text of the formula's file has this fault
+abbrev pub IsFaultyFormula : Held → List ℕ → Fault → Type 0
+IsFaultyFormula held path fault =
+    (text : List ℕ) × Gives held path (Some text) × HasDimacsFault text fault
+
+-- why a formula's file wasn't read
+abbrev pub IsUnreadFormula : Held → List ℕ → ℕ → ℕ → Fault → Type 0
+IsUnreadFormula held path before after fault =
+    ((fault ≢ Device) × (after ≡ before))
+    ⊎ ((fault ≡ Device)
+    × ((after ≡ before + 1) ⊎ ((after ≡ before) × Gives held path None)))
+
+-- the bundle has another number of clauses than a problem line says, or memory ran out
+abbrev pub IsOtherCount : List ℕ → code.Problem → Fault → Type 0
+IsOtherCount bundle said fault =
+    (fault ≡ Memory)
+    ⊎ ((items : List Item) × StandsFor (icnf_text bundle) items
+    × (length (clauses_of items) ≢ said.clauses)
+    × (fault ≡ Counts said.variables said.clauses (greatest_of (clauses_of items))
+    (length (clauses_of items))))

@@ -1,0 +1,229 @@
+//! A formula in a DIMACS file of its own: the bundle that it makes with a text of cubes and proofs.
+
+ghost use Rattle.std.specs.Prelude.{◌≡◌, ◌≢◌, ◌<◌, ◌≤◌, ◌^◌, ◌-◌, ◌+◌, ◌++◌, ◌∷◌, ℕ, List, [], Some};
+ghost use Rattle.std.specs.Prelude.{None, OnOk, IfOk, IfErr, IfSome, option_map, length, take, drop};
+ghost use Rattle.std.specs.Bool.{OnTrue, OnFalse};
+ghost use Rattle.case_core.specs.Literal.{Literal};
+ghost use Rattle.case_core.specs.Tokens.{line_tokens};
+ghost use Rattle.case_core.specs.Icnf.{Item, StandsFor, clauses_of};
+ghost use Rattle.case_core.specs.Dimacs.{greatest_of, IsDimacs};
+ghost use Rattle.case_core.specs.Bundle.{icnf_text};
+ghost use Rattle.cube_report.specs.Faults.{IsInputFault};
+ghost use Rattle.bundle_files.specs.Files.{IsUnread, StaysAllowed};
+ghost use Rattle.bundle_files.specs.Formula.{header_over, IsFormulaFault, IsOverwritten, IsReadBy};
+ghost use Rattle.bundle_files.specs.Formula.{IsUnderFormula, IsUnreadFrom};
+ghost use Rattle.bundle_files.specs.Inner.Formula.{HasProblem, IsAppended, IsFirstLine};
+ghost use Rattle.bundle_files.specs.Inner.Formula.{IsFaultyFormula, IsFormulaRead, IsOtherCount};
+ghost use Rattle.bundle_files.specs.Inner.Formula.{IsUnreadFormula};
+
+use crate::source::{append_given, read_given};
+use crate::store::Store;
+use case_core::{
+    Formula, Problem, TextFault, first_word, icnf_part, is_comment, read_icnf, read_problem,
+    split_line,
+};
+use cube_report::{Fault, Source};
+use std::alloc::Global;
+
+/// Whether a line has no token.
+fn is_bare(line: &[u8]) -> bool
+    ensures bare { OnTrue result ((n : ℕ) → line_tokens n line.now ≡ []) }
+    ensures other { OnFalse result ((n : ℕ) → line_tokens n line.now ≢ []) }
+{
+    is_comment(line) || first_word(line).is_none()
+}
+
+/// Where the first line with a token begins, and how long it is.
+fn first_line(text: &[u8]) -> (usize, usize)
+    requires { HasProblem text.now }
+    ensures { IsFirstLine text.now result.0 result.1 }
+{
+    let mut rest = text;
+    loop {
+        let (line, below) = split_line(rest);
+        if !is_bare(line) {
+            return (text.len() - rest.len(), line.len());
+        }
+        let Some(next) = below else {
+            return (0, 0);
+        };
+        rest = next;
+    }
+}
+
+/// Makes a line a header and blanks.
+fn write_header(line: &mut [u8])
+    requires { 8 ≤ length line.old }
+    ensures { line.new ≡ header_over line.old }
+{
+    let (header, blanks) = line.split_at_mut(8);
+    header.copy_from_slice(b"p inccnf");
+    blanks.fill(b' ');
+}
+
+/// Makes a part of a text a header and blanks.
+fn write_header_at(text: &mut [u8], start: usize, count: usize)
+    requires inside { start + count ≤ length text.old }
+    requires long { 8 ≤ count }
+    ensures { text.new ≡ take start text.old ++ (header_over (take count (drop start text.old))
+        ++ drop (start + count) text.old) }
+{
+    write_header(&mut text[start..start + count]);
+}
+
+/// Makes the problem line of a DIMACS text a header of the same length, in its place.
+fn overwrite_header(text: &mut [u8])
+    requires { HasProblem text.old }
+    ensures { IsOverwritten text.old text.new }
+{
+    let (start, count) = first_line(text);
+    write_header_at(text, start, count);
+}
+
+/// The text of the file at this path, with a header over its problem line, and what that line says.
+fn read_formula<D: Store>(
+    alloc: Global,
+    store: &mut D,
+    path: &str,
+) -> Result<(Vec<u8>, Problem), Fault>
+    requires { D.failures store.old < 2 ^ 64 - 1 }
+    ensures held { D.held store.new ≡ D.held store.old }
+    ensures allowed { StaysAllowed (D.allows store.old) (D.allows store.new) }
+    ensures read { IfOk result (λ read. IsFormulaRead (D.held store.old) path.now read.0.items
+        read.1) }
+    ensures fault { IfErr result (λ fault. IsInputFault fault
+        → IsFaultyFormula (D.held store.old) path.now fault) }
+    ensures ok { OnOk result (D.failures store.new ≡ D.failures store.old) }
+    ensures err { IfErr result (IsUnreadFormula (D.held store.old) path.now
+        (D.failures store.old) (D.failures store.new)) }
+{
+    let mut text = Vec::new(alloc);
+    if !store.read(path, &mut text)? {
+        return Err(Fault::Device);
+    }
+    let problem = read_problem(&text)?;
+    overwrite_header(&mut text);
+    Ok((text, problem))
+}
+
+/// Whether a bundle has as many clauses as a problem line says. A bundle with a fault has no clauses
+/// that could be counted, and the run tells the fault.
+fn check_count(alloc: Global, bundle: &[u8], said: Problem) -> Result<(), Fault>
+    ensures ok { OnOk result ((items : List Item) → StandsFor (icnf_text bundle.now) items
+        → length (clauses_of items) ≡ said.clauses) }
+    ensures err { IfErr result (IsOtherCount bundle.now said) }
+{
+    match read_icnf(alloc, icnf_part(bundle)) {
+        Ok(file) => check_formula(&file.formula, said),
+        Err(fault) => memory_alone(fault),
+    }
+}
+
+/// Want of memory, and nothing of another fault.
+fn memory_alone(fault: TextFault) -> Result<(), Fault>
+    ensures ok { OnOk result (fault ≢ TextFault.Memory) }
+    ensures err { IfErr result (λ told. told ≡ Fault.Memory) }
+{
+    match fault {
+        TextFault::Memory => Err(Fault::Memory),
+        _ => Ok(()),
+    }
+}
+
+/// Whether a formula has as many clauses as a problem line says.
+fn check_formula(formula: &Formula, said: Problem) -> Result<(), Fault>
+    ensures ok { OnOk result (length formula.now ≡ said.clauses) }
+    ensures err { IfErr result (λ fault. (length formula.now ≢ said.clauses)
+        × (fault ≡ Fault.Counts said.variables said.clauses (greatest_of formula.now)
+        (length formula.now))) }
+{
+    let found = formula.clauses().len() as u64;
+    if found == said.clauses {
+        return Ok(());
+    }
+    Err(Fault::Counts {
+        variables: said.variables,
+        clauses: said.clauses,
+        greatest: u64::from(formula.greatest_variable()),
+        found,
+    })
+}
+
+/// The bundle of a formula's file and of the bytes of another, or of the input where there is none.
+fn read_under<D: Store, I: Source>(
+    alloc: Global,
+    store: &mut D,
+    input: &mut I,
+    path: &str,
+    file: Option<&str>,
+) -> Result<Vec<u8>, Fault>
+    requires store { D.failures store.old < 2 ^ 64 - 1 }
+    requires input { I.failures input.old < 2 ^ 64 - 1 }
+    ensures held { D.held store.new ≡ D.held store.old }
+    ensures allowed { StaysAllowed (D.allows store.old) (D.allows store.new) }
+    ensures bundle { IfOk result (λ bundle. IsUnderFormula (D.held store.old) path.now
+        (option_map (λ path. path.now) file.entry) (I.remaining input.old) bundle.items) }
+    ensures fault { IfErr result (λ fault. IsInputFault fault → IsFormulaFault (D.held store.old)
+        (Some path.now) (option_map (λ path. path.now) file.entry) (I.remaining input.old)
+        fault) }
+    ensures ok { OnOk result
+        ((D.failures store.new ≡ D.failures store.old) ×
+        (I.failures input.new ≡ I.failures input.old)) }
+    ensures err { IfErr result (IsUnreadFrom (D.held store.old) (record {
+      formula = Some path.now;
+      file = option_map (λ path. path.now) file.entry;
+    }) (D.failures store.old + I.failures input.old)
+        (D.failures store.new + I.failures input.new)) }
+    ensures kept { IfSome file.entry (λ _. input.new ≡ input.old) }
+{
+    let (mut bundle, said) = read_formula(alloc, store, path)?;
+    bundle.push(b'\n')?;
+    append_given(store, input, file, &mut bundle)?;
+    check_count(alloc, &bundle, said)?;
+    Ok(bundle)
+}
+
+/// The bundle that is read: the bytes of the file at this path, or those of the input where there
+/// is none. Where the formula has a file of its own, a DIMACS text (1993), they stand below it, and
+/// add no clause: that file's text comes first, with its problem line overwritten in its place by
+/// `p inccnf` and blanks, and then a line end.
+///
+/// `Device` where a call failed, or no file is at a path, and `Memory` where a growth was refused.
+/// Any other fault is one of the formula's file, or tells that the other bytes have clauses.
+pub fn read_from<D: Store, I: Source>(
+    alloc: Global,
+    store: &mut D,
+    input: &mut I,
+    formula: Option<&str>,
+    file: Option<&str>,
+) -> Result<Vec<u8>, Fault>
+    requires store { D.failures store.old < 2 ^ 64 - 1 }
+    requires input { I.failures input.old < 2 ^ 64 - 1 }
+    // The store holds what it held.
+    ensures held { D.held store.new ≡ D.held store.old }
+    ensures allowed { StaysAllowed (D.allows store.old) (D.allows store.new) }
+    // The bundle is that of the files or of the input.
+    ensures bundle { IfOk result (λ bundle. IsReadBy (D.held store.old)
+        (option_map (λ path. path.now) formula.entry) (option_map (λ path. path.now) file.entry)
+        (I.remaining input.old) bundle.items) }
+    // A fault of the input is one of the formula's file, or of clauses behind it.
+    ensures fault { IfErr result (λ fault. IsInputFault fault → IsFormulaFault (D.held store.old)
+        (option_map (λ path. path.now) formula.entry) (option_map (λ path. path.now) file.entry)
+        (I.remaining input.old) fault) }
+    // The device is at fault where a call failed or a file isn't there.
+    ensures ok { OnOk result
+        ((D.failures store.new ≡ D.failures store.old) ×
+        (I.failures input.new ≡ I.failures input.old)) }
+    ensures err { IfErr result (IsUnreadFrom (D.held store.old) (record {
+      formula = option_map (λ path. path.now) formula.entry;
+      file = option_map (λ path. path.now) file.entry;
+    }) (D.failures store.old + I.failures input.old)
+        (D.failures store.new + I.failures input.new)) }
+    // Where a file is asked for, the input isn't touched.
+    ensures kept { IfSome file.entry (λ _. input.new ≡ input.old) }
+{
+    match formula {
+        Some(path) => read_under(alloc, store, input, path, file),
+        None => read_given(alloc, store, input, file),
+    }
+}
