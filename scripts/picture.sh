@@ -13,7 +13,7 @@ whole=1152921504606846976
 
 # The last two lines of the report that goes with a picture: the open weight and the answer.
 end_of() {
-    sed -n 's/^<text x="8" y="26">\(s [A-Z]*\)$/\1/p; s/^\(w [0-9]*\) of [0-9]*<\/text>$/\1/p' "$1" | sort -r
+    sed -n 's/^<text x="8" y="26">\(s [A-Z]*\)$/\1/p; s/^<text x="130" y="26">\(w [0-9]*\) of [0-9]*<\/text>$/\1/p' "$1" | sort -r
 }
 
 # Draws a bundle's picture, $here/drawn, and looks whether it is scripts/draw.py's and whether report and status go with it: a file with the lines
@@ -60,7 +60,7 @@ run /dev/null --map "$here/colours.svg" "$here/colours.icnf"
 compare "the report on a tree of all colours" "$here/colours.report" "$here/none" "$here/one"
 
 # The cells of a picture, those of its rectangles that tell of a node: where each is, its width, its colour, that of its edge, and what it tells. The
-# picture's style says what colours a rectangle has, and a class: the last class that names one decides.
+# picture's style says what colours a rectangle has, and a class, or a rectangle of a class: the last class that names one decides.
 cells() {
     awk -F '"' '
         # The colour that the rule of a name gives to a thing, or nothing.
@@ -76,8 +76,11 @@ cells() {
             edge = colour("rect", "stroke")
             n = split($2, classes, " ")
             for (i = 1; i <= n; i++) {
-                if (colour("." classes[i], "fill")) fill = colour("." classes[i], "fill")
-                if (colour("." classes[i], "stroke")) edge = colour("." classes[i], "stroke")
+                for (of = 1; of <= 2; of++) {
+                    name = (of == 1 ? "." : "rect.") classes[i]
+                    if (colour(name, "fill")) fill = colour(name, "fill")
+                    if (colour(name, "stroke")) edge = colour(name, "stroke")
+                }
             }
             told = $0
             gsub(/^.*<title>|<.title>.*$/, "", told)
