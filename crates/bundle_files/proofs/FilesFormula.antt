@@ -53,12 +53,6 @@ formula_by_words one other formula same = (
   λ is. (is.0, ap (option_map symbols_of) same ∙ is.1, is.2),
 )
 
--- what is added behind a line end and the beginning of a label line changes no clause
-pub formula_kept : (bundle rest : List ℕ) (formula : List (List Literal))
-    → IsFormulaOf (bundle ++ 10 ∷ 108 ∷ 32 ∷ rest) formula ↔ IsFormulaOf bundle formula
-formula_kept bundle rest formula =
-    formula_by_words (bundle ++ 10 ∷ 108 ∷ 32 ∷ rest) bundle formula (same_tokens bundle rest)
-
 abbrev Leaf : Type 0
 Leaf = List ℕ × Option (List ℕ)
 

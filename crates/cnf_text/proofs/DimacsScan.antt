@@ -1,5 +1,5 @@
 -- What one symbol more does to a scan of clauses, and which rule it breaks.
-use Rattle.std.proofs.Common.{◌≡◌, ◌∙◌, sym, ap, refl, ℕ, ◌+◌, ◌<◌, ◌≤◌, true}
+use Rattle.std.proofs.Common.{◌≡◌, ◌∙◌, sym, ap, ℕ, ◌+◌, ◌<◌, ◌≤◌, true}
 use Rattle.std.proofs.Common.{false, List, [], ◌∷◌, ◌++◌, length, take, get_or, length-append, arith}
 use Rattle.std.proofs.lemmas.List.{take_more}
 use Rattle.std.specs.Prelude.{max}
@@ -58,16 +58,6 @@ greatest_empty cs = let whole = greatest_of-append cs ([] ∷ []) in omega arith
 pub count_push : (cs : List (List Literal)) (ls : List Literal) →
     length (cs ++ ls ∷ []) ≡ length cs + 1
 count_push cs ls = omega (arith, length-append cs (ls ∷ []))
-
-pub nothing_scanned :
-    HasScanned (record { clauses = 0; literals = 0; greatest = 0; inside = false }) []
-nothing_scanned = record {
-  literals = [];
-  clauses = [];
-  read = steps.nothing_read;
-  count = refl;
-  greatest = refl;
-}
 
 -- ---- between two clauses
 

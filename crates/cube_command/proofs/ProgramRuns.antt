@@ -329,8 +329,8 @@ published_run held later formula sources folder map out input out_old out_new (E
 
 -- status 3
 pub fault_run : (held : Held) (asked_file : Sources) (asked_folder : Option (List ℕ))
-    (file : Sources) (folder input : Option (List ℕ)) (run : Result Bool Fault) (status : ℕ) (Same : Type 0) (old new : Option (List ℕ))
-    (before after : ℕ)
+    (file : Sources) (folder input : Option (List ℕ)) (run : Result Bool Fault) (status : ℕ)
+    (Same : Type 0) (old new : Option (List ℕ)) (before after : ℕ)
     → file ≡ asked_file → folder ≡ asked_folder → ToldRun run status Same old new before after
     → IfErr run (λ fault. IsInputFault fault → IsRefused held file folder input fault) → status ≡ 3
     →

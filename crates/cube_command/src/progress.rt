@@ -57,7 +57,9 @@ pub struct Progress<'a, R> {
 impl<'a, R> Progress<'a, R> {
     /// A gate that writes to the standard error of this device, and takes the time of its clock.
     /// `on_terminal` says that its lines are written over one another.
-    pub fn new(device: &'a R, on_terminal: bool) -> Progress<'a, R> {
+    pub fn new(device: &'a R, on_terminal: bool) -> Progress<'a, R>
+        ensures { result.on_terminal ≡ on_terminal }
+    {
         Progress {
             device,
             on_terminal,

@@ -2,7 +2,7 @@
 use Rattle.std.proofs.Common.{◌≡◌, ◌==◌, ◌+◌, ◌<◌, ◌≤◌, ℕ, Bool, true, false, not, ◌||◌, ◌&&◌}
 use Rattle.std.proofs.Common.{List, [], ◌∷◌, ◌++◌, length, get_or, take, slice_index, map, subst}
 use Rattle.std.proofs.Common.{refl, sym, ap, ◌∙◌, arith, inl, inr}
-use Rattle.std.proofs.lemmas.Bool.{cases_Bool, cases_lt, cond-true, cond-false, lt-ltb, le-ltb}
+use Rattle.std.proofs.lemmas.Bool.{cases_Bool, cases_lt, cond-true, cond-false, lt-ltb}
 use Rattle.std.proofs.lemmas.Bool.{ne_eqb, eqb-true, eq-eqb}
 use Rattle.std.specs.Prelude.{if◌then◌else◌, nat_eq, nat_lt, cond, Some, None}
 use Rattle.std.specs.Map.{lookup}
@@ -26,11 +26,6 @@ pub near-at : (marks : Marks) (n : ℕ) → n < 2097152 → stamp_at marks n ≡
 near-at marks n near =
     cond-true (nat_lt n 2097152) (slice_index marks.0 n) (mapped_at marks.1 n)
     (lt-ltb n 2097152 near)
-
-pub far-at : (marks : Marks) (n : ℕ) → 2097152 ≤ n → stamp_at marks n ≡ mapped_at marks.1 n
-far-at marks n far =
-    cond-false (nat_lt n 2097152) (slice_index marks.0 n) (mapped_at marks.1 n)
-    (le-ltb n 2097152 far)
 
 -- ---- the set
 
@@ -247,10 +242,6 @@ unfolding NoneAbove
 NoneAbove-forgets marks after numbers epoch h forgets n =
     rw (forgets n)
     (no-higher (is_named numbers n) 0 (stamp_at marks n) epoch (omega arith) (h n))
-
--- no stamp is gone by no numbers
-pub Forgets-none : (marks : Marks) → Forgets [] marks marks
-Forgets-none marks n = refl
 
 forget_more : (named this : Bool) (old : ℕ) →
     (if this then 0 else (if named then 0 else old)) ≡ (if named || this then 0 else old)

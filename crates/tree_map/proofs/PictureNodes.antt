@@ -1,5 +1,5 @@
 -- What is told of a node, and whether one is rejected.
-use Rattle.std.proofs.Common.{◌≡◌, ◌==◌, ℕ, suc, ◌+◌, ◌-◌, ◌<◌, ◌≤◌, List, [], ◌++◌, Bool, true}
+use Rattle.std.proofs.Common.{◌≡◌, ◌==◌, ℕ, suc, ◌+◌, ◌-◌, ◌<◌, List, [], ◌++◌, Bool, true}
 use Rattle.std.proofs.Common.{false, ◌||◌, inl, inr, refl, sym, ap, ◌∙◌, arith}
 use Rattle.std.proofs.lemmas.Bool.{cases_eq}
 use Rattle.std.specs.Prelude.{codes, is_some}
@@ -33,19 +33,6 @@ goes_past marks number end l other =
     let r : number + 1 ≡ suc number = omega arith in
     rw (q, r, other) refl
 
--- the next node's proof is rejected
-pub finds_one : (marks : List Mark) (number end : ℕ) → number < end →
-    is_rejected (mark_at marks number) ≡ true →
-    one_rejected marks number (end - number) ≡ true
-finds_one marks number end l is =
-    let q : end - number ≡ suc (end - (number + 1)) = omega arith in
-    rw (q, is) refl
-
--- no node is left
-pub finds_none : (marks : List Mark) (number end : ℕ) → end ≤ number →
-    one_rejected marks number (end - number) ≡ false
-finds_none marks number end l = let q : end - number ≡ 0 = omega arith in rw q refl
-
 or_none : (b : Bool) → (b || false) ≡ b
 or_none true = refl
 or_none false = refl
@@ -66,10 +53,6 @@ pub told_missing : (case : CaseOf) (marks : List Mark) (node : ℕ) (t : SplitTr
     told case marks node t
     ≡ codes "m" ++ path_fields case.tree node ++ status_fields (mark_at marks node)
 told_missing case marks node t e = rw e refl
-
-pub told_cube : (case : CaseOf) (marks : List Mark) (node k : ℕ) (t : SplitTree) → t ≡ cube k →
-    told case marks node t ≡ codes "a" ++ number_field k ++ status_fields (mark_at marks node)
-told_cube case marks node k t e = rw e refl
 
 pub told_split : (case : CaseOf) (marks : List Mark) (node : ℕ) (t : SplitTree) → IsSplit t →
     told case marks node t

@@ -19,7 +19,8 @@ run_request-run-requires-clause-pictures g c = λ κs within.
     files_asked
     (λ (path read whole : List ℕ). AllowsPictures (g.D.Store.allows c.args.store.now path) whole)
     (g.D.Store.held c.args.store.now) _ _ _ _ _ _ (g.I.Source.remaining c.args.input.now)
-    (ap₂ sources_by c.in-Ok.ensures.formula c.in-Ok.ensures.file) c.in-Ok.ensures.proofs c.in-Ok.ensures.map c.requires.pictures
+    (ap₂ sources_by c.in-Ok.ensures.formula c.in-Ok.ensures.file) c.in-Ok.ensures.proofs
+    c.in-Ok.ensures.map c.requires.pictures
 
 pub run_request-run-requires-clause-records : goal.run_request-run-requires-clause-records
 run_request-run-requires-clause-records g c = λ κs within.
@@ -27,7 +28,8 @@ run_request-run-requires-clause-records g c = λ κs within.
     (λ (path read whole : List ℕ).
     AllowsRecords (g.D.Store.allows c.args.store.now path) read whole)
     (g.D.Store.held c.args.store.now) _ _ _ _ _ _ (g.I.Source.remaining c.args.input.now)
-    (ap₂ sources_by c.in-Ok.ensures.formula c.in-Ok.ensures.file) c.in-Ok.ensures.proofs c.in-Ok.ensures.out c.requires.records
+    (ap₂ sources_by c.in-Ok.ensures.formula c.in-Ok.ensures.file) c.in-Ok.ensures.proofs
+    c.in-Ok.ensures.out c.requires.records
 
 pub run_request-run-requires-clause-apart : goal.run_request-run-requires-clause-apart
 run_request-run-requires-clause-apart g c = λ κs within.
@@ -37,7 +39,8 @@ pub tell_run-requires-clause-fault : goal.tell_run-requires-clause-fault
 tell_run-requires-clause-fault g c =
     fault_asked (g.E.Sink.allows c.args.errors.now) (g.D.Store.held c.args.store.now) _ _ _ _
     (g.I.Source.remaining c.args.input.now) c.run_request-run.result
-    (ap₂ sources_by c.in-Ok.ensures.formula c.in-Ok.ensures.file) c.in-Ok.ensures.proofs c.requires.faults c.run_request-run.ensures.fault
+    (ap₂ sources_by c.in-Ok.ensures.formula c.in-Ok.ensures.file) c.in-Ok.ensures.proofs
+    c.requires.faults c.run_request-run.ensures.fault
 
 pub tell_run-requires-clause-memory : goal.tell_run-requires-clause-memory
 tell_run-requires-clause-memory g c =
@@ -57,7 +60,8 @@ returns-in-Ok-clause-sound g c = λ zero.
     (g.O.Sink.contents c.run_request-run.new.output) c.run_request-run.result c.tell_run.result _
     (g.E.Sink.contents c.args.errors.now) (g.E.Sink.contents c.tell_run.new.errors)
     (g.E.Sink.failures c.args.errors.now) (g.E.Sink.failures c.tell_run.new.errors)
-    (ap₂ sources_by c.in-Ok.ensures.formula c.in-Ok.ensures.file) c.tell_run.ensures.told c.run_request-run.ensures.report zero
+    (ap₂ sources_by c.in-Ok.ensures.formula c.in-Ok.ensures.file)
+    c.tell_run.ensures.told c.run_request-run.ensures.report zero
 
 pub returns-in-Ok-clause-published : goal.returns-in-Ok-clause-published
 returns-in-Ok-clause-published g c = λ zero.

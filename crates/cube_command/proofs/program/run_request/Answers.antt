@@ -73,7 +73,8 @@ write_outcome-requires-clause-recorded g c = λ _ _ path is.
       report_on _ _ _ judged.outcome.correct,
       whole_record _ c.in_ok-read.read.items c.in_ok-outcome.outcome.text.items _ _
           c.in_ok-record.record.items c.end_record.new.begun.items c.deref-3.result.now
-          c.deref.ensures.value c.deref-2.ensures.value c.deref-3.ensures.value c.in_ok-record.ensures c.in_ok-end_record.ensures path is,
+          c.deref.ensures.value c.deref-2.ensures.value c.deref-3.ensures.value
+          c.in_ok-record.ensures c.in_ok-end_record.ensures path is,
     )))
 
 pub returns-in_err-write_outcome-clause-beginning : goal.returns-in_err-write_outcome-clause-beginning
@@ -103,6 +104,7 @@ returns-clause-report g c =
     c.is_some-draws.ensures)
     (whole_record _ c.in_ok-read.read.items c.in_ok-outcome.outcome.text.items _ _
     c.in_ok-record.record.items c.end_record.new.begun.items c.deref-3.result.now
-    c.deref.ensures.value c.deref-2.ensures.value c.deref-3.ensures.value c.in_ok-record.ensures c.in_ok-end_record.ensures)
+    c.deref.ensures.value c.deref-2.ensures.value c.deref-3.ensures.value
+    c.in_ok-record.ensures c.in_ok-end_record.ensures)
     c.in_ok-write_outcome.ensures.written c.in_ok-write_outcome.ensures.drawn
     c.in_ok-write_outcome.ensures.recorded
