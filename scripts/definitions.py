@@ -66,8 +66,9 @@ What the program and `run_io` have written where something fails, which files th
 standard error, and which status comes when. Of `command`: 2 stands exactly where the words can't be taken, unless
 memory is refused (`usage`, `taken`); with 4, standard error gets the line of F6 or of F14 (`memory`); 5 stands where a
 call that reads or writes failed, and otherwise only where FILE isn't there (`failed`, `broken`), with the line of F13
-(`device`), after nothing or, where a write failed, a beginning of the report (`beginning`).""",
-     ["cube_command/program.rt command status quiet elsewhere undrawn nothing beginning usage unread taken none memory device failed broken",
+(`device`), after nothing or, where a write failed, a beginning of the report (`beginning`). No file that is read changes
+(`kept`): not CNF, not FILE, and none of DIR that ends in `.lrat`, as their paths are written.""",
+     ["cube_command/program.rt command status quiet elsewhere undrawn kept nothing beginning usage unread taken none memory device failed broken",
       "cube_command/telling.rt own_words ok err",
       "cube_report/engine.rt run_io nothing beginning device"]),
     ("Nothing else is written, also by a call that never returns", """
@@ -94,8 +95,9 @@ record of another formula, or of the same in other bytes, is refused. With `--un
 the premise is that each is the report on FILE's formula and cubes with some proofs. What it writes is the report by the
 joined marks, where a node is refuted that some RECORD refutes. It is a report again, so it can be joined with others;
 where two runs split the sections between them, the joined marks of what they found are those of the one run; and no
-true record or report is refused.""",
-     ["join_command/program.rt join_command sound refuted open",
+true record or report is refused. With `--formula CNF` the premise is of the bundle that CNF and FILE make, and the text
+of CNF is a DIMACS text of a formula of which then no assignment makes all clauses true.""",
+     ["join_command/program.rt join_command sound published refuted open",
       "join_command/program.rt join_command status quiet held nothing beginning usage unread taken fault memory device failed broken",
       "join_command/program.rt join_command reports faults words",
       "cube_join/joining.rt Join::new tree none",

@@ -58,6 +58,23 @@ for word in --workers --cut --formula --proofs --map --record; do
 done
 refuses --progress --progress --progress
 refuses --progress --progress=1
+refuses --explain --explain --explain
+refuses --explain --explain=1
+
+# What is read isn't written over: FILE, the formula's file, a proof, whether it is there or not.
+lay_out "$root/tests/rows/two_cubes_refuted"
+cp "$root/tests/rows/two_cubes_refuted.in" "$here/run/case.icnf"
+for word in --map --record; do
+    refuses "'$word' can't name a file that is read" "$word" case.icnf case.icnf
+    refuses "'$word' can't name a file that is read" "$word" formula.cnf --formula formula.cnf case.icnf
+    refuses "'$word' can't name a file that is read" "$word" proofs/1.lrat --proofs proofs
+    refuses "'$word' can't name a file that is read" --proofs proofs/ "$word" proofs//any.lrat case.icnf
+done
+cmp -s "$root/tests/rows/two_cubes_refuted.in" "$here/run/case.icnf" && [ "$(ls "$here/run")" = case.icnf ]
+count "no file that is read is written over" $?
+run "$here/none" --map proofs.svg --record proofs/case.record --proofs proofs case.icnf
+[ "$(cat "$here/status")" = 5 ] && [ -s "$here/run/proofs.svg" ]
+count "a record into a folder that isn't there" $?
 for value in 0 33 x 1.5 257 4294967297 18446744073709551617; do
     refuses --workers --workers "$value"
     refuses --workers --workers="$value"

@@ -1,11 +1,7 @@
 -- What the words ask for.
 use Rattle.std.proofs.Common.{◌≡◌, ◌∙◌, ap, refl, ℕ, Bool, false, Option, Some, List, [], ◌∷◌, map}
-use Rattle.std.proofs.Common.{length, codes, true, None, not}
-use Rattle.std.proofs.Common.{Result, Ok, Err, IfErr, IsErrAnd, IsTrue, subst, sym, inl, inr}
-use Rattle.std.proofs.Common.{◌↔◌}
-use Rattle.std.specs.Str.{bytes_eq}
-use Rattle.std.proofs.lemmas.Bool.{not-true}
-use Rattle.std.proofs.lemmas.Slice.Eq.{bytes_eq-Decides}
+use Rattle.std.proofs.Common.{length, codes, true, None}
+use Rattle.std.proofs.Common.{Result, Ok, Err, IfErr, IsErrAnd, subst, sym, inl, inr}
 use Rattle.clap.specs.declared.builder.command.Command.{Command}
 use Rattle.clap.specs.declared.error.Error.{Error}
 use Rattle.clap.specs.declared.error.kind.ErrorKind.TheVariants.{OutOfMemory}
@@ -15,8 +11,8 @@ use Rattle.clap.specs.Words.{found_of, is_simple, is_simple_and_free, kind_of, m
 use Rattle.clap.specs.Words.{one_text, HasKind, Kinds}
 use Rattle.clap.proofs.OnLiterals.{clap_on_literals}
 use Rattle.clap.proofs.WalkLemmas.{first_value-rows, one_text-rows}
-use Rattle.cube_command.specs.Words.{AreApart, AreTaken, asked_for, file_of, folder_of, map_of}
-use Rattle.cube_command.specs.Words.{formula_of, record_of, words_taken}
+use Rattle.cube_command.specs.Words.{AreApart, AreSpared, AreTaken, asked_for, file_of, folder_of}
+use Rattle.cube_command.specs.Words.{formula_of, map_of, record_of, SparesRead, words_taken}
 use Rattle.cube_command.specs.Inner.Words.{Reads, SaysFlag, SaysNumber, flag_text}
 
 -- what the parser's matches hold under a name is what the words ask for
@@ -58,23 +54,30 @@ taken_fails parser words error is fails taken =
     among_none error (fault_of (app_of parser) words)
     (ap (λ (a : App). fault_of a words) is ∙ taken.0) (fails (parser_simple parser is))
 
--- words that were parsed, and ask for two files at two paths, are taken
-pub parsed_taken : (parser : Command) (words : List Text) (picture out : Option Text)
+-- words that were parsed, and whose files can be written where they say, are taken
+pub parsed_taken : (parser : Command) (words : List Text)
+    (picture out formula file folder : Option Text)
     → app_of parser ≡ words_taken
     → (is_simple_and_free (app_of parser) ≡ true → fault_of (app_of parser) words ≡ [])
     → picture ≡ asked_for (codes "map") words → out ≡ asked_for (codes "record") words
-    → AreApart picture out → AreTaken words
-parsed_taken parser words picture out is parsed picture_is out_is apart = (
-  sym (ap (λ (a : App). fault_of a words) is) ∙ parsed (parser_simple parser is),
-  rw (picture_is, out_is) at apart,
-)
+    → formula ≡ asked_for (codes "formula") words → file ≡ asked_for (codes "file") words
+    → folder ≡ asked_for (codes "proofs") words
+    → AreSpared picture out formula file folder → AreTaken words
+parsed_taken parser words picture out formula file folder is parsed picture_is out_is formula_is
+    file_is folder_is spared = (
+      sym (ap (λ (a : App). fault_of a words) is) ∙ parsed (parser_simple parser is),
+      rw (picture_is, out_is, formula_is, file_is, folder_is) at spared,
+    )
 
--- words that ask for two files at one path aren't taken
-pub one_path_untaken : (words : List Text) (picture out : Option Text) (apart : Bool)
+-- words whose files can't be written where they say aren't taken
+pub clash_untaken : (words : List Text) (picture out formula file folder : Option Text)
     → picture ≡ asked_for (codes "map") words → out ≡ asked_for (codes "record") words
-    → (AreApart picture out → IsTrue apart) → apart ≡ false → ¬ AreTaken words
-one_path_untaken words picture out apart picture_is out_is apart_is same taken =
-    let yes : apart ≡ true = apart_is (rw (picture_is, out_is) taken.1) in absurd (cc)
+    → formula ≡ asked_for (codes "formula") words → file ≡ asked_for (codes "file") words
+    → folder ≡ asked_for (codes "proofs") words
+    → ¬ AreSpared picture out formula file folder → ¬ AreTaken words
+clash_untaken words picture out formula file folder picture_is out_is formula_is file_is folder_is
+    clash taken =
+    clash (rw (picture_is, out_is, formula_is, file_is, folder_is) taken.1)
 
 no_fault : fault_of words_taken [] ≡ []
 unfolding clap_on_literals
@@ -84,30 +87,33 @@ no_map : asked_for (codes "map") [] ≡ None
 unfolding clap_on_literals
 no_map = refl
 
-unless_equal : (one other : Text) (equal : Bool) → bytes_eq one other ≡ equal →
-    AreApart (Some one) (Some other) → not equal ≡ true
-unless_equal one other true is apart =
-    absurd (apart one refl (ap (λ (t : Text). Some t) (sym ((bytes_eq-Decides one other).0 is))))
-unless_equal one other false is apart = refl
-
--- two files are apart exactly where their paths differ
-pub apart_where : (one other : Text) →
-    IsTrue (not (bytes_eq one other)) ↔ AreApart (Some one) (Some other)
-apart_where one other = (
-  λ yes path at there.
-      let same : one ≡ other = cc in
-      let equal : bytes_eq one other ≡ true = (bytes_eq-Decides one other).1 same in
-      let differ : bytes_eq one other ≡ false = not-true (bytes_eq one other) yes in absurd (cc),
-  λ apart. unless_equal one other (bytes_eq one other) refl apart,
-)
-
 -- where the one isn't asked for, there are no two at one path
 apart_of_none : (one other : Option Text) → one ≡ None → AreApart one other
 apart_of_none None other is path there = absurd (cc)
 apart_of_none (Some text) other is path there = absurd (cc)
 
+no_record : asked_for (codes "record") [] ≡ None
+unfolding clap_on_literals
+no_record = refl
+
+-- what isn't asked for is none of the files that are read
+spared_of_none : (written formula file folder : Option Text) → written ≡ None →
+    SparesRead written formula file folder
+spared_of_none written formula file folder is = (
+  apart_of_none written formula is,
+  apart_of_none written file is,
+  λ in_folder path name one other same. absurd (cc),
+)
+
 no_words_taken : AreTaken []
-no_words_taken = (no_fault, apart_of_none (map_of []) (record_of []) no_map)
+no_words_taken = (
+  no_fault,
+  (
+    apart_of_none (map_of []) (record_of []) no_map,
+    spared_of_none (map_of []) (formula_of []) (file_of []) (folder_of []) no_map,
+    spared_of_none (record_of []) (formula_of []) (file_of []) (folder_of []) no_record,
+  ),
+)
 
 no_proofs : asked_for (codes "proofs") [] ≡ None
 unfolding clap_on_literals

@@ -1,7 +1,8 @@
 -- Which words the program takes, and what they ask for.
-use Rattle.std.specs.Prelude.{◌≡◌, ◌≢◌, List, [], ◌∷◌, codes, pos, true, Option, Some}
+use Rattle.std.specs.Prelude.{◌≡◌, ◌≢◌, ◌⊎◌, List, [], ◌∷◌, codes, pos, true, Option, Some}
 use Rattle.clap.specs.Words.{App, Rule, Text, fault_of, first_of, matches_of, new_app, new_rule}
 use Rattle.clap.specs.Words.{with_rule}
+use Rattle.bundle_files.specs.Files.{proof_path}
 use Rattle.bundle_files.specs.Formula.{Sources, sources_by}
 use Rattle.clap.specs.declared.builder.action.ArgAction.TheVariants.{SetTrue}
 use Rattle.clap.specs.declared.builder.value_parser.ValueParser.TheVariants.{Signed, NonEmptyString}
@@ -37,6 +38,11 @@ abbrev pub progress_word : Rule
 progress_word =
     record (new_rule (codes "progress")) { long = Some (codes "progress"); action = Some SetTrue }
 
+-- `--explain`, without a value
+abbrev pub explain_word : Rule
+explain_word =
+    record (new_rule (codes "explain")) { long = Some (codes "explain"); action = Some SetTrue }
+
 -- `--map` with a text that isn't empty
 abbrev pub map_word : Rule
 map_word = record (valued (codes "map")) { parser = Some NonEmptyString }
@@ -56,9 +62,9 @@ with_version parser =
 
 abbrev pub words_taken : App
 words_taken =
-    with_rule (with_rule (with_rule (with_rule (with_rule (with_rule
+    with_rule (with_rule (with_rule (with_rule (with_rule (with_rule (with_rule
     (with_rule (with_rule (with_version (new_app (codes "cubeboard"))) workers_word) cut_word)
-    formula_word) proofs_word) progress_word) map_word) record_word) file_word
+    formula_word) proofs_word) progress_word) explain_word) map_word) record_word) file_word
 
 -- the value that `clap` finds in these words
 abbrev pub asked_for : Text → List Text → Option Text
@@ -91,8 +97,33 @@ record_of words = first_of (codes "record") (matches_of words_taken words)
 abbrev pub AreApart : Option Text → Option Text → Type 0
 AreApart one other = (path : Text) → one ≡ Some path → other ≢ Some path
 
+-- the file that is written isn't that of a proof in the folder, whichever its name is
+abbrev pub IsNoProof : Option Text → Option Text → Type 0
+IsNoProof folder written =
+    (in_folder path name : Text) → folder ≡ Some in_folder → written ≡ Some path
+    → path ≢ proof_path in_folder name
+
+-- the file that is written is none of those that are read: the formula's, FILE, and DIR's proofs
+abbrev pub SparesRead : Option Text → Option Text → Option Text → Option Text → Type 0
+SparesRead written formula file folder =
+    AreApart written formula × AreApart written file × IsNoProof folder written
+
+-- the picture and the record have two paths, and neither is that of a file that is read
+abbrev pub AreSpared : Option Text → Option Text → Option Text → Option Text → Option Text → Type 0
+AreSpared picture out formula file folder =
+    AreApart picture out × SparesRead picture formula file folder
+    × SparesRead out formula file folder
+
 -- These words fit all that: `clap` finds no fault in them, they ask for neither help nor the
--- version, and for the picture and the record at two paths.
+-- version, and the files that they have written are none of those that are read, and two.
 abbrev pub AreTaken : List Text → Type 0
 AreTaken words =
-    (fault_of words_taken words ≡ []) × AreApart (map_of words) (record_of words)
+    (fault_of words_taken words ≡ [])
+    × AreSpared (map_of words) (record_of words) (formula_of words) (file_of words)
+    (folder_of words)
+
+-- a file of this path is read: the formula's, FILE, or that of a proof in DIR, whichever its name is
+abbrev pub IsInput : List Text → Text → Type 0
+IsInput words path =
+    (formula_of words ≡ Some path) ⊎ (file_of words ≡ Some path)
+    ⊎ ((folder name : Text) × (folder_of words ≡ Some folder) × (path ≡ proof_path folder name))

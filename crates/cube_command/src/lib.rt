@@ -1,6 +1,7 @@
 //! The program `cubeboard` as a call: its words, its files, its streams, its texts and its status.
 #![tactic(auto)]
 
+mod asked;
 // `command` stands here: a module can't have the name of an item beside it.
 mod program;
 mod progress;
@@ -9,6 +10,7 @@ mod telling;
 mod words;
 
 pub use bundle_files::{FileStore, Opener, Store, SystemFiles};
+pub use cube_explain::{Explain, NoExplain, Teller};
 pub use cube_report::{Counted, Found, Gate, NoGate, Sink, Source};
 pub use program::command;
 pub use progress::Progress;

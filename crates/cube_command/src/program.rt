@@ -14,14 +14,14 @@ ghost use Rattle.cube_report.specs.Literal.{Literal};
 ghost use Rattle.cube_report.specs.Correct.{AllowsReports, IsUnsatisfiable};
 ghost use Rattle.cube_report.specs.Faults.{IsInputFault};
 ghost use Rattle.cube_command.specs.Words.{AreApart, AreTaken, file_of, folder_of, map_of};
-ghost use Rattle.cube_command.specs.Words.{formula_of, sources_of};
-ghost use Rattle.cube_command.specs.Words.{record_of};
+ghost use Rattle.cube_command.specs.Words.{formula_of, IsInput, record_of, sources_of};
 ghost use Rattle.cube_command.specs.Record.{AllowsRecords};
 ghost use Rattle.cube_command.specs.Program.{IsStatus, IsMade, IsReported, IsRefused, IsBegun};
 ghost use Rattle.cube_command.specs.Program.{IsLineWritten, fault_line, AllowsFaults};
 ghost use Rattle.cube_command.specs.Program.{AllowsPictures};
 ghost use Rattle.cube_command.specs.Inner.Program.{sources_in};
 
+use crate::asked::{Telling, asked_in, fault_in};
 use crate::progress::Watched;
 use crate::record::{begin_record, end_record};
 use crate::telling::{tell_fault, tell_run};
@@ -29,6 +29,7 @@ use crate::words::{Request, request_of};
 use bundle_files::{Store, judge_given, read_from};
 use clap::Error as WordsError;
 use clap::error::ErrorKind as WordsFault;
+use cube_explain::Explain;
 use cube_report::{Fault, Gate, Outcome, Sink, Source, write_all};
 use std::alloc::Global;
 use std::convert::AsStr;
@@ -52,16 +53,19 @@ use std::thread::Threads;
 /// leaf with a section of its own. N workers check the proofs, with boards cut at the depth D;
 /// `gate` is called beside each section, and with `--progress` also `watch`, which may tell a
 /// person how far the run is, on a device that it is lent: what it does there is not `errors`. With
+/// `--explain` so may `explain` tell what was read, and where rejections and a fault come from; then
+/// the text that was read is kept twice. With
 /// `--map SVG` a picture of the tree is written to that file, made anew, before the report; with
 /// `--record OUT` then a record to that one: the line `i ` with the SHA-256 of the iCNF text of the
-/// bundle that was read, and the report. The two can't be one file.
+/// bundle that was read, and the report. The two can't be one file, nor one that is read: CNF, FILE
+/// or `DIR/NAME.lrat`, as their paths are written.
 ///
 /// Answers the status: 0 for a report that says refuted, 1 for one that says open, 2 where the
 /// words can't be taken or ask for help or the version, after the parser's text on `errors`, 3
 /// where the input is refused, 4 where memory or the start of a thread is refused, 5 where a device
 /// failed: also where FILE can't be opened, and where a file of DIR is there and can't be read. A
 /// failed write to `errors` doesn't change it.
-pub fn command<R, D, S, I, O, E, G, W>(
+pub fn command<R, D, S, I, O, E, G, W, X>(
     rt: &R,
     store: &mut D,
     words: &[S],
@@ -70,6 +74,7 @@ pub fn command<R, D, S, I, O, E, G, W>(
     errors: &mut E,
     gate: &G,
     watch: &W,
+    explain: &X,
 ) -> u8
 where
     R: AllocGlobal + Threads + Wait + Sync,
@@ -80,6 +85,7 @@ where
     E: Sink,
     G: Gate + Sync,
     W: Gate + Sync,
+    X: Explain,
     requires store { D.failures store.old < 2 ^ 64 - 1 }
     requires input { I.failures input.old < 2 ^ 64 - 1 }
     requires output { O.failures output.old < 2 ^ 64 - 1 }
@@ -138,6 +144,9 @@ where
         → record_of (map S.text words.now) ≢ Some path
         → D.held store.new path ≡ D.held store.old path }
     ensures undrawn { 1 < result → result < 5 → D.held store.new ≡ D.held store.old }
+    // And no file changes that is read.
+    ensures kept { (path : List ℕ) → IsInput (map S.text words.now) path
+        → D.held store.new path ≡ D.held store.old path }
 
     // With every other status but 5 nothing is written to `output`; with 5 nothing is, or a
     // beginning of the report where a write failed.
@@ -189,22 +198,42 @@ where
                 watch,
                 is_asked: request.progress,
             };
-            let run = run_request(rt, store, &request, input, output, &gates);
-            tell_run(rt.alloc(), errors, run)
+            let mut bundle = Vec::new(rt.alloc());
+            let telling = Telling {
+                explain,
+                asked: asked_in(&request),
+                is_asked: request.explain,
+            };
+            let run = run_request(
+                rt,
+                store,
+                &request,
+                input,
+                output,
+                &gates,
+                &telling,
+                &mut bundle,
+            );
+            let fault = fault_in(&run);
+            let status = tell_run(rt.alloc(), errors, run);
+            telling.tell_fault(rt.alloc(), &bundle, fault);
+            status
         }
         Err(error) => refused(rt.alloc(), errors, &error),
     }
 }
 
 /// What the request asks for: whether the report that was written says refuted, or why there is
-/// none.
-fn run_request<R, D, I, O, G>(
+/// none. What is told of the run is told of the bundle that was read, which is kept for that.
+fn run_request<R, D, I, O, G, X>(
     rt: &R,
     store: &mut D,
     request: &Request<'_>,
     input: &mut I,
     output: &mut O,
     gate: &G,
+    telling: &Telling<'_, X>,
+    bundle: &mut Vec<u8>,
 ) -> Result<bool, Fault>
 where
     R: AllocGlobal + Threads + Wait + Sync,
@@ -212,6 +241,7 @@ where
     I: Source,
     O: Sink,
     G: Gate + Sync,
+    X: Explain,
     requires store { D.failures store.old < 2 ^ 64 - 1 }
     requires input { I.failures input.old < 2 ^ 64 - 1 }
     requires output { O.failures output.old < 2 ^ 64 - 1 }
@@ -263,6 +293,7 @@ where
         ⊎ IsOneAbsent (D.held store.old) (sources_in request.now) }
 {
     let read = read_from(rt.alloc(), store, input, request.formula, request.file)?;
+    telling.tell_read(rt.alloc(), &read, bundle)?;
     let draws = request.map.is_some();
     let mut record = begin_record(rt.alloc(), request.out, &read)?;
     let outcome = judge_given(
@@ -275,6 +306,7 @@ where
         draws,
     )?;
     end_record(&mut record, request.out, &outcome.text)?;
+    telling.tell_report(rt.alloc(), bundle, &outcome.text);
     write_outcome(store, output, request, &outcome, &record)?;
     Ok(outcome.refuted)
 }

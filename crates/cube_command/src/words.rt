@@ -1,13 +1,18 @@
 //! The words of the program: what they ask for, and the help.
 
-ghost use Rattle.std.specs.Prelude.{◌≡◌, ◌<◌, ◌≤◌, ℕ, Bool, Some, false, map, option_map, codes};
-ghost use Rattle.std.specs.Prelude.{IfOk, IfErr, IsTrue, ◌↔◌};
-ghost use Rattle.clap.specs.Words.{app_of, found_of, kind_of, new_app, one_text, rule_of};
-ghost use Rattle.cube_command.specs.Words.{AreApart, AreTaken, asked_for, cut_word, file_word};
-ghost use Rattle.cube_command.specs.Words.{formula_word};
+ghost use Rattle.std.specs.Prelude.{◌≡◌, ◌≢◌, ◌<◌, ◌≤◌, ◌++◌, ℕ, Bool, List, None, Some, false, map};
+ghost use Rattle.std.specs.Prelude.{codes, option_map, IfOk, IfErr, IfSome, IsTrue, ◌↔◌};
+ghost use Rattle.std.specs.Prelude.{MatchOption};
+ghost use Rattle.clap.specs.Words.{app_of, first_value, found_of, kind_of, new_app, one_text};
+ghost use Rattle.clap.specs.Words.{rule_of};
+ghost use Rattle.bundle_files.specs.Files.{proof_path};
+ghost use Rattle.cube_command.specs.Words.{AreApart, AreSpared, AreTaken, asked_for, cut_word};
+ghost use Rattle.cube_command.specs.Words.{explain_word, file_word, formula_word, IsNoProof};
+ghost use Rattle.cube_command.specs.Words.{SparesRead};
 ghost use Rattle.cube_command.specs.Words.{map_word, progress_word, proofs_word, record_word};
 ghost use Rattle.cube_command.specs.Words.{with_version, words_taken, workers_word};
-ghost use Rattle.cube_command.specs.Inner.Words.{with_numbers, Reads, SaysFlag, SaysNumber};
+ghost use Rattle.cube_command.specs.Inner.Words.{flag_text, with_flags, with_inputs, with_numbers};
+ghost use Rattle.cube_command.specs.Inner.Words.{with_outputs, Reads, SaysFlag, SaysNumber};
 
 use clap::builder::ValueParser;
 use clap::error::ErrorKind;
@@ -29,6 +34,8 @@ pub struct Request<'a> {
     pub file: Option<&'a str>,
     /// Whether it is told how far the run is.
     pub progress: bool,
+    /// Whether it is told what was read, and where faults and rejections come from.
+    pub explain: bool,
     /// The file for the picture of the tree, where one is asked for.
     pub map: Option<&'a str>,
     /// The file for the record, where one is asked for; not the picture's.
@@ -49,8 +56,7 @@ A bundle is a formula and cubes in iCNF, and then proofs, each below a label lin
   6 0 5 3 4 0   clauses with the ids m+1 to m+k, where m is the number of clauses
   l m1          the same for the first branch that the cubes don't cover
   l n 1 -2 0    the same for the inner node with this path
-With --proofs, DIR/1.lrat, DIR/2.lrat, .. and DIR/m1.lrat, .. are added as if they
-stood below such labels; a file that isn't there is no proof.
+With --proofs, DIR/1.lrat, .. and DIR/m1.lrat, .. are added as if below such labels.
 
 The report is the same for every N and D:
   t   numbers of cubes and of missing branches, and the weight of the whole tree
@@ -89,45 +95,156 @@ pub fn request_of<'a, S: AsStr>(alloc: Global, words: &'a [S]) -> Result<Request
         → (request.settings.workers ≡ workers) × (request.settings.cut ≡ cut)) }
     ensures progress { IfOk result (λ request. (asked : Bool)
         → SaysFlag (codes "progress") (map S.text words.now) asked → request.progress ≡ asked) }
+    ensures explain { IfOk result (λ request. (asked : Bool)
+        → SaysFlag (codes "explain") (map S.text words.now) asked → request.explain ≡ asked) }
     // Only words that are taken make a request, and they are refused only for want of memory.
     ensures taken { IfOk result (λ _. AreTaken (map S.text words.now)) }
     ensures refused { IfErr result
         (λ error. AreTaken (map S.text words.now) → kind_of error ≡ ErrorKind.OutOfMemory) }
 {
     let matches = parser(alloc)?.try_get_matches_from(words)?;
-    let map = matches.get_str("map");
-    let out = matches.get_str("record");
-    if !are_apart(map, out) {
-        return Err(one_path(alloc)?);
+    let request = request_in(&matches);
+    match clash_in(&request) {
+        Some(text) => Err(conflict(alloc, text)?),
+        None => Ok(request),
     }
-    Ok(Request {
-        settings: settings_in(&matches),
+}
+
+/// The request that was matched.
+fn request_in<'a>(matches: &ArgMatches<'a>) -> Request<'a>
+    ensures formula { option_map (λ text. text.now) result.formula
+        ≡ first_value (found_of matches.now) (codes "formula") }
+    ensures proofs { option_map (λ text. text.now) result.proofs
+        ≡ first_value (found_of matches.now) (codes "proofs") }
+    ensures file { option_map (λ text. text.now) result.file
+        ≡ first_value (found_of matches.now) (codes "file") }
+    ensures map { option_map (λ text. text.now) result.map
+        ≡ first_value (found_of matches.now) (codes "map") }
+    ensures out { option_map (λ text. text.now) result.out
+        ≡ first_value (found_of matches.now) (codes "record") }
+    ensures settings { (workers cut : ℕ)
+        → Reads (one_text (found_of matches.now) (codes "workers")) workers → 0 < workers
+        → workers ≤ 32
+        → Reads (one_text (found_of matches.now) (codes "cut")) cut → cut ≤ 6
+        → (result.settings.workers ≡ workers) × (result.settings.cut ≡ cut) }
+    ensures progress { (asked : Bool)
+        → one_text (found_of matches.now) (codes "progress") ≡ Some (flag_text asked)
+        → result.progress ≡ asked }
+    ensures explain { (asked : Bool)
+        → one_text (found_of matches.now) (codes "explain") ≡ Some (flag_text asked)
+        → result.explain ≡ asked }
+{
+    Request {
+        settings: settings_in(matches),
         formula: matches.get_str("formula"),
         proofs: matches.get_str("proofs"),
         file: matches.get_str("file"),
         progress: matches.get_flag("progress"),
-        map,
-        out,
-    })
+        explain: matches.get_flag("explain"),
+        map: matches.get_str("map"),
+        out: matches.get_str("record"),
+    }
 }
 
-/// Whether the picture and the record, where both are asked for, have two paths.
-#[tactic(auto, using(crate::proofs::WordsRequests::apart_where))]
-fn are_apart(map: Option<&str>, out: Option<&str>) -> bool
-    ensures { IsTrue result ↔ AreApart (option_map (λ path. path.now) map.entry)
-        (option_map (λ path. path.now) out.entry) }
+/// Why the picture and the record can't be written where the request says, if they can't.
+fn clash_in(request: &Request<'_>) -> Option<&'static str>
+    ensures none { result ≡ None → AreSpared (option_map (λ path. path.now) request.now.map)
+        (option_map (λ path. path.now) request.now.out)
+        (option_map (λ path. path.now) request.now.formula)
+        (option_map (λ path. path.now) request.now.file)
+        (option_map (λ path. path.now) request.now.proofs) }
+    ensures some { IfSome result (λ _. ¬ AreSpared (option_map (λ path. path.now) request.now.map)
+        (option_map (λ path. path.now) request.now.out)
+        (option_map (λ path. path.now) request.now.formula)
+        (option_map (λ path. path.now) request.now.file)
+        (option_map (λ path. path.now) request.now.proofs)) }
 {
-    match (map, out) {
-        (Some(map), Some(out)) => map != out,
+    if !are_apart(request.map, request.out) {
+        return Some("'--map' and '--record' can't name the same file");
+    }
+    if !spares_read(request.map, request) {
+        return Some("'--map' can't name a file that is read");
+    }
+    if !spares_read(request.out, request) {
+        return Some("'--record' can't name a file that is read");
+    }
+    None
+}
+
+/// Whether the file that is written, where one is asked for, is none of those that are read.
+fn spares_read(written: Option<&str>, request: &Request<'_>) -> bool
+    ensures { IsTrue result ↔ SparesRead (option_map (λ path. path.now) written.entry)
+        (option_map (λ path. path.now) request.now.formula)
+        (option_map (λ path. path.now) request.now.file)
+        (option_map (λ path. path.now) request.now.proofs) }
+{
+    if !are_apart(written, request.formula) {
+        return false;
+    }
+    if !are_apart(written, request.file) {
+        return false;
+    }
+    is_no_proof(request.proofs, written)
+}
+
+/// Whether two files, where both are asked for, have two paths.
+#[tactic(auto, using(crate::proofs::WordsPaths::apart_where))]
+fn are_apart(one: Option<&str>, other: Option<&str>) -> bool
+    ensures { IsTrue result ↔ AreApart (option_map (λ path. path.now) one.entry)
+        (option_map (λ path. path.now) other.entry) }
+{
+    match (one, other) {
+        (Some(one), Some(other)) => one != other,
         _ => true,
     }
 }
 
-/// The error of words that ask for the picture and the record at one path.
-fn one_path(alloc: Global) -> Result<Error, AllocError>
+/// Whether the file that is written, where one is asked for, isn't that of a proof in the folder,
+/// whichever its name is.
+#[tactic(auto, using(crate::proofs::WordsPaths::no_proof_where))]
+fn is_no_proof(folder: Option<&str>, written: Option<&str>) -> bool
+    ensures { IsTrue result ↔ IsNoProof (option_map (λ path. path.now) folder.entry)
+        (option_map (λ path. path.now) written.entry) }
+{
+    match (folder, written) {
+        (Some(folder), Some(written)) => {
+            name_in(folder.as_bytes(), written.as_bytes()).is_none()
+        }
+        _ => true,
+    }
+}
+
+/// The name that a proof at this path of a folder would have, without its ending.
+#[tactic(auto, using(crate::proofs::WordsPaths::outside))]
+fn name_in<'t>(folder: &[u8], path: &'t [u8]) -> Option<&'t [u8]>
+    ensures { MatchOption result ((name : List ℕ) → path.now ≢ proof_path folder.now name)
+        (λ name. path.now ≡ proof_path folder.now name.now) }
+{
+    let inside = behind(path, folder)?;
+    let name = behind(inside, b"/")?;
+    before(name, b".lrat")
+}
+
+/// What stands in a text behind this beginning, where it has it.
+fn behind<'t>(text: &'t [u8], front: &[u8]) -> Option<&'t [u8]>
+    ensures { MatchOption result ((rest : List ℕ) → text.now ≢ front.now ++ rest)
+        (λ rest. text.now ≡ front.now ++ rest.now) }
+{
+    text.strip_prefix(front)
+}
+
+/// What stands in a text before this ending, where it has it.
+fn before<'t>(text: &'t [u8], end: &[u8]) -> Option<&'t [u8]>
+    ensures { MatchOption result ((rest : List ℕ) → text.now ≢ rest ++ end.now)
+        (λ rest. text.now ≡ rest.now ++ end.now) }
+{
+    text.strip_suffix(end)
+}
+
+/// The error of words that ask for files which can't be written there.
+fn conflict(alloc: Global, text: &str) -> Result<Error, AllocError>
     ensures { IfOk result (λ error. kind_of error ≡ ErrorKind.ArgumentConflict) }
 {
-    let text = "'--map' and '--record' can't name the same file";
     parser(alloc)?.error(ErrorKind::ArgumentConflict, text)
 }
 
@@ -164,13 +281,32 @@ fn default_settings() -> Settings {
 fn parser<'a>(alloc: Global) -> Result<Command<'a>, AllocError>
     ensures { IfOk result (λ parser. app_of parser ≡ words_taken) }
 {
+    outputs(alloc)?.arg(file_word(alloc))
+}
+
+/// A parser that also takes the files that are written.
+fn outputs<'a>(alloc: Global) -> Result<Command<'a>, AllocError>
+    ensures { IfOk result (λ parser. app_of parser ≡ with_outputs) }
+{
+    flags(alloc)?.arg(map_word(alloc))?.arg(record_word(alloc))
+}
+
+/// A parser that also takes what is told beside the report.
+fn flags<'a>(alloc: Global) -> Result<Command<'a>, AllocError>
+    ensures { IfOk result (λ parser. app_of parser ≡ with_flags) }
+{
+    inputs(alloc)?
+        .arg(progress_word(alloc))?
+        .arg(explain_word(alloc))
+}
+
+/// A parser that also takes the formula's file and the folder of proofs.
+fn inputs<'a>(alloc: Global) -> Result<Command<'a>, AllocError>
+    ensures { IfOk result (λ parser. app_of parser ≡ with_inputs) }
+{
     numbers(alloc)?
         .arg(formula_word(alloc))?
-        .arg(proofs_word(alloc))?
-        .arg(progress_word(alloc))?
-        .arg(map_word(alloc))?
-        .arg(record_word(alloc))?
-        .arg(file_word(alloc))
+        .arg(proofs_word(alloc))
 }
 
 /// A parser that takes the numbers of workers and of the cut.
@@ -250,6 +386,17 @@ fn progress_word<'a>(alloc: Global) -> Arg<'a>
         .long("progress")
         .action(ArgAction::SetTrue)
         .help("Tells on standard error how far the run is, once a second")
+}
+
+/// Whether it is told what was read, and where faults and rejections come from.
+fn explain_word<'a>(alloc: Global) -> Arg<'a>
+    ensures rule { rule_of result ≡ explain_word }
+    ensures own { result.global ≡ false }
+{
+    Arg::new(alloc, "explain")
+        .long("explain")
+        .action(ArgAction::SetTrue)
+        .help("Tells on standard error what was read, and why a proof or the input is refused")
 }
 
 /// The file for the picture.

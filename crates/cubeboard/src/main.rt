@@ -1,7 +1,7 @@
 //! `cubeboard` checks refutations made by cube-and-conquer and prints a report.
 #![tactic(auto)]
 
-use cube_command::{Counted, FileStore, NoGate, Progress, SystemFiles, command, own_words};
+use cube_command::{Counted, FileStore, NoGate, Progress, SystemFiles, Teller, command, own_words};
 use std::io::IsTerminal;
 use std::process::ExitCode;
 
@@ -17,6 +17,7 @@ fn main(rt: HostRuntime) -> ExitCode {
             &mut errors,
             &NoGate,
             &Progress::new(&rt, rt.stderr().is_terminal()),
+            &Teller::new(&rt),
         ),
         Err(status) => status,
     };

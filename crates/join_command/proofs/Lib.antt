@@ -1,4 +1,5 @@
 mod WordsRequests
+mod BundleRead
 mod FilesJoined
 mod RecordsTold
 mod ProgramFiles

@@ -1,6 +1,6 @@
 -- Reports that are joined on the bundle of a file.
 use Rattle.std.proofs.Common.{◌≡◌, ◌≢◌, ◌∙◌, ℕ, Bool, List, refl, subst, ap, inl, inr, Result}
-use Rattle.std.proofs.Common.{Ok, Err, IfErr, IsErrAnd, OnErr, Option, Some, ◌+◌, ◌<◌, ◌⊎◌}
+use Rattle.std.proofs.Common.{Ok, Err, IfErr, IsErrAnd, OnErr, Option, None, ◌+◌, ◌<◌, ◌⊎◌}
 use Rattle.std.proofs.Common.{arith}
 use Rattle.case_core.specs.Case.{CaseOf}
 use Rattle.case_core.specs.SplitTree.{SplitTree}
@@ -12,16 +12,18 @@ use Rattle.cube_report.specs.Mark.{Mark}
 use Rattle.cube_report.specs.Faults.{fault_of_case}
 use Rattle.cube_report.specs.Report.{report_text}
 use Rattle.mark_board.specs.Marking.{marked, refuted_by}
-use Rattle.bundle_files.specs.Files.{Held, Gives}
+use Rattle.bundle_files.specs.Files.{Held}
+use Rattle.bundle_files.specs.Formula.{IsReadFrom}
 use Rattle.cube_join.specs.Joined.{IsJoined, IsJoinedSoFar}
 use Rattle.cube_join.proofs.JoinedAll.{is_joined}
 use Rattle.join_command.specs.declared.fault.JoinFault.{JoinFault}
-use Rattle.join_command.specs.declared.fault.JoinFault.TheVariants.{Run}
-use Rattle.join_command.specs.Words.{Asked}
+use Rattle.join_command.specs.declared.fault.JoinFault.TheVariants.{Run, Stranger}
+use Rattle.join_command.specs.Words.{Asked, sources_of}
 use Rattle.join_command.specs.Program.{AreFiles, AreRead, IsJoinBegun, IsJoinOf, IsJoinWritten}
-use Rattle.join_command.specs.Program.{behind_each, line_before}
+use Rattle.join_command.specs.Program.{IsStrangerAt, behind_each, line_before}
 use Rattle.cube_report.specs.Device.{AppendsBeginning}
-use Rattle.join_command.specs.Inner.Files.{IsUnjoined}
+use Rattle.join_command.specs.Inner.Files.{IsUnjoined, IsUnreadBundle, IsUnwritten}
+use Rattle.cube_report.specs.declared.fault.Fault.{Fault}
 use Rattle.join_command.proofs.RecordsTold.{reports_told}
 use Rattle.join_command.proofs.WordsRequests.{handed_on}
 
@@ -82,7 +84,7 @@ joined_on held paths line bundle case tree marks text answer is same far t a = (
 
 -- what was read, and what a join of it promises
 pub join_of : (held : Held) (asked : Asked) (bundle line text : List ℕ) (answer : Bool) →
-    Gives held asked.file (Some bundle) → line ≡ line_before asked.unbound bundle →
+    IsReadFrom held (sources_of asked) None bundle → line ≡ line_before asked.unbound bundle →
     ((reports : List (List ℕ)) × AreFiles held asked.records (behind_each line reports)
     × IsJoined bundle reports text answer)
     → (texts : List (List ℕ)) × AreRead held asked bundle texts
@@ -95,7 +97,7 @@ join_of held asked bundle line text answer there is far = (
 
 -- it was written
 pub join_written : (held : Held) (asked : Asked) (bundle line text : List ℕ) (answer : Bool)
-    (old new : Option (List ℕ)) → Gives held asked.file (Some bundle) →
+    (old new : Option (List ℕ)) → IsReadFrom held (sources_of asked) None bundle →
     line ≡ line_before asked.unbound bundle →
     ((reports : List (List ℕ)) × AreFiles held asked.records (behind_each line reports)
     × IsJoined bundle reports text answer)
@@ -116,7 +118,7 @@ join_written held asked bundle line text answer old new there is far written =
 -- or a beginning of it
 pub join_begun : {T E : Type 0} (result : Result T E) (held : Held) (asked : Asked)
     (bundle line text : List ℕ) (answer : Bool) (old new : Option (List ℕ)) (before after : ℕ) →
-    Gives held asked.file (Some bundle) → line ≡ line_before asked.unbound bundle →
+    IsReadFrom held (sources_of asked) None bundle → line ≡ line_before asked.unbound bundle →
     ((reports : List (List ℕ)) × AreFiles held asked.records (behind_each line reports)
     × IsJoined bundle reports text answer)
     → AppendsBeginning old new text → after ≡ before + 1 →
@@ -136,4 +138,50 @@ join_begun (Err error) held asked bundle line text answer old new before after t
         joined = (answer, parts.2);
         written = begun;
       },
+    )
+
+-- ---- why none was written
+
+-- the bundle wasn't read
+pub unread_run : (held : Held) (asked : Asked) (before after out : ℕ) (fault : Fault) →
+    IsUnreadBundle held (sources_of asked) before after fault →
+    IsUnwritten held asked (before + out) (after + out) (Run fault)
+unread_run held asked before after out fault (inl refused) =
+    let same : after ≡ before = refused.1 in
+    inl (refused.0, omega arith, inr refused.2)
+unread_run held asked before after out fault (inr (inl memory)) =
+    let same : after ≡ before = memory.1 in inr (inl (memory.0, omega arith))
+unread_run held asked before after out fault (inr (inr (device, inl grew))) =
+    inr (inr (device, inl (omega (arith, grew))))
+unread_run held asked before after out fault (inr (inr (device, inr absent))) =
+    let same : after ≡ before = absent.0 in
+    inr (inr (device, inr (omega arith, inl absent.1)))
+
+-- or the RECORDs weren't joined on it
+pub unjoined_run : (held : Held) (asked : Asked) (bundle line : List ℕ) (before after out : ℕ)
+    (fault : JoinFault) → IsReadFrom held (sources_of asked) None bundle →
+    line ≡ line_before asked.unbound bundle →
+    IsUnjoined held bundle line asked.records before after fault →
+    IsUnwritten held asked (before + out) (after + out) fault
+unjoined_run held asked bundle line before after out (Run fault) there is (inl first) =
+    let same : after ≡ before = first.1 in
+    inl (first.0, omega arith, inl (bundle, there, first.2))
+unjoined_run held asked bundle line before after out (Run fault) there is (inr (inl memory)) =
+    let same : after ≡ before = memory.1 in inr (inl (memory.0, omega arith))
+unjoined_run held asked bundle line before after out (Run fault) there is
+    (inr (inr (device, inl grew))) = inr (inr (device, inl (omega (arith, grew))))
+unjoined_run held asked bundle line before after out (Run fault) there is
+    (inr (inr (device, inr absent))) =
+    let same : after ≡ before = absent.0 in
+    inr (inr (device, inr (omega arith, inr absent.1)))
+unjoined_run held asked bundle line before after out (Stranger number) there is why =
+    let same : after ≡ before = why.0 in (
+      omega arith,
+      (
+        bundle,
+        there,
+        why.1.0,
+        why.1.1,
+        subst (λ (l : List ℕ). IsStrangerAt held l why.1.0.tree asked.records number) is why.1.2,
+      ),
     )

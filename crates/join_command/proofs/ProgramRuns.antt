@@ -1,8 +1,19 @@
 -- What a join says of its files and of what was written, and what its status says.
 use Rattle.std.proofs.Common.{◌≡◌, ◌≢◌, ◌<◌, ◌⊎◌, ◌∙◌, sym, refl, subst, ℕ, Bool, true, false, List}
-use Rattle.std.proofs.Common.{◌∷◌, Option, Result, Ok, Err, IfOk, IfErr, MatchResult, inl, inr}
-use Rattle.std.proofs.Common.{arith}
-use Rattle.bundle_files.specs.Files.{Held}
+use Rattle.std.proofs.Common.{Option, None, Some, Result, Ok, Err, IfOk, IfErr, MatchResult, inl}
+use Rattle.std.proofs.Common.{inr, arith, ap}
+use Rattle.std.specs.Prelude.{IfSome}
+use Rattle.case_core.specs.Literal.{Literal}
+use Rattle.case_core.specs.Formula.{HasNoModel}
+use Rattle.case_core.specs.Dimacs.{IsDimacs}
+use Rattle.case_core.specs.Icnf.{StandsFor, clauses_of}
+use Rattle.case_core.specs.Bundle.{icnf_text}
+use Rattle.case_core.specs.Case.{CaseOf}
+use Rattle.case_core.specs.Sections.{IsCaseOf}
+use Rattle.case_core.proofs.IcnfUnique.{one_text_of, text_of}
+use Rattle.bundle_files.specs.Files.{Held, Gives}
+use Rattle.bundle_files.specs.Formula.{IsReadBy, IsUnderFormula}
+use Rattle.bundle_files.proofs.FormulaText.{bundle_formula}
 use Rattle.cube_report.specs.declared.fault.Fault.{Fault}
 use Rattle.cube_report.specs.declared.fault.Fault.TheVariants.{Header, Token, Unfinished, TooLarge}
 use Rattle.cube_report.specs.declared.fault.Fault.TheVariants.{Limit, Memory, Repeats, NotATree}
@@ -14,7 +25,7 @@ use Rattle.cube_report.specs.Correct.{IsUnsatisfiable}
 use Rattle.cube_command.specs.Program.{IsLineWritten}
 use Rattle.join_command.specs.declared.fault.JoinFault.{JoinFault}
 use Rattle.join_command.specs.declared.fault.JoinFault.TheVariants.{Run, Stranger}
-use Rattle.join_command.specs.Program.{AllowsJoinFaults, AreRead, AreTrusted, IsAbsentAmong}
+use Rattle.join_command.specs.Program.{AllowsJoinFaults, AreRead, AreTrusted, IsAskedAbsent}
 use Rattle.join_command.specs.Program.{IsJoinWritten, IsReadingFault, IsRefused, join_fault_line}
 use Rattle.join_command.specs.Words.{Asked}
 use Rattle.join_command.specs.Inner.Files.{IsUnwritten}
@@ -129,6 +140,68 @@ sound_join held asked out_old out_new (Err fault) status Same old new before aft
 sound_join held asked out_old out_new (Err fault) status Same old new before after (inr told)
     written is = let four : status ≡ 4 = told.1 in absurd (omega arith)
 
+-- ---- status 0, where the formula has a file of its own
+
+abbrev pub IsPublished : Held → Asked → List ℕ → Type 0
+IsPublished held asked path =
+    (bundle : List ℕ) × (texts : List (List ℕ)) × AreRead held asked bundle texts
+    × (text : List ℕ) × Gives held path (Some text)
+    × (formula : List (List Literal)) × IsDimacs text formula
+    × (AreTrusted asked.unbound bundle texts → HasNoModel formula)
+
+-- where the bundle has no model, the formula of that file has none
+no_model_under : (held : Held) (path : List ℕ) (file input : Option (List ℕ)) (read : List ℕ)
+    (case : CaseOf) (under : IsUnderFormula held path file input read) → IsCaseOf read case →
+    IsUnsatisfiable read → HasNoModel under.formula
+no_model_under held path file input read case under is none =
+    let same : clauses_of is.items ≡ under.formula =
+    bundle_formula under.text under.over under.rest under.formula is.items under.dimacs
+    under.overwritten
+    (subst (λ (t : List ℕ). StandsFor (icnf_text t) is.items) under.whole is.text)
+    (under.no_clause_more is.items is.text) in
+    let one : none.1.0 ≡ is.items =
+    one_text_of (icnf_text read) none.1.0 is.items none.1.1
+    (text_of (icnf_text read) is.items is.text) in
+    subst HasNoModel (none.1.2 ∙ ap clauses_of one ∙ same) none.2
+
+published_by : (held : Held) (asked : Asked) (formula old new : Option (List ℕ)) →
+    asked.formula ≡ formula → IsJoinWritten held asked old new true →
+    IfSome formula (IsPublished held asked)
+published_by held asked None old new same join = tt
+published_by held asked (Some path) old new same join =
+    let under : IsUnderFormula held path (Some asked.file) None join.bundle =
+    subst (λ (f : Option (List ℕ)). IsReadBy held f (Some asked.file) None join.bundle) same
+    join.read.of_file in (
+      join.bundle,
+      join.texts,
+      join.read,
+      under.text,
+      under.given,
+      under.formula,
+      under.dimacs,
+      λ are.
+          no_model_under held path (Some asked.file) None join.bundle join.joined.2.case under
+          join.joined.2.case_is (join.sound are refl),
+    )
+
+pub published_join : (held : Held) (asked : Asked)
+    (out_old out_new : Option (List ℕ)) (run : Result Bool JoinFault) (status : ℕ) (Same : Type 0)
+    (old new : Option (List ℕ)) (before after : ℕ)
+    → ToldRun run status Same old new before after
+    → IfOk run (IsJoinWritten held asked out_old out_new) → status ≡ 0
+    → IfSome asked.formula (IsPublished held asked)
+published_join held asked out_old out_new (Ok true) status Same old new before after told written
+    is = published_by held asked asked.formula out_old out_new refl written
+published_join held asked out_old out_new (Ok false) status Same old new before after told written
+    is =
+    let one : status ≡ 1 = told.0 in absurd (omega arith)
+published_join held asked out_old out_new (Err fault) status Same old new before after (inl told)
+    written is =
+    let above : 2 < status_of fault = above_two fault in
+    let has : status ≡ status_of fault = told.0 in absurd (omega arith)
+published_join held asked out_old out_new (Err fault) status Same old new before after (inr told)
+    written is = let four : status ≡ 4 = told.1 in absurd (omega arith)
+
 -- ---- status 3
 
 told_three : (held : Held) (asked : Asked) (fault : JoinFault)
@@ -231,7 +304,7 @@ device_join held asked (Err fault) status Same old new before after out_before o
 broke : (held : Held) (asked : Asked) (fault : JoinFault)
     (out_before out_after : ℕ) → fault ≡ Run Device →
     IsUnwritten held asked out_before out_after fault →
-    (out_before < out_after) ⊎ IsAbsentAmong held (asked.file ∷ asked.records)
+    (out_before < out_after) ⊎ IsAskedAbsent held asked
 broke held asked (Stranger number) out_before out_after is why = cc
 broke held asked (Run fault) out_before out_after is (inl refused) =
     let device : fault ≡ Device = cc in absurd (refused.0.1 device)
@@ -248,7 +321,7 @@ pub broken_join : (held : Held) (asked : Asked)
     (before after out_before out_after : ℕ)
     → ToldRun run status Same old new before after
     → IfErr run (IsUnwritten held asked out_before out_after) → status ≡ 5
-    → (out_before < out_after) ⊎ IsAbsentAmong held (asked.file ∷ asked.records)
+    → (out_before < out_after) ⊎ IsAskedAbsent held asked
 broken_join held asked (Ok true) status Same old new before after out_before out_after told why
     is = let none : status ≡ 0 = told.0 in absurd (omega arith)
 broken_join held asked (Ok false) status Same old new before after out_before out_after told

@@ -24,6 +24,16 @@ file_asked parser matches words is has =
     ∙ ap (first_of (codes "file"))
     ((has (ap is_simple is ∙ refl)).0 ∙ ap (λ (a : App). matches_of a words) is))
 
+-- so is the formula's own
+pub formula_asked : (parser : Command) (matches : ArgMatches) (words : List Text)
+    → app_of parser ≡ words_taken
+    → HasMatchesOf (app_of parser) words matches →
+    first_value (found_of matches) (codes "formula") ≡ (asked_of words).formula
+formula_asked parser matches words is has =
+    first_value-rows (found_of matches) (codes "formula")
+    ∙ ap (first_of (codes "formula"))
+    ((has (ap is_simple is ∙ refl)).0 ∙ ap (λ (a : App). matches_of a words) is)
+
 -- so are the records
 pub records_asked : (parser : Command) (matches : ArgMatches) (words : List Text)
     → app_of parser ≡ words_taken

@@ -12,9 +12,10 @@ use Rattle.cube_report.specs.Device.{AppendsBeginning}
 use Rattle.cube_report.specs.Bundle.{icnf_text}
 use Rattle.cube_report.specs.Correct.{IsFaultOn, IsUnsatisfiable}
 use Rattle.bundle_files.specs.Files.{Held, Gives, IsJudgedOf}
+use Rattle.bundle_files.specs.Formula.{IsFormulaFault, IsOneAbsent, IsReadFrom}
 use Rattle.cube_join.specs.Joined.{AreReportsWith, IsJoined, IsJoinedSoFar, IsStranger}
 use Rattle.cube_command.specs.Record.{IsRecordOn, digest_line}
-use Rattle.join_command.specs.Words.{Asked}
+use Rattle.join_command.specs.Words.{Asked, sources_of}
 use Rattle.join_command.specs.declared.fault.JoinFault.{JoinFault}
 use Rattle.join_command.specs.declared.fault.JoinFault.TheVariants.{Run, Stranger}
 
@@ -28,16 +29,20 @@ AreFiles held (path ∷ paths) [] = ⊥
 AreFiles held (path ∷ paths) (text ∷ texts) =
     Gives held path (Some text) × AreFiles held paths texts
 
--- the bytes of FILE, and those of each RECORD
+-- the bundle of FILE, under the formula that has a file of its own, and the bytes of each RECORD
 pub record AreRead (held : Held) (asked : Asked) (bundle : List ℕ) (texts : List (List ℕ))
     : Type 0 where
-  pub of_file : Gives held asked.file (Some bundle)
+  pub of_file : IsReadFrom held (sources_of asked) None bundle
   pub of_records : AreFiles held asked.records texts
 
 -- no file lies at one of these paths, as far as is known
 abbrev pub IsAbsentAmong : Held → List (List ℕ) → Type 0
 IsAbsentAmong held [] = ⊥
 IsAbsentAmong held (path ∷ paths) = Gives held path None ⊎ IsAbsentAmong held paths
+
+-- the formula's file, FILE or a RECORD isn't there, as far as is known
+abbrev pub IsAskedAbsent : Held → Asked → Type 0
+IsAskedAbsent held asked = IsOneAbsent held (sources_of asked) ⊎ IsAbsentAmong held asked.records
 
 -- ---- what is taken for granted
 
@@ -65,15 +70,15 @@ AreReportsOn bundle reports =
     (case : CaseOf) × IsCaseOf bundle case × AreReportsWith case.formula case.tree reports
 
 -- what is taken for granted of the RECORDs: that `cubeboard` wrote them, on whichever files; with
--- `--unbound` that they are reports on FILE's formula and cubes
+-- `--unbound` that they are reports on the bundle's formula and cubes
 abbrev pub AreTrusted : Bool → List ℕ → List (List ℕ) → Type 0
 AreTrusted true bundle texts = AreReportsOn bundle texts
 AreTrusted false bundle texts = All (IsOwnRecord bundle) texts
 
 -- ---- what is said
 
--- what stands before the report in each RECORD: the line that names FILE's iCNF text, or nothing
--- with `--unbound`
+-- what stands before the report in each RECORD: the line that names the bundle's iCNF text, or
+-- nothing with `--unbound`
 abbrev pub line_before : Bool → List ℕ → List ℕ
 line_before true bundle = []
 line_before false bundle = digest_line (icnf_text bundle)
@@ -94,7 +99,8 @@ abbrev pub IsJoinOn : Bool → List ℕ → List (List ℕ) → List ℕ → Typ
 IsJoinOn unbound bundle texts text = (answer : Bool) × IsJoinOf unbound bundle texts text answer
 
 -- The joined report was written, and nothing more; its last line gives this answer, and where it
--- says refuted, and the RECORDs are what is taken for granted, the formula of FILE has no model.
+-- says refuted, and the RECORDs are what is taken for granted, the formula of the bundle that was
+-- read has no model.
 pub record IsJoinWritten (held : Held) (asked : Asked) (old new : Option (List ℕ)) (answer : Bool)
     : Type 0 where
   pub bundle : List ℕ
@@ -136,13 +142,15 @@ abbrev pub IsReadingFault : JoinFault → Type 0
 IsReadingFault (Run fault) = IsInputFault fault
 IsReadingFault (Stranger number) = Unit {0}
 
--- FILE has this fault, its first; or it has none, and the RECORD of this number is the first that
--- isn't one of its formula and cubes
+-- The bundle that was read has this fault, its first, or the formula's own file has it, or FILE has
+-- clauses that aren't in that file; or there is none, and the RECORD of this number is the first
+-- that isn't one of the bundle's formula and cubes.
 abbrev pub IsRefused : Held → Asked → JoinFault → Type 0
 IsRefused held asked (Run fault) =
-    (bundle : List ℕ) × Gives held asked.file (Some bundle) × IsFaultOn bundle fault
+    ((bundle : List ℕ) × IsReadFrom held (sources_of asked) None bundle × IsFaultOn bundle fault)
+    ⊎ IsFormulaFault held asked.formula (Some asked.file) None fault
 IsRefused held asked (Stranger number) =
-    (bundle : List ℕ) × Gives held asked.file (Some bundle)
+    (bundle : List ℕ) × IsReadFrom held (sources_of asked) None bundle
     × (case : CaseOf) × IsCaseOf bundle case
     × IsStrangerAt held (line_before asked.unbound bundle) case.tree asked.records number
 

@@ -6,6 +6,8 @@ use Rattle.clap.specs.Lexer.{usize_max}
 use Rattle.clap.specs.Words.{App, Rule, Text, all_of, fault_of, first_of, matches_of, new_app}
 use Rattle.clap.specs.Words.{new_rule, with_rule}
 use Rattle.clap.specs.declared.builder.action.ArgAction.TheVariants.{Append, SetTrue}
+use Rattle.bundle_files.specs.Formula.{Sources, sources_by}
+use Rattle.cube_command.specs.Words.{formula_word}
 
 -- `--unbound`, without a value
 abbrev pub unbound_word : Rule
@@ -32,8 +34,8 @@ with_version parser =
 
 abbrev pub words_taken : App
 words_taken =
-    with_rule (with_rule (with_rule (with_version (new_app (codes "cubejoin"))) unbound_word)
-    file_word) records_word
+    with_rule (with_rule (with_rule (with_rule (with_version (new_app (codes "cubejoin")))
+    formula_word) unbound_word) file_word) records_word
 
 -- these words fit that: `clap` finds no fault in them, and they ask for neither help nor the
 -- version
@@ -45,15 +47,22 @@ abbrev pub is_given : Option Text → Bool
 is_given None = false
 is_given (Some text) = bytes_eq text (codes "true")
 
--- what words ask for: FILE, the RECORDs in order, and whether they are plain reports
+-- what words ask for: the formula's own file, where it has one, FILE, the RECORDs in order, and
+-- whether they are plain reports
 pub record Asked : Type 0 where
+  pub formula : Option Text
   pub file : Text
   pub records : List Text
   pub unbound : Bool
 
 abbrev pub asked_of : List Text → Asked
 asked_of words = record {
+  formula = first_of (codes "formula") (matches_of words_taken words);
   file = unwrap_or (first_of (codes "file") (matches_of words_taken words)) [];
   records = unwrap_or (all_of (codes "records") (matches_of words_taken words)) [];
   unbound = is_given (first_of (codes "unbound") (matches_of words_taken words));
 }
+
+-- the files that make the bundle that is read
+abbrev pub sources_of : Asked → Sources
+sources_of asked = sources_by asked.formula (Some asked.file)

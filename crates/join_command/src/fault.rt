@@ -10,9 +10,9 @@ use std::alloc::AllocError;
 /// Why reports aren't joined: what a run of `cubeboard` may end with, too, or a RECORD that is none.
 #[derive(Clone, Copy, Debug, PartialEq, Eq)]
 pub enum JoinFault {
-    /// FILE's first fault, want of memory, or a device that failed.
+    /// The first fault of FILE or the formula's own file, want of memory, or a device that failed.
     Run(Fault),
-    /// The RECORD of this number, from 1, isn't one of the formula and the cubes of FILE.
+    /// The RECORD of this number, from 1, isn't one of the bundle's formula and cubes.
     Stranger(u64),
 }
 

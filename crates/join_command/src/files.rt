@@ -1,20 +1,60 @@
 //! The files of a join, read one at a time.
 
-ghost use Rattle.std.specs.Prelude.{◌≡◌, ◌≢◌, ◌<◌, ◌^◌, ◌-◌, ◌++◌, ℕ, List, Some, map};
-ghost use Rattle.std.specs.Prelude.{IfOk, IfErr, MatchOption, OnOk};
+ghost use Rattle.std.specs.Prelude.{◌≡◌, ◌≢◌, ◌<◌, ◌^◌, ◌-◌, ◌++◌, ℕ, List, Some, None, map};
+ghost use Rattle.std.specs.Prelude.{IfOk, IfErr, MatchOption, OnOk, option_map};
 ghost use Rattle.cube_report.specs.Mark.{Mark};
 ghost use Rattle.bundle_files.specs.Files.{Gives, IsUnread};
+ghost use Rattle.bundle_files.specs.Formula.{IsReadFrom, sources_by};
 ghost use Rattle.cube_join.specs.Joined.{IsJoinedSoFar, IsLegible, IsToldBy, joined};
 ghost use Rattle.cube_join.specs.Joined.{none_marked};
 ghost use Rattle.join_command.specs.Program.{AreFiles, behind_each, line_before};
-ghost use Rattle.join_command.specs.Inner.Files.{AreNotAdded, IsNotAdded};
+ghost use Rattle.join_command.specs.Inner.Files.{AreNotAdded, IsNotAdded, IsUnreadBundle};
 
 use crate::fault::JoinFault;
-use bundle_files::Store;
+use bundle_files::{Store, read_from};
 use cube_command::digest_line_of;
 use cube_join::Join;
-use cube_report::Fault;
+use cube_report::{Counted, Fault};
 use std::alloc::{AllocError, Global};
+use std::io;
+
+/// The bundle of FILE, under the formula that has a file of its own, as `cubeboard` reads it.
+/// `Device` where a call failed or a file isn't there, `Memory` where a growth was refused; any
+/// other fault is one of the formula's file, or tells that FILE adds clauses to it.
+pub(crate) fn read_bundle<D: Store>(
+    alloc: Global,
+    store: &mut D,
+    formula: Option<&str>,
+    file: &str,
+) -> Result<Vec<u8>, Fault>
+    requires store { D.failures store.old < 2 ^ 64 - 1 }
+    ensures held { D.held store.new ≡ D.held store.old }
+    ensures bundle { IfOk result (λ bundle. IsReadFrom (D.held store.old)
+        (sources_by (option_map (λ path. path.now) formula.entry) (Some file.now)) None
+        bundle.items) }
+    ensures ok { OnOk result (D.failures store.new ≡ D.failures store.old) }
+    ensures err { IfErr result (IsUnreadBundle (D.held store.old)
+        (sources_by (option_map (λ path. path.now) formula.entry) (Some file.now))
+        (D.failures store.old) (D.failures store.new)) }
+{
+    // FILE is always there, so that this isn't read.
+    let mut input = Counted::new(io::empty());
+    match read_from(alloc, store, &mut input, formula, Some(file)) {
+        Ok(bundle) => Ok(bundle),
+        Err(fault) => Err(fault_of_reading(fault)),
+    }
+}
+
+/// The fault of a reading, which starts no thread: a fault that says so would be want of memory.
+fn fault_of_reading(fault: Fault) -> Fault
+    ensures thread { fault ≡ Fault.Thread → result ≡ Fault.Memory }
+    ensures other { fault ≢ Fault.Thread → result ≡ fault }
+{
+    match fault {
+        Fault::Thread => Fault::Memory,
+        other => other,
+    }
+}
 
 /// The bytes of the file at this path. `Device` where a call failed or no file is there, `Memory`
 /// where a growth was refused.

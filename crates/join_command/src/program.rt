@@ -1,23 +1,27 @@
 //! The program: from its words and its streams to its status.
 
 ghost use Rattle.std.specs.Prelude.{◌≡◌, ◌≢◌, ◌⊎◌, ◌<◌, ◌+◌, ◌^◌, ◌-◌, List, ℕ, map, true, false};
-ghost use Rattle.std.specs.Prelude.{◌∷◌, IfOk, IfErr, OnOk, OnErr};
+ghost use Rattle.std.specs.Prelude.{IfOk, IfErr, IfSome, OnOk, OnErr, Some};
 ghost use Rattle.std.specs.Io.KnownBytes.{Keeps};
 ghost use Rattle.clap.specs.Words.{kind_of};
 ghost use Rattle.cube_report.specs.declared.fault.Fault.TheVariants.{Memory, Device};
 ghost use Rattle.cube_report.specs.Correct.{IsUnsatisfiable};
+ghost use Rattle.cube_report.specs.Dimacs.{IsDimacs};
+ghost use Rattle.cube_report.specs.Formula.{HasNoModel};
+ghost use Rattle.cube_report.specs.Literal.{Literal};
+ghost use Rattle.bundle_files.specs.Files.{Gives};
 ghost use Rattle.cube_join.specs.Joined.{IsJoined};
 ghost use Rattle.cube_command.specs.Program.{IsLineWritten, IsStatus};
 ghost use Rattle.join_command.specs.Words.{AreTaken, asked_of};
 ghost use Rattle.join_command.specs.Program.{AllowsJoinFaults, AreFiles, AreRead, AreTrusted};
-ghost use Rattle.join_command.specs.Program.{IsAbsentAmong, IsJoinBegun, IsJoinOn, IsJoinWritten};
+ghost use Rattle.join_command.specs.Program.{IsAskedAbsent, IsJoinBegun, IsJoinOn, IsJoinWritten};
 ghost use Rattle.join_command.specs.Program.{IsReadingFault, IsRefused, behind_each};
 ghost use Rattle.join_command.specs.Program.{join_fault_line};
 ghost use Rattle.join_command.specs.Inner.Files.{IsUnjoined, IsUnwritten};
 ghost use Rattle.join_command.specs.Inner.Words.{asked_in};
 
 use crate::fault::JoinFault;
-use crate::files::{join_files, line_before, read_whole};
+use crate::files::{join_files, line_before, read_bundle};
 use crate::telling::{tell_join, tell_memory};
 use crate::words::{Request, request_of};
 use bundle_files::Store;
@@ -29,19 +33,21 @@ use cube_report::{Sink, write_all};
 use std::alloc::Global;
 use std::convert::AsStr;
 
-/// The program `cubejoin` on these words, which are those after its name: `[--unbound] FILE RECORD
-/// [RECORD ..]`. FILE is a bundle as `cubeboard` reads it; its sections, if it has any, aren't
-/// judged. Each RECORD is one that `cubeboard --record` wrote, with some proofs: it has to name
-/// FILE's iCNF text by its SHA-256. With `--unbound` each is a report instead, which names none.
+/// The program `cubejoin` on these words, which are those after its name: `[--formula CNF]
+/// [--unbound] FILE RECORD [RECORD ..]`. FILE is a bundle as `cubeboard` reads it; its sections, if
+/// it has any, aren't judged. With `--formula CNF` the clauses come from that file, a DIMACS text,
+/// and FILE adds cubes, and no clause: the bundle is the one that `cubeboard` makes of the two.
+/// Each RECORD is one that `cubeboard --record` wrote, with some proofs: it has to name the
+/// bundle's iCNF text by its SHA-256. With `--unbound` each is a report instead, which names none.
 /// The joined report goes to `output` or, where there is none, one line to `errors`. Both writers
 /// have to write at once, without a buffer of their own. RECORDs are read one at a time, in order;
 /// files are found by `store`, and none is written.
 ///
 /// Answers the status: 0 for a report that says refuted, 1 for one that says open, 2 where the
 /// words can't be taken or ask for help or the version, after the parser's text on `errors`, 3
-/// where FILE is refused or a RECORD isn't one of its formula and cubes, 4 where memory is refused,
-/// 5 where a device failed: also where FILE or a RECORD isn't there. A failed write to `errors`
-/// doesn't change it.
+/// where CNF or FILE is refused or a RECORD isn't one of their formula and cubes, 4 where memory is
+/// refused, 5 where a device failed: also where CNF, FILE or a RECORD isn't there. A failed write
+/// to `errors` doesn't change it.
 pub fn join_command<R, D, S, O, E>(
     rt: &R,
     store: &mut D,
@@ -74,12 +80,21 @@ where
     ensures status { IsStatus result }
 
     // Status 0: where the RECORDs that were read are what is taken for granted, that `cubeboard`
-    // wrote them and that no digest collides, or with `--unbound` that they are reports on FILE's
-    // formula and cubes, the formula of FILE has no model.
+    // wrote them and that no digest collides, or with `--unbound` that they are reports on the
+    // bundle's formula and cubes, the formula of the bundle that was read has no model.
     ensures sound { result ≡ 0 → (bundle : List ℕ) × (texts : List (List ℕ))
         × AreRead (D.held store.old) (asked_of (map S.text words.now)) bundle texts
         × (AreTrusted (asked_of (map S.text words.now)).unbound bundle texts
         → IsUnsatisfiable bundle) }
+    // With `--formula` the text of that file is a DIMACS text of a formula that by the same premise
+    // has no model.
+    ensures published { result ≡ 0 → IfSome (asked_of (map S.text words.now)).formula (λ path.
+        (bundle : List ℕ) × (texts : List (List ℕ))
+        × AreRead (D.held store.old) (asked_of (map S.text words.now)) bundle texts
+        × (text : List ℕ) × Gives (D.held store.old) path (Some text)
+        × (formula : List (List Literal)) × IsDimacs text formula
+        × (AreTrusted (asked_of (map S.text words.now)).unbound bundle texts
+        → HasNoModel formula)) }
     // And exactly the joined report was written: it says refuted. Status 1: it says open.
     ensures refuted { result ≡ 0 → IsJoinWritten (D.held store.old)
         (asked_of (map S.text words.now)) (O.contents output.old) (O.contents output.new) true }
@@ -105,8 +120,9 @@ where
     ensures usage { AreTaken (map S.text words.now) → result ≢ 2 }
     ensures unread { result ≡ 2 → store.new ≡ store.old }
     ensures taken { result ≢ 2 → result ≢ 4 → AreTaken (map S.text words.now) }
-    // Status 3: FILE has a fault, and its first one is told; or it has none, and the first RECORD
-    // is told that doesn't name FILE's iCNF text, or has no report on its cubes.
+    // Status 3: the bundle has a fault, and its first one is told; with `--formula` that file has
+    // one, or FILE has clauses; or there is none, and the first RECORD is told that doesn't name
+    // the bundle's iCNF text, or has no report on its cubes.
     ensures fault { result ≡ 3 → (fault : JoinFault) × IsReadingFault fault
         × IsRefused (D.held store.old) (asked_of (map S.text words.now)) fault
         × IsLineWritten (E.contents errors.old) (E.contents errors.new) (E.failures errors.old)
@@ -125,8 +141,7 @@ where
     ensures broken { result ≡ 5 →
         (D.failures store.old + O.failures output.old
         < D.failures store.new + O.failures output.new)
-        ⊎ IsAbsentAmong (D.held store.old) ((asked_of (map S.text words.now)).file
-        ∷ (asked_of (map S.text words.now)).records) }
+        ⊎ IsAskedAbsent (D.held store.old) (asked_of (map S.text words.now)) }
 {
     match request_of(rt.alloc(), words) {
         Ok(request) => {
@@ -165,7 +180,7 @@ fn run_request<D: Store, O: Sink>(
         (D.failures store.old + O.failures output.old)
         (D.failures store.new + O.failures output.new)) }
 {
-    let bundle = read_whole(alloc, store, request.file)?;
+    let bundle = read_bundle(alloc, store, request.formula, request.file)?;
     let line = line_before(alloc, request.unbound, &bundle)?;
     let joined = join_all(alloc, store, bundle, &line, &request.records)?;
     write_all(output, &joined.text)?;

@@ -2,10 +2,12 @@
 
 ghost use Rattle.std.specs.Prelude.{◌≡◌, false, map, option_map, codes, IfOk, IfErr};
 ghost use Rattle.clap.specs.Words.{app_of, found_of, kind_of, new_app, rule_of};
+ghost use Rattle.cube_command.specs.Words.{formula_word};
 ghost use Rattle.join_command.specs.Words.{AreTaken, asked_of, file_word, is_given, records_word};
 ghost use Rattle.join_command.specs.Words.{unbound_word, with_version, words_taken};
 ghost use Rattle.join_command.specs.Inner.Words.{asked_in, records_found};
 
+use clap::builder::ValueParser;
 use clap::error::ErrorKind;
 use clap::{Arg, ArgAction, ArgMatches, Command, Error};
 use std::alloc::{AllocError, Global};
@@ -14,7 +16,9 @@ use std::convert::AsStr;
 /// What the words ask for.
 #[derive(Drop)]
 pub(crate) struct Request<'a> {
-    /// The file with the bundle.
+    /// The file with the formula, where it has one of its own.
+    pub formula: Option<&'a str>,
+    /// The file with the bundle, or with the cubes below that formula.
     pub file: &'a str,
     /// The files with the records, in order.
     pub records: Vec<&'a str>,
@@ -28,15 +32,16 @@ const VERSION: &str = "0.1.0 (proved by a Rattle kit with logic dac8208d650f15bf
 
 /// What `--help` says below the words.
 const FORMATS: &str = "\
-FILE is a bundle as cubeboard takes it: a formula and cubes in iCNF. Each RECORD is
-one that cubeboard --record wrote on this formula and these cubes, with some of the
+FILE is a bundle as cubeboard takes it: a formula and cubes in iCNF. With --formula
+the clauses come from CNF, a DIMACS file, and FILE has the cubes. Each RECORD is one
+that cubeboard --record wrote on this formula and these cubes, with some of the
 proofs. With --unbound each is a report, which doesn't say of which formula it is.
 
 The report that is written has what they say together: a node is refuted where some
 RECORD says so, else rejected as the first RECORD says that rejects it, else open.
 
-Status: 0 REFUTED, 1 OPEN, 2 words or help, 3 FILE refused, or RECORD number R isn't
-one of its formula and cubes (F15 report R), 4 memory, 5 device.
+Status: 0 REFUTED, 1 OPEN, 2 words or help, 3 CNF or FILE refused, or RECORD number R
+isn't one of this formula and these cubes (F15 report R), 4 memory, 5 device.
 Example: cubejoin case.icnf *.record > joined";
 
 /// What these words, without the program's name, ask for; or the parser's text, which is the help
@@ -52,6 +57,7 @@ pub(crate) fn request_of<'a, S: AsStr>(alloc: Global, words: &'a [S]) -> Result<
 {
     let matches = parser(alloc)?.try_get_matches_from(words)?;
     Ok(Request {
+        formula: matches.get_str("formula"),
         file: matches.get_str("file").unwrap_or(""),
         records: records_in(alloc, &matches)?,
         unbound: is_given(matches.get_str("unbound")),
@@ -85,6 +91,7 @@ fn parser<'a>(alloc: Global) -> Result<Command<'a>, AllocError>
     ensures { IfOk result (λ parser. app_of parser ≡ words_taken) }
 {
     texts(alloc)
+        .arg(formula_word(alloc))?
         .arg(unbound_word(alloc))?
         .arg(file_word(alloc))?
         .arg(records_word(alloc))
@@ -99,6 +106,18 @@ fn texts<'a>(alloc: Global) -> Command<'a>
         .version(VERSION)
         .about("Joins records of runs on one formula and its cubes, and prints their report.")
         .after_help(FORMATS)
+}
+
+/// The formula's own file.
+fn formula_word<'a>(alloc: Global) -> Arg<'a>
+    ensures rule { rule_of result ≡ formula_word }
+    ensures own { result.global ≡ false }
+{
+    Arg::new(alloc, "formula")
+        .long("formula")
+        .value_name("CNF")
+        .value_parser(ValueParser::NonEmptyString)
+        .help("A DIMACS file with the formula; FILE then has the cubes")
 }
 
 /// Whether the records are plain reports.

@@ -2,7 +2,7 @@
 
 use crate::devices::Shelf;
 use crossbeam_utils::Backoff;
-use cube_command::{Counted, FileStore, Found, Gate, NoGate, command};
+use cube_command::{Counted, FileStore, Found, Gate, NoExplain, NoGate, command};
 use cube_report::Target;
 use fixtures::bundles::TURNS;
 use fixtures::four;
@@ -41,6 +41,7 @@ fn status_beside<R: AllocGlobal + Abort + Threads + Wait + Sync, G: Gate + Sync>
         &mut Counted::new(&mut errors),
         gate,
         &NoGate,
+        &NoExplain,
     )
 }
 

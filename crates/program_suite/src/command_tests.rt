@@ -3,7 +3,7 @@
 ghost use Rattle.std.specs.Prelude.{◌<◌, ◌^◌, ◌-◌, ℕ, List};
 
 use crate::devices::{Broken, File, Narrow, Shelf};
-use cube_command::{Counted, FileStore, NoGate, Source, Store, SystemFiles, command};
+use cube_command::{Counted, FileStore, NoExplain, NoGate, Source, Store, SystemFiles, command};
 use cube_report::Fault;
 use fixtures::bundles::{BOTH_CUBES, OPEN, OPEN_REPORT, REFUTED, REFUTED_REPORT};
 use fixtures::four;
@@ -126,6 +126,7 @@ fn told<R: AllocGlobal + Abort + Threads + Wait + Sync, D: Store, I: Source>(
         &mut Counted::new(&mut errors),
         &NoGate,
         &NoGate,
+        &NoExplain,
     );
     (status, output, errors)
 }
@@ -482,6 +483,7 @@ fn output_fails_at<R: AllocGlobal + Abort + Threads + Wait + Sync>(
         &mut Counted::new(&mut errors),
         &NoGate,
         &NoGate,
+        &NoExplain,
     );
     assert!(rt; answer == 5, "{answer} at {fails_at}");
     assert!(rt; output.written.as_slice() == before, "at {fails_at}");
@@ -518,6 +520,7 @@ fn errors_fail_at<R: AllocGlobal + Abort + Threads + Wait + Sync>(
         &mut errors,
         &NoGate,
         &NoGate,
+        &NoExplain,
     );
     assert!(rt; answer == status, "{answer} at {fails_at}");
     assert!(rt; output.is_empty(), "at {fails_at}");

@@ -64,6 +64,19 @@ const MISSING_RECORD: &[u8] =
 t 2 2 1152921504606846976\na 1 open\na 2 open\n\
 m 1 1 -2 0 refuted\nm 2 -1 -2 0 refuted\no 1 2 0\no -1 2 0\nw 576460752303423488\ns OPEN\n";
 
+/// The same two runs, with the formula in the file `CNF` and the cubes in `CUBES`: the line has the
+/// SHA-256, as `sha256sum` prints it, of `CNF`'s text with a header and one blank over its problem
+/// line, a line end, and the text of `CUBES`.
+const CUBES_RECORD_UNDER: &[u8] =
+    b"i 82b97748f81aa332c562c8ebcaa50eaf1c0943a055c9815d15f5b2798875d151\n\
+t 2 2 1152921504606846976\na 1 refuted\na 2 refuted\n\
+m 1 1 -2 0 open\nm 2 -1 -2 0 open\no 1 -2 0\no -1 -2 0\nw 576460752303423488\ns OPEN\n";
+
+const MISSING_RECORD_UNDER: &[u8] =
+    b"i 82b97748f81aa332c562c8ebcaa50eaf1c0943a055c9815d15f5b2798875d151\n\
+t 2 2 1152921504606846976\na 1 open\na 2 open\n\
+m 1 1 -2 0 refuted\nm 2 -1 -2 0 refuted\no 1 2 0\no -1 2 0\nw 576460752303423488\ns OPEN\n";
+
 const FILES: &[File<'static>] = &[
     ("FILE", MIXED),
     ("cubes", CUBES),
@@ -96,6 +109,12 @@ m 1 1 -2 0 refuted\nm 2 -1 -2 0 refuted\nw 0\ns REFUTED\n",
 m 1 1 -2 0 open\nm 2 -1 -2 0 open\no 0\nw 1152921504606846976\ns OPEN\n",
     ),
     ("FAULTY", b"p inccnf\na 1 0\na 1 0\n"),
+    // The four clauses and the cubes in two files, and the cubes below a fifth clause.
+    ("CNF", b"p cnf 2 4\n1 2 0\n1 -2 0\n-1 2 0\n-1 -2 0\n"),
+    ("CUBES", b"a 1 2 0\na -1 2 0\n"),
+    ("CLAUSE", b"1 0\na 1 2 0\na -1 2 0\n"),
+    ("cubes_record_under", CUBES_RECORD_UNDER),
+    ("missing_record_under", MISSING_RECORD_UNDER),
     ("cubes_record", CUBES_RECORD),
     ("missing_record", MISSING_RECORD),
     // The same text with a section behind it.
@@ -288,6 +307,78 @@ const NO_RECORDS: &[Call<'static>] = &[
     ),
 ];
 
+const UNDER_A_FORMULA: &[Call<'static>] = &[
+    (
+        &[
+            "--formula",
+            "CNF",
+            "CUBES",
+            "cubes_record_under",
+            "missing_record_under",
+        ],
+        0,
+        ALL,
+        b"",
+    ),
+    (
+        &["--formula", "CNF", "CUBES", "cubes_record_under"],
+        1,
+        CUBES,
+        b"",
+    ),
+    (
+        &["--formula=CNF", "--unbound", "CUBES", "cubes", "missing"],
+        0,
+        ALL,
+        b"",
+    ),
+    // A record of the same clauses and cubes in one file is one of another text.
+    (
+        &["--formula", "CNF", "CUBES", "cubes_record"],
+        3,
+        b"",
+        b"cubejoin: F15 report 1\n",
+    ),
+    (
+        &["FILE", "cubes_record_under"],
+        3,
+        b"",
+        b"cubejoin: F15 report 1\n",
+    ),
+    (
+        &["--formula", "CNF", "CLAUSE", "cubes_record_under"],
+        3,
+        b"",
+        b"cubejoin: F17 the header says 2 variables and 4 clauses, there are 2 and 5\n",
+    ),
+    // A bundle below the formula: its header is in line 7 of the two texts.
+    (
+        &["--formula", "CNF", "FILE", "cubes_record_under"],
+        3,
+        b"",
+        b"cubejoin: F2 token, line 7\n",
+    ),
+    // The formula's file is read first.
+    (
+        &["--formula", "FILE", "none", "cubes_record_under"],
+        3,
+        b"",
+        b"cubejoin: F16 no DIMACS header\n",
+    ),
+    (
+        &["--formula", "none", "CUBES", "cubes_record_under"],
+        5,
+        b"",
+        b"cubejoin: F13 device\n",
+    ),
+    (
+        &["--formula", "CNF", "none", "cubes_record_under"],
+        5,
+        b"",
+        b"cubejoin: F13 device\n",
+    ),
+];
+
 /// The program on these words ends so, and asks for FILE and then for each RECORD.
 fn ends_so<R: AllocGlobal + Abort>(rt: &R, call: Call<'_>) -> Result<(), Fail> {
     let (words, status, report, line) = call;
@@ -341,6 +432,14 @@ fn refused_records(rt: HostRuntime) -> Result<(), Fail> {
     Ok(())
 }
 
+#[test]
+fn joins_under_a_formula(rt: HostRuntime) -> Result<(), Fail> {
+    for call in UNDER_A_FORMULA {
+        ends_so(&rt, *call)?;
+    }
+    Ok(())
+}
+
 /// These words can't be taken, or ask for help or the version: the parser's text goes to standard
 /// error, and nothing is read.
 fn is_refused<R: AllocGlobal + Abort>(rt: &R, words: &[&str]) -> Result<(), Fail> {
@@ -370,6 +469,9 @@ fn other_words(rt: HostRuntime) -> Result<(), Fail> {
     is_refused(&rt, &["--unbound", "--unbound", "FILE", "cubes"])?;
     is_refused(&rt, &["--unbound=true", "FILE", "cubes"])?;
     is_refused(&rt, &["--workers", "4", "FILE", "cubes"])?;
+    is_refused(&rt, &["--formula", "CNF", "CUBES"])?;
+    is_refused(&rt, &["--formula", "", "CUBES", "cubes_record_under"])?;
+    is_refused(&rt, &["CUBES", "cubes_record_under", "--formula"])?;
     is_refused(&rt, &["--help"])?;
     is_refused(&rt, &["--version"])
 }

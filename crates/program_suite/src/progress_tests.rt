@@ -2,7 +2,7 @@
 //! bundles are made and from how the clock goes.
 
 use crate::devices::Shelf;
-use cube_command::{Counted, FileStore, NoGate, Progress, command};
+use cube_command::{Counted, FileStore, NoExplain, NoGate, Progress, command};
 use fixtures::bundles::{FOUR_CUBES, FOUR_CUBES_REPORT};
 use fixtures::four;
 use std::fmt::Display;
@@ -103,6 +103,7 @@ fn tells<R: AllocGlobal + Abort + Threads + Wait + Sync>(
         &mut Counted::new(&mut errors),
         &NoGate,
         &Progress::new(device, on_terminal),
+        &NoExplain,
     );
     let (wanted_status, report, text) = wanted;
     status == wanted_status && *output == *report && errors.is_empty() && device.has(text)

@@ -3,7 +3,7 @@
 ghost use Rattle.std.specs.Prelude.{◌≡◌, ◌<◌, ◌^◌, ◌-◌};
 
 use crate::devices::{File, Narrow, Shelf};
-use cube_command::{Counted, FileStore, NoGate, command};
+use cube_command::{Counted, FileStore, NoExplain, NoGate, command};
 use cube_report::Fault;
 use fixtures::bundles::{BOTH_CUBES, BOTH_CUBES_REPORT};
 use std::process::Abort;
@@ -60,6 +60,7 @@ fn status_with<R: AllocGlobal + Abort + Threads + Wait + Sync>(
         &mut Counted::new(&mut errors),
         &NoGate,
         &NoGate,
+        &NoExplain,
     );
     (status, errors)
 }

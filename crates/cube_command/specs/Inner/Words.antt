@@ -3,11 +3,24 @@ use Rattle.std.specs.Prelude.{◌≡◌, ℕ, Bool, true, false, List, Option, S
 use Rattle.std.specs.Str.Parse.{IsNumeral, digits_value, without_leading_plus}
 use Rattle.clap.specs.Words.{App, Text, matches_of, new_app, one_of, with_rule}
 use Rattle.cube_command.specs.Words.{words_taken, with_version, workers_word, cut_word}
+use Rattle.cube_command.specs.Words.{formula_word, proofs_word, progress_word, explain_word}
+use Rattle.cube_command.specs.Words.{map_word, record_word}
 
 -- the words with numbers alone
 abbrev pub with_numbers : App
 with_numbers =
     with_rule (with_rule (with_version (new_app (codes "cubeboard"))) workers_word) cut_word
+
+-- those with the formula's file and the folder of proofs, then with what is told beside the report,
+-- then with the files that are written
+abbrev pub with_inputs : App
+with_inputs = with_rule (with_rule with_numbers formula_word) proofs_word
+
+abbrev pub with_flags : App
+with_flags = with_rule (with_rule with_inputs progress_word) explain_word
+
+abbrev pub with_outputs : App
+with_outputs = with_rule (with_rule with_flags map_word) record_word
 
 -- the text is there, and its decimal digits say this number
 abbrev pub Reads : Option Text → ℕ → Type 0

@@ -1,5 +1,5 @@
 -- Why reports weren't joined.
-use Rattle.std.specs.Prelude.{◌≡◌, ◌+◌, ◌⊎◌, ◌++◌, ℕ, List, ◌∷◌, Some}
+use Rattle.std.specs.Prelude.{◌≡◌, ◌+◌, ◌⊎◌, ◌++◌, ℕ, List, Some, None}
 use Rattle.case_core.specs.Case.{CaseOf}
 use Rattle.case_core.specs.SplitTree.{SplitTree}
 use Rattle.case_core.specs.Sections.{IsCaseOf}
@@ -8,18 +8,27 @@ use Rattle.cube_report.specs.declared.fault.Fault.TheVariants.{Memory, Device}
 use Rattle.cube_report.specs.Faults.{IsInputFault}
 use Rattle.cube_report.specs.Correct.{IsFaultOn}
 use Rattle.bundle_files.specs.Files.{Held, Gives, IsUnread}
+use Rattle.bundle_files.specs.Formula.{Sources, IsFormulaFault, IsOneAbsent}
 use Rattle.cube_join.specs.Joined.{IsStranger}
 use Rattle.join_command.specs.declared.fault.JoinFault.{JoinFault}
 use Rattle.join_command.specs.declared.fault.JoinFault.TheVariants.{Run, Stranger}
-use Rattle.join_command.specs.Program.{IsAbsentAmong, IsRefused, IsStrangerAt}
+use Rattle.join_command.specs.Program.{IsAbsentAmong, IsAskedAbsent, IsRefused, IsStrangerAt}
 use Rattle.join_command.specs.Words.{Asked}
 
--- Why one of these files wasn't read, where so many calls had failed and have: want of memory,
--- without a failed call; or a fault of the device, where a call failed or no file is there.
-abbrev pub IsUnreadAmong : Held → List (List ℕ) → ℕ → ℕ → Fault → Type 0
-IsUnreadAmong held paths before after fault =
+-- Why a file wasn't read, where so many calls had failed and have: want of memory, without a failed
+-- call; or a fault of the device, where a call failed or a file is absent.
+abbrev pub IsUnreadWhere : Type 0 → ℕ → ℕ → Fault → Type 0
+IsUnreadWhere absent before after fault =
     ((fault ≡ Memory) × (after ≡ before))
-    ⊎ ((fault ≡ Device) × ((after ≡ before + 1) ⊎ ((after ≡ before) × IsAbsentAmong held paths)))
+    ⊎ ((fault ≡ Device) × ((after ≡ before + 1) ⊎ ((after ≡ before) × absent)))
+
+-- why the bundle of these files wasn't read: a fault of the formula's own, or of clauses beside it,
+-- or that one of them wasn't read
+abbrev pub IsUnreadBundle : Held → Sources → ℕ → ℕ → Fault → Type 0
+IsUnreadBundle held sources before after fault =
+    (IsInputFault fault × (after ≡ before)
+    × IsFormulaFault held sources.formula sources.file None fault)
+    ⊎ IsUnreadWhere (IsOneAbsent held sources) before after fault
 
 -- why one record, of this number, wasn't joined
 abbrev pub IsNotAdded : Held → List ℕ → SplitTree → List ℕ → ℕ → ℕ → ℕ → JoinFault → Type 0
@@ -33,7 +42,7 @@ IsNotAdded held line tree path number before after (Stranger other) =
 -- why one of these records wasn't joined
 abbrev pub AreNotAdded : Held → List ℕ → SplitTree → List (List ℕ) → ℕ → ℕ → JoinFault → Type 0
 AreNotAdded held line tree paths before after (Run fault) =
-    IsUnreadAmong held paths before after fault
+    IsUnreadWhere (IsAbsentAmong held paths) before after fault
 AreNotAdded held line tree paths before after (Stranger number) =
     (after ≡ before) × IsStrangerAt held line tree paths number
 
@@ -41,7 +50,7 @@ AreNotAdded held line tree paths before after (Stranger number) =
 abbrev pub IsUnjoined : Held → List ℕ → List ℕ → List (List ℕ) → ℕ → ℕ → JoinFault → Type 0
 IsUnjoined held bundle line paths before after (Run fault) =
     (IsInputFault fault × (after ≡ before) × IsFaultOn bundle fault)
-    ⊎ IsUnreadAmong held paths before after fault
+    ⊎ IsUnreadWhere (IsAbsentAmong held paths) before after fault
 IsUnjoined held bundle line paths before after (Stranger number) =
     (after ≡ before)
     × ((case : CaseOf) × IsCaseOf bundle case × IsStrangerAt held line case.tree paths number)
@@ -50,6 +59,6 @@ IsUnjoined held bundle line paths before after (Stranger number) =
 abbrev pub IsUnwritten : Held → Asked → ℕ → ℕ → JoinFault → Type 0
 IsUnwritten held asked before after (Run fault) =
     (IsInputFault fault × (after ≡ before) × IsRefused held asked (Run fault))
-    ⊎ IsUnreadAmong held (asked.file ∷ asked.records) before after fault
+    ⊎ IsUnreadWhere (IsAskedAbsent held asked) before after fault
 IsUnwritten held asked before after (Stranger number) =
     (after ≡ before) × IsRefused held asked (Stranger number)

@@ -12,6 +12,7 @@ records_found found = unwrap_or (option_map raw_values (matched_of found (codes 
 -- what a request asks for
 abbrev pub asked_in : Request → Asked
 asked_in request = record {
+  formula = option_map (λ path. path.now) request.formula;
   file = request.file.now;
   records = map (λ path. path.now) request.records.items;
   unbound = request.unbound;

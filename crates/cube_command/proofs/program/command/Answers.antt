@@ -1,3 +1,4 @@
+use Rattle.cube_command.proofs.WordsPaths.{input_apart}
 use Rattle.cube_command.proofs.WordsRequests.{nothing_asked, nothing_taken}
 use Rattle.cube_command.proofs.ProgramRuns.{device_run, fault_run, memory_run, sound_run}
 use Rattle.cube_command.proofs.ProgramRuns.{fault_asked, files_asked, memory_asked}
@@ -33,17 +34,17 @@ run_request-run-requires-clause-records g c = λ κs within.
 
 pub run_request-run-requires-clause-apart : goal.run_request-run-requires-clause-apart
 run_request-run-requires-clause-apart g c = λ κs within.
-    rw (c.in-Ok.ensures.map, c.in-Ok.ensures.out) c.in-Ok.ensures.taken.1
+    rw (c.in-Ok.ensures.map, c.in-Ok.ensures.out) c.in-Ok.ensures.taken.1.0
 
-pub tell_run-requires-clause-fault : goal.tell_run-requires-clause-fault
-tell_run-requires-clause-fault g c =
+pub tell_run-status-requires-clause-fault : goal.tell_run-status-requires-clause-fault
+tell_run-status-requires-clause-fault g c =
     fault_asked (g.E.Sink.allows c.args.errors.now) (g.D.Store.held c.args.store.now) _ _ _ _
     (g.I.Source.remaining c.args.input.now) c.run_request-run.result
     (ap₂ sources_by c.in-Ok.ensures.formula c.in-Ok.ensures.file) c.in-Ok.ensures.proofs
     c.requires.faults c.run_request-run.ensures.fault
 
-pub tell_run-requires-clause-memory : goal.tell_run-requires-clause-memory
-tell_run-requires-clause-memory g c =
+pub tell_run-status-requires-clause-memory : goal.tell_run-status-requires-clause-memory
+tell_run-status-requires-clause-memory g c =
     memory_asked (g.E.Sink.allows c.args.errors.now) _ _ _ _ c.requires.faults
 
 pub refused-requires-clause-memory : goal.refused-requires-clause-memory
@@ -57,43 +58,49 @@ refused-requires-clause-words g c =
 pub returns-in-Ok-clause-sound : goal.returns-in-Ok-clause-sound
 returns-in-Ok-clause-sound g c = λ zero.
     sound_run (g.D.Store.held c.args.store.now) _ _ _ _ _ _ _ (g.O.Sink.contents c.args.output.now)
-    (g.O.Sink.contents c.run_request-run.new.output) c.run_request-run.result c.tell_run.result _
-    (g.E.Sink.contents c.args.errors.now) (g.E.Sink.contents c.tell_run.new.errors)
-    (g.E.Sink.failures c.args.errors.now) (g.E.Sink.failures c.tell_run.new.errors)
+    (g.O.Sink.contents c.run_request-run.new.output) c.run_request-run.result c.tell_run-status.result _
+    (g.E.Sink.contents c.args.errors.now) (g.E.Sink.contents c.tell_run-status.new.errors)
+    (g.E.Sink.failures c.args.errors.now) (g.E.Sink.failures c.tell_run-status.new.errors)
     (ap₂ sources_by c.in-Ok.ensures.formula c.in-Ok.ensures.file)
-    c.tell_run.ensures.told c.run_request-run.ensures.report zero
+    c.tell_run-status.ensures.told c.run_request-run.ensures.report zero
 
 pub returns-in-Ok-clause-published : goal.returns-in-Ok-clause-published
 returns-in-Ok-clause-published g c = λ zero.
     published_run (g.D.Store.held c.args.store.now) _ _ _ _ _ _ _
     (g.O.Sink.contents c.args.output.now)
-    (g.O.Sink.contents c.run_request-run.new.output) c.run_request-run.result c.tell_run.result _
-    (g.E.Sink.contents c.args.errors.now) (g.E.Sink.contents c.tell_run.new.errors)
-    (g.E.Sink.failures c.args.errors.now) (g.E.Sink.failures c.tell_run.new.errors)
-    c.in-Ok.ensures.formula c.tell_run.ensures.told c.run_request-run.ensures.report zero
+    (g.O.Sink.contents c.run_request-run.new.output) c.run_request-run.result c.tell_run-status.result _
+    (g.E.Sink.contents c.args.errors.now) (g.E.Sink.contents c.tell_run-status.new.errors)
+    (g.E.Sink.failures c.args.errors.now) (g.E.Sink.failures c.tell_run-status.new.errors)
+    c.in-Ok.ensures.formula c.tell_run-status.ensures.told c.run_request-run.ensures.report zero
 
 pub returns-in-Ok-clause-fault : goal.returns-in-Ok-clause-fault
 returns-in-Ok-clause-fault g c = λ three.
-    fault_run (g.D.Store.held c.args.store.now) _ _ _ _ _ c.run_request-run.result c.tell_run.result
+    fault_run (g.D.Store.held c.args.store.now) _ _ _ _ _ c.run_request-run.result c.tell_run-status.result
     _
-    (g.E.Sink.contents c.args.errors.now) (g.E.Sink.contents c.tell_run.new.errors)
-    (g.E.Sink.failures c.args.errors.now) (g.E.Sink.failures c.tell_run.new.errors)
-    (ap₂ sources_by c.in-Ok.ensures.formula c.in-Ok.ensures.file) c.in-Ok.ensures.proofs c.tell_run.ensures.told
+    (g.E.Sink.contents c.args.errors.now) (g.E.Sink.contents c.tell_run-status.new.errors)
+    (g.E.Sink.failures c.args.errors.now) (g.E.Sink.failures c.tell_run-status.new.errors)
+    (ap₂ sources_by c.in-Ok.ensures.formula c.in-Ok.ensures.file) c.in-Ok.ensures.proofs c.tell_run-status.ensures.told
     c.run_request-run.ensures.fault three
 
 pub returns-in-Ok-clause-memory : goal.returns-in-Ok-clause-memory
 returns-in-Ok-clause-memory g c = λ four.
-    memory_run c.run_request-run.result c.tell_run.result _
-    (g.E.Sink.contents c.args.errors.now) (g.E.Sink.contents c.tell_run.new.errors)
-    (g.E.Sink.failures c.args.errors.now) (g.E.Sink.failures c.tell_run.new.errors)
-    c.tell_run.ensures.told four
+    memory_run c.run_request-run.result c.tell_run-status.result _
+    (g.E.Sink.contents c.args.errors.now) (g.E.Sink.contents c.tell_run-status.new.errors)
+    (g.E.Sink.failures c.args.errors.now) (g.E.Sink.failures c.tell_run-status.new.errors)
+    c.tell_run-status.ensures.told four
 
 pub returns-in-Ok-clause-device : goal.returns-in-Ok-clause-device
 returns-in-Ok-clause-device g c = λ five.
-    device_run c.run_request-run.result c.tell_run.result _
-    (g.E.Sink.contents c.args.errors.now) (g.E.Sink.contents c.tell_run.new.errors)
-    (g.E.Sink.failures c.args.errors.now) (g.E.Sink.failures c.tell_run.new.errors)
-    c.tell_run.ensures.told five
+    device_run c.run_request-run.result c.tell_run-status.result _
+    (g.E.Sink.contents c.args.errors.now) (g.E.Sink.contents c.tell_run-status.new.errors)
+    (g.E.Sink.failures c.args.errors.now) (g.E.Sink.failures c.tell_run-status.new.errors)
+    c.tell_run-status.ensures.told five
+
+pub returns-in-Ok-clause-kept : goal.returns-in-Ok-clause-kept
+returns-in-Ok-clause-kept g c = λ path input.
+    let other = input_apart _ path c.in-Ok.ensures.taken input in
+    c.run_request-run.ensures.elsewhere path (rw c.in-Ok.ensures.map other.0)
+    (rw c.in-Ok.ensures.out other.1)
 
 pub returns-in-Err-clause-none : goal.returns-in-Err-clause-none
 returns-in-Err-clause-none g c = λ empty.

@@ -63,17 +63,17 @@ write_outcome-requires-clause-picture g c = λ _ _ path is.
 pub write_outcome-requires-clause-recorded : goal.write_outcome-requires-clause-recorded
 write_outcome-requires-clause-recorded g c = λ _ _ path is.
     let judged = rw c.in_ok-read.ensures.held at c.in_ok-outcome.ensures.outcome in
-    c.in_ok-outcome.ensures.allowed path c.deref-3.result.now
-    (c.in_ok-read.ensures.allowed path c.deref-3.result.now
+    c.in_ok-outcome.ensures.allowed path c.deref-6.result.now
+    (c.in_ok-read.ensures.allowed path c.deref-6.result.now
     (c.requires.records path c.in_ok-read.read.items judged.whole is
     (bundle_of (g.D.Store.held c.args.store.now) _ _ (g.I.Source.remaining c.args.input.now)
     c.in_ok-read.read.items judged.whole c.in_ok-read.ensures.bundle judged.is_judged)
-    c.deref-3.result.now (
+    c.deref-6.result.now (
       c.in_ok-outcome.outcome.text.items,
       report_on _ _ _ judged.outcome.correct,
       whole_record _ c.in_ok-read.read.items c.in_ok-outcome.outcome.text.items _ _
-          c.in_ok-record.record.items c.end_record.new.begun.items c.deref-3.result.now
-          c.deref.ensures.value c.deref-2.ensures.value c.deref-3.ensures.value
+          c.in_ok-record.record.items c.end_record.new.begun.items c.deref-6.result.now
+          c.deref-2.ensures.value c.deref-3.ensures.value c.deref-6.ensures.value
           c.in_ok-record.ensures c.in_ok-end_record.ensures path is,
     )))
 
@@ -96,15 +96,15 @@ returns-clause-report g c =
     (g.O.Sink.contents c.args.output.now)
     (g.O.Sink.contents c.write_outcome.new.output) c.in_ok-read.read.items judged.whole
     c.in_ok-outcome.outcome.text.items c.in_ok-outcome.outcome.map.items
-    c.deref-3.result.now c.is_some-draws.result c.in_ok-outcome.outcome.refuted
+    c.deref-6.result.now c.is_some-draws.result c.in_ok-outcome.outcome.refuted
     (bundle_of (g.D.Store.held c.args.store.now) _ _ (g.I.Source.remaining c.args.input.now)
     c.in_ok-read.read.items judged.whole c.in_ok-read.ensures.bundle judged.is_judged)
     judged.outcome
     (some_mapped (λ (text : Bor (List ℕ)). text.now) c.args.request.now.map c.is_some-draws.result
     c.is_some-draws.ensures)
     (whole_record _ c.in_ok-read.read.items c.in_ok-outcome.outcome.text.items _ _
-    c.in_ok-record.record.items c.end_record.new.begun.items c.deref-3.result.now
-    c.deref.ensures.value c.deref-2.ensures.value c.deref-3.ensures.value
+    c.in_ok-record.record.items c.end_record.new.begun.items c.deref-6.result.now
+    c.deref-2.ensures.value c.deref-3.ensures.value c.deref-6.ensures.value
     c.in_ok-record.ensures c.in_ok-end_record.ensures)
     c.in_ok-write_outcome.ensures.written c.in_ok-write_outcome.ensures.drawn
     c.in_ok-write_outcome.ensures.recorded

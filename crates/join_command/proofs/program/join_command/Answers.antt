@@ -1,7 +1,7 @@
 use Rattle.std.proofs.Common.{map}
 use Rattle.join_command.specs.Words.{asked_of}
 use Rattle.join_command.proofs.ProgramRuns.{device_join, fault_join, memory_allowed, memory_join}
-use Rattle.join_command.proofs.ProgramRuns.{sound_join}
+use Rattle.join_command.proofs.ProgramRuns.{published_join, sound_join}
 use Rattle.join_command.proofs.program.join_command.Goals as goal
 
 pub tell_join-requires-clause-memory : goal.tell_join-requires-clause-memory
@@ -18,6 +18,15 @@ pub returns-in-Ok-clause-sound : goal.returns-in-Ok-clause-sound
 returns-in-Ok-clause-sound g c = λ zero.
     sound_join (g.D.Store.held c.args.store.now) (asked_of (map g.S.AsStr.text c.args.words.now))
     (g.O.Sink.contents c.args.output.now)
+    (g.O.Sink.contents c.run_request-run.new.output) c.run_request-run.result c.tell_join.result _
+    (g.E.Sink.contents c.args.errors.now) (g.E.Sink.contents c.tell_join.new.errors)
+    (g.E.Sink.failures c.args.errors.now) (g.E.Sink.failures c.tell_join.new.errors)
+    c.tell_join.ensures.told (rw c.in-Ok.ensures.asked at c.run_request-run.ensures.written) zero
+
+pub returns-in-Ok-clause-published : goal.returns-in-Ok-clause-published
+returns-in-Ok-clause-published g c = λ zero.
+    published_join (g.D.Store.held c.args.store.now)
+    (asked_of (map g.S.AsStr.text c.args.words.now)) (g.O.Sink.contents c.args.output.now)
     (g.O.Sink.contents c.run_request-run.new.output) c.run_request-run.result c.tell_join.result _
     (g.E.Sink.contents c.args.errors.now) (g.E.Sink.contents c.tell_join.new.errors)
     (g.E.Sink.failures c.args.errors.now) (g.E.Sink.failures c.tell_join.new.errors)

@@ -6,9 +6,9 @@ pub write_all-requires-clause-allowed : goal.write_all-requires-clause-allowed
 write_all-requires-clause-allowed g c =
     let parts = join_of (g.D.Store.held c.args.store.now) (asked_in c.args.request.now)
     c.in_ok-bundle.bundle.items c.in_ok-line.line.items c.in_ok-joined.joined.text.items
-    c.in_ok-joined.joined.refuted c.in_ok-bundle.ensures.text
+    c.in_ok-joined.joined.refuted c.in_ok-bundle.ensures.bundle
     (rw c.deref.ensures.value at c.in_ok-line.ensures)
-    (rw (c.read_whole.ensures.held, c.deref-2.ensures.value, c.deref-3.ensures.value) at
+    (rw (c.read_bundle.ensures.held, c.deref-2.ensures.value, c.deref-3.ensures.value) at
     c.in_ok-joined.ensures.joined) in
     rw c.deref-4.ensures.value
     (c.requires.reports c.in_ok-bundle.bundle.items parts.0 c.in_ok-joined.joined.text.items
@@ -21,8 +21,8 @@ returns-in_err-write_all-clause-beginning g c =
     c.in_ok-joined.joined.text.items c.in_ok-joined.joined.refuted
     (g.O.Sink.contents c.args.output.now) (g.O.Sink.contents c.write_all.new.writer)
     (g.O.Sink.failures c.args.output.now) (g.O.Sink.failures c.write_all.new.writer)
-    c.in_ok-bundle.ensures.text (rw c.deref.ensures.value at c.in_ok-line.ensures)
-    (rw (c.read_whole.ensures.held, c.deref-2.ensures.value, c.deref-3.ensures.value) at
+    c.in_ok-bundle.ensures.bundle (rw c.deref.ensures.value at c.in_ok-line.ensures)
+    (rw (c.read_bundle.ensures.held, c.deref-2.ensures.value, c.deref-3.ensures.value) at
     c.in_ok-joined.ensures.joined)
     (rw c.deref-4.ensures.value at c.in_err-write_all.ensures.beginning)
     c.in_err-write_all.ensures.err.1
@@ -32,8 +32,8 @@ returns-clause-written g c =
     join_written (g.D.Store.held c.args.store.now) (asked_in c.args.request.now)
     c.in_ok-bundle.bundle.items c.in_ok-line.line.items c.in_ok-joined.joined.text.items
     c.in_ok-joined.joined.refuted (g.O.Sink.contents c.args.output.now)
-    (g.O.Sink.contents c.write_all.new.writer) c.in_ok-bundle.ensures.text
+    (g.O.Sink.contents c.write_all.new.writer) c.in_ok-bundle.ensures.bundle
     (rw c.deref.ensures.value at c.in_ok-line.ensures)
-    (rw (c.read_whole.ensures.held, c.deref-2.ensures.value, c.deref-3.ensures.value) at
+    (rw (c.read_bundle.ensures.held, c.deref-2.ensures.value, c.deref-3.ensures.value) at
     c.in_ok-joined.ensures.joined)
     (rw c.deref-4.ensures.value at c.in_ok-write_all.ensures.ok)

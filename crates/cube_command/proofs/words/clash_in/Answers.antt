@@ -1,0 +1,8 @@
+use Rattle.cube_command.proofs.words.clash_in.Goals as goal
+
+pub returns-clause-none : goal.returns-clause-none
+returns-clause-none c = λ none. (
+  c.are_apart.ensures.0 c.if-not-are_apart.false,
+  c.spares_read.ensures.0 c.if-not-spares_read.false,
+  c.spares_read-2.ensures.0 c.if-not-spares_read-2.false,
+)

@@ -1,0 +1,104 @@
+//! The lines of a text, counted from 1.
+
+use case_core::{first_word, is_comment};
+
+/// Whether a byte ends a line.
+pub(crate) fn is_line_end(byte: &u8) -> bool {
+    *byte == b'\n'
+}
+
+/// Whether a byte stands between the words of a line.
+pub(crate) fn is_blank(byte: &u8) -> bool {
+    matches!(*byte, b' ' | b'\t' | b'\r' | 0x0b | 0x0c)
+}
+
+/// A line of a text, with its number.
+#[derive(Clone, Copy)]
+pub(crate) struct Line<'t> {
+    pub(crate) number: u64,
+    pub(crate) text: &'t [u8],
+}
+
+/// The line in this place, from 0.
+pub(crate) fn line_in(place: usize, text: &[u8]) -> Line<'_> {
+    Line {
+        number: (place as u64).saturating_add(1),
+        text,
+    }
+}
+
+/// The line of this number, if the text has it.
+pub(crate) fn line_of(text: &[u8], number: u64) -> Option<Line<'_>> {
+    for (place, line) in text.split(is_line_end).enumerate() {
+        let line = line_in(place, line);
+        if line.number == number {
+            return Some(line);
+        }
+    }
+    None
+}
+
+/// How many lines a text has.
+pub(crate) fn line_count(text: &[u8]) -> u64 {
+    (text.iter().filter(|byte| is_line_end(byte)).count() as u64).saturating_add(1)
+}
+
+/// Whether a line has a word and is no comment.
+pub(crate) fn has_words(line: &[u8]) -> bool {
+    !is_comment(line) && first_word(line).is_some()
+}
+
+/// The first line that has words.
+pub(crate) fn first_line(text: &[u8]) -> Option<Line<'_>> {
+    for (place, line) in text.split(is_line_end).enumerate() {
+        if has_words(line) {
+            return Some(line_in(place, line));
+        }
+    }
+    None
+}
+
+/// The last line that has words.
+pub(crate) fn last_line(text: &[u8]) -> Option<Line<'_>> {
+    let mut last = None;
+    for (place, line) in text.split(is_line_end).enumerate() {
+        if has_words(line) {
+            last = Some(line_in(place, line));
+        }
+    }
+    last
+}
+
+/// The first line that begins with another word than `a`, before the first that begins with `l`.
+pub(crate) fn first_clause(text: &[u8]) -> Option<Line<'_>> {
+    for (place, line) in text.split(is_line_end).enumerate() {
+        match first_word(line) {
+            Some((b"l", _)) => return None,
+            Some((b"a", _)) => {}
+            Some(_) if !is_comment(line) => return Some(line_in(place, line)),
+            _ => {}
+        }
+    }
+    None
+}
+
+/// The line on which the cube of this number, from 1, begins.
+pub(crate) fn cube_line(text: &[u8], cube: u32) -> Option<Line<'_>> {
+    let mut count = 0u64;
+    for (place, line) in text.split(is_line_end).enumerate() {
+        if has_words(line) {
+            count = count.saturating_add(cubes_on(line));
+            if count >= u64::from(cube) {
+                return Some(line_in(place, line));
+            }
+        }
+    }
+    None
+}
+
+/// How many cubes begin on a line.
+fn cubes_on(line: &[u8]) -> u64 {
+    line.split(is_blank)
+        .filter(|word| *word == b"a".as_slice())
+        .count() as u64
+}
