@@ -2,8 +2,8 @@
 Each cube has a line of its own in the bundle. The picture goes to standard output."""
 import sys
 
-HEAD = (
-    '<svg xmlns="http://www.w3.org/2000/svg" viewBox="0 0 2048 330" width="2048" height="330">\n'
+SIZE = '<svg xmlns="http://www.w3.org/2000/svg" viewBox="0 0 2048 {0}" width="2048" height="{0}">\n'
+STYLE = (
     "<style>text{font:18px sans-serif}rect{fill:#FFFFFF;stroke:#FFFFFF;stroke-width:0.2}"
     'rect[width="1"],rect[width="2"]{stroke-width:0}'
     ".c{fill:#BBBBBB}.r{fill:#0072B2}.x{fill:#D55E00}.o{fill:#F0E442}.p{fill:#56B4E9}rect.n{stroke:#000000;stroke-width:2}</style>\n"
@@ -102,14 +102,24 @@ def rectangle(name, left, top, width):
 def draw(nodes):
     """The picture of the tree whose nodes were judged."""
     root = nodes[0]
-    lines = [HEAD]
+    head = []
     for name, left, word in LEGEND:
-        lines.append(f'{rectangle(name, left, 8, 22)}</rect><text x="{left + 30}" y="26">{word}</text>\n')
+        head.append(f'{rectangle(name, left, 8, 22)}</rect><text x="{left + 30}" y="26">{word}</text>\n')
     answer = "REFUTED" if root.marked else "OPEN"
-    lines.append(f'<text x="8" y="26">s {answer}\n</text>\n<text x="130" y="26">w {root.open} of {root.weight}</text>\n')
-    pending = [(root, 0, 0, False)]
+    # In tenths of a per cent, rounded up.
+    share = -(-1000 * root.open // root.weight)
+    told_open = f"{share // 10}.{share % 10} % open, w {root.open} of {root.weight}"
+    head.append(f'<text x="8" y="26">s {answer}\n</text>\n<text x="130" y="26">{told_open}</text>\n')
+    cells, last = cells_of(root)
+    return "".join([SIZE.format(40 + 24 * (last + 1) + 2), STYLE, *head, *cells, "</svg>\n"])
+
+
+def cells_of(root):
+    """The cells of the nodes that have one, and their last row."""
+    lines, last, pending = [], 0, [(root, 0, 0, False)]
     while pending:
         node, row, left, covered = pending.pop()
+        last = max(last, row)
         width = 2048 >> row
         name = colour(node, row, covered) + (" n" if node.branches and node.status else "")
         lines.append(f"{rectangle(name, left, 40 + 24 * row, width)}<title>{told(node)}</title></rect>\n")
@@ -117,8 +127,7 @@ def draw(nodes):
             covered = covered or node.marked
             pending.append((node.branches[1], row + 1, left + width // 2, covered))
             pending.append((node.branches[0], row + 1, left, covered))
-    lines.append("</svg>\n")
-    return "".join(lines)
+    return lines, last
 
 
 def cubes_of(bundle):

@@ -13,7 +13,7 @@ whole=1152921504606846976
 
 # The last two lines of the report that goes with a picture: the open weight and the answer.
 end_of() {
-    sed -n 's/^<text x="8" y="26">\(s [A-Z]*\)$/\1/p; s/^<text x="130" y="26">\(w [0-9]*\) of [0-9]*<\/text>$/\1/p' "$1" | sort -r
+    sed -n 's/^<text x="8" y="26">\(s [A-Z]*\)$/\1/p; s/^<text x="130" y="26">[0-9.]* % open, \(w [0-9]*\) of [0-9]*<\/text>$/\1/p' "$1" | sort -r
 }
 
 # Draws a bundle's picture, $here/drawn, and looks whether it is scripts/draw.py's and whether report and status go with it: a file with the lines

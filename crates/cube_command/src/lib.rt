@@ -5,6 +5,7 @@ mod asked;
 // `command` stands here: a module can't have the name of an item beside it.
 mod program;
 mod progress;
+mod reading;
 mod record;
 mod telling;
 mod words;
@@ -14,5 +15,6 @@ pub use cube_explain::{Explain, NoExplain, Teller};
 pub use cube_report::{Counted, Found, Gate, NoGate, Sink, Source};
 pub use program::command;
 pub use progress::Progress;
+pub use reading::{Meter, Metered, MeteredFiles, Watch};
 pub use record::digest_line_of;
 pub use telling::own_words;

@@ -23,6 +23,7 @@ ghost use Rattle.cube_command.specs.Inner.Program.{sources_in};
 
 use crate::asked::{Telling, asked_in, fault_in};
 use crate::progress::Watched;
+use crate::reading::Watch;
 use crate::record::{begin_record, end_record};
 use crate::telling::{tell_fault, tell_run};
 use crate::words::{Request, request_of};
@@ -51,8 +52,9 @@ use std::thread::Threads;
 /// there, as the section of its leaf. Each of them is read when a worker comes to its leaf, and
 /// dropped when it is judged; all are read beforehand only where one has a label line, or is for a
 /// leaf with a section of its own. N workers check the proofs, with boards cut at the depth D;
-/// `gate` is called beside each section, and with `--progress` also `watch`, which may tell a
-/// person how far the run is, on a device that it is lent: what it does there is not `errors`. With
+/// `gate` is called beside each section, and with `--progress` also `watch`, from the first read
+/// on, which may tell a person how far the run is, on a device that it is lent: what it does there
+/// is not `errors`. With
 /// `--explain` so may `explain` tell what was read, and where rejections and a fault come from; then
 /// the text that was read is kept twice. With
 /// `--map SVG` a picture of the tree is written to that file, made anew, before the report; with
@@ -84,7 +86,7 @@ where
     O: Sink,
     E: Sink,
     G: Gate + Sync,
-    W: Gate + Sync,
+    W: Gate + Watch + Sync,
     X: Explain,
     requires store { D.failures store.old < 2 ^ 64 - 1 }
     requires input { I.failures input.old < 2 ^ 64 - 1 }
@@ -204,6 +206,7 @@ where
                 asked: asked_in(&request),
                 is_asked: request.explain,
             };
+            gates.begins_to_read();
             let run = run_request(
                 rt,
                 store,
@@ -214,6 +217,7 @@ where
                 &telling,
                 &mut bundle,
             );
+            gates.is_over();
             let fault = fault_in(&run);
             let status = tell_run(rt.alloc(), errors, run);
             telling.tell_fault(rt.alloc(), &bundle, fault);

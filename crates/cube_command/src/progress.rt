@@ -6,11 +6,12 @@ ghost use Rattle.cube_report.specs.Seen.{IsTold};
 ghost use Rattle.cube_report.specs.SplitTree.{size};
 ghost use Rattle.cube_report.specs.Parts.{part_nodes};
 
+use crate::reading::{Meter, Watch};
 use cube_report::{Case, Elsewhere, Found, Gate, Judged, Leaf, NodeId, Place, Target, Tree};
 use std::alloc::{AllocError, Global};
 use std::array;
 use std::io::Eprint;
-use std::sync::atomic::{AtomicU64, Ordering};
+use std::sync::atomic::{AtomicBool, AtomicU64, Ordering};
 use std::time::Clock;
 
 /// The most parts of a cut.
@@ -32,8 +33,9 @@ struct Part {
 /// A gate that tells how far the run is on a terminal or in lines: how many proofs are judged, of
 /// how many, how many of their bytes, of how many, how many are refuted and rejected, and how much
 /// of the tree's weight is still open. It tells that at most once a second while the workers are at
-/// work, and once when they have ended; a run that is made anew counts anew. What it can't write is
-/// left out.
+/// work, and once when they have ended; a run that is made anew counts anew. As a meter it tells,
+/// once a second at most, how much was read so far: before the workers start, and again where all
+/// proofs are read before they are judged. What it can't write is left out.
 #[derive(Drop)]
 pub struct Progress<'a, R> {
     device: &'a R,
@@ -52,6 +54,11 @@ pub struct Progress<'a, R> {
     parts: [Part; MOST_PARTS],
     /// When the last line was written, or the run began, in milliseconds.
     told_at: AtomicU64,
+    /// Whether the run reads what it judges later, and how many bytes it has read so.
+    is_reading: AtomicBool,
+    bytes_read: AtomicU64,
+    /// Whether a line on that stands on the terminal.
+    is_shown: AtomicBool,
 }
 
 impl<'a, R> Progress<'a, R> {
@@ -74,6 +81,18 @@ impl<'a, R> Progress<'a, R> {
                 open: AtomicU64::new(0),
             }),
             told_at: AtomicU64::new(0),
+            is_reading: AtomicBool::new(false),
+            bytes_read: AtomicU64::new(0),
+            is_shown: AtomicBool::new(false),
+        }
+    }
+
+    /// What stands before and behind a line; the last line is ended also on a terminal.
+    fn around(&self, is_last: bool) -> (&'static str, &'static str) {
+        match (self.on_terminal, is_last) {
+            (true, true) => ("\r", "\x1b[K\n"),
+            (true, false) => ("\r", "\x1b[K"),
+            (false, _) => ("", "\n"),
         }
     }
 
@@ -198,11 +217,7 @@ impl<'a, R: Eprint> Progress<'a, R> {
         let judged = refuted.saturating_add(rejected);
         let share = share_of(self.open_weight(), self.total.load(Ordering::SeqCst));
         let (percent, rest) = (share / 1000, share % 1000);
-        let (front, back) = match (self.on_terminal, is_last) {
-            (true, true) => ("\r", "\x1b[K\n"),
-            (true, false) => ("\r", "\x1b[K"),
-            (false, _) => ("", "\n"),
-        };
+        let (front, back) = self.around(is_last);
         let _ = eprint!(self.device;
             "{front}cubeboard: {judged} of {proofs} judged, {done} of {bytes} bytes, \
              {refuted} refuted, {rejected} rejected, {percent}.{rest:03} % open{back}"
@@ -239,6 +254,50 @@ impl<'a, R: Eprint> Progress<'a, R> {
     }
 }
 
+impl<'a, R: Clock + Eprint> Progress<'a, R> {
+    /// Begins to tell how much is read.
+    fn begin_reading(&self) {
+        self.bytes_read.store(0, Ordering::SeqCst);
+        self.told_at.store(self.now(), Ordering::SeqCst);
+        self.is_reading.store(true, Ordering::SeqCst);
+    }
+
+    /// Writes how much was read so far.
+    fn tell_read(&self) {
+        let bytes = self.bytes_read.load(Ordering::SeqCst);
+        let (front, back) = self.around(false);
+        let _ = eprint!(self.device;
+            "{front}cubeboard: reading: {bytes} bytes so far{back}"
+        );
+        self.is_shown.store(self.on_terminal, Ordering::SeqCst);
+    }
+}
+
+impl<'a, R: Clock + Eprint> Meter for Progress<'a, R> {
+    fn count(&self, bytes: usize) {
+        if !self.is_reading.load(Ordering::SeqCst) {
+            return;
+        }
+        self.bytes_read.fetch_add(bytes as u64, Ordering::SeqCst);
+        if self.is_due() {
+            self.tell_read();
+        }
+    }
+}
+
+impl<'a, R: Clock + Eprint> Watch for Progress<'a, R> {
+    fn begins_to_read(&self) {
+        self.begin_reading();
+    }
+
+    fn is_over(&self) {
+        self.is_reading.store(false, Ordering::SeqCst);
+        if self.is_shown.swap(false, Ordering::SeqCst) {
+            let _ = eprint!(self.device; "\r\x1b[K");
+        }
+    }
+}
+
 impl<'a, R: Clock + Eprint> Gate for Progress<'a, R> {
     fn start(
         &self,
@@ -247,6 +306,7 @@ impl<'a, R: Clock + Eprint> Gate for Progress<'a, R> {
         cut: u32,
         elsewhere: Elsewhere,
     ) -> Result<(), AllocError> {
+        self.is_reading.store(false, Ordering::SeqCst);
         let tree = case.tree();
         let roots = tree.parts(alloc, cut)?;
         begin_parts(&self.parts, tree, cut, &roots);
@@ -274,9 +334,11 @@ impl<'a, R: Clock + Eprint> Gate for Progress<'a, R> {
 
     fn falls_back(&self, leaf: Leaf) {
         self.tell_whole(leaf);
+        self.begin_reading();
     }
 
     fn end(&self) {
+        self.is_shown.store(false, Ordering::SeqCst);
         self.tell(true);
     }
 }
@@ -287,6 +349,22 @@ pub(crate) struct Watched<'a, G, W> {
     pub(crate) gate: &'a G,
     pub(crate) watch: &'a W,
     pub(crate) is_asked: bool,
+}
+
+impl<'a, G, W: Watch> Watched<'a, G, W> {
+    /// Before the first read.
+    pub(crate) fn begins_to_read(&self) {
+        if self.is_asked {
+            self.watch.begins_to_read();
+        }
+    }
+
+    /// When the run is over.
+    pub(crate) fn is_over(&self) {
+        if self.is_asked {
+            self.watch.is_over();
+        }
+    }
 }
 
 impl<'a, G: Gate, W: Gate> Gate for Watched<'a, G, W> {

@@ -1,8 +1,9 @@
 //! What the program tells of a run while it goes on. The lines are written by hand from how the
 //! bundles are made and from how the clock goes.
 
-use crate::devices::Shelf;
-use cube_command::{Counted, FileStore, NoExplain, NoGate, Progress, command};
+use crate::devices::{File, Shelf};
+use cube_command::{Counted, FileStore, Metered, MeteredFiles, NoExplain, NoGate, Progress};
+use cube_command::command;
 use fixtures::bundles::{FOUR_CUBES, FOUR_CUBES_REPORT};
 use fixtures::four;
 use std::fmt::Display;
@@ -195,6 +196,97 @@ fn nothing_else_changes(rt: HostRuntime) {
             &device,
             false,
             (0, FOUR_CUBES_REPORT, "")
+        )
+    );
+}
+
+/// What a run ends with: its status, its report, what it writes as an error, and what it tells on
+/// the device.
+type End<'t> = (u8, &'t [u8], &'t [u8], &'t str);
+
+/// Whether the program, on these words and a file that gives 16 bytes a read, ends so.
+fn tells_of_file<R: AllocGlobal + Abort + Threads + Wait + Sync>(
+    rt: &R,
+    words: &[&str],
+    file: File<'_>,
+    device: &Device<'_, R>,
+    on_terminal: bool,
+    wanted: End<'_>,
+) -> bool {
+    let mut output = Vec::new(rt.alloc());
+    let mut errors = Vec::new(rt.alloc());
+    let files = [file];
+    let shelf = Shelf::new(rt.alloc(), &files).expect(rt, "no memory");
+    let progress = Progress::new(device, on_terminal);
+    let status = command(
+        rt,
+        &mut FileStore::new(MeteredFiles::new(shelf, &progress)),
+        words,
+        &mut Counted::new(Metered::new(b"".as_slice(), &progress)),
+        &mut Counted::new(&mut output),
+        &mut Counted::new(&mut errors),
+        &NoGate,
+        &progress,
+        &NoExplain,
+    );
+    let (wanted_status, report, error, text) = wanted;
+    status == wanted_status && *output == *report && *errors == *error && device.has(text)
+}
+
+// A clock that moves by 300 milliseconds, and 137 bytes: a line is due at every fourth read, and
+// then, as reading is over, at the fourth section.
+#[test]
+fn how_much_was_read(rt: HostRuntime) {
+    let words = ["--workers", "1", "--progress", "four.icnf"];
+    let device = Device::new(&rt, 300, false);
+    let told = "cubeboard: reading: 64 bytes so far\n\
+                cubeboard: reading: 128 bytes so far\n\
+                cubeboard: 4 of 4 judged, 48 of 48 bytes, 4 refuted, 0 rejected, 0.000 % open\n\
+                cubeboard: 4 of 4 judged, 48 of 48 bytes, 4 refuted, 0 rejected, 0.000 % open\n";
+    assert!(rt;
+        tells_of_file(
+            &rt,
+            &words,
+            ("four.icnf", FOUR_CUBES.as_bytes()),
+            &device,
+            false,
+            (0, FOUR_CUBES_REPORT, b"", told)
+        )
+    );
+}
+
+// On a terminal the line on what was read is taken away before a fault is told. It is due at each
+// read, of which the second says that the file is at its end.
+#[test]
+fn a_fault_behind_reading(rt: HostRuntime) {
+    let words = ["--progress", "cnf.icnf"];
+    let device = Device::new(&rt, 1000, false);
+    let told = "\rcubeboard: reading: 10 bytes so far\x1b[K\
+                \rcubeboard: reading: 10 bytes so far\x1b[K\r\x1b[K";
+    assert!(rt;
+        tells_of_file(
+            &rt,
+            &words,
+            ("cnf.icnf", b"p cnf 1 0\n"),
+            &device,
+            true,
+            (3, b"", b"cubeboard: F1 header\n", told)
+        )
+    );
+}
+
+// Without the word nothing is told of reading.
+#[test]
+fn no_word_on_reading(rt: HostRuntime) {
+    let device = Device::new(&rt, 1000, false);
+    assert!(rt;
+        tells_of_file(
+            &rt,
+            &["four.icnf"],
+            ("four.icnf", FOUR_CUBES.as_bytes()),
+            &device,
+            false,
+            (0, FOUR_CUBES_REPORT, b"", "")
         )
     );
 }

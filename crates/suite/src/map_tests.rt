@@ -1,7 +1,7 @@
 //! The pictures of small trees, written by hand from what a cell is.
 use crate::cases::{case, finding_of};
 use case_core::Target;
-use fixtures::bundles::{BOTH_CUBES, HALF, ONE_CUBE, QUARTER, REJECTED};
+use fixtures::bundles::{BOTH_CUBES, HALF, ONE_CUBE, QUARTER, REJECTED, WHOLE};
 use fixtures::four;
 use fixtures::targets::{cube, inner};
 use mark_board::Boards;
@@ -28,11 +28,15 @@ macro_rules! cells {
     };
 }
 
-/// What each picture begins with: its size, its colours and the legend.
+/// What each picture begins with, up to its height, and what follows that.
+const SIZE: [&str; 2] = [
+    r##"<svg xmlns="http://www.w3.org/2000/svg" viewBox="0 0 2048 "##,
+    r##"" width="2048" height=""##,
+];
+
+/// What follows the size: the colours and the legend.
 const HEAD: &str = concat!(
-    r##"<svg xmlns="http://www.w3.org/2000/svg" viewBox="0 0 2048 330" "##,
-    r##"width="2048" height="330">"##,
-    "\n<style>text{font:18px sans-serif}",
+    "\">\n<style>text{font:18px sans-serif}",
     "rect{fill:#FFFFFF;stroke:#FFFFFF;stroke-width:0.2}",
     r##"rect[width="1"],rect[width="2"]{stroke-width:0}"##,
     ".c{fill:#BBBBBB}.r{fill:#0072B2}.x{fill:#D55E00}.o{fill:#F0E442}.p{fill:#56B4E9}",
@@ -71,12 +75,26 @@ const DEEP: &str = four!(
     "a 3 4 5 6 7 8 9 10 11 12 13 14 0\na 3 4 5 6 7 8 9 10 11 12 13 -14 0\nl 2\n17 0 1 0\n"
 );
 
-/// A picture with this answer, this open weight, and these cells.
-fn picture(rt: &impl Abort, alloc: Global, answer: &str, weight: u64, cells: &str) -> String {
+/// Cubes along a path, each with a proof.
+const PATH: &str = four!(
+    "a 3 0\na -3 4 0\na -3 -4 5 0\na -3 -4 -5 6 0\n",
+    "l 1\n6 1 0 1 2 0\n7 0 6 3 4 0\nl 2\n7 1 0 1 2 0\n8 0 7 3 4 0\n",
+    "l 3\n8 1 0 1 2 0\n9 0 8 3 4 0\nl 4\n9 1 0 1 2 0\n10 0 9 3 4 0\n"
+);
+
+/// What a picture says beside its cells: its height, the answer, and how much is open, in per cent
+/// and as a weight.
+type Said<'a> = (u32, &'a str, &'a str, u64);
+
+/// A picture that says this, with these cells.
+fn picture(rt: &impl Abort, alloc: Global, said: Said<'_>, cells: &str) -> String {
+    let (height, answer, share, weight) = said;
+    let [size, width] = SIZE;
     let title = r##"<text x="8" y="26">s"##;
-    let under = r##"<text x="130" y="26">w"##;
+    let under = r##"<text x="130" y="26">"##;
     format!(in alloc;
-        "{HEAD}{title} {answer}\n</text>\n{under} {weight} of 1152921504606846976</text>\n{cells}</svg>\n"
+        "{size}{height}{width}{height}{HEAD}{title} {answer}\n</text>\n\
+         {under}{share} % open, w {weight} of 1152921504606846976</text>\n{cells}</svg>\n"
     ).expect(rt, "memory")
 }
 
@@ -91,17 +109,16 @@ fn map(rt: &impl Abort, alloc: Global, bundle: &str, targets: &[Target]) -> Vec<
     map_of(alloc, &boards).expect(rt, "memory")
 }
 
-/// Those boards are drawn with this answer, this open weight, and these cells.
+/// Those boards are drawn in a picture that says this, with these cells.
 fn draws<R: AllocGlobal + Abort>(
     rt: &R,
     bundle: &str,
     targets: &[Target],
-    answer: &str,
-    weight: u64,
+    said: Said<'_>,
     cells: &str,
 ) {
     let text = map(rt, rt.alloc(), bundle, targets);
-    let expected = picture(rt, rt.alloc(), answer, weight, cells);
+    let expected = picture(rt, rt.alloc(), said, cells);
     assert_eq!(rt; text.as_slice(), expected.as_bytes());
 }
 
@@ -109,7 +126,7 @@ fn draws<R: AllocGlobal + Abort>(
 #[test]
 fn one_leaf(rt: HostRuntime) {
     let cells = cells!(["r", 0, 40, 2048, "a 1 refuted"]);
-    draws(&rt, ONE_LEAF, &[cube(1)], "REFUTED", 0, cells);
+    draws(&rt, ONE_LEAF, &[cube(1)], (66, "REFUTED", "0.0", 0), cells);
 }
 
 // Of two leaves one is refuted; the other, a cube's or a missing one, has no finding.
@@ -120,13 +137,13 @@ fn half_refuted(rt: HostRuntime) {
         ["r", 0, 64, 1024, "a 1 refuted"],
         ["o", 1024, 64, 1024, "a 2 open"]
     );
-    draws(&rt, BOTH_CUBES, &[cube(1)], "OPEN", HALF, cells);
+    draws(&rt, BOTH_CUBES, &[cube(1)], (90, "OPEN", "50.0", HALF), cells);
     let cells = cells!(
         ["p", 0, 40, 2048, "n 0 w 576460752303423488"],
         ["r", 0, 64, 1024, "a 1 refuted"],
         ["o", 1024, 64, 1024, "m -1 0 open"]
     );
-    draws(&rt, ONE_CUBE, &[cube(1)], "OPEN", HALF, cells);
+    draws(&rt, ONE_CUBE, &[cube(1)], (90, "OPEN", "50.0", HALF), cells);
 }
 
 // Where both leaves are refuted, the root is: all cells have that colour, and no proof of the
@@ -138,7 +155,7 @@ fn both_refuted(rt: HostRuntime) {
         ["r", 0, 64, 1024, "a 1 refuted"],
         ["r", 1024, 64, 1024, "a 2 refuted"]
     );
-    draws(&rt, BOTH_CUBES, &[cube(2), cube(1)], "REFUTED", 0, cells);
+    draws(&rt, BOTH_CUBES, &[cube(2), cube(1)], (90, "REFUTED", "0.0", 0), cells);
 }
 
 // A rejected leaf tells the step and the reason, and its weight stays open.
@@ -149,7 +166,7 @@ fn rejected_leaf(rt: HostRuntime) {
         ["x", 0, 64, 1024, "a 1 rejected 1 unit"],
         ["r", 1024, 64, 1024, "a 2 refuted"]
     );
-    draws(&rt, REJECTED, &[cube(1), cube(2)], "OPEN", HALF, cells);
+    draws(&rt, REJECTED, &[cube(1), cube(2)], (90, "OPEN", "50.0", HALF), cells);
 }
 
 // An inner node that is refuted by its own proof covers its leaves, which have no finding.
@@ -164,7 +181,7 @@ fn covered_leaves(rt: HostRuntime) {
         ["r", 1024, 88, 512, "a 3 refuted"],
         ["o", 1536, 88, 512, "a 4 open"]
     );
-    draws(&rt, BRANCH, &[inner(1), cube(3)], "OPEN", QUARTER, cells);
+    draws(&rt, BRANCH, &[inner(1), cube(3)], (114, "OPEN", "25.0", QUARTER), cells);
 }
 
 // In the last row a cell stands for all leaves under its node, of which one is rejected here; the
@@ -183,4 +200,26 @@ fn deep_tree(rt: HostRuntime) {
     assert!(rt; text.contains(merged));
     assert!(rt; text.contains(cells!(["o", 1, 304, 1, "m 3 4 5 6 7 8 9 10 11 12 -13 0 open"])));
     assert!(rt; !text.contains("<title>a "));
+    // Twelve rows, the most that there are, and all of the weight is open.
+    assert!(rt; text.contains(r##" viewBox="0 0 2048 330" width="2048" height="330">"##));
+    assert!(rt; text.contains("100.0 % open, w 1152921504606846976 of 1152921504606846976<"));
+}
+
+// Of five leaves the last one is open, a sixteenth of the weight, 6.25 per cent: a tenth is
+// rounded up. There are five rows.
+#[test]
+fn a_sixteenth_open(rt: HostRuntime) {
+    let cells = cells!(
+        ["p", 0, 40, 2048, "n 0 w 72057594037927936"],
+        ["r", 0, 64, 1024, "a 1 refuted"],
+        ["p", 1024, 64, 1024, "n -3 0 w 72057594037927936"],
+        ["r", 1024, 88, 512, "a 2 refuted"],
+        ["p", 1536, 88, 512, "n -3 -4 0 w 72057594037927936"],
+        ["r", 1536, 112, 256, "a 3 refuted"],
+        ["p", 1792, 112, 256, "n -3 -4 -5 0 w 72057594037927936"],
+        ["r", 1792, 136, 128, "a 4 refuted"],
+        ["o", 1920, 136, 128, "m -3 -4 -5 -6 0 open"]
+    );
+    let targets = [cube(1), cube(2), cube(3), cube(4)];
+    draws(&rt, PATH, &targets, (162, "OPEN", "6.3", WHOLE / 16), cells);
 }

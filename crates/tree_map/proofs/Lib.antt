@@ -1,3 +1,4 @@
 mod PictureTexts
 mod PictureNodes
 mod PicturePending
+mod PictureWeights

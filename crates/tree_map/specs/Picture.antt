@@ -3,9 +3,10 @@
 -- branch's cell half as wide as its node's, in the row below it. A cell's level is how many rows
 -- there are below its own: 11 at the root. At level 0 one cell stands for all nodes of its subtree.
 -- No byte of a cell needs an escape in XML: the texts have letters, digits, spaces and minus signs.
-use Rattle.std.specs.Prelude.{ℕ, zero, suc, ◌+◌, ◌-◌, ◌*◌, ◌^◌, ◌||◌, Bool, true, false, List, []}
-use Rattle.std.specs.Prelude.{◌++◌, codes, decimal, is_some, if◌then◌else◌}
+use Rattle.std.specs.Prelude.{ℕ, zero, suc, ◌+◌, ◌-◌, ◌*◌, ◌/◌, ◌%◌, ◌^◌, ◌||◌, max, Bool}
+use Rattle.std.specs.Prelude.{true, false, List, [], ◌++◌, codes, decimal, is_some, if◌then◌else◌}
 use Rattle.std.specs.List.{flat_map}
+use Rattle.std.specs.Int.{div_ceil}
 use Rattle.split_tree.specs.SplitTree.{SplitTree, missing, cube, split, size, total, path_at}
 use Rattle.split_tree.specs.declared.node.Target.TheVariants.{Node}
 use Rattle.case_core.specs.Case.{CaseOf, proof_for}
@@ -104,17 +105,29 @@ cells case marks (suc level) left node covered (split v positive negative) =
     ++ cells case marks level (left + 2 ^ level) (suc (node + size positive))
     (covered || marked (refuted_by marks) node (split v positive negative)) negative
 
+-- how many rows these cells take
+abbrev pub rows : ℕ → SplitTree → ℕ
+rows zero tree = 1
+rows (suc level) missing = 1
+rows (suc level) (cube k) = 1
+rows (suc level) (split v positive negative) = suc (max (rows level positive) (rows level negative))
+
 -- ---- the whole picture
 
--- its size and its colours: cells that are narrower than 4 have no edge, which would hide them
-unfoldable pub head : List ℕ
-head =
-    codes "<svg xmlns=\"http://www.w3.org/2000/svg\" viewBox=\"0 0 2048 330\" "
-    ++ codes "width=\"2048\" height=\"330\">\n<style>text{font:18px sans-serif}"
+-- its colours: cells that are narrower than 4 have no edge, which would hide them
+abbrev pub style : List ℕ
+style =
+    codes ">\n<style>text{font:18px sans-serif}"
     ++ codes "rect{fill:#FFFFFF;stroke:#FFFFFF;stroke-width:0.2}"
     ++ codes "rect[width=\"1\"],rect[width=\"2\"]{stroke-width:0}"
     ++ codes ".c{fill:#BBBBBB}.r{fill:#0072B2}.x{fill:#D55E00}.o{fill:#F0E442}.p{fill:#56B4E9}"
     ++ codes "rect.n{stroke:#000000;stroke-width:2}</style>\n"
+
+-- its size, as high as it has rows, and its colours
+unfoldable pub head : ℕ → List ℕ
+head height =
+    codes "<svg xmlns=\"http://www.w3.org/2000/svg\"" ++ attribute (codes " viewBox=\"0 0 2048 ") height
+    ++ codes " width=\"2048\"" ++ attribute (codes " height=\"") height ++ style
 
 -- a word of the first line
 unfoldable pub word_at : ℕ → List ℕ → List ℕ
@@ -134,11 +147,18 @@ legend =
     ++ key (codes "c") 1350 (codes "under a refuted node")
     ++ key (codes "n") 1620 (codes "own proof")
 
+-- how many tenths of a per cent of the whole weight are open, rounded up: 0 only where none is
+abbrev pub open_tenths : ℕ → ℕ → ℕ
+open_tenths open_under whole = div_ceil (1000 * open_under) whole
+
+unfoldable pub per_cent : ℕ → List ℕ
+per_cent tenths = decimal (tenths / 10) ++ codes "." ++ decimal (tenths % 10) ++ codes " % open, w"
+
 -- how much of the whole weight is open
 unfoldable pub weights : ℕ → ℕ → List ℕ
 weights open_under whole =
-    codes "<text x=\"130\" y=\"26\">w" ++ number_field open_under ++ codes " of"
-    ++ number_field whole ++ codes "</text>\n"
+    codes "<text x=\"130\" y=\"26\">" ++ per_cent (open_tenths open_under whole)
+    ++ number_field open_under ++ codes " of" ++ number_field whole ++ codes "</text>\n"
 
 -- the answer and the weights, each in a text of its own
 unfoldable pub title : Bool → ℕ → ℕ → List ℕ
@@ -149,7 +169,7 @@ title refuted open_under whole =
 -- the picture of a case whose nodes have these marks
 abbrev pub map_text : CaseOf → List Mark → List ℕ
 map_text case marks =
-    head ++ legend
+    head (42 + 24 * rows 11 case.tree) ++ legend
     ++ title (marked (refuted_by marks) 0 case.tree)
     (open_weight (worth_of case.tree) (refuted_by marks) 0 case.tree) (total 0 case.tree)
     ++ cells case marks 11 0 0 false case.tree ++ codes "</svg>\n"

@@ -1,14 +1,15 @@
 //! The picture of a tree by the marks of its nodes.
 
-ghost use Rattle.std.specs.Prelude.{◌≡◌, ◌≤◌, ◌++◌, false, OnOk, IfOk};
+ghost use Rattle.std.specs.Prelude.{◌≡◌, ◌<◌, ◌≤◌, ◌++◌, false, suc, OnOk, IfOk};
 ghost use Rattle.split_tree.specs.SplitTree.{size, subtree_at};
-ghost use Rattle.tree_map.specs.Picture.{map_text, head, legend, key, word_at, weights, title};
-ghost use Rattle.tree_map.specs.Picture.{cells};
+ghost use Rattle.tree_map.specs.Picture.{map_text, head, style, legend, key, word_at, weights};
+ghost use Rattle.tree_map.specs.Picture.{title, open_tenths, per_cent, cells, rows};
 ghost use Rattle.tree_map.specs.Inner.Picture.{IsPending, cell_of, below, next_cells};
 
 use crate::cell::{Cell, width, write_attribute, write_cell, write_rectangle};
 use crate::fields::{answer, write_number};
-use case_core::Tree;
+use case_core::{NodeId, Tree};
+use itoa::Buffer;
 use mark_board::Boards;
 use std::alloc::{AllocError, Global};
 
@@ -18,23 +19,54 @@ use std::alloc::{AllocError, Global};
 pub fn map_of(alloc: Global, boards: &Boards<'_>) -> Result<Vec<u8>, AllocError>
     ensures { IfOk result (λ text. text.items ≡ map_text boards.now.case boards.now.marks) }
 {
+    let tree = boards.case().tree();
     let mut text = Vec::new(alloc);
-    text.extend_from_slice(head())?;
+    write_head(&mut text, 42 + 24 * rows(tree, tree.root(), 11))?;
     write_legend(&mut text)?;
-    let whole = boards.case().tree().total();
+    let whole = tree.total();
     write_title(&mut text, boards.root_marked(), boards.open_weight(), whole)?;
     write_cells(alloc, &mut text, boards)?;
     text.extend_from_slice(b"</svg>\n")?;
     Ok(text)
 }
 
+/// How many rows the cells of a node and of those below it take. It calls itself no deeper than the
+/// level.
+fn rows(tree: &Tree, node: NodeId, level: u32) -> u32
+    requires node { node < size tree.now }
+    requires level { level ≤ 11 }
+    ensures rows { result ≡ rows level (subtree_at tree.now node) }
+    ensures few { result ≤ suc level }
+{
+    if level == 0 {
+        return 1;
+    }
+    match tree.branches(node) {
+        Some((first, second)) => {
+            1 + rows(tree, first, level - 1).max(rows(tree, second, level - 1))
+        }
+        None => 1,
+    }
+}
+
 /// The picture's size and its colours. Cells that are narrower than 4 have no edge.
 #[tactic(auto, unfolding(crate::specs::Picture::head))]
-fn head() -> &'static [u8]
-    ensures { result.now ≡ head }
+fn write_head(text: &mut Vec<u8>, height: u32) -> Result<(), AllocError>
+    ensures { OnOk result (text.new.items ≡ text.old.items ++ head height) }
 {
-    b"<svg xmlns=\"http://www.w3.org/2000/svg\" viewBox=\"0 0 2048 330\" \
-width=\"2048\" height=\"330\">\n<style>text{font:18px sans-serif}\
+    text.extend_from_slice(b"<svg xmlns=\"http://www.w3.org/2000/svg\"")?;
+    write_attribute(text, b" viewBox=\"0 0 2048 ", height)?;
+    text.extend_from_slice(b" width=\"2048\"")?;
+    write_attribute(text, b" height=\"", height)?;
+    text.extend_from_slice(style())?;
+    Ok(())
+}
+
+/// The picture's colours, behind its size.
+fn style() -> &'static [u8]
+    ensures { result.now ≡ style }
+{
+    b">\n<style>text{font:18px sans-serif}\
 rect{fill:#FFFFFF;stroke:#FFFFFF;stroke-width:0.2}\
 rect[width=\"1\"],rect[width=\"2\"]{stroke-width:0}\
 .c{fill:#BBBBBB}.r{fill:#0072B2}.x{fill:#D55E00}.o{fill:#F0E442}.p{fill:#56B4E9}\
@@ -80,7 +112,7 @@ fn write_word(text: &mut Vec<u8>, left: u32, word: &[u8]) -> Result<(), AllocErr
     Ok(())
 }
 
-/// The answer, and how much of the whole weight is open.
+/// The answer, and how much of the whole weight, which isn't 0, is open.
 #[tactic(auto, unfolding(crate::specs::Picture::title))]
 fn write_title(
     text: &mut Vec<u8>,
@@ -88,6 +120,7 @@ fn write_title(
     open_under: u64,
     whole: u64,
 ) -> Result<(), AllocError>
+    requires { 0 < whole }
     ensures { OnOk result (text.new.items ≡ text.old.items ++ title refuted open_under whole) }
 {
     text.extend_from_slice(b"<text x=\"8\" y=\"26\">")?;
@@ -97,16 +130,38 @@ fn write_title(
     Ok(())
 }
 
-/// How much of the whole weight is open.
+/// How much of the whole weight, which isn't 0, is open.
 #[tactic(auto, unfolding(crate::specs::Picture::weights))]
 fn write_weights(text: &mut Vec<u8>, open_under: u64, whole: u64) -> Result<(), AllocError>
+    requires { 0 < whole }
     ensures { OnOk result (text.new.items ≡ text.old.items ++ weights open_under whole) }
 {
-    text.extend_from_slice(b"<text x=\"130\" y=\"26\">w")?;
+    text.extend_from_slice(b"<text x=\"130\" y=\"26\">")?;
+    write_per_cent(text, open_tenths(open_under, whole))?;
     write_number(text, open_under)?;
     text.extend_from_slice(b" of")?;
     write_number(text, whole)?;
     text.extend_from_slice(b"</text>\n")?;
+    Ok(())
+}
+
+/// How many tenths of a per cent of the whole weight, which isn't 0, are open, rounded up.
+fn open_tenths(open_under: u64, whole: u64) -> u128
+    requires { 0 < whole }
+    ensures { result ≡ open_tenths open_under whole }
+{
+    (1000 * u128::from(open_under)).div_ceil(u128::from(whole))
+}
+
+/// So many tenths of a per cent.
+#[tactic(auto, unfolding(crate::specs::Picture::per_cent))]
+fn write_per_cent(text: &mut Vec<u8>, tenths: u128) -> Result<(), AllocError>
+    ensures { OnOk result (text.new.items ≡ text.old.items ++ per_cent tenths) }
+{
+    text.extend_from_slice(Buffer::new().format(tenths / 10).as_bytes())?;
+    text.extend_from_slice(b".")?;
+    text.extend_from_slice(Buffer::new().format(tenths % 10).as_bytes())?;
+    text.extend_from_slice(b" % open, w")?;
     Ok(())
 }
 
