@@ -97,13 +97,19 @@ class Crate:
         return made.hexdigest()
 
 
-def below(name):
-    """The crates that this one stands on and itself, each after those that it names."""
-    lines, found = {}, {}
+def lines_of_crates():
+    """What each crate's line of crates.txt names."""
+    lines = {}
     for line in (ROOT / "crates.txt").read_text().splitlines():
         head, _, rest = line.partition("#")[0].partition(":")
         if head.strip():
             lines[head.split()[0]] = rest.replace(",", " ").split()
+    return lines
+
+
+def below(name):
+    """The crates that this one stands on and itself, each after those that it names."""
+    lines, found = lines_of_crates(), {}
 
     def visit(name, above):
         if name in above:
@@ -117,6 +123,14 @@ def below(name):
         raise Failure(f"crates.txt has no line of {name}")
     visit(name, ())
     return [*found.values()]
+
+
+def above(name):
+    """The names of all crates that stand on this one, whatever program they are for."""
+    lines, found = lines_of_crates(), {name}
+    while more := {it for it, names in lines.items() if it not in found and found & set(names)}:
+        found |= more
+    return found - {name}
 
 
 def sums_of(crates):
@@ -158,9 +172,13 @@ class Kept:
         return file.is_file() and file.read_text().strip() == wanted and self.made(crate).exists()
 
     def forget(self, crate):
+        """Forgets a crate, and each library above it, also another program's: what was proved over the library that lay here isn't proved over one that is made
+        anew, which need not have the same bytes."""
         self.sum_file(crate).unlink(missing_ok=True)
         if crate.is_program:
             self.made(crate).unlink(missing_ok=True)
+        for name in above(crate.name):
+            (self.libraries / f"{name}.sum").unlink(missing_ok=True)
 
     def note(self, crate, wanted):
         self.sum_file(crate).write_text(f"{wanted}\n")
@@ -290,7 +308,11 @@ class Build:
 
     def __init__(self, crates, kit, kept, sums):
         self.crates, self.kit, self.kept, self.sums = crates, kit, kept, sums
-        self.proved = {it.name for it in crates if kept.has(it, sums[it.name])}
+        self.proved = set()
+        for it in crates:
+            # What stands on a crate that has to be proved is proved after it.
+            if kept.has(it, sums[it.name]) and all(low.name in self.proved for low in it.lower):
+                self.proved.add(it.name)
         self.teller = Teller(len(crates), len(self.proved))
         self.prover = Prover(kit, kept, self.teller)
         self.change, self.jobs, self.failed = threading.Condition(), {}, None

@@ -2,8 +2,8 @@
 # Tries the launchers in a copy of this folder under a stand-in for the kit that proves nothing and notes on which crate it is called: which crates
 # a launcher builds, when it builds anew, what it does where it can't, and what the two programs share. Then it tries wrong launchers, each of which
 # a claim has to refuse. It takes a minute, and no proof. Last, with the word `build`, the launchers of this folder themselves build the programs, over
-# the libraries that are proved here but the last; an example of README runs through the first, and the second joins its report: a minute
-# or two. The last line counts.
+# the libraries that are proved here but the last below the second; an example of README runs through the first, and the second joins its report: some
+# minutes. The last line counts.
 root=$(CDPATH= cd -- "$(dirname -- "$0")/.." && pwd) || exit 1
 here=$(mktemp -d) || exit 1
 trap 'rm -rf "$here"' EXIT
@@ -58,6 +58,7 @@ wrong "small pages" 's/^        os.environ.setdefault("GLIBC_TUNABLES".*/       
 wrong "words that are lost" 's/, \*words\[2:\]\])/])/'
 two=claims_of_two_programs
 wrong "libraries of its own for each program" 's/self.libraries = SHARED /self.libraries = self.out /' "$two"
+wrong "what was proved over another build taken as proved" 's/^        for name in above(crate.name):/        for name in ():/' "$two"
 wrong "one note of what is built for all programs" 's/return self.out \/ "built"/return SHARED \/ "built"/' "$two"
 wrong "builds of two programs at once" 's/with open(SHARED \/ "lock"/with open(kept.out \/ "lock"/' "$two"
 wrong "the first program in the place of the second" 's/^    kept, sums = Kept(crates\[-1\])/    crates = below("cubeboard")\n&/' "$two"

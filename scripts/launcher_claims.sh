@@ -139,11 +139,29 @@ of_join" c "a  b"
 of_join"
     echo "// more" >> "$here/copy/crates/mark_board/src/lib.rt"
     claims_of_two_at_once
+    claims_of_other_builds
     rm -rf "$here"/copy/crates/*/out
     call "the second program alone proves all that it stands on" 7 "$second"
     program=cubeboard
     call "and the first one then itself alone" 7 "$(echo "$first" | grep -v -x -F "$second")"
     rm -rf "$here"/copy/crates/*/out
+}
+
+# A library below both changes and changes back, and the first program is built each time: the library is then another build of the same sources, over which
+# what the second stands on alone isn't proved.
+claims_of_other_builds() {
+    cp "$here/copy/crates/mark_board/src/lib.rt" "$here/before"
+    program=cubeboard
+    for turn in changed back; do
+        [ "$turn" = back ] || echo "// other" >> "$here/copy/crates/mark_board/src/lib.rt"
+        [ "$turn" = changed ] || cp "$here/before" "$here/copy/crates/mark_board/src/lib.rt"
+        call "a library below both, $turn, for the first program" 7 "$(reach above mark_board | of_program)"
+    done
+    program=cubejoin
+    call "the second program is there as it was built" 7 ""
+    echo "// more" >> "$here/copy/crates/cubejoin/src/main.rt"
+    call "where it is built anew, so is what stands on the other build" 7 "cubejoin
+of_join"
 }
 
 # Both programs are called at once, and a library below both has changed: each crate above it is proved once. Wrong ones may wait for ever.
@@ -320,26 +338,26 @@ claims() {
     claims_of_failures
 }
 
-# The launchers of this folder: without the first program and the last library, that of the first has to prove both, and to run an example of
-# README; that of the second has then to prove its program alone, and to join that example's report with itself.
+# The launchers of this folder: without the first program, that of the first has to prove it alone, and to run an example of README; without the second program
+# and the last library below it, that of the second has to prove both, and to join that example's report with itself.
 build_here() {
     PATH=${PATH#"$here/bin:"}
     out=$root/crates/cubeboard/out
-    rm -rf "$out/cubeboard" "$out/built" "$out/rlib/cube_command.rlib" "$out/rlib/cube_command.sum"
+    rm -f "$out/cubeboard" "$out/built"
     "$root/cubeboard" < "$root/examples/pigeons-7-in-6.icnf" > "$here/out" 2> "$here/err"
     [ $? -eq 0 ] && cmp -s "$here/out" "$root/examples/pigeons-7-in-6.report"
     is_well=$?
     [ "$is_well" -eq 0 ] || cat "$here/err"
     count "the launcher builds the program, and an example of README runs" "$is_well"
-    grep -q "proved .* of .*: cubeboard" "$here/err"
-    count "it has built it itself" $?
+    [ "$(grep -c "^cubeboard: proved " "$here/err")" -eq 1 ] && grep -q "^cubeboard: proved .* of .*: cubeboard" "$here/err"
+    count "it has proved its program alone" $?
     example=$root/examples/pigeons-7-in-6
-    rm -f "$root/crates/cubejoin/out/cubejoin"
+    rm -rf "$root/crates/cubejoin/out/cubejoin" "$out/rlib/join_command.rlib" "$out/rlib/join_command.sum"
     "$root/cubejoin" --unbound "$example.icnf" "$example.report" "$example.report" < /dev/null > "$here/out" 2> "$here/err"
     [ $? -eq 0 ] && cmp -s "$here/out" "$example.report"
     is_well=$?
     [ "$is_well" -eq 0 ] || cat "$here/err"
     count "the second launcher builds its program, and the example's report joins with itself" "$is_well"
-    [ "$(grep -c "^cubejoin: proved " "$here/err")" -eq 1 ] && grep -q "^cubejoin: proved .* of .*: cubejoin" "$here/err"
-    count "it has proved its program alone" $?
+    [ "$(grep -c "^cubejoin: proved " "$here/err")" -eq 2 ] && grep -q "^cubejoin: proved .* of .*: join_command" "$here/err"
+    count "it has proved the library and its program, and nothing else" $?
 }

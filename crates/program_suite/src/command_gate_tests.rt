@@ -1,9 +1,9 @@
 //! The program's words for its workers and its cut, by what a gate sees of them.
 
-use crate::devices::Shelf;
 use crossbeam_utils::Backoff;
 use cube_command::{Counted, FileStore, Found, Gate, NoExplain, NoGate, command};
 use cube_report::Target;
+use devices::Shelf;
 use fixtures::bundles::TURNS;
 use fixtures::four;
 use std::process::Abort;

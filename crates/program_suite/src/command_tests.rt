@@ -2,9 +2,9 @@
 //! formats.
 ghost use Rattle.std.specs.Prelude.{◌<◌, ◌^◌, ◌-◌, ℕ, List};
 
-use crate::devices::{Broken, File, Narrow, Shelf};
 use cube_command::{Counted, FileStore, NoExplain, NoGate, Source, Store, SystemFiles, command};
 use cube_report::Fault;
+use devices::{Broken, File, Narrow, Shelf};
 use fixtures::bundles::{BOTH_CUBES, OPEN, OPEN_REPORT, REFUTED, REFUTED_REPORT};
 use fixtures::four;
 use std::fs;

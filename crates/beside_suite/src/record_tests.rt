@@ -2,9 +2,9 @@
 //! from `sha256sum`, each of the text that is told beside it.
 ghost use Rattle.std.specs.Prelude.{◌≡◌, ◌<◌, ◌^◌, ◌-◌};
 
-use crate::devices::{File, Narrow, Shelf};
 use cube_command::{Counted, FileStore, NoExplain, NoGate, command};
 use cube_report::Fault;
+use devices::{File, Narrow, Shelf};
 use fixtures::bundles::{BOTH_CUBES, BOTH_CUBES_REPORT};
 use std::process::Abort;
 use std::sync::Wait;

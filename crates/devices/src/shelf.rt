@@ -1,102 +1,15 @@
-//! A reader, a writer and files in memory that count their calls, and fail at one of them.
-ghost use Rattle.std.specs.Prelude.{Some, true, ◌≡◌, map, option_map, IfOk};
+//! Files in memory that count the calls on them, and fail at one of them.
+ghost use Rattle.std.specs.Prelude.{Some, None, true, ◌≡◌, map, option_map, IfOk};
 ghost use Rattle.std.specs.String.{string_bytes};
-ghost use Rattle.program_suite.specs.Shelf.{bytes_at, lies_at};
+ghost use Rattle.devices.specs.Shelf.{bytes_at, lies_at};
 
-use cube_command::{Opener, Sink, Source};
+use bundle_files::Opener;
 use cube_report::Fault;
 use std::alloc::{AllocError, Global};
 use std::io;
 use std::io::{ErrorKind, Read};
 use std::sync::atomic::{AtomicU64, Ordering};
 use std::sync::{Arc, OnceLock};
-
-/// A reader of 16 bytes a call that fails at one of its calls, counted from 1, with the fault that
-/// a signal makes; at none where that is 0.
-#[derive(Drop)]
-pub struct Broken<'t> {
-    pub left: &'t [u8],
-    pub calls: u64,
-    pub fails_at: u64,
-    pub failed: u64,
-}
-
-impl<'t> Broken<'t> {
-    /// A reader of these bytes that fails at this call.
-    pub fn new(bytes: &'t [u8], fails_at: u64) -> Broken<'t>
-        ensures none { result.failed ≡ 0 }
-    {
-        Broken {
-            left: bytes,
-            calls: 0,
-            fails_at,
-            failed: 0,
-        }
-    }
-}
-
-impl<'t> Source for Broken<'t> {
-    ghost remaining = { λ s. Some s.left.now };
-
-    ghost failures = { λ s. s.failed };
-
-    fn read(&mut self, buffer: &mut [u8]) -> io::Result<usize> {
-        self.calls = self.calls.wrapping_add(1);
-        if self.calls == self.fails_at {
-            self.failed += 1;
-            return Err(io::Error::from(io::ErrorKind::Interrupted));
-        }
-        let count = self.left.len().min(buffer.len()).min(16);
-        let (now, later) = self.left.split_at(count);
-        buffer[..count].copy_from_slice(now);
-        self.left = later;
-        Ok(count)
-    }
-}
-
-/// A writer that takes one byte a call and fails at one of its calls, counted from 1; at none where
-/// that is 0.
-#[derive(Drop)]
-pub struct Narrow {
-    pub written: Vec<u8>,
-    pub calls: u64,
-    pub fails_at: u64,
-    pub failed: u64,
-}
-
-impl Narrow {
-    /// A writer that fails at this call.
-    pub fn new(alloc: Global, fails_at: u64) -> Narrow
-        ensures none { result.failed ≡ 0 }
-    {
-        Narrow {
-            written: Vec::new(alloc),
-            calls: 0,
-            fails_at,
-            failed: 0,
-        }
-    }
-}
-
-impl Sink for Narrow {
-    ghost contents = { λ s. Some s.written.items };
-
-    ghost failures = { λ s. s.failed };
-
-    ghost allows = { λ _ _. Unit {0} };
-
-    fn write(&mut self, bytes: &[u8]) -> io::Result<usize> {
-        self.calls = self.calls.wrapping_add(1);
-        let Some(first) = bytes.first() else {
-            return Ok(0);
-        };
-        if self.calls == self.fails_at || self.written.push(*first).is_err() {
-            self.failed += 1;
-            return Err(io::Error::from(io::ErrorKind::Interrupted));
-        }
-        Ok(1)
-    }
-}
 
 /// A file: its path and its bytes.
 pub type File<'t> = (&'t str, &'t [u8]);
@@ -211,18 +124,28 @@ pub struct Shelf<'t> {
 }
 
 impl<'t> Shelf<'t> {
-    /// These files, no call of which fails.
-    pub fn new(alloc: Global, files: &'t [File<'t>]) -> Result<Shelf<'t>, AllocError> {
+    /// These files, no call of which fails. `AllocError` where a growth was refused.
+    pub fn new(alloc: Global, files: &'t [File<'t>]) -> Result<Shelf<'t>, AllocError>
+        ensures files { IfOk result (λ shelf. shelf.files.now ≡ files.now) }
+        ensures none { IfOk result (λ shelf. shelf.made ≡ None) }
+        ensures at { IfOk result (λ shelf. shelf.fails_at ≡ 0) }
+    {
         Shelf::failing(alloc, files, 0, Fault::Device)
     }
 
-    /// These files, where this call fails with this fault, `Memory` or `Device`.
+    /// These files, where this call fails with this fault, `Memory` or `Device`. `AllocError` where
+    /// a growth was refused.
     pub fn failing(
         alloc: Global,
         files: &'t [File<'t>],
         fails_at: u64,
         fault: Fault,
-    ) -> Result<Shelf<'t>, AllocError> {
+    ) -> Result<Shelf<'t>, AllocError>
+        ensures files { IfOk result (λ shelf. shelf.files.now ≡ files.now) }
+        ensures none { IfOk result (λ shelf. shelf.made ≡ None) }
+        ensures at { IfOk result (λ shelf. shelf.fails_at ≡ fails_at) }
+        ensures fault { IfOk result (λ shelf. shelf.fault ≡ fault) }
+    {
         Ok(Shelf {
             alloc,
             files,
@@ -234,7 +157,8 @@ impl<'t> Shelf<'t> {
     }
 
     /// Each path that it and the openers made from it were asked for, in the order of the calls,
-    /// and a line end behind it.
+    /// and a line end behind it. `AllocError` where a growth was refused. A contract knows nothing of
+    /// what openers share.
     pub fn asked(&self) -> Result<Vec<u8>, AllocError> {
         let mut asked = Vec::new(self.alloc);
         for slot in &self.desk.paths {
@@ -248,7 +172,10 @@ impl<'t> Shelf<'t> {
     }
 
     /// The path and the bytes of the file that was made, if one was.
-    pub fn made(&self) -> Option<(&str, &[u8])> {
+    pub fn made(&self) -> Option<(&str, &[u8])>
+        ensures { option_map (λ made. (made.0.now, made.1.now)) result
+            ≡ option_map (λ made. (string_bytes made.path, made.bytes.items)) self.now.made }
+    {
         match &self.made {
             Some(made) => Some((made.path.as_str(), made.bytes.as_slice())),
             None => None,

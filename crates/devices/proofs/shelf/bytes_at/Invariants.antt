@@ -1,6 +1,6 @@
 use Rattle.std.proofs.Common.{◌≡◌, map, drop}
-use Rattle.program_suite.specs.Shelf.{bytes_at}
-use Rattle.program_suite.proofs.devices.bytes_at.Given as goal
+use Rattle.devices.specs.Shelf.{bytes_at}
+use Rattle.devices.proofs.shelf.bytes_at.Given as goal
 
 abbrev pub invariant-loop-place : goal.invariant-loop-place
 invariant-loop-place l =

@@ -2,9 +2,9 @@
 //! a picture is written by hand from what a cell is.
 ghost use Rattle.std.specs.Prelude.{◌≡◌, ◌<◌, ◌^◌, ◌-◌};
 
-use crate::devices::{Narrow, Shelf};
 use cube_command::{Counted, FileStore, NoExplain, NoGate, command};
 use cube_report::Fault;
+use devices::{Narrow, Shelf};
 use fixtures::bundles::{BOTH_CUBES, BOTH_CUBES_REPORT};
 use std::process::Abort;
 use std::sync::Wait;

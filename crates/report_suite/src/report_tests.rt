@@ -3,8 +3,8 @@
 
 ghost use Rattle.std.specs.Prelude.{◌<◌, ◌^◌, ◌-◌, ℕ, List};
 
-use crate::devices::{Broken, Narrow};
 use cube_report::{Counted, Fault, NoGate, Settings, Sink, Source, run_io, run_one};
+use devices::{Broken, Narrow};
 use fixtures::bundles::{OPEN, OPEN_REPORT, REFUTED, REFUTED_REPORT};
 use std::alloc::Global;
 use std::process::Abort;

@@ -1,7 +1,7 @@
 //! The program `cubejoin` on words and files: each expected report is written by hand from the
 //! formats.
 
-use crate::devices::{File, Shelf};
+use devices::{File, Shelf};
 use join_command::{Counted, FileStore, join_command};
 use std::process::Abort;
 use std::test::Fail;

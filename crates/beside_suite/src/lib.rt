@@ -1,0 +1,9 @@
+//! The tests of what `cubeboard` writes and tells beside its report: pictures, records, progress.
+#![tactic(auto)]
+
+#[cfg(test)]
+mod map_tests;
+#[cfg(test)]
+mod progress_tests;
+#[cfg(test)]
+mod record_tests;
