@@ -1,8 +1,9 @@
 //! What the program tells of a run while it goes on. The lines are written by hand from how the
 //! bundles are made and from how the clock goes.
 
-use cube_command::{Counted, FileStore, Metered, MeteredFiles, NoExplain, NoGate, Progress};
-use cube_command::command;
+use cube_command::{
+    Counted, FileStore, Metered, MeteredFiles, NoExplain, NoGate, Progress, command,
+};
 use devices::{File, Shelf};
 use fixtures::bundles::{FOUR_CUBES, FOUR_CUBES_REPORT};
 use fixtures::four;

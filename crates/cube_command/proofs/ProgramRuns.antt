@@ -5,7 +5,7 @@ use Rattle.std.specs.Prelude.{IfSome, is_some, option_map, if◌then◌else◌}
 use Rattle.std.proofs.Common.{Result, Ok, Err, IfOk, IfErr, OnErr, MatchResult, inl, inr, arith}
 use Rattle.std.specs.Io.KnownBytes.{Appends, Keeps}
 use Rattle.bundle_files.specs.Files.{Held, Gives, IsJudgedOf}
-use Rattle.bundle_files.specs.Formula.{Sources, IsBundleOf, IsReadBy, IsReadFrom, IsFormulaFault}
+use Rattle.bundle_files.specs.Formula.{Sources, IsBundleOf, IsReadBy, IsReadFrom}
 use Rattle.bundle_files.proofs.FormulaText.{published}
 use Rattle.bundle_files.specs.Judging.{IsRefusedOf}
 use Rattle.bundle_files.proofs.FilesFormula.{judged_unsatisfiable}

@@ -266,9 +266,7 @@ impl<'a, R: Clock + Eprint> Progress<'a, R> {
     fn tell_read(&self) {
         let bytes = self.bytes_read.load(Ordering::SeqCst);
         let (front, back) = self.around(false);
-        let _ = eprint!(self.device;
-            "{front}cubeboard: reading: {bytes} bytes so far{back}"
-        );
+        let _ = eprint!(self.device; "{front}cubeboard: reading: {bytes} bytes so far{back}");
         self.is_shown.store(self.on_terminal, Ordering::SeqCst);
     }
 }

@@ -1,8 +1,10 @@
 //! `cubeboard` checks refutations made by cube-and-conquer and prints a report.
 #![tactic(auto)]
 
-use cube_command::{Counted, FileStore, Metered, MeteredFiles, NoGate, Progress, SystemFiles};
-use cube_command::{Teller, command, own_words};
+use cube_command::{
+    Counted, FileStore, Metered, MeteredFiles, NoGate, Progress, SystemFiles, Teller, command,
+    own_words,
+};
 use std::io::IsTerminal;
 use std::process::ExitCode;
 

@@ -1,5 +1,5 @@
 //! Files in memory that count the calls on them, and fail at one of them.
-ghost use Rattle.std.specs.Prelude.{Some, None, true, ◌≡◌, map, option_map, IfOk};
+ghost use Rattle.std.specs.Prelude.{Some, None, true, ◌≡◌, ℕ, List, map, option_map, IfOk};
 ghost use Rattle.std.specs.String.{string_bytes};
 ghost use Rattle.devices.specs.Shelf.{bytes_at, lies_at};
 
@@ -173,7 +173,7 @@ impl<'t> Shelf<'t> {
 
     /// The path and the bytes of the file that was made, if one was.
     pub fn made(&self) -> Option<(&str, &[u8])>
-        ensures { option_map (λ made. (made.0.now, made.1.now)) result
+        ensures { option_map {U = List ℕ × List ℕ} (λ made. (made.0.now, made.1.now)) result
             ≡ option_map (λ made. (string_bytes made.path, made.bytes.items)) self.now.made }
     {
         match &self.made {

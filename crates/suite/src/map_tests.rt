@@ -95,7 +95,8 @@ fn picture(rt: &impl Abort, alloc: Global, said: Said<'_>, cells: &str) -> Strin
     format!(in alloc;
         "{size}{height}{width}{height}{HEAD}{title} {answer}\n</text>\n\
          {under}{share} % open, w {weight} of 1152921504606846976</text>\n{cells}</svg>\n"
-    ).expect(rt, "memory")
+    )
+    .expect(rt, "memory")
 }
 
 /// The picture of the boards of a bundle after the findings of these targets are posted.
@@ -137,7 +138,13 @@ fn half_refuted(rt: HostRuntime) {
         ["r", 0, 64, 1024, "a 1 refuted"],
         ["o", 1024, 64, 1024, "a 2 open"]
     );
-    draws(&rt, BOTH_CUBES, &[cube(1)], (90, "OPEN", "50.0", HALF), cells);
+    draws(
+        &rt,
+        BOTH_CUBES,
+        &[cube(1)],
+        (90, "OPEN", "50.0", HALF),
+        cells,
+    );
     let cells = cells!(
         ["p", 0, 40, 2048, "n 0 w 576460752303423488"],
         ["r", 0, 64, 1024, "a 1 refuted"],
@@ -155,7 +162,13 @@ fn both_refuted(rt: HostRuntime) {
         ["r", 0, 64, 1024, "a 1 refuted"],
         ["r", 1024, 64, 1024, "a 2 refuted"]
     );
-    draws(&rt, BOTH_CUBES, &[cube(2), cube(1)], (90, "REFUTED", "0.0", 0), cells);
+    draws(
+        &rt,
+        BOTH_CUBES,
+        &[cube(2), cube(1)],
+        (90, "REFUTED", "0.0", 0),
+        cells,
+    );
 }
 
 // A rejected leaf tells the step and the reason, and its weight stays open.
@@ -166,7 +179,13 @@ fn rejected_leaf(rt: HostRuntime) {
         ["x", 0, 64, 1024, "a 1 rejected 1 unit"],
         ["r", 1024, 64, 1024, "a 2 refuted"]
     );
-    draws(&rt, REJECTED, &[cube(1), cube(2)], (90, "OPEN", "50.0", HALF), cells);
+    draws(
+        &rt,
+        REJECTED,
+        &[cube(1), cube(2)],
+        (90, "OPEN", "50.0", HALF),
+        cells,
+    );
 }
 
 // An inner node that is refuted by its own proof covers its leaves, which have no finding.
@@ -181,7 +200,13 @@ fn covered_leaves(rt: HostRuntime) {
         ["r", 1024, 88, 512, "a 3 refuted"],
         ["o", 1536, 88, 512, "a 4 open"]
     );
-    draws(&rt, BRANCH, &[inner(1), cube(3)], (114, "OPEN", "25.0", QUARTER), cells);
+    draws(
+        &rt,
+        BRANCH,
+        &[inner(1), cube(3)],
+        (114, "OPEN", "25.0", QUARTER),
+        cells,
+    );
 }
 
 // In the last row a cell stands for all leaves under its node, of which one is rejected here; the

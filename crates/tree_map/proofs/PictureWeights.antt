@@ -1,5 +1,5 @@
 -- What the leaves of a tree weigh together.
-use Rattle.std.proofs.Common.{ℕ, suc, ◌+◌, ◌≤◌, arith}
+use Rattle.std.proofs.Common.{ℕ, suc, ◌≤◌, arith}
 use Rattle.split_tree.specs.SplitTree.{SplitTree, missing, cube, split, total}
 use Rattle.split_tree.proofs.TablesTotals.{weight_some}
 
