@@ -3,9 +3,9 @@
 # and nodes is known without the program: from the examples' reports, or from how they are made. By that scripts/draw.py draws each picture, and the
 # program's has to be the same, and its report has to say just that, with the answer and the open weight that stand in the picture; where the tree is
 # great the picture has to be less than 2 MB of XML. Then a tree whose nodes have each of the colours: its report, and the colours of its cells, as
-# docs/FORMATS.md says them, by what the picture itself says of its classes. A headless Chromium shows that picture, and a few of its pixels have to
-# have these colours. Where there is no Chromium, or none that shows a page, the pixels are skipped: also where CI is set, since it is a
-# Debian package that brings hundreds of megabytes. The last line counts.
+# docs/FORMATS.md says them, by what the picture itself says of its classes. Then pixels of that picture, and of the last row of one whose leaves are all
+# refuted, drawn by librsvg and by a headless Chromium, as far as these are there (Debian's librsvg2-bin is small, Chromium hundreds of megabytes): drawings
+# that share nothing with the program or with scripts/draw.py. The last line counts.
 root=$(CDPATH= cd -- "$(dirname -- "$0")/.." && pwd) || exit 1
 . "$root/scripts/runs.sh"
 build_program
@@ -56,6 +56,28 @@ printf '%s\n' 'p inccnf' '1 2 0' '1 -2 0' '-1 2 0' '-1 -2 0' 'a 1 2 0' 'a 1 -2 0
 printf '%s\n' "t 4 0 $whole" 'a 1 refuted' 'a 2 open' 'a 3 rejected 1 hint' 'a 4 open' 'n 1 0 refuted' 'o -1 0' "w $((whole / 2))" \
     's OPEN' > "$here/colours.report"
 echo 1 > "$here/one"
+browser=$(command -v chromium || command -v chromium-browser || command -v google-chrome)
+
+# Whether pixels of a picture have their colours, by each program that is there to draw it: a claim, the picture, and then X,Y,RRGGBB for each pixel.
+pixels() {
+    claim=$1
+    cp "$2" "$here/shown.svg" || return
+    shift 2
+    rm -f "$here"/*.png
+    if command -v rsvg-convert > /dev/null; then
+        rsvg-convert --output "$here/librsvg.png" "$here/shown.svg" && python3 "$root/scripts/picture.py" "$here/librsvg.png" "$@"
+        count "$claim, by librsvg" $?
+    fi
+    if [ -n "$browser" ]; then
+        timeout 60 "$browser" --headless --no-sandbox --disable-gpu --hide-scrollbars --user-data-dir="$here/browser" \
+            --window-size=2048,330 --screenshot="$here/chromium.png" "file://$here/shown.svg" > "$here/log" 2>&1
+    fi
+    if [ -s "$here/chromium.png" ]; then
+        python3 "$root/scripts/picture.py" "$here/chromium.png" "$@"
+        count "$claim, by Chromium" $?
+    fi
+    [ -s "$here/librsvg.png" ] || [ -s "$here/chromium.png" ] || skip "$claim" "neither rsvg-convert nor a Chromium that shows a page is here"
+}
 run /dev/null --map "$here/colours.svg" "$here/colours.icnf"
 compare "the report on a tree of all colours" "$here/colours.report" "$here/none" "$here/one"
 
@@ -95,19 +117,24 @@ printf '%s\n' "0 40 2048 #56B4E9 #FFFFFF n 0 w $((whole / 2))" '0 64 1024 #0072B
     '1536 88 512 #F0E442 #FFFFFF a 4 open' > "$here/wanted"
 [ -f "$here/colours.svg" ] && cells "$here/colours.svg" | cmp -s - "$here/wanted"
 count "the colours, edges and places of seven cells" $?
-browser=$(command -v chromium || command -v chromium-browser || command -v google-chrome)
-if [ -n "$browser" ]; then
-    timeout 60 "$browser" --headless --no-sandbox --disable-gpu --hide-scrollbars --user-data-dir="$here/browser" \
-        --window-size=2048,330 --screenshot="$here/colours.png" "file://$here/colours.svg" > "$here/log" 2>&1
-fi
-if [ -s "$here/colours.png" ]; then
-    # The root, the nodes `1` and `-1`, and the four leaves.
-    python3 "$root/scripts/picture.py" "$here/colours.png" 1024,51,56B4E9 512,75,0072B2 1536,75,F0E442 \
-        256,99,0072B2 768,99,BBBBBB 1280,99,D55E00 1792,99,F0E442
-    count "the pixels of seven cells" $?
-else
-    skip "the pixels of seven cells" "there is no Chromium here that shows a page"
-fi
+# The root, the nodes `1` and `-1`, and the four leaves.
+pixels "the pixels of seven cells" "$here/colours.svg" 1024,51,56B4E9 512,75,0072B2 1536,75,F0E442 \
+    256,99,0072B2 768,99,BBBBBB 1280,99,D55E00 1792,99,F0E442
+
+# A tree of 2,048 cubes, each of which is refuted: in its last row cells are 1 wide, and have their colour all the same.
+awk 'BEGIN {
+    print "p inccnf\n1 2 0\n1 -2 0\n-1 2 0\n-1 -2 0"
+    for (i = 0; i < 2048; i++) {
+        line = "a"
+        for (v = 1; v <= 11; v++) line = line " " (int(i / 2 ^ (11 - v)) % 2 ? -v - 2 : v + 2)
+        print line " 0"
+    }
+    for (i = 1; i <= 2048; i++) print "l " i "\n16 1 0 1 2 0\n17 0 16 3 4 0"
+}' > "$here/full.icnf"
+awk '/^a/ { print "a " ++cubes " refuted" }' "$here/full.icnf" > "$here/findings"
+same "$here/findings" "$here/full.icnf"
+count "a picture of a tree of refuted leaves" $?
+pixels "the pixels of its last row" "$here/drawn" 3,315,0072B2 1000,315,0072B2 1001,315,0072B2 2046,315,0072B2
 
 # A tree of 131,072 cubes that is 17 deep, and one of 2,000 cubes along a path, which is 1,999 deep.
 awk 'BEGIN {

@@ -133,6 +133,16 @@ TOLD
 run "$here/none" --workers 1 --progress --proofs proofs case.icnf
 has_given "$here/report" "$here/wanted" "$root/tests/rows/two_cubes_refuted.status"
 count "progress on a run that is made anew" $?
+# A pipe that is slow: its second half comes two seconds after the first, and then a line on what was read is due.
+slow=$root/tests/rows/two_cubes_refuted.in
+(head -c 30 "$slow" && sleep 2 && tail -c +31 "$slow") | (cd "$here/run" && timeout 60 "$program" --progress) > "$here/out" 2> "$here/err"
+echo $? > "$here/status"
+cat > "$here/wanted" << TOLD
+cubeboard: reading: $(($(wc -c < "$slow"))) bytes so far
+cubeboard: 2 of 2 judged, 24 of 24 bytes, 2 refuted, 0 rejected, 0.000 % open
+TOLD
+has_given "$root/tests/rows/two_cubes_refuted.out" "$here/wanted" "$root/tests/rows/two_cubes_refuted.status"
+count "progress while a slow pipe is read" $?
 run "$root/tests/rows/two_cubes_refuted.in" --progress no_such_file
 [ "$(cat "$here/status")" = 5 ] && [ "$(cat "$here/err")" = "cubeboard: F13 device" ]
 count "no progress without a bundle" $?
