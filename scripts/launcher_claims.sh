@@ -217,8 +217,8 @@ claims_of_terminals() {
     python3 -c 'import pty, sys; pty.spawn(sys.argv[1:])' "$here/copy/cubeboard" < /dev/null > "$here/out" 2> "$here/err"
     SLOW=
     many=$(reach below cubeboard | tr ' ' '\n' | grep -c .)
-    # cube_command and the program come behind it.
-    tr '\r' '\n' < "$here/out" | grep -q "proving $((many - 2)) of $many: bundle_files (0 functions), 0 min" && [ "$(grep -c proved "$here/out")" -le 1 ]
+    # cube_command, cube_explain and the program come behind it.
+    tr '\r' '\n' < "$here/out" | grep -q "proving $((many - 3)) of $many: bundle_files (0 functions), 0 min" && [ "$(grep -c proved "$here/out")" -le 1 ]
     count "on a terminal one line is written over" $?
 }
 
@@ -294,8 +294,7 @@ claims_of_calls_at_once() {
     [ $? -eq 130 ] && grep -q "interrupted" "$here/err"
     count "an interrupted call says so, with status 130" $?
     SLOW=
-    call "what it has proved is kept" 7 "cube_command
-cubeboard"
+    call "what it has proved is kept" 7 "$(reach above cube_command | of_program)"
     grep -q "proved already: going on from there" "$here/err"
     count "the next call says that it goes on" $?
     echo "// slow" >> "$here/copy/crates/cube_command/src/lib.rt"
@@ -308,8 +307,7 @@ cubeboard"
     count "what changes while it is proved isn't taken as proved" $?
     SLOW=
     sed -i '$d' "$here/copy/crates/cube_command/src/lib.rt"
-    call "and it is proved anew, also as it was" 7 "cube_command
-cubeboard"
+    call "and it is proved anew, also as it was" 7 "$(reach above cube_command | of_program)"
 }
 
 # Starts the launcher, and goes on once the crate that is slow is being proved.

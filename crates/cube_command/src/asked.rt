@@ -1,7 +1,7 @@
 //! What is told beside a run where that is asked for.
 
+use crate::explain::{Asked, Explain};
 use crate::words::Request;
-use cube_explain::{Asked, Explain};
 use cube_report::Fault;
 use std::alloc::{AllocError, Global};
 

@@ -2,6 +2,7 @@
 #![tactic(auto)]
 
 mod asked;
+mod explain;
 // `command` stands here: a module can't have the name of an item beside it.
 mod program;
 mod progress;
@@ -11,8 +12,8 @@ mod telling;
 mod words;
 
 pub use bundle_files::{FileStore, Opener, Store, SystemFiles};
-pub use cube_explain::{Explain, NoExplain, Teller};
 pub use cube_report::{Counted, Found, Gate, NoGate, Sink, Source};
+pub use explain::{Asked, Explain, NoExplain};
 pub use program::command;
 pub use progress::Progress;
 pub use reading::{Meter, Metered, MeteredFiles, Watch};

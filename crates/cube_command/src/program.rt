@@ -22,6 +22,7 @@ ghost use Rattle.cube_command.specs.Program.{AllowsPictures};
 ghost use Rattle.cube_command.specs.Inner.Program.{sources_in};
 
 use crate::asked::{Telling, asked_in, fault_in};
+use crate::explain::Explain;
 use crate::progress::Watched;
 use crate::reading::Watch;
 use crate::record::{begin_record, end_record};
@@ -30,7 +31,6 @@ use crate::words::{Request, request_of};
 use bundle_files::{Store, judge_given, read_from};
 use clap::Error as WordsError;
 use clap::error::ErrorKind as WordsFault;
-use cube_explain::Explain;
 use cube_report::{Fault, Gate, Outcome, Sink, Source, write_all};
 use std::alloc::Global;
 use std::convert::AsStr;

@@ -1,9 +1,9 @@
 //! Where a line of a bundle stands: in which file, and on which of its lines.
 
-use crate::explain::Asked;
 use crate::lines::{Line, line_count, line_of};
 use crate::shown::Shown;
 use case_core::read_bundle;
+use cube_command::Asked;
 use std::alloc::Global;
 use std::io::Eprint;
 use std::rt::Files;

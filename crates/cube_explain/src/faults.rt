@@ -1,10 +1,10 @@
 //! What a fault comes from.
 
-use crate::explain::Asked;
 use crate::fault_places::{INPUT, tell, tell_label, tell_line};
 use crate::lines::{cube_line, first_clause, first_line, is_blank, last_line};
 use crate::looks::looks_of;
 use crate::shown::Shown;
+use cube_command::Asked;
 use cube_report::Fault;
 use std::alloc::Global;
 use std::io::{Eprint, Read};

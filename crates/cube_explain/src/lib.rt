@@ -2,7 +2,6 @@
 //! where a fault comes from.
 #![tactic(auto)]
 
-mod explain;
 mod fault_places;
 mod faults;
 mod folder;
@@ -15,5 +14,4 @@ mod shown;
 mod step_lines;
 mod teller;
 
-pub use explain::{Asked, Explain, NoExplain};
 pub use teller::Teller;

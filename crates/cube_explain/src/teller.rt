@@ -2,7 +2,6 @@
 
 ghost use Rattle.std.specs.Prelude.{◌≡◌};
 
-use crate::explain::{Asked, Explain};
 use crate::fault_places::INPUT;
 use crate::faults::tell_fault;
 use crate::folder::{Leaves, names_in};
@@ -13,6 +12,7 @@ use crate::rejected::{Rejected, rejections_in};
 use crate::shown::Shown;
 use crate::step_lines::step_line;
 use case_core::{Case, Formula, read_bundle};
+use cube_command::{Asked, Explain};
 use cube_report::{Fault, Target, icnf_part};
 use sha2::{Digest, Sha256};
 use std::alloc::{AllocError, Global};
