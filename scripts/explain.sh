@@ -39,14 +39,14 @@ run "$here/none" --explain case.icnf
 told "what was read" 1 << TOLD
 case.icnf: clauses: 3; literals: 5; greatest variable: 2
 SHA-256 of formula and cubes: $digest
-case.icnf: cubes: 2; branches without a cube: 0; proofs for leaves: 0, for inner nodes: 0
+case.icnf: cubes: 2; branches without a cube: 0; sections for leaves: 0, for inner nodes: 0
 TOLD
 with_bundle 'p inccnf\n1 2 0\n1 -2 0\n-1 0\n3 0\n'
 run "$here/run/case.icnf" --explain
 told "a cube without its a" 1 << TOLD
 standard input: clauses: 4; literals: 6; greatest variable: 3
 SHA-256 of formula and cubes: *
-standard input: cubes: 0; branches without a cube: 1; proofs for leaves: 0, for inner nodes: 0
+standard input: cubes: 0; branches without a cube: 1; sections for leaves: 0, for inner nodes: 0
 TOLD
 with_bundle 'a 3 0\n'
 printf 'c\np cnf 2 2\n1 0\n-1 0\n' > "$here/run/formula.cnf"
@@ -54,17 +54,17 @@ run "$here/none" --explain --formula formula.cnf case.icnf
 told "what was read of two files" 1 << TOLD
 formula.cnf: clauses: 2; literals: 2; greatest variable: 1
 SHA-256 of formula and cubes: *
-case.icnf: cubes: 1; branches without a cube: 1; proofs for leaves: 0, for inner nodes: 0
+case.icnf: cubes: 1; branches without a cube: 1; sections for leaves: 0, for inner nodes: 0
 TOLD
 
 # A folder: without a file, with files that name no leaf, and one that isn't there.
 with_bundle "$tree"
 run "$here/none" --explain --proofs proofs case.icnf
-tail -n 1 "$here/err" > "$here/last" && [ "$(cat "$here/last")" = "explain: proofs: 0 proofs of leaves" ]
+tail -n 1 "$here/err" > "$here/last" && [ "$(cat "$here/last")" = "explain: proofs: files that are proofs of leaves: 0" ]
 count "an empty folder" $?
 for name in 1.lrat 010.lrat 2.lrat.txt m1.lrat 3.lrat 0.lrat; do : > "$here/run/proofs/$name"; done
 run "$here/none" --explain --proofs proofs case.icnf
-grep -q -x 'explain: proofs: 1 proofs of leaves' "$here/err" &&
+grep -q -x 'explain: proofs: files that are proofs of leaves: 1' "$here/err" &&
     grep -q -x 'explain: proofs: files that name no leaf: 5: "0.lrat" "010.lrat" "2.lrat.txt" "3.lrat" "m1.lrat"' "$here/err"
 count "files that name no leaf" $?
 run "$here/none" --explain --proofs nowhere case.icnf
@@ -78,8 +78,8 @@ run "$here/none" --explain --proofs proofs case.icnf
 told "a proof in the bundle and a packed one in the folder" 1 << TOLD
 case.icnf: clauses: 3; *
 SHA-256 *
-case.icnf: cubes: 2; branches without a cube: 0; proofs for leaves: 1, for inner nodes: 0
-proofs: 1 proofs of leaves
+case.icnf: cubes: 2; branches without a cube: 0; sections for leaves: 1, for inner nodes: 0
+proofs: files that are proofs of leaves: 1
 proof for 1: step 1 is rejected: case.icnf, line 9: "5 0 1 2 0"
 a clause that a hint names still has two or more literals*; look for *
 proof for 2: step 1 is rejected: proofs/2.lrat, line 1: "\\x1f\\x8b\\x08"

@@ -105,7 +105,7 @@ impl<'a, R: Eprint> Teller<'a, R> {
         let from = asked.file.unwrap_or(INPUT);
         let _ = eprintln!(self.device;
             "explain: {from}: cubes: {cubes}; branches without a cube: {missing}; \
-             proofs for leaves: {leaves}, for inner nodes: {nodes}"
+             sections for leaves: {leaves}, for inner nodes: {nodes}"
         );
     }
 
@@ -151,7 +151,7 @@ impl<'a, R: Eprint + Files + AllocGlobal + Clone + Drop> Teller<'a, R> {
         match names_in(self.device, alloc, folder, leaves) {
             Ok(names) => {
                 let _ = eprintln!(self.device;
-                    "explain: {folder}: {} proofs of leaves",
+                    "explain: {folder}: files that are proofs of leaves: {}",
                     names.proofs
                 );
                 self.tell_strays(folder, names.strays, &names.first);
