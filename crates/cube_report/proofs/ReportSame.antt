@@ -11,7 +11,7 @@ use Rattle.mark_board.specs.declared.mark.Mark.{Mark}
 use Rattle.mark_board.specs.Marking.{marked, refuted_by, mark_at, open_weight, open_branches}
 use Rattle.mark_board.specs.TopPlaces.{worth_of}
 use Rattle.tree_map.specs.Picture.{map_text, cells, cell, frame, told, rectangle, colour, head}
-use Rattle.tree_map.specs.Picture.{legend, title}
+use Rattle.tree_map.specs.Picture.{legend, title, rows}
 use Rattle.tree_map.specs.Fields.{answer_line}
 use Rattle.cube_report.specs.Report.{report_text}
 use Rattle.case_core.specs.Formula.{IsRefuted}
@@ -66,7 +66,7 @@ module _ (formula others : List (List Literal)) (tree : SplitTree) (one other : 
   pub map_same : map_text a marks ≡ map_text b marks
   map_same =
       ap (λ (drawn : List ℕ).
-      head ++ legend
+      head (42 + 24 * rows 11 tree) ++ legend
       ++ title (marked (refuted_by marks) 0 tree)
       (open_weight (worth_of tree) (refuted_by marks) 0 tree) (total 0 tree)
       ++ drawn ++ codes "</svg>\n") (cells_same 11 0 0 false tree)
