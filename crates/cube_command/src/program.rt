@@ -2,17 +2,14 @@
 
 ghost use Rattle.std.specs.Prelude.{◌≡◌, ◌≢◌, ◌⊎◌, ◌<◌, ◌+◌, ◌^◌, ◌-◌, List, ℕ, length, map};
 ghost use Rattle.std.specs.Prelude.{option_map, true, false, None, Some, IfOk, IfErr, OnOk, OnErr};
-ghost use Rattle.std.specs.Prelude.{IfSome, IsErrOf};
+ghost use Rattle.std.specs.Prelude.{IsErrOf};
 ghost use Rattle.std.specs.Io.KnownBytes.{Appends, Keeps};
 ghost use Rattle.cube_report.specs.Device.{AppendsBeginning, IsReadFault};
 ghost use Rattle.clap.specs.Words.{kind_of};
-ghost use Rattle.bundle_files.specs.Files.{Gives};
-ghost use Rattle.bundle_files.specs.Formula.{IsBundleOf, IsOneAbsent, IsReadFrom};
-ghost use Rattle.cube_report.specs.Dimacs.{IsDimacs};
-ghost use Rattle.cube_report.specs.Formula.{HasNoModel};
-ghost use Rattle.cube_report.specs.Literal.{Literal};
-ghost use Rattle.cube_report.specs.Correct.{AllowsReports, IsUnsatisfiable};
+ghost use Rattle.bundle_files.specs.Formula.{IsBundleOf, IsOneAbsent};
+ghost use Rattle.cube_report.specs.Correct.{AllowsReports};
 ghost use Rattle.cube_report.specs.Faults.{IsInputFault};
+ghost use Rattle.cube_command.specs.Headline.{IsPublished, IsSound};
 ghost use Rattle.cube_command.specs.Words.{AreApart, AreTaken, file_of, folder_of, map_of};
 ghost use Rattle.cube_command.specs.Words.{formula_of, IsInput, record_of, sources_of};
 ghost use Rattle.cube_command.specs.Record.{AllowsRecords};
@@ -120,13 +117,11 @@ where
     ensures status { IsStatus result }
 
     // Status 0: the formula of the bundle that was read has no model.
-    ensures sound { result ≡ 0 → (read : List ℕ)
-        × IsReadFrom (D.held store.old) (sources_of (map S.text words.now)) (I.remaining input.old) read
-        × IsUnsatisfiable read }
+    ensures sound { IsSound result (D.held store.old) (sources_of (map S.text words.now))
+        (I.remaining input.old) }
     // With `--formula` the text of that file is a DIMACS text of a formula that has no model.
-    ensures published { result ≡ 0 → IfSome (formula_of (map S.text words.now)) (λ path.
-        (text : List ℕ) × Gives (D.held store.old) path (Some text)
-        × (formula : List (List Literal)) × IsDimacs text formula × HasNoModel formula) }
+    ensures published { IsPublished result (D.held store.old)
+        (formula_of (map S.text words.now)) }
     // And exactly the report was written, on that bundle with the proofs of DIR: it says refuted.
     // Status 1: it says open.
     ensures refuted { result ≡ 0 → IsReported (D.held store.old) (D.held store.new)
