@@ -111,7 +111,7 @@ of CNF is a DIMACS text of a formula of which then no assignment makes all claus
 It is the file's or the input's, with the proofs of a folder added for the leaves of its tree, in order and each under its own label. What a run says that reads each of
 these proofs when a worker comes to its leaf is what a run on this bundle promises.""",
      ["bundle_files/source.rt read_given held bundle ok err kept",
-      "bundle_files/formula.rt read_from held bundle fault ok err kept",
+      "bundle_files/formula.rt read_from held bundle case fault ok err kept",
       "bundle_files/judge.rt judge_given held outcome fault ok err",
       "bundle_files/folder.rt add_proofs held whole ok err",
       "bundle_files/store.rt Store::read held found ok err",

@@ -11,6 +11,9 @@ use Rattle.case_core.specs.Problem as code
 use Rattle.case_core.specs.TextFault.{TextFault}
 use Rattle.case_core.specs.TextFault.TheVariants as text
 use Rattle.case_core.specs.Bundle.{icnf_text}
+use Rattle.case_core.specs.Case.{CaseOf}
+use Rattle.case_core.specs.Sections.{IsCaseOf}
+use Rattle.case_core.proofs.IcnfUnique.{one_text}
 use Rattle.cube_report.specs.declared.fault.Fault.{Fault}
 use Rattle.cube_report.specs.declared.fault.Fault.TheVariants.{Counts}
 use Rattle.cube_report.specs.Faults.{IsInputFault}
@@ -73,6 +76,15 @@ pub not_counted : {T E : Type 0} (result : Result T E) (fault : TextFault) (part
 not_counted (Err error) fault part bundle count part_is only ok = tt
 not_counted (Ok value) fault part bundle count part_is only ok = λ items stands.
     absurd (ok (only items (subst (λ (t : List ℕ). StandsFor t items) (sym part_is) stands)))
+
+-- a case has all clauses of its bundle
+pub counted_by_case : (bundle : List ℕ) (case : CaseOf) (formula : List (List Literal))
+    (count : ℕ) → IsCaseOf bundle case → formula ≡ case.formula → length formula ≡ count
+    → (items : List Item) → StandsFor (icnf_text bundle) items → length (clauses_of items) ≡ count
+counted_by_case bundle case formula count is same counted items stands =
+    ap (λ (xs : List Item). length (clauses_of xs))
+    (one_text (icnf_text bundle) items is.items stands is.text)
+    ∙ ap length (sym (same ∙ is.formula)) ∙ counted
 
 -- ---- the bundle
 

@@ -1,6 +1,7 @@
 -- What is said of a bundle and a folder's proofs on the way to the program's report.
 use Rattle.std.proofs.Common.{◌≡◌, ◌≢◌, ◌<◌, ◌^◌, ℕ, List, [], Bool, Option, None, Some, refl}
 use Rattle.std.proofs.Common.{sym, ap, inr, arith, append-nil, length, Result, Ok, Err, IfOk}
+use Rattle.std.proofs.Common.{IfErr}
 use Rattle.std.specs.Prelude.{IfSome}
 use Rattle.std.proofs.lemmas.List.Elements.{All-nil}
 use Rattle.case_core.specs.Sections.{IsCaseOf, IsFaultOf}
@@ -13,6 +14,7 @@ use Rattle.cube_report.specs.Mark.{Mark}
 use Rattle.cube_report.specs.declared.fault.Fault.{Fault}
 use Rattle.cube_report.specs.declared.engine.Outcome.{Outcome}
 use Rattle.cube_report.specs.Faults.{IsInputFault, fault_of_case}
+use Rattle.cube_report.specs.Correct.{IsFaultOn}
 use Rattle.cube_report.specs.Stated.{IsWrittenBy}
 use Rattle.proof_folder.specs.Given.{HasFewLeaves, AreFoundApart}
 use Rattle.bundle_files.specs.Files.{Held, IsWithProofs}
@@ -78,3 +80,11 @@ pub few_leaves : (tree : SplitTree) (cubes missing_leaves : ℕ) → cubes < 2 ^
     → missing_leaves < 2 ^ 32 → cubes ≡ cube_count tree
     → missing_leaves ≡ length (missing_nodes tree) → HasFewLeaves tree
 few_leaves tree cubes missing_leaves few_cubes few_missing cubes_are missing_are = omega arith
+
+-- without a folder the bundle is judged as it was read
+pub refused_as_read : (held : Held) (run : Result Outcome Fault) (bundle : List ℕ)
+    → IfErr run (λ fault. IsInputFault fault → IsFaultOn bundle fault)
+    → IfErr run (λ fault. IsInputFault fault → IsRefusedOf held None bundle fault)
+refused_as_read held (Ok outcome) bundle of = tt
+refused_as_read held (Err fault) bundle of = λ input.
+    record { whole = bundle; is_judged = refl; first = of input }

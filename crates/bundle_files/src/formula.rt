@@ -8,6 +8,7 @@ ghost use Rattle.case_core.specs.Tokens.{line_tokens};
 ghost use Rattle.case_core.specs.Icnf.{Item, StandsFor, clauses_of};
 ghost use Rattle.case_core.specs.Dimacs.{greatest_of, IsDimacs};
 ghost use Rattle.case_core.specs.Bundle.{icnf_text};
+ghost use Rattle.case_core.specs.Sections.{IsCaseOf};
 ghost use Rattle.cube_report.specs.Faults.{IsInputFault};
 ghost use Rattle.bundle_files.specs.Files.{IsUnread, StaysAllowed};
 ghost use Rattle.bundle_files.specs.Formula.{header_over, IsFormulaFault, IsOverwritten, IsReadBy};
@@ -19,11 +20,20 @@ ghost use Rattle.bundle_files.specs.Inner.Formula.{IsUnreadFormula};
 use crate::source::{append_given, read_given};
 use crate::store::Store;
 use case_core::{
-    Formula, Problem, TextFault, first_word, icnf_part, is_comment, read_icnf, read_problem,
-    split_line,
+    Case, Formula, Problem, TextFault, first_word, icnf_part, is_comment, read_bundle, read_icnf,
+    read_problem, split_line,
 };
 use cube_report::{Fault, Source};
 use std::alloc::Global;
+
+/// A bundle that was read, and its case where that was made on the way.
+#[derive(Drop)]
+pub struct ReadBundle {
+    /// The bytes.
+    pub bundle: Vec<u8>,
+    /// The case that they stand for.
+    pub case: Option<Case>,
+}
 
 /// Whether a line has no token.
 fn is_bare(line: &[u8]) -> bool
@@ -149,6 +159,45 @@ fn check_formula(formula: &Formula, said: Problem) -> Result<(), Fault>
     })
 }
 
+/// Whether a bundle has as many clauses as a problem line says: its case, where it is one. Where it
+/// isn't, the run tells why, unless the count is told.
+fn read_counted(alloc: Global, bundle: &[u8], said: Problem) -> Result<Option<Case>, Fault>
+    ensures ok { OnOk result ((items : List Item) → StandsFor (icnf_text bundle.now) items
+        → length (clauses_of items) ≡ said.clauses) }
+    ensures case { IfOk result (λ some. IfSome some (IsCaseOf bundle.now)) }
+    ensures err { IfErr result (IsOtherCount bundle.now said) }
+{
+    match read_bundle(alloc, bundle) {
+        Ok(case) => {
+            check_formula(case.formula(), said)?;
+            Ok(Some(case))
+        }
+        Err(_) => {
+            check_count(alloc, bundle, said)?;
+            Ok(None)
+        }
+    }
+}
+
+/// The same, with the case only where it is wanted.
+fn count_or_read(
+    alloc: Global,
+    bundle: &[u8],
+    said: Problem,
+    wants_case: bool,
+) -> Result<Option<Case>, Fault>
+    ensures ok { OnOk result ((items : List Item) → StandsFor (icnf_text bundle.now) items
+        → length (clauses_of items) ≡ said.clauses) }
+    ensures case { IfOk result (λ some. IfSome some (IsCaseOf bundle.now)) }
+    ensures err { IfErr result (IsOtherCount bundle.now said) }
+{
+    if wants_case {
+        return read_counted(alloc, bundle, said);
+    }
+    check_count(alloc, bundle, said)?;
+    Ok(None)
+}
+
 /// The bundle of a formula's file and of the bytes of another, or of the input where there is none.
 fn read_under<D: Store, I: Source>(
     alloc: Global,
@@ -156,13 +205,15 @@ fn read_under<D: Store, I: Source>(
     input: &mut I,
     path: &str,
     file: Option<&str>,
-) -> Result<Vec<u8>, Fault>
+    wants_case: bool,
+) -> Result<ReadBundle, Fault>
     requires store { D.failures store.old < 2 ^ 64 - 1 }
     requires input { I.failures input.old < 2 ^ 64 - 1 }
     ensures held { D.held store.new ≡ D.held store.old }
     ensures allowed { StaysAllowed (D.allows store.old) (D.allows store.new) }
-    ensures bundle { IfOk result (λ bundle. IsUnderFormula (D.held store.old) path.now
-        (option_map (λ path. path.now) file.entry) (I.remaining input.old) bundle.items) }
+    ensures bundle { IfOk result (λ read. IsUnderFormula (D.held store.old) path.now
+        (option_map (λ path. path.now) file.entry) (I.remaining input.old) read.bundle.items) }
+    ensures case { IfOk result (λ read. IfSome read.case (IsCaseOf read.bundle.items)) }
     ensures fault { IfErr result (λ fault. IsInputFault fault → IsFormulaFault (D.held store.old)
         (Some path.now) (option_map (λ path. path.now) file.entry) (I.remaining input.old)
         fault) }
@@ -179,14 +230,17 @@ fn read_under<D: Store, I: Source>(
     let (mut bundle, said) = read_formula(alloc, store, path)?;
     bundle.push(b'\n')?;
     append_given(store, input, file, &mut bundle)?;
-    check_count(alloc, &bundle, said)?;
-    Ok(bundle)
+    let case = count_or_read(alloc, &bundle, said, wants_case)?;
+    Ok(ReadBundle { bundle, case })
 }
 
 /// The bundle that is read: the bytes of the file at this path, or those of the input where there
 /// is none. Where the formula has a file of its own, a DIMACS text (1993), they stand below it, and
 /// add no clause: that file's text comes first, with its problem line overwritten in its place by
 /// `p inccnf` and blanks, and then a line end.
+///
+/// So that no clause is added, the clauses of the whole are counted; where the case is wanted, it is
+/// what they are counted by, and it is handed on.
 ///
 /// `Device` where a call failed, or no file is at a path, and `Memory` where a growth was refused.
 /// Any other fault is one of the formula's file, or tells that the other bytes have clauses.
@@ -196,16 +250,19 @@ pub fn read_from<D: Store, I: Source>(
     input: &mut I,
     formula: Option<&str>,
     file: Option<&str>,
-) -> Result<Vec<u8>, Fault>
+    wants_case: bool,
+) -> Result<ReadBundle, Fault>
     requires store { D.failures store.old < 2 ^ 64 - 1 }
     requires input { I.failures input.old < 2 ^ 64 - 1 }
     // The store holds what it held.
     ensures held { D.held store.new ≡ D.held store.old }
     ensures allowed { StaysAllowed (D.allows store.old) (D.allows store.new) }
     // The bundle is that of the files or of the input.
-    ensures bundle { IfOk result (λ bundle. IsReadBy (D.held store.old)
+    ensures bundle { IfOk result (λ read. IsReadBy (D.held store.old)
         (option_map (λ path. path.now) formula.entry) (option_map (λ path. path.now) file.entry)
-        (I.remaining input.old) bundle.items) }
+        (I.remaining input.old) read.bundle.items) }
+    // A case that is handed on is the bundle's.
+    ensures case { IfOk result (λ read. IfSome read.case (IsCaseOf read.bundle.items)) }
     // A fault of the input is one of the formula's file, or of clauses behind it.
     ensures fault { IfErr result (λ fault. IsInputFault fault → IsFormulaFault (D.held store.old)
         (option_map (λ path. path.now) formula.entry) (option_map (λ path. path.now) file.entry)
@@ -223,7 +280,10 @@ pub fn read_from<D: Store, I: Source>(
     ensures kept { IfSome file.entry (λ _. input.new ≡ input.old) }
 {
     match formula {
-        Some(path) => read_under(alloc, store, input, path, file),
-        None => read_given(alloc, store, input, file),
+        Some(path) => read_under(alloc, store, input, path, file, wants_case),
+        None => {
+            let bundle = read_given(alloc, store, input, file)?;
+            Ok(ReadBundle { bundle, case: None })
+        }
     }
 }

@@ -4,14 +4,16 @@ ghost use Rattle.std.specs.Prelude.{◌≡◌, ◌≢◌, ◌<◌, ◌^◌, ◌-
 ghost use Rattle.std.specs.Prelude.{IfSome, OnOk, option_map, Some, vec_len};
 ghost use Rattle.cube_report.specs.Faults.{IsInputFault};
 ghost use Rattle.case_core.specs.Leaf.{Leaf};
+ghost use Rattle.case_core.specs.Sections.{IsCaseOf, IsFaultOf};
 ghost use Rattle.bundle_files.specs.Files.{StaysAllowed};
 ghost use Rattle.bundle_files.specs.Laws.{held_for};
 ghost use Rattle.bundle_files.specs.Judging.{IsOutcomeOf, IsRefusedOf, IsJudgingFault};
 
 use crate::faults::find_fault;
 use crate::folder::add_proofs;
+use crate::formula::ReadBundle;
 use crate::store::Store;
-use case_core::read_bundle;
+use case_core::{Case, CaseFault, read_bundle};
 use cube_report::{Fault, Gate, Outcome, Settings, judge_apart, judge_bundle};
 use std::alloc::Global;
 use std::sync::Wait;
@@ -20,7 +22,8 @@ use std::thread::Threads;
 /// What a run says of a bundle that was read, with the proofs of a folder where one is asked for, by
 /// as many workers and at the cut that the settings say, and with a picture of the tree where
 /// `draws` asks for one; or the first fault of the bundle with these proofs. The gate is called as
-/// `judge_bundle` says.
+/// `judge_bundle` says. Where the bundle's case was made when it was read, it isn't read again for
+/// the folder's proofs.
 ///
 /// Each proof of the folder is read when a worker comes to its leaf, and dropped when it is judged.
 /// Where one has a label line, or is for a leaf with a section of its own, all of them are read
@@ -32,7 +35,7 @@ use std::thread::Threads;
 pub fn judge_given<R, D, G>(
     rt: &R,
     store: &mut D,
-    bundle: Vec<u8>,
+    read: ReadBundle,
     folder: Option<&str>,
     settings: Settings,
     gate: &G,
@@ -43,23 +46,26 @@ where
     D: Store,
     G: Gate + Sync,
     // One more failed read can be counted.
-    requires { D.failures store.old < 2 ^ 64 - 1 }
+    requires count { D.failures store.old < 2 ^ 64 - 1 }
+    // The case that was made is the bundle's.
+    requires case { IfSome read.case (IsCaseOf read.bundle.items) }
     // The store holds what it held.
     ensures held { D.held store.new ≡ D.held store.old }
     ensures allowed { StaysAllowed (D.allows store.old) (D.allows store.new) }
     // It is what a run on the bundle with the folder's proofs promises.
     ensures outcome { IfOk result (λ outcome. IsOutcomeOf (D.held store.old)
-        (option_map (λ text. text.now) folder.entry) bundle.items draws outcome.text.items
+        (option_map (λ text. text.now) folder.entry) read.bundle.items draws outcome.text.items
         outcome.map.items outcome.refuted) }
     // A fault of the input is the first one of that bundle.
     ensures fault { IfErr result (λ fault. IsInputFault fault → IsRefusedOf (D.held store.old)
-        (option_map (λ text. text.now) folder.entry) bundle.items fault) }
+        (option_map (λ text. text.now) folder.entry) read.bundle.items fault) }
     // The device is at fault exactly where a read failed.
     ensures ok { OnOk result (D.failures store.new ≡ D.failures store.old) }
     ensures err { IfErr result (IsJudgingFault (D.failures store.old) (D.failures store.new)) }
 {
+    let ReadBundle { bundle, case } = read;
     match folder {
-        Some(folder) => judge_folder(rt, store, bundle, folder, settings, gate, draws),
+        Some(folder) => judge_folder(rt, store, bundle, case, folder, settings, gate, draws),
         None => judge_bundle(rt, rt.alloc(), bundle, settings, gate, draws),
     }
 }
@@ -71,6 +77,7 @@ fn judge_folder<R, D, G>(
     rt: &R,
     store: &mut D,
     bundle: Vec<u8>,
+    case: Option<Case>,
     folder: &str,
     settings: Settings,
     gate: &G,
@@ -80,7 +87,8 @@ where
     R: AllocGlobal + Threads + Wait + Sync,
     D: Store,
     G: Gate + Sync,
-    requires { D.failures store.old < 2 ^ 64 - 1 }
+    requires count { D.failures store.old < 2 ^ 64 - 1 }
+    requires case { IfSome case (IsCaseOf bundle.items) }
     ensures held { D.held store.new ≡ D.held store.old }
     ensures allowed { StaysAllowed (D.allows store.old) (D.allows store.new) }
     ensures outcome { IfOk result (λ outcome. IsOutcomeOf (D.held store.old)
@@ -91,12 +99,24 @@ where
     ensures ok { OnOk result (D.failures store.new ≡ D.failures store.old) }
     ensures err { IfErr result (IsJudgingFault (D.failures store.old) (D.failures store.new)) }
 {
-    match judge_by_leaf(rt, store, &bundle, folder, settings, gate, draws)? {
+    match judge_by_leaf(rt, store, &bundle, case, folder, settings, gate, draws)? {
         Some(outcome) => Ok(outcome),
         None => {
             find_fault(rt.alloc(), store, folder, &bundle)?;
             judge_whole(rt, store, bundle, folder, settings, gate, draws)
         }
+    }
+}
+
+/// The case of a bundle: the one that was made of it, if one was.
+fn case_of(alloc: Global, bundle: &[u8], case: Option<Case>) -> Result<Case, CaseFault>
+    requires { IfSome case (IsCaseOf bundle.now) }
+    ensures ok { IfOk result (IsCaseOf bundle.now) }
+    ensures err { IfErr result (λ fault. fault ≢ CaseFault.Memory → IsFaultOf bundle.now fault) }
+{
+    match case {
+        Some(case) => Ok(case),
+        None => read_bundle(alloc, bundle),
     }
 }
 
@@ -106,6 +126,7 @@ fn judge_by_leaf<R, D, G>(
     rt: &R,
     store: &mut D,
     bundle: &[u8],
+    case: Option<Case>,
     folder: &str,
     settings: Settings,
     gate: &G,
@@ -115,7 +136,8 @@ where
     R: AllocGlobal + Threads + Wait + Sync,
     D: Store,
     G: Gate + Sync,
-    requires { D.failures store.old < 2 ^ 64 - 1 }
+    requires count { D.failures store.old < 2 ^ 64 - 1 }
+    requires case { IfSome case (IsCaseOf bundle.now) }
     ensures held { D.held store.new ≡ D.held store.old }
     ensures allowed { StaysAllowed (D.allows store.old) (D.allows store.new) }
     ensures outcome { IfOk result (λ some. IfSome some (λ outcome. IsOutcomeOf (D.held store.old)
@@ -126,7 +148,7 @@ where
     ensures ok { OnOk result (D.failures store.new ≡ D.failures store.old) }
     ensures err { IfErr result (IsJudgingFault (D.failures store.old) (D.failures store.new)) }
 {
-    let case = read_bundle(rt.alloc(), bundle)?;
+    let case = case_of(rt.alloc(), bundle, case)?;
     let _few = (case.tree().cube_count(), case.tree().missing_count());
     let readers = readers_of(rt.alloc(), store, folder, settings.workers())?;
     match judge_apart(rt, rt.alloc(), &case, settings, gate, draws, readers) {

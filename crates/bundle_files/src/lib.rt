@@ -14,7 +14,7 @@ mod store;
 
 pub use check_crew::{LeafProofs, ReadFault};
 pub use folder::add_proofs;
-pub use formula::read_from;
+pub use formula::{ReadBundle, read_from};
 pub use judge::judge_given;
 pub use laws::{proofs_judged_apart, proofs_keep_formula};
 pub use opener::{Opener, SystemFiles};

@@ -291,10 +291,18 @@ where
         < D.failures store.new + I.failures input.new + O.failures output.new)
         ⊎ IsOneAbsent (D.held store.old) (sources_in request.now) }
 {
-    let read = read_from(rt.alloc(), store, input, request.formula, request.file)?;
-    telling.tell_read(rt.alloc(), &read, bundle)?;
+    let wants_case = request.proofs.is_some();
+    let read = read_from(
+        rt.alloc(),
+        store,
+        input,
+        request.formula,
+        request.file,
+        wants_case,
+    )?;
+    telling.tell_read(rt.alloc(), &read.bundle, bundle)?;
     let draws = request.map.is_some();
-    let mut record = begin_record(rt.alloc(), request.out, &read)?;
+    let mut record = begin_record(rt.alloc(), request.out, &read.bundle)?;
     let outcome = judge_given(
         rt,
         store,

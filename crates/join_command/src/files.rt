@@ -39,8 +39,8 @@ pub(crate) fn read_bundle<D: Store>(
 {
     // FILE is always there, so that this isn't read.
     let mut input = Counted::new(io::empty());
-    match read_from(alloc, store, &mut input, formula, Some(file)) {
-        Ok(bundle) => Ok(bundle),
+    match read_from(alloc, store, &mut input, formula, Some(file), false) {
+        Ok(read) => Ok(read.bundle),
         Err(fault) => Err(fault_of_reading(fault)),
     }
 }

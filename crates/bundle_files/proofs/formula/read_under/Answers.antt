@@ -14,20 +14,20 @@ returns-in_err-bundle-clause-fault g c =
     (λ input. let found = c.in_err-bundle.ensures.fault input in
     (found.0, found.1, inl found.2)) c.from_residual.ensures.1
 
-pub returns-in_err-check_count-clause-fault : goal.returns-in_err-check_count-clause-fault
-returns-in_err-check_count-clause-fault g c =
-    handed_on c.from_residual-in_err-check_count.result
+pub returns-in_err-case-clause-fault : goal.returns-in_err-case-clause-fault
+returns-in_err-case-clause-fault g c =
+    handed_on c.from_residual-in_err-case.result
     (λ fault. IsInputFault fault → IsFormulaFault (g.D.Store.held c.args.store.now)
     (Some c.args.path.now)
     (option_map {T = Bor (List ℕ)} {U = List ℕ} (λ path. path.now) c.args.file)
-    (g.I.Source.remaining c.args.input.now) fault) c.in_err-check_count.field-0.0
+    (g.I.Source.remaining c.args.input.now) fault) c.in_err-case.field-0.0
     (λ input.
     adds_clauses (g.D.Store.held c.args.store.now) (g.D.Store.held c.read_formula.new.store)
     c.args.path.now _ _ c.in_ok-bundle.bundle.items c.push.new.self.items
     c.append_given.new.bytes.items c.deref.result.now c.in_ok-bundle.said
-    c.in_err-check_count.field-0.0 c.in_ok-bundle.ensures.read c.in_ok-bundle.ensures.held
+    c.in_err-case.field-0.0 c.in_ok-bundle.ensures.read c.in_ok-bundle.ensures.held
     c.in_ok-push.ensures.items c.in_ok-append_given.ensures.appended c.deref.ensures.value
-    c.in_err-check_count.ensures.err input) c.from_residual-in_err-check_count.ensures.1
+    c.in_err-case.ensures.err input) c.from_residual-in_err-case.ensures.1
 
 pub returns-clause-bundle : goal.returns-clause-bundle
 returns-clause-bundle g c =
@@ -36,4 +36,4 @@ returns-clause-bundle g c =
     c.append_given.new.bytes.items c.append_given.new.bytes.items c.in_ok-bundle.said
     c.in_ok-bundle.ensures.read c.in_ok-bundle.ensures.held c.in_ok-push.ensures.items
     c.in_ok-append_given.ensures.appended refl
-    (rw c.deref.ensures.value at c.in_ok-check_count.ensures.ok)
+    (rw c.deref.ensures.value at c.in_ok-case.ensures.ok)

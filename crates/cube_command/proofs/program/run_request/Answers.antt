@@ -28,7 +28,7 @@ returns-in_err-outcome-clause-fault g c =
     c.in_err-outcome.field-0.0
     (λ input.
     refused_of (g.D.Store.held c.args.store.now) _ _ (g.I.Source.remaining c.args.input.now)
-    c.in_ok-read.read.items _ c.in_ok-read.ensures.bundle
+    c.in_ok-read.read.bundle.items _ c.in_ok-read.ensures.bundle
     (rw c.in_ok-read.ensures.held at (c.in_err-outcome.ensures.fault input)))
     c.from_residual-in_err-outcome.ensures.1
 
@@ -39,9 +39,9 @@ write_outcome-requires-clause-store g c = λ _ _.
 pub write_outcome-requires-clause-report : goal.write_outcome-requires-clause-report
 write_outcome-requires-clause-report g c = λ _ _.
     let judged = rw c.in_ok-read.ensures.held at c.in_ok-outcome.ensures.outcome in
-    c.requires.reports c.in_ok-read.read.items judged.whole
+    c.requires.reports c.in_ok-read.read.bundle.items judged.whole
     (bundle_of (g.D.Store.held c.args.store.now) _ _ (g.I.Source.remaining c.args.input.now)
-    c.in_ok-read.read.items judged.whole c.in_ok-read.ensures.bundle judged.is_judged)
+    c.in_ok-read.read.bundle.items judged.whole c.in_ok-read.ensures.bundle judged.is_judged)
     c.in_ok-outcome.outcome.text.items (report_on _ _ _ judged.outcome.correct)
 
 pub write_outcome-requires-clause-picture : goal.write_outcome-requires-clause-picture
@@ -49,9 +49,9 @@ write_outcome-requires-clause-picture g c = λ _ _ path is.
     let judged = rw c.in_ok-read.ensures.held at c.in_ok-outcome.ensures.outcome in
     c.in_ok-outcome.ensures.allowed path c.in_ok-outcome.outcome.map.items
     (c.in_ok-read.ensures.allowed path c.in_ok-outcome.outcome.map.items
-    (c.requires.pictures path c.in_ok-read.read.items judged.whole is
+    (c.requires.pictures path c.in_ok-read.read.bundle.items judged.whole is
     (bundle_of (g.D.Store.held c.args.store.now) _ _ (g.I.Source.remaining c.args.input.now)
-    c.in_ok-read.read.items judged.whole c.in_ok-read.ensures.bundle judged.is_judged)
+    c.in_ok-read.read.bundle.items judged.whole c.in_ok-read.ensures.bundle judged.is_judged)
     c.in_ok-outcome.outcome.map.items
     (picture_on judged.whole c.in_ok-outcome.outcome.text.items
     c.in_ok-outcome.outcome.map.items path _ c.is_some-draws.result
@@ -65,13 +65,13 @@ write_outcome-requires-clause-recorded g c = λ _ _ path is.
     let judged = rw c.in_ok-read.ensures.held at c.in_ok-outcome.ensures.outcome in
     c.in_ok-outcome.ensures.allowed path c.deref-6.result.now
     (c.in_ok-read.ensures.allowed path c.deref-6.result.now
-    (c.requires.records path c.in_ok-read.read.items judged.whole is
+    (c.requires.records path c.in_ok-read.read.bundle.items judged.whole is
     (bundle_of (g.D.Store.held c.args.store.now) _ _ (g.I.Source.remaining c.args.input.now)
-    c.in_ok-read.read.items judged.whole c.in_ok-read.ensures.bundle judged.is_judged)
+    c.in_ok-read.read.bundle.items judged.whole c.in_ok-read.ensures.bundle judged.is_judged)
     c.deref-6.result.now (
       c.in_ok-outcome.outcome.text.items,
       report_on _ _ _ judged.outcome.correct,
-      whole_record _ c.in_ok-read.read.items c.in_ok-outcome.outcome.text.items _ _
+      whole_record _ c.in_ok-read.read.bundle.items c.in_ok-outcome.outcome.text.items _ _
           c.in_ok-record.record.items c.end_record.new.begun.items c.deref-6.result.now
           c.deref-2.ensures.value c.deref-3.ensures.value c.deref-6.ensures.value
           c.in_ok-record.ensures c.in_ok-end_record.ensures path is,
@@ -82,11 +82,11 @@ returns-in_err-write_outcome-clause-beginning g c =
     let judged = rw c.in_ok-read.ensures.held at c.in_ok-outcome.ensures.outcome in
     begun_of c.from_residual-in_err-write_outcome.result (g.D.Store.held c.args.store.now) _ _
     (g.I.Source.remaining c.args.input.now) (g.O.Sink.contents c.args.output.now)
-    (g.O.Sink.contents c.write_outcome.new.output) c.in_ok-read.read.items judged.whole
+    (g.O.Sink.contents c.write_outcome.new.output) c.in_ok-read.read.bundle.items judged.whole
     c.in_ok-outcome.outcome.text.items (g.O.Sink.failures c.args.output.now)
     (g.O.Sink.failures c.write_outcome.new.output)
     (bundle_of (g.D.Store.held c.args.store.now) _ _ (g.I.Source.remaining c.args.input.now)
-    c.in_ok-read.read.items judged.whole c.in_ok-read.ensures.bundle judged.is_judged)
+    c.in_ok-read.read.bundle.items judged.whole c.in_ok-read.ensures.bundle judged.is_judged)
     (report_on _ _ _ judged.outcome.correct) c.in_err-write_outcome.ensures.beginning
 
 pub returns-clause-report : goal.returns-clause-report
@@ -94,15 +94,15 @@ returns-clause-report g c =
     let judged = rw c.in_ok-read.ensures.held at c.in_ok-outcome.ensures.outcome in
     reported (g.D.Store.held c.args.store.now) (g.D.Store.held c.write_outcome.new.store) _ _ _ _ _
     (g.O.Sink.contents c.args.output.now)
-    (g.O.Sink.contents c.write_outcome.new.output) c.in_ok-read.read.items judged.whole
+    (g.O.Sink.contents c.write_outcome.new.output) c.in_ok-read.read.bundle.items judged.whole
     c.in_ok-outcome.outcome.text.items c.in_ok-outcome.outcome.map.items
     c.deref-6.result.now c.is_some-draws.result c.in_ok-outcome.outcome.refuted
     (bundle_of (g.D.Store.held c.args.store.now) _ _ (g.I.Source.remaining c.args.input.now)
-    c.in_ok-read.read.items judged.whole c.in_ok-read.ensures.bundle judged.is_judged)
+    c.in_ok-read.read.bundle.items judged.whole c.in_ok-read.ensures.bundle judged.is_judged)
     judged.outcome
     (some_mapped (λ (text : Bor (List ℕ)). text.now) c.args.request.now.map c.is_some-draws.result
     c.is_some-draws.ensures)
-    (whole_record _ c.in_ok-read.read.items c.in_ok-outcome.outcome.text.items _ _
+    (whole_record _ c.in_ok-read.read.bundle.items c.in_ok-outcome.outcome.text.items _ _
     c.in_ok-record.record.items c.end_record.new.begun.items c.deref-6.result.now
     c.deref-2.ensures.value c.deref-3.ensures.value c.deref-6.ensures.value
     c.in_ok-record.ensures c.in_ok-end_record.ensures)

@@ -6,7 +6,7 @@ pub returns-in-Ok-clause-bundle : goal.returns-in-Ok-clause-bundle
 returns-in-Ok-clause-bundle g c =
     read_anyhow (g.D.Store.held c.args.store.now)
     (option_map {T = Bor (List ℕ)} {U = List ℕ} (λ path. path.now) c.args.formula) c.args.file.now _
-    None c.in-Ok.bundle.items c.in-Ok.ensures.bundle
+    None c.in-Ok.read.bundle.items c.in-Ok.ensures.bundle
 
 pub returns-in-Err-clause-err : goal.returns-in-Err-clause-err
 returns-in-Err-clause-err g c =
