@@ -1,8 +1,9 @@
 //! `cubeboard` checks refutations made by cube-and-conquer and prints a report.
 #![tactic(auto)]
 
-use cube_command::{Counted, FileStore, Metered, MeteredFiles, NoGate, Progress, SystemFiles};
-use cube_command::{command, own_words};
+use cube_command::{
+    Counted, FileStore, Metered, MeteredFiles, NoGate, Progress, SystemFiles, command, own_words,
+};
 use cube_explain::Teller;
 use std::io::IsTerminal;
 use std::process::ExitCode;
