@@ -122,6 +122,8 @@ for part in 1 2; do
     for source in "$root"/crates/own_threads/src/*.rt; do sed 's/^ *//' "$source" | tr '\n' '~'; done | grep -q -F "$(cat "$here/lines")"
     count "as a library: the lines $part are those of own_threads" $?
 done
+grep -q -x -F "    $(cat "$here/page/what a report means.1")" "$root/crates/cube_command/specs/Headline.antt"
+count "what a report means: the theorem stands in Headline.antt" $?
 told=$(sed -n 's/^.*\[\([0-9]* definitions in [0-9]* lines\)\].*$/\1/p' "$root/README.md")
 [ "$told" = "$(sed -n 's/^\([0-9]* definitions\), \([0-9]* lines\):$/\1 in \2/p' "$root/docs/DEFINITIONS.md" | head -n 1)" ]
 count "what a report means: so many definitions" $?
