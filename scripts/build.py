@@ -407,7 +407,7 @@ def build(crates, kept, sums):
         if len(run.proved) == len(crates):
             return
         told = f"{len(run.proved)} of {len(crates)} crates are proved already: going on from there"
-        first = f"proving {len(crates)} crates and building the program, once ({FIRST_CALL}, as measured)"
+        first = f"proving {len(crates)} crates and building the program, once ({FIRST_CALL}, as measured of an earlier version)"
         say(told if run.proved else first)
         failed = run.run()
         if failed:

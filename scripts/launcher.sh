@@ -1,7 +1,7 @@
 #!/bin/sh
 # Tries the launchers in a copy of this folder under a stand-in for the kit that proves nothing and notes on which crate it is called: which crates
 # a launcher builds, when it builds anew, what it does where it can't, and what the two programs share. Then it tries wrong launchers, each of which
-# a claim has to refuse. It takes a minute, and no proof. Last, with the word `build`, the launchers of this folder themselves build the programs, over
+# a claim has to refuse. It takes some minutes, and no proof. Last, with the word `build`, the launchers of this folder themselves build the programs, over
 # the libraries that are proved here but the last below the second; an example of README runs through the first, and the second joins its report: some
 # minutes. The last line counts.
 root=$(CDPATH= cd -- "$(dirname -- "$0")/.." && pwd) || exit 1
