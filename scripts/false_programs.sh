@@ -25,7 +25,7 @@ picture=
 record=
 while [ \$# -gt 0 ]; do
     case \$1 in
-        --workers | --cut | --proofs) shift 2 ;;
+        --workers | --cut | --proofs | --log) shift 2 ;;
         --record) record=\$2 && shift 2 ;;
         --map) picture=\$2 && shift 2 ;;
         --*) shift ;;

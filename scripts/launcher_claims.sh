@@ -170,8 +170,8 @@ claims_of_two_at_once() {
     { reach below cubejoin && reach below cubeboard; } | sort -u | comm -12 "$here/above" - > "$here/both"
     : > "$here/notes"
     SLOW=mark_board
-    timeout 120 "$here/copy/cubeboard" > "$here/out" 2> /dev/null < /dev/null &
-    timeout 120 "$here/copy/cubejoin" > "$here/out.join" 2> /dev/null < /dev/null
+    timeout 60 "$here/copy/cubeboard" > "$here/out" 2> /dev/null < /dev/null &
+    timeout 60 "$here/copy/cubejoin" > "$here/out.join" 2> /dev/null < /dev/null
     status=$?
     SLOW=
     wait $!
@@ -336,22 +336,28 @@ claims() {
     claims_of_failures
 }
 
-# The launchers of this folder: without the first program, that of the first has to prove it alone, and to run an example of README; without the second program
+# A copy of this folder with the libraries and programs that were built for the launchers.
+copy_built() {
+    copy_folder
+    for it in cubeboard cubejoin; do cp -r "$root/crates/$it/out" "$here/copy/crates/$it/out"; done
+}
+
+# The launchers of the copy: without the first program, that of the first has to prove it alone, and to run an example of README; without the second program
 # and the last library below it, that of the second has to prove both, and to join that example's report with itself.
 build_here() {
-    PATH=${PATH#"$here/bin:"}
-    out=$root/crates/cubeboard/out
+    copy_built
+    out=$here/copy/crates/cubeboard/out
+    example=$root/examples/pigeons-7-in-6
     rm -f "$out/cubeboard" "$out/built"
-    "$root/cubeboard" < "$root/examples/pigeons-7-in-6.icnf" > "$here/out" 2> "$here/err"
-    [ $? -eq 0 ] && cmp -s "$here/out" "$root/examples/pigeons-7-in-6.report"
+    "$here/copy/cubeboard" < "$example.icnf" > "$here/out" 2> "$here/err"
+    [ $? -eq 0 ] && cmp -s "$here/out" "$example.report"
     is_well=$?
     [ "$is_well" -eq 0 ] || cat "$here/err"
     count "the launcher builds the program, and an example of README runs" "$is_well"
     [ "$(grep -c "^cubeboard: proved " "$here/err")" -eq 1 ] && grep -q "^cubeboard: proved .* of .*: cubeboard" "$here/err"
     count "it has proved its program alone" $?
-    example=$root/examples/pigeons-7-in-6
-    rm -rf "$root/crates/cubejoin/out/cubejoin" "$out/rlib/join_command.rlib" "$out/rlib/join_command.sum"
-    "$root/cubejoin" --unbound "$example.icnf" "$example.report" "$example.report" < /dev/null > "$here/out" 2> "$here/err"
+    rm -rf "$here/copy/crates/cubejoin/out/cubejoin" "$out/rlib/join_command.rlib" "$out/rlib/join_command.sum"
+    "$here/copy/cubejoin" --unbound "$example.icnf" "$example.report" "$example.report" < /dev/null > "$here/out" 2> "$here/err"
     [ $? -eq 0 ] && cmp -s "$here/out" "$example.report"
     is_well=$?
     [ "$is_well" -eq 0 ] || cat "$here/err"

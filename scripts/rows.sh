@@ -50,7 +50,7 @@ for word in --version -V; do
     count "the word $word" $?
 done
 refuses --no-such-word --no-such-word
-for word in --workers --cut --formula --proofs --map --record; do
+for word in --workers --cut --formula --proofs --map --record --log; do
     refuses "$word" "$word"
     refuses "$word" "$word" ''
     refuses "$word" "$word="
@@ -64,7 +64,7 @@ refuses --explain --explain=1
 # What is read isn't written over: FILE, the formula's file, a proof, whether it is there or not.
 lay_out "$root/tests/rows/two_cubes_refuted"
 cp "$root/tests/rows/two_cubes_refuted.in" "$here/run/case.icnf"
-for word in --map --record; do
+for word in --map --record --log; do
     refuses "'$word' can't name a file that is read" "$word" case.icnf case.icnf
     refuses "'$word' can't name a file that is read" "$word" formula.cnf --formula formula.cnf case.icnf
     refuses "'$word' can't name a file that is read" "$word" proofs/1.lrat --proofs proofs
@@ -239,8 +239,47 @@ run /dev/null --record a.record
 [ "$(cat "$here/status")" = 3 ] && [ "$(cat "$here/run/a.record")" = "what was there" ]
 count "no record of a refused input" $?
 refuses "can't name the same file" --record one --map one
+refuses "'--log' and '--map' can't name the same file" --log one --map one
+refuses "'--log' and '--record' can't name the same file" --log one --record one
 [ ! -e "$here/run/one" ]
-count "nothing made where a picture and a record would be one file" $?
+count "nothing made where two of a picture, a record and a log would be one file" $?
+
+# A log: the report is the same, and the file, which is made anew before anything is read, gets the report's line of each proof, and no other line.
+is_logged() {
+    grep -e ' refuted$' -e ' rejected ' "$here/out" | sort > "$here/wanted"
+    sort "$here/run/a.log" | cmp -s - "$here/wanted"
+}
+for row in two_cubes_refuted candidate_without_a_group proof_for_an_inner_node rejected_proof_for_an_inner_node; do
+    lay_out "$root/tests/rows/$row"
+    echo "what was there" > "$here/run/a.log"
+    run "$root/tests/rows/$row.in" --log a.log
+    has_given "$root/tests/rows/$row.out" "$root/tests/rows/$row.err" "$root/tests/rows/$row.status" && is_logged
+    count "a log of $row" $?
+done
+for row in folder_of_proofs folder_with_missing_leaves; do
+    base=$root/tests/rows/$row
+    lay_out "$base"
+    with_words "$base" run "$base.in" --log=a.log --progress --workers 1
+    cmp -s "$here/out" "$base.out" && cmp -s "$here/status" "$base.status" && is_logged
+    count "a log of $row" $?
+done
+run "$refuted.in" --log no_such_folder/a.log
+is_device "a log in a folder that isn't there"
+echo "what was there" > "$here/run/a.log"
+run /dev/null --log a.log
+[ "$(cat "$here/status")" = 3 ] && [ -e "$here/run/a.log" ] && [ ! -s "$here/run/a.log" ]
+count "an empty log of a refused input" $?
+
+# A run that a signal ends leaves the lines of what it has judged: here it waits for ever for the second proof.
+lay_out "$folder"
+rm "$here/run/proofs/2.lrat" && mkfifo "$here/run/proofs/2.lrat"
+(cd "$here/run" && exec "$program" --workers 1 --log a.log --proofs proofs case.icnf < /dev/null > "$here/out" 2> "$here/err") &
+tries=0
+until [ -s "$here/run/a.log" ] || [ "$tries" -gt 200 ]; do sleep 0.1; tries=$((tries + 1)); done
+kill -TERM $! 2> /dev/null
+wait $! 2> /dev/null
+[ $? -eq 143 ] && [ ! -s "$here/out" ] && [ "$(cat "$here/run/a.log")" = "$(sed -n '/^a 1 /p' "$folder.out")" ]
+count "a log of a run that was ended" $?
 
 # What is there and may not be read. Root reads anything, so the program runs as another user then.
 as_another_user

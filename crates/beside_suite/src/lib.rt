@@ -1,6 +1,9 @@
-//! The tests of what `cubeboard` writes and tells beside its report: pictures, records, progress.
+//! The tests of what `cubeboard` writes and tells beside its report: pictures, records, logs,
+//! progress.
 #![tactic(auto)]
 
+#[cfg(test)]
+mod log_tests;
 #[cfg(test)]
 mod map_tests;
 #[cfg(test)]

@@ -2,7 +2,7 @@
 //! a picture is written by hand from what a cell is.
 ghost use Rattle.std.specs.Prelude.{◌≡◌, ◌<◌, ◌^◌, ◌-◌};
 
-use cube_command::{Counted, FileStore, NoExplain, NoGate, command};
+use cube_command::{Counted, FileStore, NoExplain, NoGate, NoLog, command};
 use cube_report::Fault;
 use devices::{Narrow, Shelf};
 use fixtures::bundles::{BOTH_CUBES, BOTH_CUBES_REPORT};
@@ -56,6 +56,7 @@ fn status_with<R: AllocGlobal + Abort + Threads + Wait + Sync>(
         &NoGate,
         &NoGate,
         &NoExplain,
+        &NoLog,
     );
     (status, errors)
 }

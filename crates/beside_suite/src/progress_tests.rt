@@ -2,7 +2,7 @@
 //! bundles are made and from how the clock goes.
 
 use cube_command::{
-    Counted, FileStore, Metered, MeteredFiles, NoExplain, NoGate, Progress, command,
+    Counted, FileStore, Metered, MeteredFiles, NoExplain, NoGate, NoLog, Progress, command,
 };
 use devices::{File, Shelf};
 use fixtures::bundles::{FOUR_CUBES, FOUR_CUBES_REPORT};
@@ -106,6 +106,7 @@ fn tells<R: AllocGlobal + Abort + Threads + Wait + Sync>(
         &NoGate,
         &Progress::new(device, on_terminal),
         &NoExplain,
+        &NoLog,
     );
     let (wanted_status, report, text) = wanted;
     status == wanted_status && *output == *report && errors.is_empty() && device.has(text)
@@ -229,6 +230,7 @@ fn tells_of_file<R: AllocGlobal + Abort + Threads + Wait + Sync>(
         &NoGate,
         &progress,
         &NoExplain,
+        &NoLog,
     );
     let (wanted_status, report, error, text) = wanted;
     status == wanted_status && *output == *report && *errors == *error && device.has(text)

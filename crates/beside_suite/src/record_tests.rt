@@ -2,7 +2,7 @@
 //! from `sha256sum`, each of the text that is told beside it.
 ghost use Rattle.std.specs.Prelude.{◌≡◌, ◌<◌, ◌^◌, ◌-◌};
 
-use cube_command::{Counted, FileStore, NoExplain, NoGate, command};
+use cube_command::{Counted, FileStore, NoExplain, NoGate, NoLog, command};
 use cube_report::Fault;
 use devices::{File, Narrow, Shelf};
 use fixtures::bundles::{BOTH_CUBES, BOTH_CUBES_REPORT};
@@ -61,6 +61,7 @@ fn status_with<R: AllocGlobal + Abort + Threads + Wait + Sync>(
         &NoGate,
         &NoGate,
         &NoExplain,
+        &NoLog,
     );
     (status, errors)
 }

@@ -17,7 +17,7 @@ use split_tree::{Leaf, Target, Tree};
 use std::alloc::{AllocError, AllocFailed, Global};
 
 /// Why a label line names no target.
-#[derive(Clone, Copy, Debug)]
+#[derive(Clone, Copy)]
 pub(crate) enum LabelFault {
     /// It has none of the forms of a label.
     BadForm,

@@ -34,7 +34,7 @@ pub enum Examined {
 }
 
 /// A leaf, and what became of it.
-#[derive(Clone, Copy, Debug)]
+#[derive(Clone, Copy)]
 pub(crate) struct ExaminedLeaf {
     pub(crate) leaf: Leaf,
     pub(crate) examined: Examined,

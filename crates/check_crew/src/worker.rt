@@ -168,42 +168,38 @@ pub(crate) fn work<R: Wait, G: Gate>(
     ensures { IsShiftOf (shared_of site.entry.core.now)
         site.entry.jobs.now site.entry.order.now result }
 {
-    let Site {
-        case,
-        core,
-        jobs,
-        order,
-    } = site;
+    let short_of_memory = take_turns(rt, alloc, site, gate, worker, &mut pass, &mut job_pass);
+    Shift {
+        pass,
+        job_pass,
+        short_of_memory,
+    }
+}
+
+/// The same on passes that are lent; answers whether memory was refused.
+fn take_turns<R: Wait, G: Gate>(
+    rt: &R,
+    alloc: Global,
+    site: Site<'_>,
+    gate: &G,
+    worker: u32,
+    pass: &mut Pass,
+    job_pass: &mut JobPass,
+) -> bool
+    requires ready { AreReady site.case.now (shared_of site.core.now) site.jobs.now site.order.now }
+    requires pass { IsNewPass (shared_of site.core.now) pass.old }
+    requires job_pass { job_pass.old ≡ new_pass site.jobs.now }
+    ensures { IsShiftOf (shared_of site.entry.core.now) site.entry.jobs.now site.entry.order.now
+        (record { pass = pass.new; job_pass = job_pass.new; short_of_memory = result }) }
+{
     let mut scratch = Scratch::new(alloc);
     for _ in rt.forever() {
-        let Some(turn) = jobs.claim(rt, &mut job_pass) else {
-            return Shift {
-                pass,
-                job_pass,
-                short_of_memory: false,
-            };
+        let Some(turn) = site.jobs.claim(rt, job_pass) else {
+            return false;
         };
-        let site = Site {
-            case,
-            core,
-            jobs,
-            order,
-        };
-        let Ok(()) = take_turn(
-            rt,
-            alloc,
-            site,
-            gate,
-            worker,
-            &mut scratch,
-            &mut pass,
-            order[turn],
-        ) else {
-            return Shift {
-                pass,
-                job_pass,
-                short_of_memory: true,
-            };
+        let place = site.order[turn];
+        let Ok(()) = take_turn(rt, alloc, site, gate, worker, &mut scratch, pass, place) else {
+            return true;
         };
     }
     unreachable!()

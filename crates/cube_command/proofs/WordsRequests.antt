@@ -12,7 +12,8 @@ use Rattle.clap.specs.Words.{one_text, HasKind, Kinds}
 use Rattle.clap.proofs.OnLiterals.{clap_on_literals}
 use Rattle.clap.proofs.WalkLemmas.{first_value-rows, one_text-rows}
 use Rattle.cube_command.specs.Words.{AreApart, AreSpared, AreTaken, asked_for, file_of, folder_of}
-use Rattle.cube_command.specs.Words.{formula_of, map_of, record_of, SparesRead, words_taken}
+use Rattle.cube_command.specs.Words.{formula_of, log_of, map_of, record_of, SparesRead}
+use Rattle.cube_command.specs.Words.{words_taken}
 use Rattle.cube_command.specs.Inner.Words.{Reads, SaysFlag, SaysNumber, flag_text}
 
 -- what the parser's matches hold under a name is what the words ask for
@@ -56,28 +57,28 @@ taken_fails parser words error is fails taken =
 
 -- words that were parsed, and whose files can be written where they say, are taken
 pub parsed_taken : (parser : Command) (words : List Text)
-    (picture out formula file folder : Option Text)
+    (picture out log formula file folder : Option Text)
     → app_of parser ≡ words_taken
     → (is_simple_and_free (app_of parser) ≡ true → fault_of (app_of parser) words ≡ [])
     → picture ≡ asked_for (codes "map") words → out ≡ asked_for (codes "record") words
-    → formula ≡ asked_for (codes "formula") words → file ≡ asked_for (codes "file") words
-    → folder ≡ asked_for (codes "proofs") words
-    → AreSpared picture out formula file folder → AreTaken words
-parsed_taken parser words picture out formula file folder is parsed picture_is out_is formula_is
-    file_is folder_is spared = (
+    → log ≡ asked_for (codes "log") words → formula ≡ asked_for (codes "formula") words
+    → file ≡ asked_for (codes "file") words → folder ≡ asked_for (codes "proofs") words
+    → AreSpared picture out log formula file folder → AreTaken words
+parsed_taken parser words picture out log formula file folder is parsed picture_is out_is log_is
+    formula_is file_is folder_is spared = (
       sym (ap (λ (a : App). fault_of a words) is) ∙ parsed (parser_simple parser is),
-      rw (picture_is, out_is, formula_is, file_is, folder_is) at spared,
+      rw (picture_is, out_is, log_is, formula_is, file_is, folder_is) at spared,
     )
 
 -- words whose files can't be written where they say aren't taken
-pub clash_untaken : (words : List Text) (picture out formula file folder : Option Text)
+pub clash_untaken : (words : List Text) (picture out log formula file folder : Option Text)
     → picture ≡ asked_for (codes "map") words → out ≡ asked_for (codes "record") words
-    → formula ≡ asked_for (codes "formula") words → file ≡ asked_for (codes "file") words
-    → folder ≡ asked_for (codes "proofs") words
-    → ¬ AreSpared picture out formula file folder → ¬ AreTaken words
-clash_untaken words picture out formula file folder picture_is out_is formula_is file_is folder_is
-    clash taken =
-    clash (rw (picture_is, out_is, formula_is, file_is, folder_is) taken.1)
+    → log ≡ asked_for (codes "log") words → formula ≡ asked_for (codes "formula") words
+    → file ≡ asked_for (codes "file") words → folder ≡ asked_for (codes "proofs") words
+    → ¬ AreSpared picture out log formula file folder → ¬ AreTaken words
+clash_untaken words picture out log formula file folder picture_is out_is log_is formula_is file_is
+    folder_is clash taken =
+    clash (rw (picture_is, out_is, log_is, formula_is, file_is, folder_is) taken.1)
 
 no_fault : fault_of words_taken [] ≡ []
 unfolding clap_on_literals
@@ -96,6 +97,10 @@ no_record : asked_for (codes "record") [] ≡ None
 unfolding clap_on_literals
 no_record = refl
 
+no_log : asked_for (codes "log") [] ≡ None
+unfolding clap_on_literals
+no_log = refl
+
 -- what isn't asked for is none of the files that are read
 spared_of_none : (written formula file folder : Option Text) → written ≡ None →
     SparesRead written formula file folder
@@ -112,6 +117,9 @@ no_words_taken = (
     apart_of_none (map_of []) (record_of []) no_map,
     spared_of_none (map_of []) (formula_of []) (file_of []) (folder_of []) no_map,
     spared_of_none (record_of []) (formula_of []) (file_of []) (folder_of []) no_record,
+    apart_of_none (log_of []) (map_of []) no_log,
+    apart_of_none (log_of []) (record_of []) no_log,
+    spared_of_none (log_of []) (formula_of []) (file_of []) (folder_of []) no_log,
   ),
 )
 

@@ -51,6 +51,10 @@ map_word = record (valued (codes "map")) { parser = Some NonEmptyString }
 abbrev pub record_word : Rule
 record_word = record (valued (codes "record")) { parser = Some NonEmptyString }
 
+-- `--log` with a text that isn't empty
+abbrev pub log_word : Rule
+log_word = record (valued (codes "log")) { parser = Some NonEmptyString }
+
 -- one text without a name
 abbrev pub file_word : Rule
 file_word = record (new_rule (codes "file")) { value_names = 1 }
@@ -62,9 +66,10 @@ with_version parser =
 
 abbrev pub words_taken : App
 words_taken =
-    with_rule (with_rule (with_rule (with_rule (with_rule (with_rule (with_rule
+    with_rule (with_rule (with_rule (with_rule (with_rule (with_rule (with_rule (with_rule
     (with_rule (with_rule (with_version (new_app (codes "cubeboard"))) workers_word) cut_word)
-    formula_word) proofs_word) progress_word) explain_word) map_word) record_word) file_word
+    formula_word) proofs_word) progress_word) explain_word) map_word) record_word) log_word)
+    file_word
 
 -- the value that `clap` finds in these words
 abbrev pub asked_for : Text → List Text → Option Text
@@ -93,6 +98,10 @@ map_of words = first_of (codes "map") (matches_of words_taken words)
 abbrev pub record_of : List Text → Option Text
 record_of words = first_of (codes "record") (matches_of words_taken words)
 
+-- the file for the log
+abbrev pub log_of : List Text → Option Text
+log_of words = first_of (codes "log") (matches_of words_taken words)
+
 -- two files, where both are asked for, have two paths
 abbrev pub AreApart : Option Text → Option Text → Type 0
 AreApart one other = (path : Text) → one ≡ Some path → other ≢ Some path
@@ -108,21 +117,24 @@ abbrev pub SparesRead : Option Text → Option Text → Option Text → Option T
 SparesRead written formula file folder =
     AreApart written formula × AreApart written file × IsNoProof folder written
 
--- the picture and the record have two paths, and neither is that of a file that is read
-abbrev pub AreSpared : Option Text → Option Text → Option Text → Option Text → Option Text → Type 0
-AreSpared picture out formula file folder =
+-- the picture, the record and the log have three paths, and none is that of a file that is read
+abbrev pub AreSpared : Option Text → Option Text → Option Text → Option Text → Option Text →
+    Option Text → Type 0
+AreSpared picture out log formula file folder =
     AreApart picture out × SparesRead picture formula file folder
-    × SparesRead out formula file folder
+    × SparesRead out formula file folder × AreApart log picture × AreApart log out
+    × SparesRead log formula file folder
 
 -- These words fit all that: `clap` finds no fault in them, they ask for neither help nor the
--- version, and the files that they have written are none of those that are read, and two.
+-- version, and the files that they have written are none of those that are read, and apart.
 abbrev pub AreTaken : List Text → Type 0
 AreTaken words =
     (fault_of words_taken words ≡ [])
-    × AreSpared (map_of words) (record_of words) (formula_of words) (file_of words)
-    (folder_of words)
+    × AreSpared (map_of words) (record_of words) (log_of words) (formula_of words)
+    (file_of words) (folder_of words)
 
--- a file of this path is read: the formula's, FILE, or that of a proof in DIR, whichever its name is
+-- a file of this path is read: the formula's, FILE, or that of a proof in DIR, whichever its name
+-- is
 abbrev pub IsInput : List Text → Text → Type 0
 IsInput words path =
     (formula_of words ≡ Some path) ⊎ (file_of words ≡ Some path)

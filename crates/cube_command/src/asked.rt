@@ -21,6 +21,7 @@ pub(crate) fn asked_in<'a>(request: &Request<'a>) -> Asked<'a> {
         proofs: request.proofs,
         map: request.map,
         out: request.out,
+        log: request.log,
     }
 }
 

@@ -16,6 +16,8 @@ pub struct Asked<'a> {
     pub map: Option<&'a str>,
     /// The file for the record.
     pub out: Option<&'a str>,
+    /// The file for the log.
+    pub log: Option<&'a str>,
 }
 
 /// Who tells a person of a run, beside its report. A call is lent texts of the run, and changes

@@ -3,17 +3,20 @@
 
 mod asked;
 mod explain;
+mod log;
 // `command` stands here: a module can't have the name of an item beside it.
 mod program;
 mod progress;
 mod reading;
 mod record;
 mod telling;
+mod watched;
 mod words;
 
 pub use bundle_files::{FileStore, Opener, Store, SystemFiles};
 pub use cube_report::{Counted, Found, Gate, NoGate, Sink, Source};
 pub use explain::{Asked, Explain, NoExplain};
+pub use log::{Log, NoLog, SystemLog};
 pub use program::command;
 pub use progress::Progress;
 pub use reading::{Meter, Metered, MeteredFiles, Watch};

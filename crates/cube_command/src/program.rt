@@ -11,7 +11,7 @@ ghost use Rattle.cube_report.specs.Correct.{AllowsReports};
 ghost use Rattle.cube_report.specs.Faults.{IsInputFault};
 ghost use Rattle.cube_command.specs.Headline.{IsPublished, IsSound};
 ghost use Rattle.cube_command.specs.Words.{AreApart, AreTaken, file_of, folder_of, map_of};
-ghost use Rattle.cube_command.specs.Words.{formula_of, IsInput, record_of, sources_of};
+ghost use Rattle.cube_command.specs.Words.{formula_of, IsInput, log_of, record_of, sources_of};
 ghost use Rattle.cube_command.specs.Record.{AllowsRecords};
 ghost use Rattle.cube_command.specs.Program.{IsStatus, IsMade, IsReported, IsRefused, IsBegun};
 ghost use Rattle.cube_command.specs.Program.{IsLineWritten, fault_line, AllowsFaults};
@@ -20,10 +20,11 @@ ghost use Rattle.cube_command.specs.Inner.Program.{sources_in};
 
 use crate::asked::{Telling, asked_in, fault_in};
 use crate::explain::Explain;
-use crate::progress::Watched;
+use crate::log::Log;
 use crate::reading::Watch;
 use crate::record::{begin_record, end_record};
 use crate::telling::{tell_fault, tell_run};
+use crate::watched::Watched;
 use crate::words::{Request, request_of};
 use bundle_files::{Store, judge_given, read_from};
 use clap::Error as WordsError;
@@ -35,10 +36,10 @@ use std::sync::Wait;
 use std::thread::Threads;
 
 /// The program on these words, which are those after its name: `[--workers N] [--cut D] [--formula
-/// CNF] [--proofs DIR] [--progress] [--map SVG] [--record OUT] [FILE]`. It reads a bundle from
-/// FILE, or from `input` where there is none, and writes the report to `output` or, where there is
-/// no report, one line to `errors`. Files are found by `store`. Both writers have to write at once,
-/// without a buffer of their own.
+/// CNF] [--proofs DIR] [--progress] [--explain] [--map SVG] [--record OUT] [--log LOG] [FILE]`. It
+/// reads a bundle from FILE, or from `input` where there is none, and writes the report to `output`
+/// or, where there is no report, one line to `errors`. Files are found by `store`. Both writers have
+/// to write at once, without a buffer of their own.
 ///
 /// With `--formula CNF` the clauses come from that file, a DIMACS text, and FILE adds cubes and
 /// sections, and no clause: the bundle is that text with its problem line overwritten by `p inccnf`
@@ -56,15 +57,18 @@ use std::thread::Threads;
 /// the text that was read is kept twice. With
 /// `--map SVG` a picture of the tree is written to that file, made anew, before the report; with
 /// `--record OUT` then a record to that one: the line `i ` with the SHA-256 of the iCNF text of the
-/// bundle that was read, and the report. The two can't be one file, nor one that is read: CNF, FILE
-/// or `DIR/NAME.lrat`, as their paths are written.
+/// bundle that was read, and the report. With `--log LOG` that file is made anew by `log` before
+/// anything is read, and gets the report's line of each proof when it is judged; a run that is made
+/// anew, with all proofs read beforehand, logs them once more. What `log` does is not `store`'s. No
+/// two of the three can be one file, nor one that is read: CNF, FILE or `DIR/NAME.lrat`, as their
+/// paths are written.
 ///
 /// Answers the status: 0 for a report that says refuted, 1 for one that says open, 2 where the
 /// words can't be taken or ask for help or the version, after the parser's text on `errors`, 3
 /// where the input is refused, 4 where memory or the start of a thread is refused, 5 where a device
 /// failed: also where FILE can't be opened, and where a file of DIR is there and can't be read. A
 /// failed write to `errors` doesn't change it.
-pub fn command<R, D, S, I, O, E, G, W, X>(
+pub fn command<R, D, S, I, O, E, G, W, X, L>(
     rt: &R,
     store: &mut D,
     words: &[S],
@@ -74,6 +78,7 @@ pub fn command<R, D, S, I, O, E, G, W, X>(
     gate: &G,
     watch: &W,
     explain: &X,
+    log: &L,
 ) -> u8
 where
     R: AllocGlobal + Threads + Wait + Sync,
@@ -85,6 +90,7 @@ where
     G: Gate + Sync,
     W: Gate + Watch + Sync,
     X: Explain,
+    L: Log + Sync,
     requires store { D.failures store.old < 2 ^ 64 - 1 }
     requires input { I.failures input.old < 2 ^ 64 - 1 }
     requires output { O.failures output.old < 2 ^ 64 - 1 }
@@ -177,7 +183,8 @@ where
         ⊎ IsLineWritten (E.contents errors.old) (E.contents errors.new) (E.failures errors.old)
         (E.failures errors.new) (fault_line Fault.Thread) }
     // Status 5: a device failed, and this is told. It stands where a call failed that reads or
-    // writes the report, and only there or where a file that is asked for isn't there.
+    // writes the report, and only there, where a file that is asked for isn't there, or where a log
+    // is asked for, whose file may be one that can't be made.
     ensures device { result ≡ 5 →
         IsLineWritten (E.contents errors.old) (E.contents errors.new) (E.failures errors.old)
         (E.failures errors.new) (fault_line Fault.Device) }
@@ -186,14 +193,18 @@ where
     ensures broken { result ≡ 5 →
         (D.failures store.old + I.failures input.old + O.failures output.old
         < D.failures store.new + I.failures input.new + O.failures output.new)
-        ⊎ IsOneAbsent (D.held store.old) (sources_of (map S.text words.now)) }
+        ⊎ IsOneAbsent (D.held store.old) (sources_of (map S.text words.now))
+        ⊎ (log_of (map S.text words.now) ≢ None) }
 {
     match request_of(rt.alloc(), words) {
         Ok(request) => {
             let gates = Watched {
+                alloc: rt.alloc(),
                 gate,
                 watch,
                 is_asked: request.progress,
+                log,
+                logged: request.log,
             };
             let mut bundle = Vec::new(rt.alloc());
             let telling = Telling {
@@ -224,13 +235,13 @@ where
 
 /// What the request asks for: whether the report that was written says refuted, or why there is
 /// none. What is told of the run is told of the bundle that was read, which is kept for that.
-fn run_request<R, D, I, O, G, X>(
+fn run_request<R, D, I, O, G, W, X, L>(
     rt: &R,
     store: &mut D,
     request: &Request<'_>,
     input: &mut I,
     output: &mut O,
-    gate: &G,
+    gates: &Watched<'_, G, W, L>,
     telling: &Telling<'_, X>,
     bundle: &mut Vec<u8>,
 ) -> Result<bool, Fault>
@@ -240,7 +251,9 @@ where
     I: Source,
     O: Sink,
     G: Gate + Sync,
+    W: Gate + Sync,
     X: Explain,
+    L: Log + Sync,
     requires store { D.failures store.old < 2 ^ 64 - 1 }
     requires input { I.failures input.old < 2 ^ 64 - 1 }
     requires output { O.failures output.old < 2 ^ 64 - 1 }
@@ -289,8 +302,10 @@ where
     ensures broken { IsErrOf result Fault.Device →
         (D.failures store.old + I.failures input.old + O.failures output.old
         < D.failures store.new + I.failures input.new + O.failures output.new)
-        ⊎ IsOneAbsent (D.held store.old) (sources_in request.now) }
+        ⊎ IsOneAbsent (D.held store.old) (sources_in request.now)
+        ⊎ (gates.now.logged ≢ None) }
 {
+    gates.begins_log()?;
     let wants_case = request.proofs.is_some();
     let read = read_from(
         rt.alloc(),
@@ -309,7 +324,7 @@ where
         read,
         request.proofs,
         request.settings,
-        gate,
+        gates,
         draws,
     )?;
     end_record(&mut record, request.out, &outcome.text)?;

@@ -9,7 +9,8 @@ ghost use Rattle.bundle_files.specs.Files.{proof_path};
 ghost use Rattle.cube_command.specs.Words.{AreApart, AreSpared, AreTaken, asked_for, cut_word};
 ghost use Rattle.cube_command.specs.Words.{explain_word, file_word, formula_word, IsNoProof};
 ghost use Rattle.cube_command.specs.Words.{SparesRead};
-ghost use Rattle.cube_command.specs.Words.{map_word, progress_word, proofs_word, record_word};
+ghost use Rattle.cube_command.specs.Words.{log_word, map_word, progress_word, proofs_word};
+ghost use Rattle.cube_command.specs.Words.{record_word};
 ghost use Rattle.cube_command.specs.Words.{with_version, words_taken, workers_word};
 ghost use Rattle.cube_command.specs.Inner.Words.{flag_text, with_flags, with_inputs, with_numbers};
 ghost use Rattle.cube_command.specs.Inner.Words.{with_outputs, Reads, SaysFlag, SaysNumber};
@@ -40,6 +41,8 @@ pub struct Request<'a> {
     pub map: Option<&'a str>,
     /// The file for the record, where one is asked for; not the picture's.
     pub out: Option<&'a str>,
+    /// The file for the log, where one is asked for; another one.
+    pub log: Option<&'a str>,
 }
 
 /// The version, and what `rt version` of the kit that proved it ends in: kits of one logic may have
@@ -66,8 +69,7 @@ The report is the same for every N and D:
   w   the open weight; 0 where nothing is open
   s   REFUTED: the formula has no model; OPEN: that isn't shown
 
-Status: 0 REFUTED, 1 OPEN, 2 words or help, 3 input refused, 4 memory or threads,
-5 device.
+Status: 0 REFUTED, 1 OPEN, 2 words or help, 3 input, 4 memory or threads, 5 device.
 Example: printf 'p inccnf\\n1 0\\n-1 0\\na 0\\nl 1\\n3 0 1 2 0\\n' | cubeboard";
 
 /// What these words, without the program's name, ask for; or the parser's text, which is the help
@@ -88,6 +90,9 @@ pub fn request_of<'a, S: AsStr>(alloc: Global, words: &'a [S]) -> Result<Request
         (map S.text words.now)) }
     ensures out { IfOk result
         (λ request. option_map (λ text. text.now) request.out ≡ asked_for (codes "record")
+        (map S.text words.now)) }
+    ensures log { IfOk result
+        (λ request. option_map (λ text. text.now) request.log ≡ asked_for (codes "log")
         (map S.text words.now)) }
     ensures settings { IfOk result (λ request. (workers cut : ℕ)
         → SaysNumber (codes "workers") (map S.text words.now) workers → 0 < workers → workers ≤ 32
@@ -122,6 +127,8 @@ fn request_in<'a>(matches: &ArgMatches<'a>) -> Request<'a>
         ≡ first_value (found_of matches.now) (codes "map") }
     ensures out { option_map (λ text. text.now) result.out
         ≡ first_value (found_of matches.now) (codes "record") }
+    ensures log { option_map (λ text. text.now) result.log
+        ≡ first_value (found_of matches.now) (codes "log") }
     ensures settings { (workers cut : ℕ)
         → Reads (one_text (found_of matches.now) (codes "workers")) workers → 0 < workers
         → workers ≤ 32
@@ -143,18 +150,21 @@ fn request_in<'a>(matches: &ArgMatches<'a>) -> Request<'a>
         explain: matches.get_flag("explain"),
         map: matches.get_str("map"),
         out: matches.get_str("record"),
+        log: matches.get_str("log"),
     }
 }
 
-/// Why the picture and the record can't be written where the request says, if they can't.
+/// Why the picture, the record and the log can't be written where the request says, if they can't.
 fn clash_in(request: &Request<'_>) -> Option<&'static str>
     ensures none { result ≡ None → AreSpared (option_map (λ path. path.now) request.now.map)
         (option_map (λ path. path.now) request.now.out)
+        (option_map (λ path. path.now) request.now.log)
         (option_map (λ path. path.now) request.now.formula)
         (option_map (λ path. path.now) request.now.file)
         (option_map (λ path. path.now) request.now.proofs) }
     ensures some { IfSome result (λ _. ¬ AreSpared (option_map (λ path. path.now) request.now.map)
         (option_map (λ path. path.now) request.now.out)
+        (option_map (λ path. path.now) request.now.log)
         (option_map (λ path. path.now) request.now.formula)
         (option_map (λ path. path.now) request.now.file)
         (option_map (λ path. path.now) request.now.proofs)) }
@@ -167,6 +177,15 @@ fn clash_in(request: &Request<'_>) -> Option<&'static str>
     }
     if !spares_read(request.out, request) {
         return Some("'--record' can't name a file that is read");
+    }
+    if !are_apart(request.log, request.map) {
+        return Some("'--log' and '--map' can't name the same file");
+    }
+    if !are_apart(request.log, request.out) {
+        return Some("'--log' and '--record' can't name the same file");
+    }
+    if !spares_read(request.log, request) {
+        return Some("'--log' can't name a file that is read");
     }
     None
 }
@@ -288,7 +307,10 @@ fn parser<'a>(alloc: Global) -> Result<Command<'a>, AllocError>
 fn outputs<'a>(alloc: Global) -> Result<Command<'a>, AllocError>
     ensures { IfOk result (λ parser. app_of parser ≡ with_outputs) }
 {
-    flags(alloc)?.arg(map_word(alloc))?.arg(record_word(alloc))
+    flags(alloc)?
+        .arg(map_word(alloc))?
+        .arg(record_word(alloc))?
+        .arg(log_word(alloc))
 }
 
 /// A parser that also takes what is told beside the report.
@@ -421,6 +443,18 @@ fn record_word<'a>(alloc: Global) -> Arg<'a>
         .value_name("OUT")
         .value_parser(ValueParser::NonEmptyString)
         .help("A file for the report under the SHA-256 of the formula's text, made anew")
+}
+
+/// The file for the log.
+fn log_word<'a>(alloc: Global) -> Arg<'a>
+    ensures rule { rule_of result ≡ log_word }
+    ensures own { result.global ≡ false }
+{
+    Arg::new(alloc, "log")
+        .long("log")
+        .value_name("LOG")
+        .value_parser(ValueParser::NonEmptyString)
+        .help("A file for a line of each proof as it is judged, made anew")
 }
 
 /// The bundle's file.

@@ -166,7 +166,7 @@ fn tell_proofs<R: Eprint + Files + AllocGlobal + Clone + Drop>(
 
 /// Tells the first file that can't be made, and answers whether there is one.
 fn tell_unwritten<R: Eprint + Files>(device: &R, asked: &Asked<'_>) -> io::Result<bool> {
-    for path in [asked.map, asked.out] {
+    for path in [asked.log, asked.map, asked.out] {
         if let Some(path) = path {
             if tell_error(device, path, try_folder_of(device, path))? {
                 return Ok(true);

@@ -12,6 +12,7 @@ pub use Rattle.case_core.specs.Literal
 pub use Rattle.check_crew.specs.Halls
 pub use Rattle.check_crew.specs.Seen
 pub use Rattle.mark_board.specs.declared.mark.Mark
+pub use Rattle.split_tree.specs.Leaves
 pub use Rattle.split_tree.specs.Parts
 pub use Rattle.split_tree.specs.SplitTree
 pub use Rattle.tree_map.specs.Picture

@@ -18,4 +18,4 @@ pub use laws::{
     a_line_for_each_section, a_short_report, one_answer, one_report, same_report, written_is_stated,
 };
 pub use mark_board::Place;
-pub use report::report_of;
+pub use report::{line_of, report_of};

@@ -2,15 +2,17 @@
 
 ghost use Rattle.std.specs.Prelude.{◌≡◌, ◌++◌, length, OnOk, IfOk};
 ghost use Rattle.split_tree.specs.SplitTree.{subtrees, total, path_at};
-ghost use Rattle.split_tree.specs.Leaves.{cube_count, missing_nodes, IsTargetAt};
+ghost use Rattle.split_tree.specs.Leaves.{cube_count, missing_nodes, IsTargetAt, HasTarget};
 ghost use Rattle.split_tree.specs.declared.node.Target.TheVariants.{Node};
 ghost use Rattle.mark_board.specs.Marking.{open_branches, refuted_by, mark_at};
 ghost use Rattle.tree_map.specs.Fields.{answer_line};
 ghost use Rattle.cube_report.specs.Report.{total_line, cube_line, missing_line, node_line};
 ghost use Rattle.cube_report.specs.Report.{open_line, weight_line, cube_lines, missing_lines};
 ghost use Rattle.cube_report.specs.Report.{node_lines, open_lines, marked_line, report_text};
+ghost use Rattle.cube_report.specs.Report.{IsLineOf};
+ghost use Rattle.mark_board.specs.Findings.{mark_as};
 
-use case_core::{Leaf, Lit, NodeId, Target};
+use case_core::{Judged, Leaf, Lit, NodeId, Target, Tree};
 use mark_board::{Mark, MarkedTree, open_branches_of};
 use std::alloc::{AllocError, Global};
 use tree_map::{answer, write_number, write_path, write_status};
@@ -31,6 +33,41 @@ pub fn report_of<M: MarkedTree>(alloc: Global, told: &M) -> Result<Vec<u8>, Allo
     let open = told.open_under(told.tree().root());
     write_closing(&mut text, open, open == 0)?;
     Ok(text)
+}
+
+/// The line that a report has of a target of the tree whose proof is judged so: a cube's, a missing
+/// leaf's or an inner node's. `AllocError` where a growth was refused.
+pub fn line_of(
+    alloc: Global,
+    tree: &Tree,
+    target: Target,
+    judged: Judged,
+) -> Result<Vec<u8>, AllocError>
+    requires { HasTarget tree.now target }
+    ensures { IfOk result (λ line. IsLineOf tree.now target judged line.items) }
+{
+    let mut line = Vec::new(alloc);
+    let asked = target;
+    let path = tree.path_of(alloc, asked)?;
+    let mark = mark_by(judged);
+    match target {
+        Target::Leaf(Leaf::Cube(number)) => write_cube(&mut line, number as u64, mark)?,
+        Target::Leaf(Leaf::Missing(number)) => {
+            write_missing(&mut line, number as u64, &path, mark)?;
+        }
+        Target::Node(_) => write_node(&mut line, &path, mark)?,
+    }
+    Ok(line)
+}
+
+/// The mark of what a proof is judged.
+fn mark_by(judged: Judged) -> Mark
+    ensures { result ≡ mark_as judged }
+{
+    match judged {
+        Judged::Refuted => Mark::Refuted,
+        Judged::Rejected { step, reason } => Mark::Rejected { step, reason },
+    }
 }
 
 #[tactic(auto, unfolding(crate::specs::Report::total_line))]

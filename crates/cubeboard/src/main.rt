@@ -2,7 +2,8 @@
 #![tactic(auto)]
 
 use cube_command::{
-    Counted, FileStore, Metered, MeteredFiles, NoGate, Progress, SystemFiles, command, own_words,
+    Counted, FileStore, Metered, MeteredFiles, NoGate, Progress, SystemFiles, SystemLog, command,
+    own_words,
 };
 use cube_explain::Teller;
 use std::io::IsTerminal;
@@ -22,6 +23,7 @@ fn main(rt: HostRuntime) -> ExitCode {
             &NoGate,
             &progress,
             &Teller::new(&rt),
+            &SystemLog::new(&rt),
         ),
         Err(status) => status,
     };

@@ -11,7 +11,7 @@ use std::alloc::{AllocError, Global};
 use std::marker::Model;
 
 /// A group of hints that is a run of a buffer's ids.
-#[derive(Clone, Copy, Debug)]
+#[derive(Clone, Copy)]
 pub(crate) struct GroupRun {
     pub(crate) candidate: u64,
     /// The place of its first hint.

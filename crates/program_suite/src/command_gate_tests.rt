@@ -1,7 +1,7 @@
 //! The program's words for its workers and its cut, by what a gate sees of them.
 
 use crossbeam_utils::Backoff;
-use cube_command::{Counted, FileStore, Found, Gate, NoExplain, NoGate, command};
+use cube_command::{Counted, FileStore, Found, Gate, NoExplain, NoGate, NoLog, command};
 use cube_report::Target;
 use devices::Shelf;
 use fixtures::bundles::TURNS;
@@ -42,6 +42,7 @@ fn status_beside<R: AllocGlobal + Abort + Threads + Wait + Sync, G: Gate + Sync>
         gate,
         &NoGate,
         &NoExplain,
+        &NoLog,
     )
 }
 

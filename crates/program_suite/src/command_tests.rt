@@ -2,7 +2,9 @@
 //! formats.
 ghost use Rattle.std.specs.Prelude.{◌<◌, ◌^◌, ◌-◌, ℕ, List};
 
-use cube_command::{Counted, FileStore, NoExplain, NoGate, Source, Store, SystemFiles, command};
+use cube_command::{
+    Counted, FileStore, NoExplain, NoGate, NoLog, Source, Store, SystemFiles, command,
+};
 use cube_report::Fault;
 use devices::{Broken, File, Narrow, Shelf};
 use fixtures::bundles::{BOTH_CUBES, OPEN, OPEN_REPORT, REFUTED, REFUTED_REPORT};
@@ -127,6 +129,7 @@ fn told<R: AllocGlobal + Abort + Threads + Wait + Sync, D: Store, I: Source>(
         &NoGate,
         &NoGate,
         &NoExplain,
+        &NoLog,
     );
     (status, output, errors)
 }
@@ -484,6 +487,7 @@ fn output_fails_at<R: AllocGlobal + Abort + Threads + Wait + Sync>(
         &NoGate,
         &NoGate,
         &NoExplain,
+        &NoLog,
     );
     assert!(rt; answer == 5, "{answer} at {fails_at}");
     assert!(rt; output.written.as_slice() == before, "at {fails_at}");
@@ -521,6 +525,7 @@ fn errors_fail_at<R: AllocGlobal + Abort + Threads + Wait + Sync>(
         &NoGate,
         &NoGate,
         &NoExplain,
+        &NoLog,
     );
     assert!(rt; answer == status, "{answer} at {fails_at}");
     assert!(rt; output.is_empty(), "at {fails_at}");

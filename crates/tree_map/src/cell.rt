@@ -15,7 +15,7 @@ use mark_board::{Boards, Mark};
 use std::alloc::{AllocError, Global};
 
 /// Where a node's cell lies.
-#[derive(Clone, Copy, Debug)]
+#[derive(Clone, Copy)]
 pub(crate) struct Cell {
     /// How many rows there are below its own.
     pub(crate) level: u32,

@@ -4,7 +4,7 @@ use Rattle.std.specs.Str.Parse.{IsNumeral, digits_value, without_leading_plus}
 use Rattle.clap.specs.Words.{App, Text, matches_of, new_app, one_of, with_rule}
 use Rattle.cube_command.specs.Words.{words_taken, with_version, workers_word, cut_word}
 use Rattle.cube_command.specs.Words.{formula_word, proofs_word, progress_word, explain_word}
-use Rattle.cube_command.specs.Words.{map_word, record_word}
+use Rattle.cube_command.specs.Words.{map_word, record_word, log_word}
 
 -- the words with numbers alone
 abbrev pub with_numbers : App
@@ -20,7 +20,7 @@ abbrev pub with_flags : App
 with_flags = with_rule (with_rule with_inputs progress_word) explain_word
 
 abbrev pub with_outputs : App
-with_outputs = with_rule (with_rule with_flags map_word) record_word
+with_outputs = with_rule (with_rule (with_rule with_flags map_word) record_word) log_word
 
 -- the text is there, and its decimal digits say this number
 abbrev pub Reads : Option Text → ℕ → Type 0

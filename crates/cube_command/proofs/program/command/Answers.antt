@@ -13,7 +13,8 @@ pub run_request-run-requires-clause-reports : goal.run_request-run-requires-clau
 run_request-run-requires-clause-reports g c = λ κs within.
     reports_asked (g.O.Sink.allows c.args.output.now) (g.D.Store.held c.args.store.now) _ _ _ _
     (g.I.Source.remaining c.args.input.now)
-    (ap₂ sources_by c.in-Ok.ensures.formula c.in-Ok.ensures.file) c.in-Ok.ensures.proofs c.requires.reports
+    (ap₂ sources_by c.in-Ok.ensures.formula c.in-Ok.ensures.file) c.in-Ok.ensures.proofs
+    c.requires.reports
 
 pub run_request-run-requires-clause-pictures : goal.run_request-run-requires-clause-pictures
 run_request-run-requires-clause-pictures g c = λ κs within.
@@ -58,7 +59,8 @@ refused-requires-clause-words g c =
 pub returns-in-Ok-clause-sound : goal.returns-in-Ok-clause-sound
 returns-in-Ok-clause-sound g c = λ zero.
     sound_run (g.D.Store.held c.args.store.now) _ _ _ _ _ _ _ (g.O.Sink.contents c.args.output.now)
-    (g.O.Sink.contents c.run_request-run.new.output) c.run_request-run.result c.tell_run-status.result _
+    (g.O.Sink.contents c.run_request-run.new.output) c.run_request-run.result
+    c.tell_run-status.result _
     (g.E.Sink.contents c.args.errors.now) (g.E.Sink.contents c.tell_run-status.new.errors)
     (g.E.Sink.failures c.args.errors.now) (g.E.Sink.failures c.tell_run-status.new.errors)
     (ap₂ sources_by c.in-Ok.ensures.formula c.in-Ok.ensures.file)
@@ -68,19 +70,20 @@ pub returns-in-Ok-clause-published : goal.returns-in-Ok-clause-published
 returns-in-Ok-clause-published g c = λ zero.
     published_run (g.D.Store.held c.args.store.now) _ _ _ _ _ _ _
     (g.O.Sink.contents c.args.output.now)
-    (g.O.Sink.contents c.run_request-run.new.output) c.run_request-run.result c.tell_run-status.result _
+    (g.O.Sink.contents c.run_request-run.new.output) c.run_request-run.result
+    c.tell_run-status.result _
     (g.E.Sink.contents c.args.errors.now) (g.E.Sink.contents c.tell_run-status.new.errors)
     (g.E.Sink.failures c.args.errors.now) (g.E.Sink.failures c.tell_run-status.new.errors)
     c.in-Ok.ensures.formula c.tell_run-status.ensures.told c.run_request-run.ensures.report zero
 
 pub returns-in-Ok-clause-fault : goal.returns-in-Ok-clause-fault
 returns-in-Ok-clause-fault g c = λ three.
-    fault_run (g.D.Store.held c.args.store.now) _ _ _ _ _ c.run_request-run.result c.tell_run-status.result
-    _
+    fault_run (g.D.Store.held c.args.store.now) _ _ _ _ _ c.run_request-run.result
+    c.tell_run-status.result _
     (g.E.Sink.contents c.args.errors.now) (g.E.Sink.contents c.tell_run-status.new.errors)
     (g.E.Sink.failures c.args.errors.now) (g.E.Sink.failures c.tell_run-status.new.errors)
-    (ap₂ sources_by c.in-Ok.ensures.formula c.in-Ok.ensures.file) c.in-Ok.ensures.proofs c.tell_run-status.ensures.told
-    c.run_request-run.ensures.fault three
+    (ap₂ sources_by c.in-Ok.ensures.formula c.in-Ok.ensures.file) c.in-Ok.ensures.proofs
+    c.tell_run-status.ensures.told c.run_request-run.ensures.fault three
 
 pub returns-in-Ok-clause-memory : goal.returns-in-Ok-clause-memory
 returns-in-Ok-clause-memory g c = λ four.

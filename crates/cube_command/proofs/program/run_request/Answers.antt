@@ -10,13 +10,13 @@ use Rattle.cube_command.proofs.program.run_request.Goals as goal
 
 pub returns-in_err-read-clause-fault : goal.returns-in_err-read-clause-fault
 returns-in_err-read-clause-fault g c =
-    handed_on c.from_residual.result
+    handed_on c.from_residual-in_err-read.result
     (λ fault. IsInputFault fault → IsRefused (g.D.Store.held c.args.store.now)
     (sources_in c.args.request.now)
     (option_map {T = Bor (List ℕ)} {U = List ℕ} (λ text. text.now) c.args.request.now.proofs)
     (g.I.Source.remaining c.args.input.now) fault)
     c.in_err-read.field-0.0
-    (λ input. inr (c.in_err-read.ensures.fault input)) c.from_residual.ensures.1
+    (λ input. inr (c.in_err-read.ensures.fault input)) c.from_residual-in_err-read.ensures.1
 
 pub returns-in_err-outcome-clause-fault : goal.returns-in_err-outcome-clause-fault
 returns-in_err-outcome-clause-fault g c =

@@ -16,10 +16,12 @@ returns-in_err-matches-clause-refused g c =
 
 pub returns-in-Some-clause-refused : goal.returns-in-Some-clause-refused
 returns-in-Some-clause-refused g c = λ taken.
-    absurd (clash_untaken _ _ _ _ _ _
+    absurd (clash_untaken _ _ _ _ _ _ _
     (c.request_in-request.ensures.map
     ∙ found_asked _ _ _ _ c.in_ok-parser.ensures c.in_ok-matches.ensures.matches)
     (c.request_in-request.ensures.out
+    ∙ found_asked _ _ _ _ c.in_ok-parser.ensures c.in_ok-matches.ensures.matches)
+    (c.request_in-request.ensures.log
     ∙ found_asked _ _ _ _ c.in_ok-parser.ensures c.in_ok-matches.ensures.matches)
     (c.request_in-request.ensures.formula
     ∙ found_asked _ _ _ _ c.in_ok-parser.ensures c.in_ok-matches.ensures.matches)
@@ -46,6 +48,9 @@ returns g c = record {
   out =
       c.request_in-request.ensures.out
       ∙ found_asked _ _ _ _ c.in_ok-parser.ensures c.in_ok-matches.ensures.matches;
+  log =
+      c.request_in-request.ensures.log
+      ∙ found_asked _ _ _ _ c.in_ok-parser.ensures c.in_ok-matches.ensures.matches;
   settings = λ workers cut says_workers least most says_cut top.
       c.request_in-request.ensures.settings workers cut
       (number_asked _ _ _ _ workers c.in_ok-parser.ensures c.in_ok-matches.ensures.matches
@@ -59,10 +64,12 @@ returns g c = record {
   explain = λ asked says.
       c.request_in-request.ensures.explain asked
       (flag_asked _ _ _ _ asked c.in_ok-parser.ensures c.in_ok-matches.ensures.matches says);
-  taken = parsed_taken _ _ _ _ _ _ _ c.in_ok-parser.ensures c.in_ok-matches.ensures.kinds
+  taken = parsed_taken _ _ _ _ _ _ _ _ c.in_ok-parser.ensures c.in_ok-matches.ensures.kinds
       (c.request_in-request.ensures.map
       ∙ found_asked _ _ _ _ c.in_ok-parser.ensures c.in_ok-matches.ensures.matches)
       (c.request_in-request.ensures.out
+      ∙ found_asked _ _ _ _ c.in_ok-parser.ensures c.in_ok-matches.ensures.matches)
+      (c.request_in-request.ensures.log
       ∙ found_asked _ _ _ _ c.in_ok-parser.ensures c.in_ok-matches.ensures.matches)
       (c.request_in-request.ensures.formula
       ∙ found_asked _ _ _ _ c.in_ok-parser.ensures c.in_ok-matches.ensures.matches)

@@ -2,12 +2,12 @@ use Rattle.std.proofs.Common.{◌≡◌, None, All}
 use Rattle.cube_jobs.specs.Jobs as queue
 use Rattle.board_hall.specs.Halls.{shared_of, view_of, IsPassOf}
 use Rattle.check_crew.specs.Inner.Crew.{HasSeenTurn}
-use Rattle.check_crew.proofs.worker.work.Given as goal
+use Rattle.check_crew.proofs.worker.take_turns.Given as goal
 
 abbrev pub invariant-loop : goal.invariant-loop
 invariant-loop g l = record {
-  pass : IsPassOf (shared_of l.core) l.pass;
+  pass : IsPassOf (shared_of l.site.core.now) l.pass;
   owes : (view_of l.pass).owes ≡ None;
-  job_pass : queue.IsPassOf l.jobs l.job_pass;
-  seen : All (HasSeenTurn l.order (view_of l.pass)) l.job_pass.claims;
+  job_pass : queue.IsPassOf l.site.jobs.now l.job_pass;
+  seen : All (HasSeenTurn l.site.order.now (view_of l.pass)) l.job_pass.claims;
 }

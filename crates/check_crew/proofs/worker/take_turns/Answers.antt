@@ -2,7 +2,7 @@ use Rattle.std.proofs.lemmas.List.Elements.{All-push, All-weaker}
 use Rattle.board_hall.specs.Halls.{view_of}
 use Rattle.check_crew.specs.Inner.Crew.{HasSeenTurn}
 use Rattle.check_crew.proofs.SeenTurns.{section_stays}
-use Rattle.check_crew.proofs.worker.work.Goals as goal
+use Rattle.check_crew.proofs.worker.take_turns.Goals as goal
 
 pub loop-preserved : goal.loop-preserved
 loop-preserved g c =
