@@ -157,6 +157,9 @@ TOLD
 run "$here/none" --explain --map nowhere/tree.svg case.icnf
 [ "$(tail -n 1 "$here/err")" = "explain: nowhere/tree.svg: No such file or directory (os error 2)" ] && [ "$(cat "$here/status")" -eq 5 ]
 count "a picture into a folder that isn't there" $?
+run "$here/none" --explain --log nowhere/case.log case.icnf
+[ "$(tail -n 1 "$here/err")" = "explain: nowhere/case.log: No such file or directory (os error 2)" ] && [ "$(cat "$here/status")" -eq 5 ]
+count "a log in a folder that isn't there" $?
 mkdir "$here/run/proofs/2.lrat"
 run "$here/none" --explain --proofs proofs case.icnf
 grep -q -x 'explain: proofs/2.lrat: Is a directory (os error 21)' "$here/err" && [ "$(cat "$here/status")" -eq 5 ]
