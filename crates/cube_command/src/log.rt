@@ -1,6 +1,6 @@
 //! The log of a run: a line for each proof as it is judged.
 
-ghost use Rattle.std.specs.Prelude.{◌≡◌, true};
+ghost use Rattle.std.specs.Prelude.{◌≡◌};
 ghost use Rattle.cube_report.specs.Report.{IsLineOf};
 
 use cube_report::Found;

@@ -1,6 +1,6 @@
 //! What goes on beside a run: the caller's gate, one that watches, and the log.
 
-ghost use Rattle.std.specs.Prelude.{◌≡◌, ◌≢◌, None, option_map, IfErr, OnErr, IfSome};
+ghost use Rattle.std.specs.Prelude.{◌≡◌, ◌≢◌, None, IfErr, OnErr};
 ghost use Rattle.cube_report.specs.Leaves.{HasTarget};
 
 use crate::log::Log;
