@@ -131,7 +131,8 @@ that it is unreadable.""",
     ("hint_check: the judgement of a proof", """
 The answer is the judgement of the live clauses and the proof, with RUP and RAT over all live clauses; where it is
 `Refuted`, the formula and the path have no model together.""",
-     ["hint_check/checker.rt Checker::judge judgement refuted"]),
+     ["hint_check/checker.rt Checker::judge judgement refuted",
+      "hint_check/judge.rt Judge::judge judgement refuted"]),
     ("split_tree: the tree of the cubes", """
 The answer is the tree of the cubes, no two of which clash, or it is the first clash.""",
      ["split_tree/tree.rt build tree fit total fault"]),
@@ -140,8 +141,9 @@ The case is the one that the bundle stands for, or the fault is its first one. W
 judgement of its section, or, for a leaf without one, of the text that is handed in, and the type of a finding keeps that
 a refuted target has no model with the formula.""",
      ["case_core/bundle.rt read_bundle ok only err",
-      "case_core/finding.rt examine -",
-      "case_core/finding.rt examine_text -",
+      "case_core/examiner.rt examine -",
+      "case_core/examiner.rt Examiner::examine found",
+      "case_core/examiner.rt Examiner::examine_text found",
       "case_core/bundle.rt has_label_line -",
       "case_core/bundle.rt icnf_part -",
       "case_core/scan.rt LabelScan::new -",

@@ -80,7 +80,30 @@ pub(crate) fn find_fault<D: Store>(
     ensures err { IfErr result (IsJudgingFault (D.failures store.old) (D.failures store.new)) }
 {
     let case = read_bundle(alloc, bundle)?;
-    match look(alloc, store, folder, &case, bundle)? {
+    find_beside(alloc, store, folder, &case, bundle)
+}
+
+/// The same beside the case of the bundle alone.
+fn find_beside<D: Store>(
+    alloc: Global,
+    store: &mut D,
+    folder: &str,
+    case: &Case,
+    bundle: &[u8],
+) -> Result<(), Fault>
+    requires count { D.failures store.old < 2 ^ 64 - 1 }
+    requires case { IsCaseOf bundle.now case.now }
+    ensures held { D.held store.new ≡ D.held store.old }
+    ensures allowed { StaysAllowed (D.allows store.old) (D.allows store.new) }
+    ensures none { OnOk result ((whole : List ℕ)
+        × IsWithProofs (D.held store.old) folder.now bundle.now whole
+        × ((case : CaseOf) × IsCaseOf whole case)) }
+    ensures fault { IfErr result (λ fault. IsInputFault fault → IsRefusedOf (D.held store.old)
+        (Some folder.now) bundle.now fault) }
+    ensures ok { OnOk result (D.failures store.new ≡ D.failures store.old) }
+    ensures err { IfErr result (IsJudgingFault (D.failures store.old) (D.failures store.new)) }
+{
+    match look(alloc, store, folder, case, bundle)? {
         Some(fault) => Err(Fault::from(fault)),
         None => Ok(()),
     }

@@ -3,6 +3,9 @@
 ghost use Rattle.std.specs.Prelude.{◌≡◌, ◌≢◌, ◌<◌, ◌^◌, ◌-◌, ◌+◌, ◌⊎◌, ℕ, List, All, IfOk, IfErr};
 ghost use Rattle.std.specs.Prelude.{IfSome, OnOk, option_map, Some, vec_len};
 ghost use Rattle.cube_report.specs.Faults.{IsInputFault};
+ghost use Rattle.cube_report.specs.Mark.{Mark};
+ghost use Rattle.cube_report.specs.Stated.{IsWrittenBy};
+ghost use Rattle.proof_folder.specs.Given.{AreFoundApart};
 ghost use Rattle.case_core.specs.Leaf.{Leaf};
 ghost use Rattle.case_core.specs.Sections.{IsCaseOf, IsFaultOf};
 ghost use Rattle.bundle_files.specs.Files.{StaysAllowed};
@@ -150,8 +153,36 @@ where
 {
     let case = case_of(rt.alloc(), bundle, case)?;
     let _few = (case.tree().cube_count(), case.tree().missing_count());
+    judge_leaves(rt, store, &case, folder, settings, gate, draws)
+}
+
+/// The same of the bundle's case: what is written is by marks that are right for its sections and
+/// for the proofs of the folder.
+fn judge_leaves<R, D, G>(
+    rt: &R,
+    store: &mut D,
+    case: &Case,
+    folder: &str,
+    settings: Settings,
+    gate: &G,
+    draws: bool,
+) -> Result<Option<Outcome>, Fault>
+where
+    R: AllocGlobal + Threads + Wait + Sync,
+    D: Store,
+    G: Gate + Sync,
+    requires { D.failures store.old < 2 ^ 64 - 1 }
+    ensures held { D.held store.new ≡ D.held store.old }
+    ensures allowed { StaysAllowed (D.allows store.old) (D.allows store.new) }
+    ensures apart { IfOk result (λ some. IfSome some (λ outcome. (marks : List Mark)
+        × AreFoundApart (held_for (D.held store.old) folder.now) case.now marks
+        × IsWrittenBy case.now marks draws outcome.text.items outcome.map.items outcome.refuted)) }
+    ensures fault { IfErr result (λ fault. ¬ IsInputFault fault) }
+    ensures ok { OnOk result (D.failures store.new ≡ D.failures store.old) }
+    ensures err { IfErr result (IsJudgingFault (D.failures store.old) (D.failures store.new)) }
+{
     let readers = readers_of(rt.alloc(), store, folder, settings.workers())?;
-    match judge_apart(rt, rt.alloc(), &case, settings, gate, draws, readers) {
+    match judge_apart(rt, rt.alloc(), case, settings, gate, draws, readers) {
         Ok(run) => run,
         Err(reader) => {
             store.settle(reader);

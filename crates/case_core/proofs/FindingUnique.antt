@@ -2,14 +2,14 @@
 use Rattle.std.proofs.Common.{◌≡◌, ◌≢◌, ℕ, List, Option, None, Some, refl, sym, ◌∙◌, ap, subst}
 use Rattle.std.proofs.Common.{Result, Ok, Err}
 use Rattle.split_tree.specs.declared.node.Leaf.{Leaf}
-use Rattle.split_tree.specs.declared.node.Target.TheVariants.{Leaf as Named, Node}
+use Rattle.split_tree.specs.declared.node.Target.TheVariants.{Leaf as Named}
 use Rattle.case_core.specs.Finding.{IsFoundBy, MayBeFound}
 use Rattle.std.specs.Prelude.{IfOk}
 use Rattle.cnf_text.specs.Literal.{Literal}
 use Rattle.cnf_text.specs.Formula.{IsRefuted}
 use Rattle.hint_check.specs.Proof.{Proof, IsProofOf}
 use Rattle.hint_check.proofs.ProofUnique.{has_proof}
-use Rattle.hint_check.specs.Live.{Live, start}
+use Rattle.hint_check.specs.Live.{start}
 use Rattle.hint_check.specs.Judgement.{judged_by, judgement}
 use Rattle.hint_check.specs.declared.Judged.{Judged}
 use Rattle.hint_check.specs.declared.Judged.TheVariants.{Refuted}
@@ -20,22 +20,22 @@ use Rattle.case_core.specs.Case.{CaseOf, proof_for}
 use Rattle.case_core.specs.Inner.Finding.{IsJudgement}
 use Rattle.case_core.specs.Finding.{IsFinding, IsSound, HasSection}
 
--- what a checker over the formula and the path answers is the judgement of the proof
+-- what a judge over the formula answers of the path and the proof is the judgement of the proof
 pub is_judged : {E : Type 0} (r : Result Judged E) (case : CaseOf) (target : Target)
-    (text path : List _) (live : Live)
-    → live ≡ start case.formula path → IsPathOf case.tree target path
-    → IfOk r (λ judged. (proof : Proof) → IsProofOf text proof → judged ≡ judged_by live proof)
+    (text path : List _) (formula : List (List Literal))
+    → formula ≡ case.formula → IsPathOf case.tree target path
     →
-    IfOk r (λ judged. judged ≡ Refuted → (formula : List (List Literal)) (path : List Literal) →
-    live ≡ start formula path → IsRefuted formula path)
+    IfOk r (λ judged. (proof : Proof) → IsProofOf text proof → judged ≡ judged_by (start formula path)
+    proof)
+    → IfOk r (λ judged. judged ≡ Refuted → IsRefuted formula path)
     → IfOk r (λ judged. IsJudgement case target text judged)
-is_judged (Ok judged) case target text path live begun of is sound = record {
+is_judged (Ok judged) case target text path formula same of is sound = record {
   path = path;
   of_target = of;
-  is = λ proof of_text. is proof of_text ∙ ap (λ l. judged_by l proof) begun;
-  refuted = λ refuted. sound refuted case.formula path begun;
+  is = λ proof of_text. is proof of_text ∙ ap (λ f. judgement f path proof) same;
+  refuted = λ refuted. subst (λ f. IsRefuted f path) same (sound refuted);
 }
-is_judged (Err e) case target text path live begun of is sound = tt
+is_judged (Err e) case target text path formula same of is sound = tt
 
 -- a target that stands at one place has one path
 pub one_path : (case : CaseOf) (target : Target) (a b : List Literal)

@@ -4,6 +4,7 @@
 
 mod bundle;
 mod case;
+mod examiner;
 mod fault;
 mod finding;
 mod label;
@@ -17,9 +18,10 @@ pub use cnf_text::tokens::{first_word, is_comment, split_line};
 pub use cnf_text::{
     Clause, DimacsFault, Formula, Lit, Problem, TextFault, read_icnf, read_problem,
 };
+pub use examiner::{Examiner, examine};
 pub use fault::CaseFault;
-pub use finding::{Finding, examine, examine_text, examine_with};
-pub use hint_check::{Judged, Reason, Scratch};
+pub use finding::Finding;
+pub use hint_check::{Judged, Reason};
 pub use laws::{case_or_a_fault, no_fault_beside_a_case, one_case, one_fault};
 pub use scan::LabelScan;
 pub use split_tree::{Leaf, NodeId, Target, Tree};

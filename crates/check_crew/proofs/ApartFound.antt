@@ -1,11 +1,8 @@
 -- Marks of boards that were compared with what workers found of leaves.
-use Rattle.std.proofs.Common.{◌≡◌, ℕ, List, [], All, Option, None, Some, refl, sym, ap, ◌∙◌, subst}
+use Rattle.std.proofs.Common.{◌≡◌, ℕ, List, [], All, Option, None, Some, sym, ap, ◌∙◌, subst}
 use Rattle.std.specs.Prelude.{IfSome}
-use Rattle.case_core.specs.Literal.{Literal}
-use Rattle.case_core.specs.Proof.{Proof, IsProofOf}
 use Rattle.case_core.specs.Leaf.{Leaf}
-use Rattle.case_core.specs.Leaves.{IsLeafAt, IsPathOf}
-use Rattle.case_core.specs.Target.{Target}
+use Rattle.case_core.specs.Leaves.{IsLeafAt}
 use Rattle.case_core.specs.Target.TheVariants.{Leaf as Named}
 use Rattle.case_core.specs.Judged.{Judged}
 use Rattle.case_core.specs.Bundle.{labels_of}
@@ -23,7 +20,6 @@ use Rattle.board_hall.specs.declared.view.View.{View}
 use Rattle.board_hall.specs.Halls.{HallOf, IsPassOf}
 use Rattle.board_hall.specs.Clauses.{Gathers}
 use Rattle.check_crew.specs.LeafProofs.{Known, IsFoundAt, IsGiven}
-use Rattle.check_crew.specs.declared.leaves.Examined.TheVariants.{Absent, Found}
 use Rattle.check_crew.specs.Seen.{HaveSeenSections}
 use Rattle.check_crew.specs.Inner.Apart.{IsRightAt}
 use Rattle.check_crew.proofs.SeenFindings.{section_mark, node_mark}

@@ -1,7 +1,8 @@
 -- What a worker has seen after it posted the finding of a leaf's proof.
 use Rattle.std.proofs.Common.{◌≡◌, ℕ, true, List, [], ◌++◌, Option, None, Some, Bool, refl, sym, ap}
-use Rattle.std.proofs.Common.{◌∙◌, subst, is_some, unwrap_or, append_assoc, append-nil}
+use Rattle.std.proofs.Common.{All, ◌∙◌, subst, is_some, unwrap_or, append_assoc, append-nil}
 use Rattle.std.specs.Prelude.{IfSome}
+use Rattle.std.proofs.lemmas.List.Elements.{All-weaker}
 use Rattle.case_core.specs.Leaf.{Leaf}
 use Rattle.case_core.specs.Leaves.{IsTargetAt}
 use Rattle.case_core.specs.Target.{Target}
@@ -15,6 +16,8 @@ use Rattle.board_hall.specs.declared.view.Post.{Post}
 use Rattle.board_hall.specs.declared.view.View.{View}
 use Rattle.board_hall.specs.Clauses.{Stays}
 use Rattle.check_crew.specs.LeafProofs.{IsRead, IsGiven, HasSeenAs, IsFoundAt, IsExamined}
+use Rattle.check_crew.specs.LeafProofs.{Known}
+use Rattle.check_crew.specs.declared.leaves.ExaminedLeaf.{ExaminedLeaf}
 use Rattle.check_crew.specs.declared.leaves.Examined.{Examined}
 use Rattle.check_crew.specs.declared.leaves.Examined.TheVariants.{Absent, Found, Other}
 use Rattle.check_crew.specs.Seen.{HasSeenMark}
@@ -103,3 +106,13 @@ examined_stays known before after leaf (Found judged) stays is =
       seen = as_stays before after (Named leaf) judged stays is.seen;
     }
 examined_stays known before after leaf Other stays is = is
+
+-- so it is of each of a list
+pub all_examined_stay : (known : Known) (before after : View) (list : List ExaminedLeaf) →
+    Stays before after
+    → All (λ one. IsExamined (known one.leaf) before one.leaf one.examined) list
+    → All (λ one. IsExamined (known one.leaf) after one.leaf one.examined) list
+all_examined_stay known before after list stays =
+    All-weaker (λ one. IsExamined (known one.leaf) before one.leaf one.examined)
+    (λ one. IsExamined (known one.leaf) after one.leaf one.examined)
+    (λ one. examined_stays (known one.leaf) before after one.leaf one.examined stays) list

@@ -1,5 +1,5 @@
 -- What is read of the proofs that don't stand in a case, and what a worker has found of one.
-use Rattle.std.specs.Prelude.{◌≡◌, ℕ, ◌+◌, Bool, List, [], ◌⊎◌, ◌++◌, Option, None, Some, IfSome}
+use Rattle.std.specs.Prelude.{◌≡◌, ℕ, ◌+◌, Bool, List, [], ◌⊎◌, Option, None, Some, IfSome}
 use Rattle.std.specs.Prelude.{is_some, unwrap_or}
 use Rattle.case_core.specs.Leaves.{IsTargetAt}
 use Rattle.case_core.specs.Leaf.{Leaf}
@@ -7,7 +7,7 @@ use Rattle.case_core.specs.Target.{Target}
 use Rattle.case_core.specs.Target.TheVariants.{Leaf as Named}
 use Rattle.case_core.specs.Judged.{Judged}
 use Rattle.case_core.specs.Bundle.{labels_of}
-use Rattle.case_core.specs.Case.{CaseOf, proof_for}
+use Rattle.case_core.specs.Case.{proof_for}
 use Rattle.case_core.specs.Finding.{IsFoundBy}
 use Rattle.board_hall.specs.declared.view.View.{View}
 use Rattle.check_crew.specs.Seen.{HasSeenMark}

@@ -112,33 +112,21 @@ fn run_all<R: Threads + Wait + Sync, G: Gate + Sync>(
     ensures kept { IfOk result (λ shifts. All (IsShiftOf (shared_of site.entry.core.now)
         site.entry.jobs.now site.entry.order.now) shifts.items) }
 {
-    let Site {
-        case,
-        core,
-        jobs,
-        order,
-    } = site;
     thread::scope(
         thread::scope_env(),
         rt,
         move |scope| -> Result<Vec<Shift>, CrewFault>
-            requires ready { AreReady case.now (shared_of core.now) jobs.now order.now }
+            requires ready { AreReady site.case.now (shared_of site.core.now) site.jobs.now
+                site.order.now }
             requires count { (0 < vec_len passes) × (vec_len passes ≤ 32) }
             requires pairs { vec_len job_passes ≡ vec_len passes }
-            requires new { AreNew (shared_of core.now) jobs.now passes.items job_passes.items }
+            requires new { AreNew (shared_of site.core.now) site.jobs.now passes.items
+                job_passes.items }
             ensures count { IfOk result (λ shifts. vec_len shifts ≡ vec_len passes) }
             ensures kept { IfOk result (λ shifts. All
-                (IsShiftOf (shared_of core.entry.now) jobs.entry.now order.entry.now)
-                shifts.items) }
-        {
-            let site = Site {
-                case,
-                core,
-                jobs,
-                order,
-            };
-            start_and_join(scope, rt, alloc, site, gate, passes, job_passes)
-        },
+                (IsShiftOf (shared_of site.entry.core.now) site.entry.jobs.now
+                site.entry.order.now) shifts.items) }
+        { start_and_join(scope, rt, alloc, site, gate, passes, job_passes) },
     )
 }
 
@@ -199,12 +187,6 @@ fn start<'s, 'e: 's, R: Threads + Wait + Sync, G: Gate + Sync>(
     ensures count { vec_len result ≤ vec_len passes }
     ensures promised { All (λ handle. handle.promise ≡ site.entry) result.items }
 {
-    let Site {
-        case,
-        core,
-        jobs,
-        order,
-    } = site;
     let mut worker = 0;
     for pass in passes {
         let Some(job_pass) = job_passes.pop() else {
@@ -214,20 +196,13 @@ fn start<'s, 'e: 's, R: Threads + Wait + Sync, G: Gate + Sync>(
         let Ok(handle) = scope.spawn_with(
             site,
             move || -> Shift
-                requires ready { AreReady case.now (shared_of core.now) jobs.now order.now }
-                requires pass { IsNewPass (shared_of core.now) pass }
-                requires job_pass { job_pass ≡ new_pass jobs.now }
-                ensures { IsShiftOf (shared_of core.entry.now) jobs.entry.now order.entry.now
-                    result }
-            {
-                let site = Site {
-                    case,
-                    core,
-                    jobs,
-                    order,
-                };
-                work(rt, alloc, site, gate, worker, pass, job_pass)
-            },
+                requires ready { AreReady site.case.now (shared_of site.core.now) site.jobs.now
+                    site.order.now }
+                requires pass { IsNewPass (shared_of site.core.now) pass }
+                requires job_pass { job_pass ≡ new_pass site.jobs.now }
+                ensures { IsShiftOf (shared_of site.entry.core.now) site.entry.jobs.now
+                    site.entry.order.now result }
+            { work(rt, alloc, site, gate, worker, pass, job_pass) },
         ) else {
             break;
         };

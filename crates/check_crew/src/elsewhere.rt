@@ -15,7 +15,7 @@ use crate::compare::has_right_marks;
 use crate::crew::examine_all;
 use crate::fault::CrewFault;
 use crate::gate::Gate;
-use crate::leaf_order::leaves_in_order;
+use crate::leaf_order::{LeafOrder, leaves_in_order};
 use crate::leaf_proofs::{LeafProofs, ReadFault};
 use crate::leaves::{ExaminedLeaf, LeafJob, LeafShift, work_leaves};
 use crate::settings::Settings;
@@ -103,12 +103,13 @@ fn run_leaves<'c, R: Threads + Wait + Sync, G: Gate + Sync, P: LeafProofs + Send
         → IfOk result (λ run. All (λ shift. (leaf : Leaf) → P.held shift.proofs leaf ≡ known leaf)
         run.shifts.items) }
 {
-    let workers = settings.workers() as usize;
-    let cut = settings.cut();
-    let (hall, mut passes) = Hall::open_for_proofs_elsewhere(alloc, case, cut, 2 * workers)?;
-    let order = leaves_in_order(alloc, case, &proofs)?;
-    let jobs = deal(alloc, hall.core(), &mut passes, proofs)?;
-    gate.start(alloc, case, cut, order.elsewhere)?;
+    let LeafHall {
+        hall,
+        passes,
+        jobs,
+        order,
+    } = open_hall(alloc, case, settings, proofs)?;
+    gate.start(alloc, case, settings.cut(), order.elsewhere)?;
     let run = run_both(
         rt,
         alloc,
@@ -125,6 +126,58 @@ fn run_leaves<'c, R: Threads + Wait + Sync, G: Gate + Sync, P: LeafProofs + Send
         hall,
         passes,
         shifts,
+    })
+}
+
+/// A hall before its workers begin: the passes of those over sections, what those over leaves begin
+/// with, and the order of the leaves.
+#[derive(Drop)]
+struct LeafHall<'c, P> {
+    hall: Hall<'c>,
+    passes: Vec<Pass>,
+    jobs: Vec<LeafJob<P>>,
+    order: LeafOrder,
+}
+
+/// Opens a hall for as many workers over sections and over leaves.
+fn open_hall<'c, P: LeafProofs + Drop>(
+    alloc: Global,
+    case: &'c Case,
+    settings: Settings,
+    proofs: Vec<P>,
+) -> Result<LeafHall<'c, P>, AllocError>
+    requires workers { vec_len proofs ≡ settings.workers }
+    requires fresh { All (λ one. P.failures one ≡ 0) proofs.items }
+    ensures hall { IfOk result (λ opened.
+        (hall_of opened.hall).of ≡ cut_case_as true case.now settings.cut) }
+    ensures count { IfOk result (λ opened. (0 < vec_len opened.passes)
+        × (vec_len opened.passes ≤ 32)
+        × (vec_len opened.passes + vec_len opened.jobs ≡ (hall_of opened.hall).passes)) }
+    ensures passes { IfOk result (λ opened.
+        All (IsNewPass (hall_of opened.hall)) opened.passes.items) }
+    ensures new { IfOk result (λ opened.
+        All (λ job. IsNewPass (hall_of opened.hall) job.pass) opened.jobs.items) }
+    ensures fresh { IfOk result (λ opened.
+        All (λ job. P.failures job.proofs ≡ 0) opened.jobs.items) }
+    ensures held { (known : Known)
+        → All (λ one. (leaf : Leaf) → P.held one leaf ≡ known leaf) proofs.items
+        → IfOk result (λ opened. All (λ job. (leaf : Leaf) → P.held job.proofs leaf ≡ known leaf)
+        opened.jobs.items) }
+{
+    let workers = settings.workers() as usize;
+    let (hall, mut passes) = Hall::open_for_proofs_elsewhere(
+        alloc,
+        case,
+        settings.cut(),
+        2 * workers,
+    )?;
+    let order = leaves_in_order(alloc, case, &proofs)?;
+    let jobs = deal(alloc, hall.core(), &mut passes, proofs)?;
+    Ok(LeafHall {
+        hall,
+        passes,
+        jobs,
+        order,
     })
 }
 

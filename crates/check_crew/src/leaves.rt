@@ -16,7 +16,7 @@ use crate::gate::Gate;
 use crate::leaf_proofs::{LeafProofs, ReadFault};
 use crate::worker::{post, tell};
 use board_hall::{Core, Pass};
-use case_core::{Case, Judged, Leaf, Scratch, Target, examine_text, has_label_line};
+use case_core::{Case, Examiner, Judged, Leaf, Target, has_label_line};
 use std::alloc::Global;
 use std::sync::Wait;
 use std::sync::atomic::{AtomicU64, Ordering};
@@ -79,18 +79,20 @@ fn examine_leaf<R: Wait, G: Gate, P: LeafProofs>(
     gate: &G,
     worker: u32,
     proofs: &mut P,
-    scratch: &mut Scratch,
+    examiner: &mut Examiner<'_>,
     bytes: &mut Vec<u8>,
     pass: &mut Pass,
     leaf: Leaf,
 ) -> Result<Examined, ReadFault>
     requires case { case.now ≡ (core_of core.now).case }
     requires elsewhere { (core_of core.now).elsewhere ≡ true }
+    requires examiner { examiner.old ≡ case.now }
     requires leaf { HasTarget case.now.tree (Target.Leaf leaf) }
     requires own { IsPassOf (shared_of core.now) pass.old }
     requires free { (view_of pass.old).owes ≡ None }
     requires count { P.failures proofs.old < 2 ^ 64 - 1 }
     ensures held { P.held proofs.new ≡ P.held proofs.old }
+    ensures same { examiner.new ≡ examiner.old }
     ensures own { IsPassOf (shared_of core.now) pass.new }
     ensures owes { (view_of pass.new).owes ≡ None }
     ensures stays { Stays (view_of pass.old) (view_of pass.new) }
@@ -112,7 +114,7 @@ fn examine_leaf<R: Wait, G: Gate, P: LeafProofs>(
         return Ok(Examined::Other);
     }
     gate.before(worker, Target::Leaf(announced));
-    let finding = examine_text(alloc, scratch, case, leaf, bytes)?;
+    let finding = examiner.examine_text(alloc, leaf, bytes)?;
     let node = finding.node();
     let judged = finding.judged();
     if !post(rt, case, core, pass, finding) {
@@ -152,9 +154,97 @@ fn end_at_other(found: Examined, order: &[Leaf], next: &AtomicU64) {
     }
 }
 
-/// Takes turns, which the workers count in `next`, and examines their leaves, until none is left or
-/// a fault comes. Where the run has to be made with all proofs in one bundle, nobody takes another
-/// one. It takes bytes and scratch of its own, which it drops at the end.
+/// Takes the next turn, which the workers count in `next`, and examines its leaf; `None` where none
+/// is left. Where the run has to be made with all proofs in one bundle, nobody takes another one.
+fn take_leaf<R: Wait, G: Gate, P: LeafProofs>(
+    rt: &R,
+    alloc: Global,
+    case: &Case,
+    core: &Core,
+    gate: &G,
+    worker: u32,
+    order: &[Leaf],
+    next: &AtomicU64,
+    proofs: &mut P,
+    examiner: &mut Examiner<'_>,
+    bytes: &mut Vec<u8>,
+    pass: &mut Pass,
+) -> Result<Option<ExaminedLeaf>, ReadFault>
+    requires case { case.now ≡ (core_of core.now).case }
+    requires elsewhere { (core_of core.now).elsewhere ≡ true }
+    requires examiner { examiner.old ≡ case.now }
+    requires own { IsPassOf (shared_of core.now) pass.old }
+    requires free { (view_of pass.old).owes ≡ None }
+    requires count { P.failures proofs.old < 2 ^ 64 - 1 }
+    ensures held { P.held proofs.new ≡ P.held proofs.old }
+    ensures same { examiner.new ≡ examiner.old }
+    ensures own { IsPassOf (shared_of core.now) pass.new }
+    ensures owes { (view_of pass.new).owes ≡ None }
+    ensures stays { Stays (view_of pass.old) (view_of pass.new) }
+    ensures examined { IfOk result (λ some. IfSome some (λ one.
+        IsExamined (P.held proofs.old one.leaf) (view_of pass.new) one.leaf one.examined)) }
+    ensures ok { OnOk result (P.failures proofs.new ≡ P.failures proofs.old) }
+    ensures err { IfErr result
+        (λ fault. IsReadFault (P.failures proofs.old) (P.failures proofs.new) fault) }
+{
+    let turn = next.fetch_add(1, Ordering::SeqCst);
+    let Some(leaf) = leaf_at(case, order, turn) else {
+        return Ok(None);
+    };
+    let asked = leaf;
+    let examined = examine_leaf(
+        rt, alloc, case, core, gate, worker, proofs, examiner, bytes, pass, asked,
+    )?;
+    end_at_other(examined, order, next);
+    Ok(Some(ExaminedLeaf { leaf, examined }))
+}
+
+/// Takes turns until none is left or a fault comes, by an examiner and over bytes that are lent.
+fn take_leaves<R: Wait, G: Gate, P: LeafProofs>(
+    rt: &R,
+    alloc: Global,
+    case: &Case,
+    core: &Core,
+    gate: &G,
+    worker: u32,
+    order: &[Leaf],
+    next: &AtomicU64,
+    proofs: &mut P,
+    examiner: &mut Examiner<'_>,
+    bytes: &mut Vec<u8>,
+    pass: &mut Pass,
+    examined: &mut Vec<ExaminedLeaf>,
+) -> Result<(), ReadFault>
+    requires case { case.now ≡ (core_of core.now).case }
+    requires elsewhere { (core_of core.now).elsewhere ≡ true }
+    requires examiner { examiner.old ≡ case.now }
+    requires own { IsPassOf (shared_of core.now) pass.old }
+    requires free { (view_of pass.old).owes ≡ None }
+    requires count { P.failures proofs.old < 2 ^ 64 - 1 }
+    requires none { examined.old.items ≡ [] }
+    ensures held { P.held proofs.new ≡ P.held proofs.old }
+    ensures same { examiner.new ≡ examiner.old }
+    ensures own { IsPassOf (shared_of core.now) pass.new }
+    ensures owes { (view_of pass.new).owes ≡ None }
+    ensures examined { OnOk result (All (λ one. IsExamined (P.held proofs.old one.leaf)
+        (view_of pass.new) one.leaf one.examined) examined.new.items) }
+    ensures ok { OnOk result (P.failures proofs.new ≡ P.failures proofs.old) }
+    ensures err { IfErr result
+        (λ fault. IsReadFault (P.failures proofs.old) (P.failures proofs.new) fault) }
+{
+    for _ in rt.forever() {
+        let Some(one) = take_leaf(
+            rt, alloc, case, core, gate, worker, order, next, proofs, examiner, bytes, pass,
+        )?
+        else {
+            return Ok(());
+        };
+        examined.push(one)?;
+    }
+    unreachable!()
+}
+
+/// Takes turns until none is left or a fault comes, by an examiner and over bytes of its own.
 fn examine_leaves<R: Wait, G: Gate, P: LeafProofs>(
     rt: &R,
     alloc: Global,
@@ -183,34 +273,23 @@ fn examine_leaves<R: Wait, G: Gate, P: LeafProofs>(
     ensures err { IfErr result
         (λ fault. IsReadFault (P.failures proofs.old) (P.failures proofs.new) fault) }
 {
-    let mut scratch = Scratch::new(alloc);
+    let mut examiner = Examiner::over(alloc, case)?;
     let mut bytes = Vec::new(alloc);
-    for _ in rt.forever() {
-        let turn = next.fetch_add(1, Ordering::SeqCst);
-        let Some(leaf) = leaf_at(case, order, turn) else {
-            return Ok(());
-        };
-        let asked = leaf;
-        let found = examine_leaf(
-            rt,
-            alloc,
-            case,
-            core,
-            gate,
-            worker,
-            proofs,
-            &mut scratch,
-            &mut bytes,
-            pass,
-            asked,
-        )?;
-        end_at_other(found, order, next);
-        examined.push(ExaminedLeaf {
-            leaf,
-            examined: found,
-        })?;
-    }
-    unreachable!()
+    take_leaves(
+        rt,
+        alloc,
+        case,
+        core,
+        gate,
+        worker,
+        order,
+        next,
+        proofs,
+        &mut examiner,
+        &mut bytes,
+        pass,
+        examined,
+    )
 }
 
 /// Does a worker's part of the leaves.

@@ -1,18 +1,19 @@
 //! What one worker does.
 
-ghost use Rattle.std.specs.Prelude.{◌≡◌, ◌<◌, None, length, IsTrue, OnOk};
+ghost use Rattle.std.specs.Prelude.{◌≡◌, ◌<◌, None, length, true, false, All, IsTrue, IfOk, OnOk};
 ghost use Rattle.case_core.specs.FindingOf.{finding_of};
 ghost use Rattle.case_core.specs.Finding.{HasSection, IsFinding, target_of};
 ghost use Rattle.case_core.specs.Leaves.{IsTargetAt};
+ghost use Rattle.cube_jobs.specs.Jobs as queue;
 ghost use Rattle.cube_jobs.specs.Jobs.{new_pass};
 ghost use Rattle.board_hall.specs.Halls.{core_of, shared_of, view_of, IsPassOf, IsNewPass};
 ghost use Rattle.board_hall.specs.Clauses.{Stays, PostsNothing, IsOfSection};
 ghost use Rattle.check_crew.specs.Seen.{HasSeenMark, HasSeenSection};
-ghost use Rattle.check_crew.specs.Inner.Crew.{IsShiftOf, AreReady};
+ghost use Rattle.check_crew.specs.Inner.Crew.{IsShiftOf, AreReady, HasSeenTurn};
 
 use crate::gate::{Found, Gate};
 use board_hall::{Core, Pass};
-use case_core::{Case, Finding, Judged, NodeId, Scratch, Target, examine_with};
+use case_core::{Case, Examiner, Finding, Judged, NodeId, Target};
 use cube_jobs::{JobPass, Jobs};
 use mark_board::Posted;
 use std::alloc::{AllocError, Global};
@@ -53,14 +54,16 @@ fn take_turn<R: Wait, G: Gate>(
     site: Site<'_>,
     gate: &G,
     worker: u32,
-    scratch: &mut Scratch,
+    examiner: &mut Examiner<'_>,
     pass: &mut Pass,
     place: usize,
 ) -> Result<(), AllocError>
     requires case { site.case.now ≡ (core_of site.core.now).case }
     requires place { place < length site.case.now.sections }
+    requires examiner { examiner.old ≡ site.case.now }
     requires own { IsPassOf (shared_of site.core.now) pass.old }
     requires free { (view_of pass.old).owes ≡ None }
+    ensures same { examiner.new ≡ examiner.old }
     ensures own { IsPassOf (shared_of site.entry.core.now) pass.new }
     ensures free { (view_of pass.new).owes ≡ None }
     ensures stays { Stays (view_of pass.old) (view_of pass.new) }
@@ -71,7 +74,7 @@ fn take_turn<R: Wait, G: Gate>(
     let announced = target;
     let asked = target;
     gate.before(worker, announced);
-    let Some(finding) = examine_with(alloc, scratch, case, asked)? else {
+    let Some(finding) = examiner.examine(alloc, asked)? else {
         unreachable!()
     };
     let node = finding.node();
@@ -151,7 +154,7 @@ pub(crate) fn tell<G: Gate>(
     gate.after(worker, &found);
 }
 
-/// Claims turns, examines their sections on one scratch and posts what is found, until no turn is
+/// Claims turns, examines their sections by one examiner and posts what is found, until no turn is
 /// left or memory is refused.
 pub(crate) fn work<R: Wait, G: Gate>(
     rt: &R,
@@ -168,7 +171,23 @@ pub(crate) fn work<R: Wait, G: Gate>(
     ensures { IsShiftOf (shared_of site.entry.core.now)
         site.entry.jobs.now site.entry.order.now result }
 {
-    let short_of_memory = take_turns(rt, alloc, site, gate, worker, &mut pass, &mut job_pass);
+    let Ok(mut examiner) = Examiner::over(alloc, site.case) else {
+        return Shift {
+            pass,
+            job_pass,
+            short_of_memory: true,
+        };
+    };
+    let short_of_memory = take_turns(
+        rt,
+        alloc,
+        site,
+        gate,
+        worker,
+        &mut examiner,
+        &mut pass,
+        &mut job_pass,
+    );
     Shift {
         pass,
         job_pass,
@@ -176,31 +195,64 @@ pub(crate) fn work<R: Wait, G: Gate>(
     }
 }
 
-/// The same on passes that are lent; answers whether memory was refused.
+/// Claims a turn and examines its section; answers whether one was left. `AllocError` where a
+/// growth was refused.
+fn claim_turn<R: Wait, G: Gate>(
+    rt: &R,
+    alloc: Global,
+    site: Site<'_>,
+    gate: &G,
+    worker: u32,
+    examiner: &mut Examiner<'_>,
+    pass: &mut Pass,
+    job_pass: &mut JobPass,
+) -> Result<bool, AllocError>
+    requires ready { AreReady site.case.now (shared_of site.core.now) site.jobs.now site.order.now }
+    requires examiner { examiner.old ≡ site.case.now }
+    requires own { IsPassOf (shared_of site.core.now) pass.old }
+    requires free { (view_of pass.old).owes ≡ None }
+    requires jobs { queue.IsPassOf site.jobs.now job_pass.old }
+    requires seen { All (HasSeenTurn site.order.now (view_of pass.old)) job_pass.old.claims }
+    ensures same { examiner.new ≡ examiner.old }
+    ensures own { IsPassOf (shared_of site.entry.core.now) pass.new }
+    ensures free { (view_of pass.new).owes ≡ None }
+    ensures jobs { queue.IsPassOf site.entry.jobs.now job_pass.new }
+    ensures seen { OnOk result
+        (All (HasSeenTurn site.entry.order.now (view_of pass.new)) job_pass.new.claims) }
+    ensures empty { IfOk result (λ taken. taken ≡ false → job_pass.new.found_empty ≡ true) }
+{
+    let Some(turn) = site.jobs.claim(rt, job_pass) else {
+        return Ok(false);
+    };
+    let place = site.order[turn];
+    take_turn(rt, alloc, site, gate, worker, examiner, pass, place)?;
+    Ok(true)
+}
+
+/// Claims turns on passes that are lent; answers whether memory was refused.
 fn take_turns<R: Wait, G: Gate>(
     rt: &R,
     alloc: Global,
     site: Site<'_>,
     gate: &G,
     worker: u32,
+    examiner: &mut Examiner<'_>,
     pass: &mut Pass,
     job_pass: &mut JobPass,
 ) -> bool
     requires ready { AreReady site.case.now (shared_of site.core.now) site.jobs.now site.order.now }
+    requires examiner { examiner.old ≡ site.case.now }
     requires pass { IsNewPass (shared_of site.core.now) pass.old }
     requires job_pass { job_pass.old ≡ new_pass site.jobs.now }
     ensures { IsShiftOf (shared_of site.entry.core.now) site.entry.jobs.now site.entry.order.now
         (record { pass = pass.new; job_pass = job_pass.new; short_of_memory = result }) }
 {
-    let mut scratch = Scratch::new(alloc);
     for _ in rt.forever() {
-        let Some(turn) = site.jobs.claim(rt, job_pass) else {
-            return false;
-        };
-        let place = site.order[turn];
-        let Ok(()) = take_turn(rt, alloc, site, gate, worker, &mut scratch, pass, place) else {
-            return true;
-        };
+        match claim_turn(rt, alloc, site, gate, worker, examiner, pass, job_pass) {
+            Ok(true) => {}
+            Ok(false) => return false,
+            Err(_) => return true,
+        }
     }
     unreachable!()
 }

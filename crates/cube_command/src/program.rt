@@ -2,17 +2,20 @@
 
 ghost use Rattle.std.specs.Prelude.{◌≡◌, ◌≢◌, ◌⊎◌, ◌<◌, ◌+◌, ◌^◌, ◌-◌, List, ℕ, length, map};
 ghost use Rattle.std.specs.Prelude.{option_map, true, false, None, Some, IfOk, IfErr, OnOk, OnErr};
-ghost use Rattle.std.specs.Prelude.{IsErrOf};
+ghost use Rattle.std.specs.Prelude.{IsErrOf, IfSome};
 ghost use Rattle.std.specs.Io.KnownBytes.{Appends, Keeps};
 ghost use Rattle.cube_report.specs.Device.{AppendsBeginning, IsReadFault};
 ghost use Rattle.clap.specs.Words.{kind_of};
+ghost use Rattle.bundle_files.specs.Files.{StaysAllowed};
 ghost use Rattle.bundle_files.specs.Formula.{IsBundleOf, IsOneAbsent};
+ghost use Rattle.bundle_files.specs.Judging.{IsOutcomeOf, IsRefusedOf, IsJudgingFault};
+ghost use Rattle.bundle_files.specs.Sections.{IsCaseOf};
 ghost use Rattle.cube_report.specs.Correct.{AllowsReports};
 ghost use Rattle.cube_report.specs.Faults.{IsInputFault};
 ghost use Rattle.cube_command.specs.Headline.{IsPublished, IsSound};
 ghost use Rattle.cube_command.specs.Words.{AreApart, AreTaken, file_of, folder_of, map_of};
 ghost use Rattle.cube_command.specs.Words.{formula_of, IsInput, log_of, record_of, sources_of};
-ghost use Rattle.cube_command.specs.Record.{AllowsRecords};
+ghost use Rattle.cube_command.specs.Record.{AllowsRecords, record_text};
 ghost use Rattle.cube_command.specs.Program.{IsStatus, IsMade, IsReported, IsRefused, IsBegun};
 ghost use Rattle.cube_command.specs.Program.{IsLineWritten, fault_line, AllowsFaults};
 ghost use Rattle.cube_command.specs.Program.{AllowsPictures};
@@ -26,7 +29,7 @@ use crate::record::{begin_record, end_record};
 use crate::telling::{tell_fault, tell_run};
 use crate::watched::Watched;
 use crate::words::{Request, request_of};
-use bundle_files::{Store, judge_given, read_from};
+use bundle_files::{ReadBundle, Store, judge_given, read_from};
 use clap::Error as WordsError;
 use clap::error::ErrorKind as WordsFault;
 use cube_report::{Fault, Gate, Outcome, Sink, Source, write_all};
@@ -317,6 +320,47 @@ where
     )?;
     telling.tell_read(rt.alloc(), &read.bundle, bundle)?;
     let draws = request.map.is_some();
+    let made = judge_recorded(rt, store, read, request, gates, draws)?;
+    telling.tell_report(rt.alloc(), bundle, &made.outcome.text);
+    write_outcome(store, output, request, &made.outcome, &made.record)?;
+    Ok(made.outcome.refuted)
+}
+
+/// What is said of a bundle, and the record of it where a file for that is asked for.
+#[derive(Drop)]
+struct Recorded {
+    outcome: Outcome,
+    record: Vec<u8>,
+}
+
+/// Judges what was read, and makes the record where a file for it is asked for.
+fn judge_recorded<R, D, G>(
+    rt: &R,
+    store: &mut D,
+    read: ReadBundle,
+    request: &Request<'_>,
+    gate: &G,
+    draws: bool,
+) -> Result<Recorded, Fault>
+where
+    R: AllocGlobal + Threads + Wait + Sync,
+    D: Store,
+    G: Gate + Sync,
+    requires count { D.failures store.old < 2 ^ 64 - 1 }
+    requires case { IfSome read.case (IsCaseOf read.bundle.items) }
+    ensures held { D.held store.new ≡ D.held store.old }
+    ensures allowed { StaysAllowed (D.allows store.old) (D.allows store.new) }
+    ensures outcome { IfOk result (λ made. IsOutcomeOf (D.held store.old)
+        (option_map (λ text. text.now) request.now.proofs) read.bundle.items draws
+        made.outcome.text.items made.outcome.map.items made.outcome.refuted) }
+    ensures record { IfOk result (λ made. (path : List ℕ)
+        → option_map (λ text. text.now) request.now.out ≡ Some path
+        → made.record.items ≡ record_text read.bundle.items made.outcome.text.items) }
+    ensures fault { IfErr result (λ fault. IsInputFault fault → IsRefusedOf (D.held store.old)
+        (option_map (λ text. text.now) request.now.proofs) read.bundle.items fault) }
+    ensures ok { OnOk result (D.failures store.new ≡ D.failures store.old) }
+    ensures err { IfErr result (IsJudgingFault (D.failures store.old) (D.failures store.new)) }
+{
     let mut record = begin_record(rt.alloc(), request.out, &read.bundle)?;
     let outcome = judge_given(
         rt,
@@ -324,13 +368,11 @@ where
         read,
         request.proofs,
         request.settings,
-        gates,
+        gate,
         draws,
     )?;
     end_record(&mut record, request.out, &outcome.text)?;
-    telling.tell_report(rt.alloc(), bundle, &outcome.text);
-    write_outcome(store, output, request, &outcome, &record)?;
-    Ok(outcome.refuted)
+    Ok(Recorded { outcome, record })
 }
 
 /// Writes the picture and the record, where files for them are asked for, and then the report.

@@ -13,7 +13,8 @@ ghost use Rattle.cube_command.specs.Words.{log_word, map_word, progress_word, pr
 ghost use Rattle.cube_command.specs.Words.{record_word};
 ghost use Rattle.cube_command.specs.Words.{with_version, words_taken, workers_word};
 ghost use Rattle.cube_command.specs.Inner.Words.{flag_text, with_flags, with_inputs, with_numbers};
-ghost use Rattle.cube_command.specs.Inner.Words.{with_outputs, Reads, SaysFlag, SaysNumber};
+ghost use Rattle.cube_command.specs.Inner.Words.{with_outputs, with_results, Reads};
+ghost use Rattle.cube_command.specs.Inner.Words.{SaysFlag, SaysNumber};
 
 use clap::builder::ValueParser;
 use clap::error::ErrorKind;
@@ -303,14 +304,18 @@ fn parser<'a>(alloc: Global) -> Result<Command<'a>, AllocError>
     outputs(alloc)?.arg(file_word(alloc))
 }
 
-/// A parser that also takes the files that are written.
+/// A parser that also takes the file for the log.
 fn outputs<'a>(alloc: Global) -> Result<Command<'a>, AllocError>
     ensures { IfOk result (λ parser. app_of parser ≡ with_outputs) }
 {
-    flags(alloc)?
-        .arg(map_word(alloc))?
-        .arg(record_word(alloc))?
-        .arg(log_word(alloc))
+    results(alloc)?.arg(log_word(alloc))
+}
+
+/// A parser that also takes the files for the picture and the record.
+fn results<'a>(alloc: Global) -> Result<Command<'a>, AllocError>
+    ensures { IfOk result (λ parser. app_of parser ≡ with_results) }
+{
+    flags(alloc)?.arg(map_word(alloc))?.arg(record_word(alloc))
 }
 
 /// A parser that also takes what is told beside the report.

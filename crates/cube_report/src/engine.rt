@@ -22,7 +22,7 @@ ghost use Rattle.cube_report.specs.Correct.{AllowsReports};
 use crate::device::{Sink, Source};
 use crate::fault::Fault;
 use crate::report::report_of;
-use case_core::{Case, Scratch, examine_with, read_bundle, take_bundle};
+use case_core::{Case, Examiner, read_bundle, take_bundle};
 use check_crew::{CrewFault, Gate, LeafProofs, Settings, conquer, conquer_leaves};
 use mark_board::Boards;
 use std::alloc::{AllocError, Global};
@@ -52,10 +52,26 @@ fn post_findings<'c>(
     ensures case { OnOk result (boards.new.case ≡ case.now) }
     ensures findings { OnOk result (AreFindings case.now boards.new.marks) }
 {
-    let mut scratch = Scratch::new(alloc);
+    let mut examiner = Examiner::over(alloc, case)?;
+    post_sections(alloc, &mut examiner, case, boards)
+}
+
+/// The same, by an examiner that may have examined other sections.
+fn post_sections<'c>(
+    alloc: Global,
+    examiner: &mut Examiner<'c>,
+    case: &'c Case,
+    boards: &mut Boards<'c>,
+) -> Result<(), AllocError>
+    requires examiner { examiner.old ≡ case.now }
+    requires case { boards.old.case ≡ case.now }
+    requires open { boards.old.marks ≡ replicate (size case.now.tree) Open }
+    ensures case { OnOk result (boards.new.case ≡ case.now) }
+    ensures findings { OnOk result (AreFindings case.now boards.new.marks) }
+{
     let sections = case.sections();
     for section in sections {
-        match examine_with(alloc, &mut scratch, case, section.target)? {
+        match examiner.examine(alloc, section.target)? {
             Some(finding) => {
                 let _ = boards.post(finding);
             }

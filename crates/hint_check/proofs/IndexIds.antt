@@ -6,7 +6,7 @@ use Rattle.std.specs.Option.{IfSome}
 use Rattle.std.specs.FinMap as fin
 use Rattle.std.specs.Ordering.{nat_cmp, eq_by_cmp}
 use Rattle.hint_check.proofs.LiveMaps.{same_key}
-use Rattle.hint_check.proofs.LiveOverlay.{find-lookup, IfSome-weaker}
+use Rattle.hint_check.proofs.LiveParts.{find-lookup, IfSome-weaker}
 use Rattle.std.specs.List.{list_any, enumerate_from}
 use Rattle.std.specs.Map.{lookup}
 use Rattle.std.proofs.lemmas.Bool.{false≢true, or_cases, or_left, or_right, and_parts, and_from}

@@ -1,8 +1,8 @@
 -- Unit propagation, one literal and one hint at a time.
-use Rattle.std.proofs.Common.{◌≡◌, ◌+◌, ◌*◌, ◌<◌, ◌≤◌, ℕ, Bool, true, false, not, cond, ◌&&◌}
+use Rattle.std.proofs.Common.{◌==◌, ◌≡◌, ◌+◌, ◌<◌, ◌≤◌, ℕ, true, false, not, cond, ◌&&◌}
 use Rattle.std.proofs.Common.{Option, Some, None, List, [], ◌∷◌, length, drop, get_or, refl, sym}
 use Rattle.std.proofs.Common.{ap, ◌∙◌, subst, arith, inl, inr}
-use Rattle.std.specs.List.{list_all, filter, slice_get}
+use Rattle.std.specs.List.{list_all}
 use Rattle.std.proofs.lemmas.List.{at_drop_more, at_drop_all}
 use Rattle.std.proofs.lemmas.Bool.{cases_Bool, cond-true, cond-false, not_from_false, not_from_true}
 use Rattle.std.specs.FinMap as fin
@@ -11,94 +11,24 @@ use Rattle.hint_check.specs.Literals.{Literals, with_literal}
 use Rattle.hint_check.specs.Live.{Live}
 use Rattle.hint_check.specs.declared.Reason.TheVariants.{Hint, Unit as NotUnit}
 use Rattle.hint_check.specs.declared.propagate.Followed.{Followed}
-use Rattle.hint_check.specs.Inner.Propagate.{chain_after}
+use Rattle.hint_check.specs.Inner.Propagate.{chain_after, effect_open, Counts}
+use Rattle.hint_check.specs.Inner.Blocks.{falsified_by, in_front, kept}
+use Rattle.hint_check.specs.Inner.Stamps.{is_shown}
+use Rattle.hint_check.specs.declared.block.Falsifier.{Falsifier}
+use Rattle.hint_check.specs.declared.propagate.Open.{Open}
+use Rattle.hint_check.specs.declared.propagate.Open.TheVariants.{None as Closed, One, More}
+use Rattle.hint_check.proofs.BlockRuns.{falsified-number}
+use Rattle.std.specs.Prelude.{slice_index}
+use Rattle.std.proofs.lemmas.Bool.{lt-ltb}
 use Rattle.hint_check.specs.Propagation.{unfalsified, effect_of, Reached, Bad, Conflict}
 use Rattle.hint_check.specs.Propagation.{after_effect, after_hint, chain}
 use Rattle.hint_check.specs.declared.propagate.Effect.{Effect}
 use Rattle.hint_check.specs.declared.propagate.Effect.TheVariants.{Falsified, Forces, Undecided}
 
--- the effect of a clause, with the first literal that is left and the literals that are left of the
--- rest
+-- the effect of what is left of a clause, after a first literal
 unfoldable pub resume : Option Literal → List Literal → Effect
 resume None literals = effect_of literals
 resume (Some first) literals = cond (list_all (same first) literals) (Forces first) Undecided
-
--- the effect of what is left of a clause, after a first literal
-unfoldable pub effect_after : Literals → Option Literal → List Literal → Effect
-effect_after set forced rest = resume forced (unfalsified set rest)
-
--- at the start of a clause no literal was looked at
-pub effect_after-start : (set : Literals) (clause : List Literal) →
-    effect_after set None clause ≡ effect_of (unfalsified set clause)
-unfolding effect_after resume
-effect_after-start set clause = refl
-
--- a falsified literal changes nothing
-pub effect_after-falsified : (set : Literals) (forced : Option Literal) (l : Literal)
-    (rest : List Literal) → set (negation l) ≡ true →
-    effect_after set forced (l ∷ rest) ≡ effect_after set forced rest
-unfolding effect_after unfalsified
-effect_after-falsified set forced l rest h =
-    ap (resume forced)
-    (cond-false (not (set (negation l))) (l ∷ filter (λ m. not (set (negation m))) rest)
-    (filter (λ m. not (set (negation m))) rest) (not_from_true (set (negation l)) h))
-
-effect_after-left : (set : Literals) (forced : Option Literal) (l : Literal) (rest : List Literal) →
-    set (negation l) ≡ false →
-    effect_after set forced (l ∷ rest) ≡ resume forced (l ∷ unfalsified set rest)
-unfolding effect_after unfalsified
-effect_after-left set forced l rest h =
-    ap (resume forced)
-    (cond-true (not (set (negation l))) (l ∷ filter (λ m. not (set (negation m))) rest)
-    (filter (λ m. not (set (negation m))) rest) (not_from_false (set (negation l)) h))
-
--- the first literal that isn't falsified
-pub effect_after-first : (set : Literals) (l : Literal) (rest : List Literal) →
-    set (negation l) ≡ false → effect_after set None (l ∷ rest) ≡ effect_after set (Some l) rest
-unfolding effect_after resume effect_of
-effect_after-first set l rest h = effect_after-left set None l rest h
-
--- the same literal again changes nothing
-pub effect_after-same : (set : Literals) (first l : Literal) (rest : List Literal) →
-    set (negation l) ≡ false → same first l ≡ true →
-    effect_after set (Some first) (l ∷ rest) ≡ effect_after set (Some first) rest
-unfolding effect_after resume
-effect_after-same set first l rest h e =
-    effect_after-left set (Some first) l rest h
-    ∙ ap (λ b. cond (b && list_all (same first) (unfalsified set rest)) (Forces first) Undecided) e
-
--- with a second literal left the clause is undecided
-pub effect_after-other : (set : Literals) (first l : Literal) (rest : List Literal) →
-    set (negation l) ≡ false → same first l ≡ false →
-    effect_after set (Some first) (l ∷ rest) ≡ Undecided
-unfolding effect_after resume
-effect_after-other set first l rest h e =
-    effect_after-left set (Some first) l rest h
-    ∙ ap (λ b. cond (b && list_all (same first) (unfalsified set rest)) (Forces first) Undecided) e
-
--- a clause with all literals falsified is falsified
-pub effect_after-none : (set : Literals) → effect_after set None [] ≡ Falsified
-unfolding effect_after resume effect_of unfalsified
-effect_after-none set = refl
-
--- a clause with one literal left forces it
-pub effect_after-one : (set : Literals) (first : Literal) →
-    effect_after set (Some first) [] ≡ Forces first
-unfolding effect_after resume unfalsified
-effect_after-one set first = refl
-
--- the next literal of a clause
-pub effect_after-turn : (set : Literals) (forced : Option Literal) (clause : List Literal) (i : ℕ)
-    (l : Literal) → i < length clause → l ≡ get_or clause i l →
-    effect_after set forced (drop i clause) ≡ effect_after set forced (l ∷ drop (i + 1) clause)
-effect_after-turn set forced clause i l within is =
-    at_drop_more (effect_after set forced) clause i l within
-    ∙ ap (λ m. effect_after set forced (m ∷ drop (i + 1) clause)) (sym is)
-
--- at the end of a clause its effect is known
-pub effect_after-end : (set : Literals) (forced : Option Literal) (clause : List Literal) (i : ℕ) →
-    length clause ≤ i → effect_after set forced (drop i clause) ≡ effect_after set forced []
-effect_after-end set forced clause i past = at_drop_all (effect_after set forced) clause i past
 
 -- ---- the literals that are left, counted
 
@@ -180,48 +110,127 @@ left-open set (m ∷ rest) l others is = elim (cases_Bool (set (negation m))) [
       ap (λ x. set (negation x)) (sym here) ∙ apart
 ]
 
--- a clause without a first literal
-pub effect-of-nothing : (set : Literals) (clause : List Literal) → slice_get clause 0 ≡ None
-    → effect_of (unfalsified set clause) ≡ Falsified
-unfolding effect_of
-effect-of-nothing set [] none = ap effect_of (unfalsified-none set)
-effect-of-nothing set (l ∷ rest) none = absurd (cc)
+-- ---- falsifiers that aren't shown, counted
 
-negation-near-by : (v : ℕ) (positive : Bool) → 2 * v + cond positive 0 1 < 2097152
-    → 2 * v + cond (not positive) 0 1 < 2097152
-negation-near-by v true low = omega (arith, low)
-negation-near-by v false low = omega (arith, low)
+-- a literal that a falsifier falsifies is left where that isn't shown
+shown-number : (stamps : List ℕ) (stamp : ℕ) (f : Falsifier) (l : Literal) →
+    falsified_by f ≡ Some l →
+    is_shown stamps stamp (negation l) ≡ (slice_index stamps f.number == stamp)
+shown-number stamps stamp f l is =
+    let known = falsified-number f l is in
+    ap (λ b. b && (slice_index stamps (literal_number (negation l)) == stamp))
+    (lt-ltb 0 l.variable known.1)
+    ∙ ap (λ n. slice_index stamps n == stamp) known.0
 
--- the negation of a near literal is near
-pub negation-near : (l : Literal) → literal_number l < 2097152 →
-    literal_number (negation l) < 2097152
-negation-near l low = negation-near-by l.variable l.positive low
+module _ (stamps : List ℕ) (stamp : ℕ) (clause : List Literal) (count : ℕ) (last f : Falsifier)
+    (rest : List Literal) where
+  abbrev pub shown : Literals
+  shown = is_shown stamps stamp
 
--- How many literals of the rest of a clause are left, after so many and the last of them.
-pub record Counts (set : Literals) (clause : List Literal) (count : ℕ) (last : Literal)
-    (rest : List Literal) : Type 0 where
-  pub none : count ≡ 0 → unfalsified set rest ≡ unfalsified set clause
-  pub one : count ≡ 1 → last ∷ unfalsified set rest ≡ unfalsified set clause
+  shown-by : (o : Option Literal) → falsified_by f ≡ o →
+      (slice_index stamps f.number == stamp) ≡ true →
+      unfalsified shown (in_front o rest) ≡ unfalsified shown rest
+  shown-by None is h = refl
+  shown-by (Some l) is h =
+      unfalsified-falsified shown l rest (shown-number stamps stamp f l is ∙ h)
 
--- a falsified literal isn't counted
-pub counts-falsified : (set : Literals) (clause : List Literal) (count : ℕ) (last l : Literal)
-    (rest : List Literal)
-    → Counts set clause count last (l ∷ rest) → set (negation l) ≡ true →
-    Counts set clause count last rest
-counts-falsified set clause count last l rest counts h = record {
-  none = λ e. sym (unfalsified-falsified set l rest h) ∙ counts.none e;
-  one = λ e. ap (λ ls. last ∷ ls) (sym (unfalsified-falsified set l rest h)) ∙ counts.one e;
-}
+  left-by : (o : Option Literal) → falsified_by f ≡ o →
+      (slice_index stamps f.number == stamp) ≡ false →
+      unfalsified shown (in_front o rest) ≡ in_front o (unfalsified shown rest)
+  left-by None is h = refl
+  left-by (Some l) is h = unfalsified-left shown l rest (shown-number stamps stamp f l is ∙ h)
 
--- a literal that isn't falsified is counted, and is the last one
-pub counts-left : (set : Literals) (clause : List Literal) (count : ℕ) (last l : Literal)
-    (rest : List Literal)
-    → Counts set clause count last (l ∷ rest) → set (negation l) ≡ false →
-    Counts set clause (count + 1) l rest
-counts-left set clause count last l rest counts h = record {
-  none = λ e. absurd (omega (arith, e));
-  one = λ e. sym (unfalsified-left set l rest h) ∙ counts.none (omega (arith, e));
-}
+  -- a falsifier that is shown isn't counted
+  pub counts-shown : Counts shown clause count last (kept f rest) →
+      (slice_index stamps f.number == stamp) ≡ true → Counts shown clause count last rest
+  counts-shown counts h =
+      let same = shown-by (falsified_by f) refl h in record {
+        none = λ e. sym same ∙ counts.none e;
+        one = λ e. ap (kept last) (sym same) ∙ counts.one e;
+      }
+
+  -- one that isn't is counted, and is the last one
+  pub counts-left : Counts shown clause count last (kept f rest) →
+      (slice_index stamps f.number == stamp) ≡ false → Counts shown clause (count + 1) f rest
+  counts-left counts h = record {
+    none = λ e. absurd (omega (arith, e));
+    one = λ e. sym (left-by (falsified_by f) refl h) ∙ counts.none (omega (arith, e));
+  }
+
+-- the last one is the literal that is left
+pub kept-one : (f : Falsifier) (l : Literal) → Some l ≡ falsified_by f → kept f [] ≡ l ∷ []
+kept-one f l is = ap (λ o. in_front o []) (sym is)
+
+-- ---- what is open, one falsifier after another
+
+effect_open-shape : (set : Literals) (state : Open) (f : Falsifier) (l : Literal)
+    (rest : List Literal) → Some l ≡ falsified_by f →
+    effect_open set state (kept f rest) ≡ effect_open set state (l ∷ rest)
+effect_open-shape set state f l rest is = ap (λ o. effect_open set state (in_front o rest)) (sym is)
+
+module _ (set : Literals) (f : Falsifier) (l : Literal) (rest : List Literal)
+    (is : Some l ≡ falsified_by f) where
+  -- a falsified literal changes nothing
+  pub effect_open-falsified : (state : Open) → set (negation l) ≡ true →
+      effect_open set state (kept f rest) ≡ effect_open set state rest
+  unfolding effect_open resume
+  effect_open-falsified Closed h =
+      effect_open-shape set Closed f l rest is
+      ∙ ap effect_of (unfalsified-falsified set l rest h)
+  effect_open-falsified (One first) h =
+      effect_open-shape set (One first) f l rest is
+      ∙ ap (resume (Some first)) (unfalsified-falsified set l rest h)
+  effect_open-falsified More h = effect_open-shape set More f l rest is
+
+  -- the first literal that isn't falsified
+  pub effect_open-first : set (negation l) ≡ false →
+      effect_open set Closed (kept f rest) ≡ effect_open set (One l) rest
+  unfolding effect_open effect_of resume
+  effect_open-first h =
+      effect_open-shape set Closed f l rest is ∙ ap effect_of (unfalsified-left set l rest h)
+
+  -- the same literal again changes nothing
+  pub effect_open-same : (first : Literal) → set (negation l) ≡ false → same first l ≡ true →
+      effect_open set (One first) (kept f rest) ≡ effect_open set (One first) rest
+  unfolding effect_open resume
+  effect_open-same first h e =
+      effect_open-shape set (One first) f l rest is
+      ∙ ap (resume (Some first)) (unfalsified-left set l rest h)
+      ∙ ap (λ b. cond (b && list_all (same first) (unfalsified set rest)) (Forces first) Undecided) e
+
+  -- with another literal more is open
+  pub effect_open-other : (first : Literal) → set (negation l) ≡ false → same first l ≡ false →
+      effect_open set (One first) (kept f rest) ≡ effect_open set More rest
+  unfolding effect_open resume
+  effect_open-other first h e =
+      effect_open-shape set (One first) f l rest is
+      ∙ ap (resume (Some first)) (unfalsified-left set l rest h)
+      ∙ ap (λ b. cond (b && list_all (same first) (unfalsified set rest)) (Forces first) Undecided) e
+
+  -- more stays more
+  pub effect_open-more : effect_open set More (kept f rest) ≡ effect_open set More rest
+  unfolding effect_open
+  effect_open-more = refl
+
+-- at the start of a clause nothing is open
+pub effect_open-start : (set : Literals) (clause : List Literal) →
+    effect_open set Closed clause ≡ effect_of (unfalsified set clause)
+unfolding effect_open
+effect_open-start set clause = refl
+
+-- at its end its effect is known
+pub effect_open-none : (set : Literals) → effect_open set Closed [] ≡ Falsified
+unfolding effect_open effect_of unfalsified
+effect_open-none set = refl
+
+pub effect_open-one : (set : Literals) (first : Literal) →
+    effect_open set (One first) [] ≡ Forces first
+unfolding effect_open unfalsified
+effect_open-one set first = refl
+
+pub effect_open-many : (set : Literals) → effect_open set More [] ≡ Undecided
+unfolding effect_open
+effect_open-many set = refl
 
 -- ---- one hint after another
 

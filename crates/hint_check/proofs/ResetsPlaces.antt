@@ -1,5 +1,5 @@
 -- Lists in which one place after another is set back.
-use Rattle.std.proofs.Common.{zero, suc, ◌||◌, ◌≡◌, ℕ, true, false, nat_eq, get_or, List, [], ◌∷◌}
+use Rattle.std.proofs.Common.{zero, suc, ◌||◌, ◌≡◌, ℕ, false, nat_eq, get_or, List, [], ◌∷◌}
 use Rattle.std.proofs.Common.{◌++◌, refl, sym, ap, ◌∙◌, inl, inr}
 use Rattle.std.specs.Prelude.{if◌then◌else◌, slice_set}
 use Rattle.std.proofs.lemmas.Bool.{cases_Bool, eqb-true, eq-eqb, both_ways, cond-true, or_left}
@@ -39,10 +39,3 @@ module _ {A : Type 0} (d : A) where
             (sym (more ∙ ap (λ b. is_named places i || (b || false)) other
             ∙ or_false (is_named places i)))
       ]
-
--- a place behind others is named as they are
-pub named-more : (places : List ℕ) (p i : ℕ) → is_named places i ≡ true →
-    is_named (places ++ p ∷ []) i ≡ true
-named-more places p i h =
-    list_any-append (λ named. nat_eq named i) places (p ∷ [])
-    ∙ or_left (is_named places i) (is_named (p ∷ []) i) h

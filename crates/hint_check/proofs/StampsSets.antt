@@ -2,7 +2,7 @@
 use Rattle.std.proofs.Common.{◌≡◌, ◌==◌, ◌+◌, ◌<◌, ◌≤◌, ℕ, Bool, true, false, not, ◌||◌, ◌&&◌}
 use Rattle.std.proofs.Common.{List, [], ◌∷◌, ◌++◌, length, get_or, take, slice_index, map, subst}
 use Rattle.std.proofs.Common.{refl, sym, ap, ◌∙◌, arith, inl, inr}
-use Rattle.std.proofs.lemmas.Bool.{cases_Bool, cases_lt, cond-true, cond-false, lt-ltb}
+use Rattle.std.proofs.lemmas.Bool.{cases_Bool, cases_lt, cond-true, cond-false, lt-ltb, le-ltb}
 use Rattle.std.proofs.lemmas.Bool.{ne_eqb, eqb-true, eq-eqb}
 use Rattle.std.specs.Prelude.{if◌then◌else◌, nat_eq, nat_lt, cond, Some, None}
 use Rattle.std.specs.Map.{lookup}
@@ -16,7 +16,7 @@ use Rattle.hint_check.specs.Literals.{Literals, has, with_literal}
 use Rattle.hint_check.specs.Addition.{no_literals}
 use Rattle.hint_check.specs.Inner.Resets.{is_named}
 use Rattle.hint_check.specs.Inner.Stamps.{Marks, stamp_at, mapped_at, NoneAbove, Forgets}
-use Rattle.hint_check.specs.Inner.Stamps.{is_shown, Shows}
+use Rattle.hint_check.specs.Inner.Stamps.{Shows}
 use Rattle.hint_check.specs.Inner.Assignment.{Stamped, set_of, kept_of}
 use Rattle.hint_check.proofs.LiteralsSets.{number-same, same-true, has-push, and_false, or_false}
 
@@ -35,28 +35,36 @@ pub set-alike : (marks after : Marks) (epoch : ℕ) (trail more : List Literal) 
     set_of (record { marks = after; epoch = epoch; trail = more })
     ≡ set_of (record { marks = marks; epoch = epoch; trail = trail })
 unfolding set_of
-set-alike marks after epoch trail more same = λ i l. same (literal_number l) i == epoch
+set-alike marks after epoch trail more same = λ i l.
+    nat_lt 0 l.variable && (same (literal_number l) i == epoch)
+
+and_map : (b x y : Bool) → (x ≡ true → y ≡ true) → (b && x) ≡ true → (b && y) ≡ true
+and_map true x y f h = f h
+and_map false x y f h = h
 
 -- what the near stamps at hand show
 pub shows-set : (stamped : Stamped) → 1 ≤ stamped.epoch → length stamped.marks.0 ≤ 2097152 →
     Shows stamped.marks.0 stamped.epoch (set_of stamped)
 unfolding set_of
 shows-set stamped some few = record {
-  real = λ l shown. elim (cases_lt (literal_number l) 2097152) [
-    | inl low ↦ sym (is_near l low) ∙ shown
-    | inr high ↦
-        let none : slice_index stamped.marks.0 (literal_number l) ≡ 0 =
-        get_or_past stamped.marks.0 (literal_number l) 0 (omega (arith, few, high)) in
-        let is : slice_index stamped.marks.0 (literal_number l) ≡ stamped.epoch =
-        eqb-true (slice_index stamped.marks.0 (literal_number l)) stamped.epoch shown in
-        absurd (omega (arith, none, is, some))
-  ];
-  near = λ l low. is_near l low;
+  real = λ l. and_map (nat_lt 0 l.variable)
+      (slice_index stamped.marks.0 (literal_number l) == stamped.epoch)
+      (stamp_at stamped.marks (literal_number l) == stamped.epoch) (λ shown.
+      elim (cases_lt (literal_number l) 2097152) [
+        | inl low ↦ sym (is_near l low) ∙ shown
+        | inr high ↦
+            let none : slice_index stamped.marks.0 (literal_number l) ≡ 0 =
+            get_or_past stamped.marks.0 (literal_number l) 0 (omega (arith, few, high)) in
+            let is : slice_index stamped.marks.0 (literal_number l) ≡ stamped.epoch =
+            eqb-true (slice_index stamped.marks.0 (literal_number l)) stamped.epoch shown in
+            absurd (omega (arith, none, is, some))
+      ]);
+  near = λ l low. ap (λ b. nat_lt 0 l.variable && b) (is_near l low);
 }
   where
     is_near : (l : Literal) → literal_number l < 2097152 →
-        is_shown stamped.marks.0 stamped.epoch l ≡ (stamp_at stamped.marks (literal_number l)
-        == stamped.epoch)
+        (slice_index stamped.marks.0 (literal_number l) == stamped.epoch)
+        ≡ (stamp_at stamped.marks (literal_number l) == stamped.epoch)
     is_near l low =
         ap (λ stamp. stamp == stamped.epoch) (sym (near-at stamped.marks (literal_number l) low))
 
@@ -69,7 +77,9 @@ set-low : (marks : Marks) (epoch : ℕ) (trail : List Literal) →
     set_of (record { marks = marks; epoch = epoch; trail = trail }) ≡ no_literals
 unfolding set_of
 set-low marks epoch trail low = λ i l.
-    low-apart (stamp_at marks (literal_number l)) epoch (low (literal_number l)) i
+    (ap (λ b. nat_lt 0 l.variable && b)
+    (low-apart (stamp_at marks (literal_number l)) epoch (low (literal_number l)))
+    ∙ and_false (nat_lt 0 l.variable)) i
 
 -- in the next epoch nothing is in the set
 pub set-next : (marks : Marks) (epoch : ℕ) (trail : List Literal) → NoneAbove marks epoch →
@@ -119,25 +129,68 @@ stamped : (b : Bool) (stamp epoch : ℕ) →
 stamped true stamp epoch = eq-eqb epoch epoch refl
 stamped false stamp epoch = refl
 
+guard_or : (g a b : Bool) → (a ≡ true → g ≡ true) → (g && (a || b)) ≡ (a || (g && b))
+guard_or true a b h = refl
+guard_or false true b h = h refl
+guard_or false false b h = refl
+
+-- one more number is stamped
+pub NoneAbove-number : (marks after : Marks) (epoch number : ℕ) → NoneAbove marks epoch →
+    ((n : ℕ) → stamp_at after n ≡ (if number == n then epoch else stamp_at marks n)) →
+    NoneAbove after epoch
+unfolding NoneAbove
+NoneAbove-number marks after epoch number h set n =
+    rw (set n) (no-higher (number == n) epoch (stamp_at marks n) epoch (omega arith) (h n))
+
+unstamped : (b : Bool) (new old : ℕ) → b ≡ false → (if b then new else old) ≡ old
+unstamped b new old h = cond-false b new old h
+
+guarded : (v : ℕ) (x y : Bool) → (1 ≤ v → x ≡ y) → (nat_lt 0 v && x) ≡ (nat_lt 0 v && y)
+guarded v x y h = elim (cases_lt 0 v) [
+  | inl some ↦ ap (λ b. nat_lt 0 v && b) (h (omega (arith, some)))
+  | inr none ↦ ap (λ b. b && x) (le-ltb 0 v none) ∙ sym (ap (λ b. b && y) (le-ltb 0 v none))
+]
+
+-- the stamp of 0 says nothing of a literal
+pub set-blank : (marks after : Marks) (epoch : ℕ) (trail : List Literal) →
+    ((n : ℕ) → stamp_at after n ≡ (if 0 == n then epoch else stamp_at marks n)) →
+    set_of (record { marks = after; epoch = epoch; trail = trail })
+    ≡ set_of (record { marks = marks; epoch = epoch; trail = trail })
+unfolding set_of
+set-blank marks after epoch trail set = λ i l.
+    (guarded l.variable (stamp_at after (literal_number l) == epoch)
+    (stamp_at marks (literal_number l) == epoch) (λ some.
+    ap (λ stamp. stamp == epoch)
+    (set (literal_number l)
+    ∙ unstamped (0 == literal_number l) epoch (stamp_at marks (literal_number l))
+    (ne_eqb 0 (literal_number l) (λ e. omega (arith, e, some)))))) i
+
 module _ (marks after : Marks) (epoch : ℕ) (l : Literal) where
   -- one more literal is stamped
   pub NoneAbove-put : NoneAbove marks epoch →
       ((n : ℕ) → stamp_at after n ≡ (if literal_number l == n then epoch else stamp_at marks n)) →
       NoneAbove after epoch
-  unfolding NoneAbove
-  NoneAbove-put h set n =
-      rw (set n)
-      (no-higher (literal_number l == n) epoch (stamp_at marks n) epoch (omega arith) (h n))
+  NoneAbove-put h set = NoneAbove-number marks after epoch (literal_number l) h set
 
-  pub set-put : (trail more : List Literal) →
+  has_variable : 1 ≤ l.variable → (m : Literal) → (literal_number l == literal_number m) ≡ true →
+      nat_lt 0 m.variable ≡ true
+  has_variable some m e =
+      ap (λ (x : Literal). nat_lt 0 x.variable) (sym (same-true l m (sym (number-same l m) ∙ e)))
+      ∙ lt-ltb 0 l.variable (omega (arith, some))
+
+  pub set-put : (trail more : List Literal) → 1 ≤ l.variable →
       ((n : ℕ) → stamp_at after n ≡ (if literal_number l == n then epoch else stamp_at marks n)) →
       set_of (record { marks = after; epoch = epoch; trail = more })
       ≡ with_literal (set_of (record { marks = marks; epoch = epoch; trail = trail })) l
   unfolding set_of with_literal
-  set-put trail more set = λ i m.
-      (ap (λ s. s == epoch) (set (literal_number m))
-      ∙ stamped (literal_number l == literal_number m) (stamp_at marks (literal_number m)) epoch
-      ∙ ap (λ b. b || (stamp_at marks (literal_number m) == epoch)) (number-same l m)) i
+  set-put trail more some set = λ i m.
+      (ap (λ s. nat_lt 0 m.variable && (s == epoch)) (set (literal_number m))
+      ∙ ap (λ b. nat_lt 0 m.variable && b)
+      (stamped (literal_number l == literal_number m) (stamp_at marks (literal_number m)) epoch)
+      ∙ guard_or (nat_lt 0 m.variable) (literal_number l == literal_number m)
+      (stamp_at marks (literal_number m) == epoch) (has_variable some m)
+      ∙ ap (λ b. b || (nat_lt 0 m.variable && (stamp_at marks (literal_number m) == epoch)))
+      (number-same l m)) i
 
 there : (b c : Bool) → (b ≡ true → c ≡ true) → c ≡ (b || c)
 there true c h = h refl
@@ -148,6 +201,14 @@ pub with_literal-there : (set : Literals) (l : Literal) → set l ≡ true → s
 unfolding with_literal
 with_literal-there set l h = λ i m.
     there (same l m) (set m) (λ e. ap set (sym (same-true l m e)) ∙ h) i
+
+-- whether a literal with a variable is in the set is said by its stamp
+pub set-known : (stamped : Stamped) (l : Literal) → 1 ≤ l.variable →
+    (stamp_at stamped.marks (literal_number l) == stamped.epoch) ≡ set_of stamped l
+unfolding set_of
+set-known stamped l some =
+    sym (ap (λ b. b && (stamp_at stamped.marks (literal_number l) == stamped.epoch))
+    (lt-ltb 0 l.variable (omega (arith, some))))
 
 -- ---- what can be taken out again
 
@@ -160,6 +221,15 @@ pub kept-none : (stamped : Stamped) → stamped.trail ≡ [] → kept_of stamped
 unfolding kept_of has
 kept-none stamped none = λ i l.
     (ap (λ trail. set_of stamped l && not (has trail l)) none ∙ and_true (set_of stamped l)) i
+
+-- what stays is determined by what the stamps answer
+pub kept-alike : (marks after : Marks) (epoch : ℕ) (trail : List Literal) →
+    ((n : ℕ) → stamp_at after n ≡ stamp_at marks n) →
+    kept_of (record { marks = after; epoch = epoch; trail = trail })
+    ≡ kept_of (record { marks = marks; epoch = epoch; trail = trail })
+unfolding kept_of
+kept-alike marks after epoch trail same = λ i l.
+    set-alike marks after epoch trail trail same i l && not (has trail l)
 
 kept_more : (old this there : Bool) → (this ≡ true → old ≡ false) →
     ((this || old) && not (this || there)) ≡ (old && not there)
@@ -223,16 +293,25 @@ forgotten true stamp epoch some =
     low-apart 0 epoch (omega (arith, some)) ∙ sym (and_false (stamp == epoch))
 forgotten false stamp epoch some = sym (and_true (stamp == epoch))
 
+regrouped : (a b c : Bool) → (a && (b && c)) ≡ ((a && b) && c)
+regrouped true b c = refl
+regrouped false b c = refl
+
 -- without the stamps of what can be taken out, those that stay are the set
 pub set-undone : (stamped : Stamped) (after : Marks) (trail : List Literal) → 1 ≤ stamped.epoch →
     Forgets (map literal_number stamped.trail) stamped.marks after →
     set_of (record { marks = after; epoch = stamped.epoch; trail = trail }) ≡ kept_of stamped
 unfolding set_of kept_of
 set-undone stamped after trail some forgets = λ i l.
-    (ap (λ s. s == stamped.epoch) (forgets (literal_number l))
-    ∙ forgotten (is_named (map literal_number stamped.trail) (literal_number l))
-    (stamp_at stamped.marks (literal_number l)) stamped.epoch some
-    ∙ ap (λ b. (stamp_at stamped.marks (literal_number l) == stamped.epoch) && not b)
+    (ap (λ s. nat_lt 0 l.variable && (s == stamped.epoch)) (forgets (literal_number l))
+    ∙ ap (λ b. nat_lt 0 l.variable && b)
+    (forgotten (is_named (map literal_number stamped.trail) (literal_number l))
+    (stamp_at stamped.marks (literal_number l)) stamped.epoch some)
+    ∙ regrouped (nat_lt 0 l.variable) (stamp_at stamped.marks (literal_number l) == stamped.epoch)
+    (not (is_named (map literal_number stamped.trail) (literal_number l)))
+    ∙ ap (λ b.
+    (nat_lt 0 l.variable && (stamp_at stamped.marks (literal_number l) == stamped.epoch))
+    && not b)
     (named-has stamped.trail l)) i
 
 -- stamps that are gone are above nothing

@@ -1,14 +1,15 @@
 -- The words of private contracts: no public contract names them, and no other crate does.
 pub mod Live
-pub mod Dropped
 pub mod Propagate
 pub mod Apply
-pub mod Checker
+pub mod Judge
 pub mod Stamps
 pub mod Assignment
+pub mod Blocks
 pub mod Index
 pub mod Resets
-pub mod Own
+pub mod Table
+pub mod Far
 pub mod Grouped
 pub mod Needed
 pub mod Holders

@@ -9,6 +9,7 @@ ghost use Rattle.hint_check.specs.Inner.Needed.{is_needed, HasAll, NamesNeeded};
 
 use crate::assignment::Assignment;
 use crate::live::LiveClauses;
+use crate::scratch::ClauseScratch;
 use crate::tautology::{holds_with_none_true, is_found_tautology};
 use cnf_text::literal::Lit;
 use std::alloc::{AllocError, Global};
@@ -83,25 +84,26 @@ fn set_of(alloc: Global, ids: &[u64]) -> Result<BTreeSet<u64>, AllocError>
     Ok(set)
 }
 
-/// Whether the clause that is live under an id needs a group. The scratch assignment is for nothing
-/// else.
+/// Whether the clause that is live under an id needs a group. The scratch is for nothing else.
 fn is_needed(
     live: &LiveClauses,
     reached: &Assignment,
-    scratch: &mut Assignment,
+    scratch: &mut ClauseScratch,
     pivot: Lit,
     id: u64,
 ) -> Result<bool, AllocError>
     ensures { IfOk result
-        (λ needed. needed ≡ is_needed live.now (set_of reached.now) pivot id) }
+        (λ needed. needed ≡ is_needed live.now.0 (set_of reached.now) pivot id) }
 {
+    let ClauseScratch { lits, set } = scratch;
     let Some(clause) = live.get(id) else {
         return Ok(false);
     };
-    if !holds_with_none_true(clause, pivot.negated(), reached) {
+    clause.list(lits)?;
+    if !holds_with_none_true(lits, pivot.negated(), reached) {
         return Ok(false);
     }
-    let tautology = is_found_tautology(scratch, clause)?;
+    let tautology = is_found_tautology(set, lits)?;
     Ok(!tautology)
 }
 
@@ -110,12 +112,12 @@ fn is_needed(
 pub fn keep_needed(
     live: &LiveClauses,
     reached: &Assignment,
-    scratch: &mut Assignment,
+    scratch: &mut ClauseScratch,
     pivot: Lit,
     ids: &mut Vec<u64>,
 ) -> Result<(), AllocError>
-    requires { NamesHolders live.now (negation pivot) ids.old.items }
-    ensures { OnOk result (NamesNeeded live.now (set_of reached.now) pivot ids.new.items) }
+    requires { NamesHolders live.now.0 (negation pivot) ids.old.items }
+    ensures { OnOk result (NamesNeeded live.now.0 (set_of reached.now) pivot ids.new.items) }
 {
     let mut kept = 0;
     for place in 0..ids.len() {

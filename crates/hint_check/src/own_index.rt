@@ -5,9 +5,9 @@ ghost use Rattle.std.specs.FinMap as map;
 ghost use Rattle.cnf_text.specs.Literal.{literal_number};
 ghost use Rattle.hint_check.specs.Inner.Index.{ids_at, Indexes, MayList};
 
-use crate::assignment::Assignment;
 use crate::index::Index;
-use crate::own::OwnClauses;
+use crate::scratch::ClauseScratch;
+use crate::table::Table;
 use cnf_text::literal::Lit;
 use std::alloc::{AllocError, Global};
 use std::marker::Model;
@@ -47,18 +47,18 @@ impl OwnIndex {
         self.is_made = false;
     }
 
-    /// Makes the index of these clauses where none is made. The scratch assignment is for nothing
-    /// else.
-    pub fn make(&mut self, own: &OwnClauses, scratch: &mut Assignment) -> Result<(), AllocError>
-        requires { IfSome self.old (λ rows. Indexes rows (map.entries own.now)) }
-        ensures made { OnOk result (Indexes (unwrap_or self.new []) (map.entries own.now)) }
-        ensures kept { IfSome self.new (λ rows. Indexes rows (map.entries own.now)) }
+    /// Makes the index of a table's clauses that aren't the front's, where none is made. The
+    /// scratch is for nothing else.
+    pub fn make(&mut self, table: &Table, scratch: &mut ClauseScratch) -> Result<(), AllocError>
+        requires { IfSome self.old (λ rows. Indexes rows (map.entries table.now.own)) }
+        ensures made { OnOk result (Indexes (unwrap_or self.new []) (map.entries table.now.own)) }
+        ensures kept { IfSome self.new (λ rows. Indexes rows (map.entries table.now.own)) }
     {
         if self.is_made {
             return Ok(());
         }
         self.index.clear();
-        own.list_in(&mut self.index, scratch)?;
+        table.list_in(&mut self.index, scratch)?;
         self.is_made = true;
         Ok(())
     }

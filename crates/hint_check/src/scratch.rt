@@ -1,18 +1,26 @@
 //! What judgements write on.
 
 use crate::assignment::Assignment;
-use crate::live::Room;
+use cnf_text::literal::Lit;
 use lrat_text::StepBuffer;
 use std::alloc::Global;
-use std::marker::Model;
+
+/// What is written on to look at a clause.
+#[derive(Drop)]
+pub struct ClauseScratch {
+    /// Its literals, in a list.
+    pub lits: Vec<Lit>,
+    /// Its literals, or their negations.
+    pub set: Assignment,
+}
 
 /// What is written on to find the candidates of a step.
 #[derive(Drop)]
 pub struct Candidates {
     /// The ids of the clauses that may be candidates.
-    pub(crate) ids: Vec<u64>,
-    /// The literals of a clause that is looked at.
-    pub(crate) literals: Assignment,
+    pub ids: Vec<u64>,
+    /// A clause that is looked at.
+    pub clause: ClauseScratch,
 }
 
 impl Candidates {
@@ -20,33 +28,22 @@ impl Candidates {
     fn new(alloc: Global) -> Candidates {
         Candidates {
             ids: Vec::new(alloc),
-            literals: Assignment::new(alloc),
+            clause: ClauseScratch {
+                lits: Vec::new(alloc),
+                set: Assignment::new(alloc),
+            },
         }
     }
 }
 
-/// What judgements write on: the step that is read, a set of literals, a list of ids and the
-/// lists of the live clauses. No judgement sees what an earlier one left there. What it has room
-/// for it keeps, so that judging many proofs with one of them takes memory only where a proof needs
-/// more than all before it.
+/// What the judgement of a step writes on: the step that is read, a set of literals, and what its
+/// candidates are found on. No judgement sees what an earlier one left there.
 #[derive(Drop)]
 pub struct Scratch {
-    pub(crate) step: StepBuffer,
+    pub step: StepBuffer,
     /// The literals that the hints of a step have made true.
-    pub(crate) reached: Assignment,
-    /// The clauses that may be a step's candidates.
-    pub(crate) candidates: Candidates,
-    /// Where the lists of the live clauses are kept between two judgements.
-    pub(crate) room: Room,
-}
-
-// Clauses see nothing of it, so no contract of a judgement can depend on what is there.
-impl Model for Scratch {
-    ghost use Rattle.std.specs.Prelude.{⊤};
-
-    ghost Value = { ⊤ };
-
-    ghost view = { λ _. tt };
+    pub reached: Assignment,
+    pub candidates: Candidates,
 }
 
 impl Scratch {
@@ -56,7 +53,6 @@ impl Scratch {
             step: StepBuffer::new(alloc),
             reached: Assignment::new(alloc),
             candidates: Candidates::new(alloc),
-            room: Room::new(alloc),
         }
     }
 }

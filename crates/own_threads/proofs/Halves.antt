@@ -1,16 +1,27 @@
 -- What passes have seen, from one section to the next and of both halves together.
-use Rattle.std.proofs.Common.{◌≡◌, ◌≢◌, ℕ, ◌+◌, ◌<◌, List, [], ◌∷◌, ◌++◌, sym, subst, arith}
+use Rattle.std.proofs.Common.{◌≡◌, ◌≢◌, ℕ, ◌+◌, ◌<◌, List, [], ◌∷◌, ◌++◌, sym, subst, ap, arith}
 use mathlib.Core.Logic.{dite}
 use native.Mathlib.Decide.{ℕ_discrete, dec_lt}
 use Rattle.std.proofs.lemmas.List.Elements.{Contains-append_left, Contains-push}
 use Rattle.case_core.specs.Case.{CaseOf}
 use Rattle.board_hall.specs.declared.pass.Pass.{Pass}
 use Rattle.board_hall.specs.declared.view.View.{View}
-use Rattle.board_hall.specs.Halls.{HallOf}
+use Rattle.board_hall.specs.Halls.{HallOf, IsNewPass, view_of}
 use Rattle.board_hall.specs.Clauses.{Stays}
 use Rattle.check_crew.specs.Seen.{HasSeenSection, HaveSeenSections}
 use Rattle.check_crew.proofs.SeenTurns.{section_stays}
-use Rattle.own_threads.specs.Inner.Sections.{HasSeenFrom, HavePosted}
+use Rattle.own_threads.specs.Inner.Sections.{HasSeenFrom, HasPostedFrom, HavePosted}
+
+-- a new pass has posted what was found of no section
+pub none_posted : (hall : HallOf) (first end : ℕ) (pass : Pass) → IsNewPass hall pass → first ≡ end →
+    HasPostedFrom hall first end pass
+none_posted hall first end pass new none =
+    let seen : (view_of pass).seen ≡ [] = ap (λ (v : View). v.seen) new.1 in
+    record {
+      own = (new.0, ap (λ (v : View). v.of) new.1, rw seen (λ post among. absurd among));
+      free = ap (λ (v : View). v.owes) new.1;
+      seen = λ place from before. absurd (omega (arith, from, before, none));
+    }
 
 -- the section behind those that were seen
 pub forwards : (v w : View) (first at : ℕ) → Stays v w → HasSeenFrom v first at →

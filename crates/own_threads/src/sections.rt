@@ -8,7 +8,7 @@ ghost use Rattle.check_crew.specs.Seen.{HasSeen, HasSeenSection};
 ghost use Rattle.own_threads.specs.Inner.Sections.{IsReady, HasPostedFrom};
 
 use board_hall::{Core, Pass};
-use case_core::{Case, Finding, examine};
+use case_core::{Case, Examiner, Finding};
 use mark_board::Posted;
 use std::alloc::{AllocError, Global};
 use std::sync::Wait;
@@ -47,8 +47,9 @@ pub(crate) fn post_first_half<R: Wait>(
     requires pass { IsNewPass (shared_of desk.core.now) pass }
     ensures { IfOk result (HasPostedFrom (shared_of desk.entry.core.now) 0 desk.entry.half) }
 {
+    let mut examiner = Examiner::over(alloc, desk.case)?;
     for place in 0..desk.half {
-        post_section(rt, alloc, desk.case, desk.core, &mut pass, place)?;
+        post_section(rt, alloc, desk, &mut examiner, &mut pass, place)?;
     }
     Ok(pass)
 }
@@ -66,36 +67,39 @@ pub(crate) fn post_second_half<R: Wait>(
     ensures { IfOk result (HasPostedFrom (shared_of desk.entry.core.now) desk.entry.half
         (length desk.entry.case.now.sections)) }
 {
+    let mut examiner = Examiner::over(alloc, desk.case)?;
     for place in (desk.half..desk.case.sections().len()).rev() {
-        post_section(rt, alloc, desk.case, desk.core, &mut pass, place)?;
+        post_section(rt, alloc, desk, &mut examiner, &mut pass, place)?;
     }
     Ok(pass)
 }
 
 /// Examines the section at a place, and posts what is found. `AllocError` where a growth was
 /// refused, and then nothing is posted.
-fn post_section<R: Wait>(
+fn post_section<'a, R: Wait>(
     rt: &R,
     alloc: Global,
-    case: &Case,
-    core: &Core,
+    desk: Desk<'a>,
+    examiner: &mut Examiner<'a>,
     pass: &mut Pass,
     place: usize,
 ) -> Result<(), AllocError>
-    requires case { case.now ≡ (core_of core.now).case }
-    requires place { place < length case.now.sections }
-    requires own { IsPassOf (shared_of core.now) pass.old }
+    requires case { desk.case.now ≡ (core_of desk.core.now).case }
+    requires examiner { examiner.old ≡ desk.case.now }
+    requires place { place < length desk.case.now.sections }
+    requires own { IsPassOf (shared_of desk.core.now) pass.old }
     requires free { (view_of pass.old).owes ≡ None }
-    ensures own { IsPassOf (shared_of core.now) pass.new }
+    ensures same { examiner.new ≡ examiner.old }
+    ensures own { IsPassOf (shared_of desk.entry.core.now) pass.new }
     ensures free { (view_of pass.new).owes ≡ None }
     ensures stays { Stays (view_of pass.old) (view_of pass.new) }
     ensures seen { OnOk result (HasSeenSection (view_of pass.new) place) }
 {
-    let target = case.sections()[place].target;
-    let Some(finding) = examine(alloc, case, target)? else {
+    let target = desk.case.sections()[place].target;
+    let Some(finding) = examiner.examine(alloc, target)? else {
         unreachable!()
     };
-    post(rt, case, core, pass, finding);
+    post(rt, desk.case, desk.core, pass, finding);
     Ok(())
 }
 

@@ -5,7 +5,7 @@ use crate::literals::{formula, lits};
 use crate::{nine, plain};
 use cnf_text::literal::Lit;
 use fixtures::bundles::FOUR;
-use hint_check::{Base, Checker, Judged, Reason, Scratch};
+use hint_check::{Base, Checker, Judge, Judged, Reason};
 use std::alloc::Global;
 use std::process::Abort;
 
@@ -441,19 +441,15 @@ pub fn judged_over(
     checker.judge(alloc, text).expect(rt, "memory")
 }
 
-/// The same on a scratch that served other judgements.
-pub fn judged_on(
+/// The same of one that may have judged other proofs.
+pub fn judged_by(
     rt: &impl Abort,
     alloc: Global,
-    scratch: &mut Scratch,
-    base: &Base,
+    judge: &mut Judge,
     path: &[Lit],
     text: &[u8],
 ) -> Judged {
-    let checker = Checker::over(alloc, base, path).expect(rt, "memory");
-    checker
-        .judge_with(alloc, scratch, text)
-        .expect(rt, "memory")
+    judge.judge(alloc, path, text).expect(rt, "memory")
 }
 
 /// What the judge says over a formula of its own: that of a base.
@@ -509,20 +505,17 @@ fn first_wrong_lent(
     first_wrong(rt, alloc, &base, clauses, proofs)
 }
 
-/// The same of the judge alone, on a scratch on which each proof leaves what its last step wrote.
-fn first_wrong_on(
+/// The same of one judge, to which each proof leaves what its last step wrote.
+fn first_wrong_by(
     rt: &impl Abort,
     alloc: Global,
-    scratch: &mut Scratch,
-    clauses: &[&[i32]],
+    judge: &mut Judge,
     proofs: &[Proof],
 ) -> Option<&'static str> {
-    let formula = formula(rt, alloc, clauses);
-    let base = Base::new(alloc, &formula).expect(rt, "memory");
     for proof in proofs {
         let (path, text, fault) = *proof;
         let path = lits(rt, alloc, path);
-        if judged_on(rt, alloc, scratch, &base, &path, text.as_bytes()) != expected(fault) {
+        if judged_by(rt, alloc, judge, &path, text.as_bytes()) != expected(fault) {
             return Some(text);
         }
     }
@@ -540,49 +533,37 @@ fn first_wrong_owned(
     first_wrong(rt, alloc, &base, clauses, proofs)
 }
 
-/// Clauses, and proofs over them.
-type Table = (&'static [&'static [i32]], &'static [Proof]);
+/// Clauses, and lists of proofs over them.
+type Table = (&'static [&'static [i32]], &'static [&'static [Proof]]);
 
-/// The tables over the four clauses.
-const TABLES_OF_FOUR: &[Table] = &[
-    (FOUR, ADDITIONS),
-    (FOUR, GROUPS),
-    (FOUR, MANY_GROUPS),
-    (FOUR, PUT_IN_ANEW),
-    (FOUR, DELETIONS),
-    (FOUR, READING),
+/// That over the four clauses.
+const OVER_FOUR: Table = (
+    FOUR,
+    &[
+        ADDITIONS,
+        GROUPS,
+        MANY_GROUPS,
+        PUT_IN_ANEW,
+        DELETIONS,
+        READING,
+    ],
+);
+
+/// Those over other formulas.
+const OVER_OTHERS: &[Table] = &[
+    (EIGHT, &[TWICE_FOUR]),
+    (REPEATED, &[REPEATING]),
+    (LONG, &[LONG_CANDIDATES]),
+    (WITH_EMPTY, &[REFUTED_AT_ONCE]),
+    (EMPTY_ALONE, &[REFUTED_ALONE]),
+    (&[], &[NO_CLAUSE]),
 ];
 
-/// The tables over other formulas.
-const OTHER_TABLES: &[Table] = &[
-    (EIGHT, TWICE_FOUR),
-    (REPEATED, REPEATING),
-    (LONG, LONG_CANDIDATES),
-    (WITH_EMPTY, REFUTED_AT_ONCE),
-    (EMPTY_ALONE, REFUTED_ALONE),
-    (&[], NO_CLAUSE),
-];
-
-/// The first proof of some tables that a judge doesn't judge as expected.
-fn first_wrong_of(rt: &impl Abort, alloc: Global, tables: &[Table]) -> Option<&'static str> {
-    for (clauses, proofs) in tables {
+/// The first proof of a table that a judge doesn't judge as expected.
+fn first_wrong_of(rt: &impl Abort, alloc: Global, table: &Table) -> Option<&'static str> {
+    let (clauses, lists) = *table;
+    for proofs in lists {
         let wrong = first_wrong_lent(rt, alloc, clauses, proofs);
-        if wrong.is_some() {
-            return wrong;
-        }
-    }
-    None
-}
-
-/// The same of the judge alone, on a scratch.
-fn first_wrong_of_on(
-    rt: &impl Abort,
-    alloc: Global,
-    scratch: &mut Scratch,
-    tables: &[Table],
-) -> Option<&'static str> {
-    for (clauses, proofs) in tables {
-        let wrong = first_wrong_on(rt, alloc, scratch, clauses, proofs);
         if wrong.is_some() {
             return wrong;
         }
@@ -592,36 +573,59 @@ fn first_wrong_of_on(
 
 #[test]
 fn expected_of_every_judge(rt: HostRuntime) {
-    let wrong = first_wrong_of(&rt, rt.alloc(), TABLES_OF_FOUR);
+    let wrong = first_wrong_of(&rt, rt.alloc(), &OVER_FOUR);
     assert_eq!(rt; wrong, None);
 }
 
 #[test]
 fn expected_of_every_judge_elsewhere(rt: HostRuntime) {
-    let wrong = first_wrong_of(&rt, rt.alloc(), OTHER_TABLES);
+    for table in OVER_OTHERS {
+        let wrong = first_wrong_of(&rt, rt.alloc(), table);
+        assert_eq!(rt; wrong, None);
+    }
+}
+
+/// The first proof of some lists that a judge, which judges all of them, doesn't judge as expected.
+fn first_wrong_in_turn(
+    rt: &impl Abort,
+    alloc: Global,
+    judge: &mut Judge,
+    lists: &[&[Proof]],
+) -> Option<&'static str> {
+    for proofs in lists {
+        let wrong = first_wrong_by(rt, alloc, judge, proofs);
+        if wrong.is_some() {
+            return wrong;
+        }
+    }
+    None
+}
+
+/// The same of a table by one judge, in two rounds, so that the first proof, too, follows another.
+fn first_wrong_of_one_judge(rt: &impl Abort, alloc: Global, table: &Table) -> Option<&'static str> {
+    let (clauses, lists) = *table;
+    let formula = formula(rt, alloc, clauses);
+    let base = Base::new(alloc, &formula).expect(rt, "memory");
+    let mut judge = Judge::over(alloc, &base).expect(rt, "memory");
+    for _ in 0..2 {
+        let wrong = first_wrong_in_turn(rt, alloc, &mut judge, lists);
+        if wrong.is_some() {
+            return wrong;
+        }
+    }
+    None
+}
+
+#[test]
+fn expected_of_one_judge(rt: HostRuntime) {
+    let wrong = first_wrong_of_one_judge(&rt, rt.alloc(), &OVER_FOUR);
     assert_eq!(rt; wrong, None);
 }
 
-/// The first proof of all tables, one after another, that isn't judged as expected.
-fn judged_in_turn(rt: &impl Abort, alloc: Global, scratch: &mut Scratch) -> Option<&'static str> {
-    let wrong = first_wrong_of_on(rt, alloc, scratch, TABLES_OF_FOUR);
-    if wrong.is_some() {
-        return wrong;
-    }
-    others_in_turn(rt, alloc, scratch)
-}
-
-/// The same of the tables over other formulas.
-fn others_in_turn(rt: &impl Abort, alloc: Global, scratch: &mut Scratch) -> Option<&'static str> {
-    first_wrong_of_on(rt, alloc, scratch, OTHER_TABLES)
-}
-
-/// In two rounds, so that each formula follows a longer one or a shorter one.
 #[test]
-fn expected_on_one_scratch(rt: HostRuntime) {
-    let mut scratch = Scratch::new(rt.alloc());
-    for _ in 0..2 {
-        let wrong = judged_in_turn(&rt, rt.alloc(), &mut scratch);
+fn expected_of_one_judge_elsewhere(rt: HostRuntime) {
+    for table in OVER_OTHERS {
+        let wrong = first_wrong_of_one_judge(&rt, rt.alloc(), table);
         assert_eq!(rt; wrong, None);
     }
 }

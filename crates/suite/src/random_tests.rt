@@ -1,11 +1,11 @@
 //! The judge and the plain judge on proofs that are made up step by step, by a linear congruential
 //! generator.
-use crate::judging_tests::{REPEATED, judged_on, judged_over};
+use crate::judging_tests::{REPEATED, judged_by, judged_over};
 use crate::literals::{formula, lits};
 use crate::plain;
 use cnf_text::literal::Lit;
 use fixtures::bundles::FOUR;
-use hint_check::{Base, Judged, Reason, Scratch};
+use hint_check::{Base, Judge, Judged, Reason};
 use std::alloc::{AllocError, Global};
 use std::process::Abort;
 
@@ -252,23 +252,22 @@ fn count(tally: &mut Tally, judged: Judged) {
     *counter = counter.saturating_add(1);
 }
 
-/// What the trials draw from, judge on and are counted in.
+/// What the trials draw from and are counted in.
 #[derive(Drop)]
 struct Trials {
     random: Generator,
-    scratch: Scratch,
     tally: Tally,
 }
 
 /// A text, how long it was before its last step, and the length after which a proof is begun anew.
 type Growing<'t> = (&'t mut Vec<u8>, usize, usize);
 
-/// Whether both judges say the same of a text, and the fast one also on a scratch that judged other
-/// texts. Its last step is taken back where it isn't good.
+/// Whether both judges say the same of a text, and so does a fast one that judged other texts over
+/// this base. Its last step is taken back where it isn't good.
 fn agree(
     rt: &impl Abort,
     alloc: Global,
-    scratch: &mut Scratch,
+    judge: &mut Judge,
     base: &Base,
     path: &[Lit],
     growing: Growing,
@@ -277,7 +276,7 @@ fn agree(
     let (text, before, longest) = growing;
     let slow = plain::judge(rt, alloc, base.formula(), path, text);
     let fast = judged_over(rt, alloc, base, path, text);
-    let kept = judged_on(rt, alloc, scratch, base, path, text);
+    let kept = judged_by(rt, alloc, judge, path, text);
     count(tally, slow);
     match slow {
         Judged::Rejected {
@@ -296,6 +295,7 @@ fn agree(
 fn differences(
     rt: &impl Abort,
     alloc: Global,
+    judge: &mut Judge,
     base: &Base,
     path: &[Lit],
     given: &[&'static [u8]; 16],
@@ -307,8 +307,7 @@ fn differences(
         let before = text.len();
         push_step(&mut trials.random, &mut text, given).expect(rt, "memory");
         let growing = (&mut text, before, LONGEST);
-        let (scratch, tally) = (&mut trials.scratch, &mut trials.tally);
-        if !agree(rt, alloc, scratch, base, path, growing, tally) {
+        if !agree(rt, alloc, judge, base, path, growing, &mut trials.tally) {
             differ = differ.saturating_add(1);
         }
     }
@@ -317,10 +316,11 @@ fn differences(
 
 const PATHS: &[&[i32]] = &[&[], &[1], &[-1, 2], &[4, -3, 4]];
 
-/// The proofs of all paths over one base.
+/// The proofs of all paths over one base, by one judge.
 fn differences_over(
     rt: &impl Abort,
     alloc: Global,
+    judge: &mut Judge,
     base: &Base,
     given: &[&'static [u8]; 16],
     trials: &mut Trials,
@@ -328,13 +328,14 @@ fn differences_over(
     let mut differ = 0u32;
     for numbers in PATHS {
         let path = lits(rt, alloc, numbers);
-        let more = differences(rt, alloc, base, &path, given, trials);
+        let more = differences(rt, alloc, judge, base, &path, given, trials);
         differ = differ.saturating_add(more);
     }
     differ
 }
 
-/// The same over the base of these clauses.
+/// The same over the base of these clauses, in two rounds, so that each path follows a longer one or
+/// a shorter one.
 fn differences_of(
     rt: &impl Abort,
     alloc: Global,
@@ -344,7 +345,13 @@ fn differences_of(
 ) -> u32 {
     let formula = formula(rt, alloc, clauses);
     let base = Base::new(alloc, &formula).expect(rt, "memory");
-    differences_over(rt, alloc, &base, given, trials)
+    let mut judge = Judge::over(alloc, &base).expect(rt, "memory");
+    let mut differ = 0u32;
+    for _ in 0..2 {
+        let more = differences_over(rt, alloc, &mut judge, &base, given, trials);
+        differ = differ.saturating_add(more);
+    }
+    differ
 }
 
 const NOTHING_YET: Tally = Tally {
@@ -374,20 +381,15 @@ const FORMULAS: &[Given] = &[
     (PAIRS, &PAIRS_STEPS),
 ];
 
-/// On one scratch for all formulas, in two rounds, so that each follows a longer one or a shorter
-/// one.
 #[test]
 fn both_judges_agree(rt: HostRuntime) {
     let mut trials = Trials {
         random: Generator { state: 22 },
-        scratch: Scratch::new(rt.alloc()),
         tally: NOTHING_YET,
     };
-    for _ in 0..2 {
-        for (clauses, given) in FORMULAS {
-            let differ = differences_of(&rt, rt.alloc(), clauses, given, &mut trials);
-            assert_eq!(rt; differ, 0);
-        }
+    for (clauses, given) in FORMULAS {
+        let differ = differences_of(&rt, rt.alloc(), clauses, given, &mut trials);
+        assert_eq!(rt; differ, 0);
     }
     let tally = trials.tally;
     assert!(rt; least(tally) > 0, "{tally:?}");
@@ -461,13 +463,13 @@ fn spread_differences(
     tally: &mut Tally,
 ) -> u32 {
     let mut text = Vec::new(alloc);
-    let mut scratch = Scratch::new(alloc);
+    let mut judge = Judge::over(alloc, base).expect(rt, "memory");
     let mut differ = 0u32;
     for _ in 0..SPREAD_TRIES {
         let before = text.len();
         push_spread_step(random, &mut text).expect(rt, "memory");
         let growing = (&mut text, before, LONGEST_SPREAD);
-        if !agree(rt, alloc, &mut scratch, base, &[], growing, tally) {
+        if !agree(rt, alloc, &mut judge, base, &[], growing, tally) {
             differ = differ.saturating_add(1);
         }
     }

@@ -12,15 +12,18 @@ with_numbers =
     with_rule (with_rule (with_version (new_app (codes "cubeboard"))) workers_word) cut_word
 
 -- those with the formula's file and the folder of proofs, then with what is told beside the report,
--- then with the files that are written
+-- then with the files for the picture and the record, then with that for the log
 abbrev pub with_inputs : App
 with_inputs = with_rule (with_rule with_numbers formula_word) proofs_word
 
 abbrev pub with_flags : App
 with_flags = with_rule (with_rule with_inputs progress_word) explain_word
 
+abbrev pub with_results : App
+with_results = with_rule (with_rule with_flags map_word) record_word
+
 abbrev pub with_outputs : App
-with_outputs = with_rule (with_rule (with_rule with_flags map_word) record_word) log_word
+with_outputs = with_rule with_results log_word
 
 -- the text is there, and its decimal digits say this number
 abbrev pub Reads : Option Text → ℕ → Type 0

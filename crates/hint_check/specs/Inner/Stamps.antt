@@ -1,11 +1,13 @@
 -- Numbers stamped in a list and a map, for the contracts of private functions.
 use Rattle.std.specs.Prelude.{◌≡◌, ℕ, ◌<◌, ◌≤◌, ◌==◌, nat_eq, nat_lt, is_some, if◌then◌else◌, Bool}
+use Rattle.std.specs.Prelude.{◌&&◌}
 use Rattle.std.specs.Prelude.{true, List, length, slice_index}
 use Rattle.std.specs.Map.{lookup}
 use Rattle.std.specs.Option.{unwrap_or}
 use Rattle.cnf_text.specs.Literal.{Literal, literal_number}
 use Rattle.hint_check.specs.Literals.{Literals}
 use Rattle.hint_check.specs.Inner.Resets.{is_named}
+use Rattle.hint_check.specs.declared.assignment.AtHand.{AtHand}
 
 -- the stamp of a number in a map, and 0 where it has no entry
 abbrev pub mapped_at : List (ℕ × ℕ) → ℕ → ℕ
@@ -40,7 +42,12 @@ Forgets numbers before after =
 
 -- whether a literal has a stamp in the list that says that it is in the set
 abbrev pub is_shown : List ℕ → ℕ → Literal → Bool
-is_shown stamps stamp l = slice_index stamps (literal_number l) == stamp
+is_shown stamps stamp l =
+    nat_lt 0 l.variable && (slice_index stamps (literal_number l) == stamp)
+
+-- what the stamps at hand show
+abbrev pub shown_by : AtHand → Literals
+shown_by at_hand = is_shown at_hand.stamps.now at_hand.epoch
 
 -- what the stamps show is in the set, and of near literals they show all that is
 pub record Shows (stamps : List ℕ) (stamp : ℕ) (set : Literals) : Type 0 where

@@ -1,4 +1,4 @@
-use Rattle.std.proofs.Common.{◌≡◌, ◌∙◌, true, rules, sym, subst, ℕ}
+use Rattle.std.proofs.Common.{◌≡◌, true, rules, sym, subst, ℕ}
 use Rattle.case_core.specs.SplitTree.{SplitTree}
 use Rattle.case_core.specs.Leaves.{IsLeafAt}
 use Rattle.check_crew.proofs.ApartRight.{noted_more}

@@ -10,7 +10,7 @@ invariant-loop-pass g l = record {
   promised : All (λ h. h.promise ≡ l.site) l.handles.items;
   room : vec_len l.fn.passes ≤ vec_capacity l.handles;
   worker : l.worker ≡ vec_len l.handles;
-  passes : All (IsNewPass (shared_of l.core)) (into_iter_items l.pass-iterator);
-  job_passes : All (λ pass. pass ≡ new_pass l.jobs) l.job_passes.items;
+  passes : All (IsNewPass (shared_of l.site.core.now)) (into_iter_items l.pass-iterator);
+  job_passes : All (λ pass. pass ≡ new_pass l.site.jobs.now) l.job_passes.items;
   count : vec_len l.job_passes ≡ into_iter_len l.pass-iterator;
 }

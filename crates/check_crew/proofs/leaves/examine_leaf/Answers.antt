@@ -1,4 +1,4 @@
-use Rattle.std.proofs.Common.{rules, ◌≡◌, ℕ, List, [], true, false, None, ap, sym, ◌∙◌, subst}
+use Rattle.std.proofs.Common.{rules, ◌≡◌, ℕ, List, [], true, None, sym, ◌∙◌, subst}
 use Rattle.case_core.specs.Leaves.{IsTargetAt}
 use Rattle.case_core.specs.Target.{Target}
 use Rattle.case_core.specs.Target.TheVariants.{Leaf as Named}
@@ -10,12 +10,26 @@ use Rattle.board_hall.specs.declared.view.CutCase.{CutCase}
 use Rattle.board_hall.specs.Halls.{core_of, view_of}
 use Rattle.check_crew.specs.LeafProofs.{HasSeenAs}
 use Rattle.check_crew.specs.Seen.{HasSeenMark}
-use Rattle.check_crew.proofs.LeavesSeen.{read_there, as_stays, seen_as, found_at}
+use Rattle.check_crew.proofs.LeavesSeen.{read_there, as_stays, seen_as, found_at, stays_on}
+use Rattle.check_crew.proofs.LeavesSeen.{stays_same}
 use Rattle.check_crew.proofs.leaves.examine_leaf.Goals as goal
+
+pub post-requires-clause-section : goal.post-requires-clause-section
+post-requires-clause-section g c = λ alone. absurd (cc (c.requires.elsewhere, alone))
+
+pub tell-requires-clause-here : goal.tell-requires-clause-here
+tell-requires-clause-here g c =
+    let found = rw c.requires.examiner at c.in_ok-finding.ensures.found in
+    rw (found.0, found.1) at c.node-node.ensures.here
+
+pub tell-requires-clause-seen : goal.tell-requires-clause-seen
+tell-requires-clause-seen g c =
+    let new : c.post.result ≡ true = search rules in
+    rw (c.node-node.ensures.value, c.judged-judged.ensures.value) (c.post.ensures.new new)
 
 pub tell-requires-clause-is : goal.tell-requires-clause-is
 tell-requires-clause-is g c =
-    let found = c.in_ok-finding.ensures in
+    let found = rw c.requires.examiner at c.in_ok-finding.ensures.found in
     rw (found.0, found.1) at c.judged-judged.ensures.is
 
 pub returns-clause-examined : goal.returns-clause-examined
@@ -23,7 +37,7 @@ returns-clause-examined g c =
     let k : CutCase = core_of c.args.core.now in
     let leaf : Target = Named c.args.leaf in
     let finding = c.in_ok-finding.finding in
-    let found = c.in_ok-finding.ensures in
+    let found = rw c.requires.examiner at c.in_ok-finding.ensures.found in
     let bytes : List ℕ = c.read.new.bytes.items in
     let judged : Judged = c.judged-judged.result in
     let there : c.in_ok-read.field-0 ≡ true = search rules in
@@ -51,3 +65,18 @@ returns-clause-examined g c =
     bytes c.tell.ensures.own.1 c.requires.case
     (read_there _ bytes c.in_ok-read.field-0 c.in_ok-read.ensures.found there) plain free by_text
     seen
+
+pub returns-in_err-read-clause-stays : goal.returns-in_err-read-clause-stays
+returns-in_err-read-clause-stays g c = stays_same _
+
+pub returns-then-not-branch-clause-stays : goal.returns-then-not-branch-clause-stays
+returns-then-not-branch-clause-stays g c = stays_same _
+
+pub returns-then-is_for_one_bundle-clause-stays : goal.returns-then-is_for_one_bundle-clause-stays
+returns-then-is_for_one_bundle-clause-stays g c = stays_same _
+
+pub returns-in_err-finding-clause-stays : goal.returns-in_err-finding-clause-stays
+returns-in_err-finding-clause-stays g c = stays_same _
+
+pub returns-clause-stays : goal.returns-clause-stays
+returns-clause-stays g c = stays_on _ _ _ c.post.ensures.stays c.tell.ensures.stays

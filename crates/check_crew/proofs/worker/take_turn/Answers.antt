@@ -1,15 +1,14 @@
 use Rattle.std.proofs.Common.{◌≡◌, sym, ◌∙◌, ap}
-use Rattle.case_core.specs.Case.{CaseOf}
-use Rattle.case_core.specs.Finding.{target_of}
 use Rattle.board_hall.specs.declared.view.CutCase.{CutCase}
-use Rattle.board_hall.specs.Halls.{core_of, view_of}
+use Rattle.board_hall.specs.Halls.{view_of}
 use Rattle.check_crew.proofs.SeenPosted.{seen_by_mark}
 use Rattle.check_crew.proofs.SeenSections.{section_here}
 use Rattle.check_crew.proofs.SeenTurns.{seen_stays, section_seen}
 use Rattle.check_crew.proofs.worker.take_turn.Goals as goal
 
-pub examine_with-requires : goal.examine_with-requires
-examine_with-requires g c =
+pub examine-requires : goal.examine-requires
+examine-requires g c =
+    rw c.requires.examiner
     (section_here c.args.site.case.now c.sections.result.now c.args.place
     c.index-sections-place.result c.sections.ensures.targets_are c.sections.ensures.targets
     c.requires.place).has_target
@@ -19,32 +18,32 @@ unreachable-requires g c =
     (section_here c.args.site.case.now c.sections.result.now c.args.place
     c.index-sections-place.result c.sections.ensures.targets_are c.sections.ensures.targets
     c.requires.place).proof
-    (rw c.in_default.is at c.in_ok-finding.ensures)
+    (rw (c.in_default.is, c.requires.examiner) at c.in_ok-finding.ensures.found)
 
 pub post-requires-clause-section : goal.post-requires-clause-section
 post-requires-clause-section g c =
-    let found = rw c.in-Some.is at c.in_ok-finding.ensures in
+    let found = rw (c.in-Some.is, c.requires.examiner) at c.in_ok-finding.ensures.found in
     λ alone. rw (found.1, found.2) found.0
 
 pub tell-requires-clause-here : goal.tell-requires-clause-here
 tell-requires-clause-here g c =
-    let found = rw c.in-Some.is at c.in_ok-finding.ensures in
+    let found = rw (c.in-Some.is, c.requires.examiner) at c.in_ok-finding.ensures.found in
     rw (found.1, found.2) at c.node-node.ensures.here
 
 pub tell-requires-clause-is : goal.tell-requires-clause-is
 tell-requires-clause-is g c =
-    let found = rw c.in-Some.is at c.in_ok-finding.ensures in
+    let found = rw (c.in-Some.is, c.requires.examiner) at c.in_ok-finding.ensures.found in
     rw (found.1, found.2) at c.judged-judged.ensures.is
 
 pub tell-requires-clause-seen : goal.tell-requires-clause-seen
 tell-requires-clause-seen g c =
-    let found = rw c.in-Some.is at c.in_ok-finding.ensures in
+    let found = rw (c.in-Some.is, c.requires.examiner) at c.in_ok-finding.ensures.found in
     rw (c.node-node.ensures.value, c.judged-judged.ensures.value)
     (c.post.ensures.section (rw found.2 found.0))
 
 pub returns-clause-seen : goal.returns-clause-seen
 returns-clause-seen g c =
-    let found = rw c.in-Some.is at c.in_ok-finding.ensures in
+    let found = rw (c.in-Some.is, c.requires.examiner) at c.in_ok-finding.ensures.found in
     let same : c.in-Some.finding.case.now ≡ c.args.site.case.now = found.1 in
     let here =
     section_here c.args.site.case.now c.sections.result.now c.args.place

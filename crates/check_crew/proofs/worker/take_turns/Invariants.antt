@@ -6,6 +6,7 @@ use Rattle.check_crew.proofs.worker.take_turns.Given as goal
 
 abbrev pub invariant-loop : goal.invariant-loop
 invariant-loop g l = record {
+  examiner : l.examiner ≡ l.site.case.now;
   pass : IsPassOf (shared_of l.site.core.now) l.pass;
   owes : (view_of l.pass).owes ≡ None;
   job_pass : queue.IsPassOf l.site.jobs.now l.job_pass;

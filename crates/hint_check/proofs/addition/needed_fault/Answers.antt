@@ -8,7 +8,7 @@ use Rattle.hint_check.proofs.addition.needed_fault.Goals as goal
 
 pub returns-then-branch : goal.returns-then-branch
 returns-then-branch c =
-    sym (pivot_fault-needed c.args.live.now (set_of c.args.reached.now) c.args.pivot
+    sym (pivot_fault-needed c.args.live.now.0 (set_of c.args.reached.now) c.args.pivot
     c.args.step.now.groups
     c.args.needed.now c.requires (sym c.in_ok-reason.ensures ∙ c.in_default.is)
     ∙ ap (λ all. cond all None (Some Candidate))
@@ -17,7 +17,7 @@ returns-then-branch c =
 
 pub returns-else-branch : goal.returns-else-branch
 returns-else-branch c =
-    sym (pivot_fault-needed c.args.live.now (set_of c.args.reached.now) c.args.pivot
+    sym (pivot_fault-needed c.args.live.now.0 (set_of c.args.reached.now) c.args.pivot
     c.args.step.now.groups
     c.args.needed.now c.requires (sym c.in_ok-reason.ensures ∙ c.in_default.is)
     ∙ ap (λ all. cond all None (Some Candidate))

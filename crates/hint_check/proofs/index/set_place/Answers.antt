@@ -1,5 +1,5 @@
 use Rattle.std.proofs.Common.{Some}
-use Rattle.hint_check.proofs.OwnEntries.{updated}
+use Rattle.hint_check.proofs.TableEntries.{updated}
 use Rattle.hint_check.proofs.IndexChains.{SetsPlace-near, SetsPlace-far}
 use Rattle.hint_check.proofs.index.set_place.Goals as goal
 

@@ -1,5 +1,5 @@
 use Rattle.std.proofs.Common.{Some, rules}
-use Rattle.hint_check.proofs.OwnEntries.{updated}
+use Rattle.hint_check.proofs.TableEntries.{updated}
 use Rattle.hint_check.proofs.StampsSets.{mapped-put}
 use Rattle.hint_check.proofs.stamp_parts.set_entry.Goals as goal
 

@@ -5,6 +5,7 @@ use Rattle.own_threads.proofs.sections.post_second_half.Given as goal
 
 abbrev pub invariant-loop-place : goal.invariant-loop-place
 invariant-loop-place g l = record {
+  same : l.examiner ≡ l.desk.case.now;
   own : IsPassOf (shared_of l.desk.core.now) l.pass;
   free : (view_of l.pass).owes ≡ None;
   seen : HasSeenFrom (view_of l.pass) l.place (length l.desk.case.now.sections);

@@ -9,33 +9,34 @@ use Rattle.own_threads.proofs.sections.post_section.Goals as goal
 pub examine-requires : goal.examine-requires
 examine-requires g c =
     let sections = c.sections.ensures in
-    (section_here c.args.case.now c.sections.result.now _ c.index-sections-place.result
+    rw c.requires.examiner
+    (section_here c.args.desk.case.now c.sections.result.now _ c.index-sections-place.result
     sections.targets_are sections.targets c.requires.place).has_target
 
 pub unreachable-requires : goal.unreachable-requires
 unreachable-requires g c =
     let sections = c.sections.ensures in
-    (section_here c.args.case.now c.sections.result.now _ c.index-sections-place.result
+    (section_here c.args.desk.case.now c.sections.result.now _ c.index-sections-place.result
     sections.targets_are sections.targets c.requires.place).proof
-    (rw c.in_default.is at c.in_ok-finding.ensures)
+    (rw (c.in_default.is, c.requires.examiner) at c.in_ok-finding.ensures.found)
 
 -- a target stands at one node, so who has seen what was found of the node has seen what was found
 -- of the section
 pub returns-clause-seen : goal.returns-clause-seen
 returns-clause-seen g c =
     let sections = c.sections.ensures in
-    let here = section_here c.args.case.now c.sections.result.now _ c.index-sections-place.result
-    sections.targets_are sections.targets c.requires.place in
-    let found = rw c.in-Some.is at c.in_ok-finding.ensures in
-    let same : c.in-Some.finding.case.now ≡ c.args.case.now = found.1 in
+    let here = section_here c.args.desk.case.now c.sections.result.now _
+    c.index-sections-place.result sections.targets_are sections.targets c.requires.place in
+    let found = rw (c.in-Some.is, c.requires.examiner) at c.in_ok-finding.ensures.found in
+    let same : c.in-Some.finding.case.now ≡ c.args.desk.case.now = found.1 in
     let of_case = ap (λ (k : CutCase). k.case) c.post.ensures.own.1 ∙ sym c.requires.case in
     let only = rw (same, found.2) at c.in-Some.finding.only in
-    section_seen c.args.case.now (view_of c.post.new.pass) c.args.place c.in-Some.finding.node _
-    of_case here.is only
+    section_seen c.args.desk.case.now (view_of c.post.new.pass) c.args.place
+    c.in-Some.finding.node _ of_case here.is only
     c.post.ensures.seen
 
 -- the section that was examined is one of the case
 pub post-requires-clause-section : goal.post-requires-clause-section
 post-requires-clause-section g c =
-    let found = rw c.in-Some.is at c.in_ok-finding.ensures in
+    let found = rw (c.in-Some.is, c.requires.examiner) at c.in_ok-finding.ensures.found in
     λ alone. rw (found.1, found.2) found.0

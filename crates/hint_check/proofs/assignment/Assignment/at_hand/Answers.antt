@@ -4,8 +4,8 @@ use Rattle.hint_check.specs.Inner.Assignment.{Stamped, set_of}
 use Rattle.hint_check.proofs.StampsSets.{shows-set}
 use Rattle.hint_check.proofs.assignment.Assignment.at_hand.Goals as goal
 
-pub returns : goal.returns
-returns c =
+pub returns-clause-shows : goal.returns-clause-shows
+returns-clause-shows c =
     let inside = c.self.inside in
     let now : Stamped =
     record { marks = inside.stamps; epoch = inside.epoch; trail = inside.trail.items } in

@@ -14,15 +14,15 @@ invariant_of-self c =
           c.self.invariant.1
           (λ n. c.set_at_hand.ensures n
           ∙ ap (λ k. if k == n then inside.epoch else stamp_at inside.stamps n)
-          c.number-number.ensures.value),
+          c.number_of-number.ensures.value),
     )
 
 pub returns-clause-set : goal.returns-clause-set
 returns-clause-set c =
     let inside = c.self.inside in
     set-put inside.stamps c.set_at_hand.new.self inside.epoch c.args.lit inside.trail.items
-    inside.trail.items
+    inside.trail.items c.number_of-number.ensures.variable
     (λ n. c.set_at_hand.ensures n
     ∙ ap (λ k. if k == n then inside.epoch else stamp_at inside.stamps n)
-    c.number-number.ensures.value)
+    c.number_of-number.ensures.value)
     ∙ ap (λ stamped. with_literal (set_of stamped) c.args.lit) c.self.view_is

@@ -3,7 +3,7 @@ use Rattle.std.specs.Prelude.{if◌then◌else◌}
 use Rattle.hint_check.specs.Literals.{with_literal}
 use Rattle.hint_check.specs.Inner.Stamps.{stamp_at}
 use Rattle.hint_check.specs.Inner.Assignment.{set_of}
-use Rattle.hint_check.proofs.LiveOverlay.{OnErr-always}
+use Rattle.hint_check.proofs.LiveParts.{OnErr-always}
 use Rattle.hint_check.proofs.StampsSets.{NoneAbove-same, NoneAbove-put, set-alike, set-put}
 use Rattle.hint_check.proofs.assignment.Assignment.put_elsewhere.Goals as goal
 
@@ -32,17 +32,17 @@ invariant_of-self-2 c =
           c.make_room.ensures.same)
           (λ n. c.set.ensures n
           ∙ ap (λ k. if k == n then inside.epoch else stamp_at c.make_room.new.self n)
-          c.number-2.ensures.value),
+          c.number_of-number.ensures.value),
     )
 
 pub returns-clause-set : goal.returns-clause-set
 returns-clause-set c =
     let inside = c.self.inside in
     set-put c.make_room.new.self c.set.new.self inside.epoch c.args.lit inside.trail.items
-    inside.trail.items
+    inside.trail.items c.number_of-number.ensures.variable
     (λ n. c.set.ensures n
     ∙ ap (λ k. if k == n then inside.epoch else stamp_at c.make_room.new.self n)
-    c.number-2.ensures.value)
+    c.number_of-number.ensures.value)
     ∙ ap (λ set. with_literal set c.args.lit)
     (set-alike inside.stamps c.make_room.new.self inside.epoch inside.trail.items
     inside.trail.items c.make_room.ensures.same

@@ -1,7 +1,7 @@
 use Rattle.std.proofs.Common.{◌≡◌, ◌++◌, ◌∷◌, [], refl, sym, ap, ◌∙◌}
 use Rattle.hint_check.specs.Literals.{with_literal}
 use Rattle.hint_check.specs.Inner.Assignment.{Stamped, set_of}
-use Rattle.hint_check.proofs.LiveOverlay.{OnOk-weaker}
+use Rattle.hint_check.proofs.LiveParts.{OnOk-weaker}
 use Rattle.hint_check.proofs.StampsSets.{with_literal-there, set-alike, kept-supposed}
 use Rattle.hint_check.proofs.assignment.Assignment.suppose.Goals as goal
 

@@ -7,7 +7,7 @@ use Rattle.hint_check.specs.Literals.{has}
 use Rattle.hint_check.specs.Inner.Index.{NamesEntries, AddsHolders, indexed_part}
 use Rattle.hint_check.proofs.IndexIds.{parts-named}
 use Rattle.hint_check.specs.Inner.Holders.{ids_of, NamesEach}
-use Rattle.hint_check.proofs.LiveOverlay.{OnOk-weaker, IfSome-weaker}
+use Rattle.hint_check.proofs.LiveParts.{OnOk-weaker, IfSome-weaker}
 use Rattle.hint_check.proofs.base.Base.list_holders.Goals as goal
 
 pub returns : goal.returns

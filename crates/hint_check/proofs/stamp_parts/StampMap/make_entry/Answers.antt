@@ -1,6 +1,6 @@
 use Rattle.std.proofs.Common.{Some, ◌∙◌, ap, sym}
 use Rattle.hint_check.specs.Inner.Stamps.{mapped_at}
-use Rattle.hint_check.proofs.OwnEntries.{updated}
+use Rattle.hint_check.proofs.TableEntries.{updated}
 use Rattle.hint_check.proofs.StampsSets.{mapped-zero}
 use Rattle.hint_check.proofs.stamp_parts.StampMap.make_entry.Goals as goal
 

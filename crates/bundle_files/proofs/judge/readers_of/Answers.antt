@@ -1,0 +1,20 @@
+use Rattle.std.proofs.Common.{◌≡◌, arith}
+use Rattle.std.proofs.lemmas.List.Elements.{All-push}
+use Rattle.case_core.specs.Leaf.{Leaf}
+use Rattle.bundle_files.specs.Laws.{held_for}
+use Rattle.bundle_files.proofs.judge.readers_of.Goals as goal
+
+pub loop-preserved : goal.loop-preserved
+loop-preserved g c =
+    let was = c.loop.invariant in record {
+      count = omega (arith, c.in_ok-push.ensures.len, was.count);
+      held =
+          rw c.in_ok-push.ensures.items
+          (All-push (λ reader. (leaf : Leaf) → g.D.Reader.LeafProofs.held reader leaf
+          ≡ held_for (g.D.Store.held c.args.store.now) c.args.folder.now leaf) _ _ was.held
+          c.in_ok-reader.ensures.held);
+      fresh =
+          rw c.in_ok-push.ensures.items
+          (All-push (λ reader. g.D.Reader.LeafProofs.failures reader ≡ 0) _ _ was.fresh
+          c.in_ok-reader.ensures.none);
+    }

@@ -1,8 +1,0 @@
-use Rattle.std.proofs.Common.{◌≡◌, take}
-use Rattle.cube_report.proofs.StatedPosting.{ArePostedOf}
-use Rattle.cube_report.proofs.engine.post_findings.Given as goal
-
-abbrev pub invariant-loop-section : goal.invariant-loop-section
-invariant-loop-section l =
-    (l.boards.case ≡ l.case)
-    × ArePostedOf l.case (take l.section-index l.case.sections) l.boards.marks

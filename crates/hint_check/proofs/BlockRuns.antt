@@ -1,0 +1,176 @@
+-- Clauses as blocks of falsifiers.
+use Rattle.std.proofs.Common.{◌≡◌, ◌==◌, ◌+◌, ◌-◌, ◌*◌, ◌/◌, ◌%◌, ◌<◌, ◌≤◌, ℕ, zero, suc, Bool, true, false}
+use Rattle.std.proofs.Common.{Option, Some, None, List, [], ◌∷◌, ◌++◌, length, drop, take, get_or}
+use Rattle.std.proofs.Common.{not, refl, sym, ap, ◌∙◌, subst, arith, inl, inr}
+use Rattle.std.specs.Prelude.{nat_lt, if◌then◌else◌, slice_range}
+use Rattle.std.specs.List.{slice_get}
+use mir.Val.{bool_byte}
+use Rattle.std.specs.Option.{unwrap_or}
+use Rattle.std.proofs.lemmas.Bool.{cases_lt, cond-true, cond-false, lt-ltb, le-ltb}
+use Rattle.std.proofs.lemmas.Bool.Decides.{nat_tests}
+use Rattle.cnf_text.specs.Literal.{Literal, IsVariable, negation, literal_number}
+use Rattle.hint_check.specs.declared.block.Falsifier.{Falsifier}
+use Rattle.hint_check.specs.declared.block.Block.{Block}
+use Rattle.hint_check.specs.Inner.Blocks.{falsified_by, in_front, kept, with_block, clause_of}
+use Rattle.hint_check.specs.Inner.Blocks.{BlockWithin, Within}
+
+-- ---- numbers and literals
+
+-- a number of the range stands for a literal
+pub falsifies : (n : ℕ) → 2 ≤ n → n < 536870912 →
+    falsified_by (record { number = n })
+    ≡ Some (record { variable = n / 2; positive = n % 2 == 1 })
+unfolding falsified_by
+falsifies n low high =
+    let l : Option Literal = Some (record { variable = n / 2; positive = n % 2 == 1 }) in
+    cond-false (nat_lt n 2) None (if nat_lt n 536870912 then l else None) (le-ltb n 2 low)
+    ∙ cond-true (nat_lt n 536870912) l None (lt-ltb n 536870912 high)
+
+-- numbers outside stand for none
+pub falsifies-low : (n : ℕ) → n < 2 → falsified_by (record { number = n }) ≡ None
+unfolding falsified_by
+falsifies-low n low =
+    let l : Option Literal = Some (record { variable = n / 2; positive = n % 2 == 1 }) in
+    cond-true (nat_lt n 2) None (if nat_lt n 536870912 then l else None) (lt-ltb n 2 low)
+
+pub falsifies-high : (n : ℕ) → 536870912 ≤ n → falsified_by (record { number = n }) ≡ None
+unfolding falsified_by
+falsifies-high n high =
+    let l : Option Literal = Some (record { variable = n / 2; positive = n % 2 == 1 }) in
+    cond-false (nat_lt n 2) None (if nat_lt n 536870912 then l else None)
+    (le-ltb n 2 (omega (arith, high)))
+    ∙ cond-false (nat_lt n 536870912) l None (le-ltb n 536870912 high)
+
+as_literal : (n v : ℕ) (p : Bool) → 2 ≤ n → n < 536870912 → n / 2 ≡ v → (n % 2 == 1) ≡ p →
+    falsified_by (record { number = n }) ≡ Some (record { variable = v; positive = p })
+as_literal n v p low high half odd =
+    falsifies n low high
+    ∙ ap (λ (x : ℕ). Some (record { variable = x; positive = n % 2 == 1 })) half
+    ∙ ap (λ (b : Bool). Some (record { variable = v; positive = b })) odd
+
+-- the number of a literal's negation falsifies it
+pub falsifier-of : (l : Literal) (v n : ℕ) (p : Bool) → v ≡ l.variable → IsVariable v →
+    p ≡ l.positive → n ≡ bool_byte p →
+    falsified_by (record { number = v * 2 + n }) ≡ Some l
+falsifier-of l v n true is range sign one =
+    as_literal (v * 2 + n) v true
+    (let low = range.0 in omega (arith, low)) (let high = range.1 in omega (arith, high, one))
+    (omega (arith, one)) (let odd : (v * 2 + n) % 2 ≡ 1 = omega (arith, one) in rw odd refl)
+    ∙ ap (λ (x : ℕ). Some (record { variable = x; positive = true })) is
+    ∙ ap (λ (b : Bool). Some (record { variable = l.variable; positive = b })) sign
+falsifier-of l v n false is range sign none =
+    as_literal (v * 2 + n) v false
+    (let low = range.0 in omega (arith, low)) (let high = range.1 in omega (arith, high, none))
+    (omega (arith, none)) (let even : (v * 2 + n) % 2 ≡ 0 = omega (arith, none) in rw even refl)
+    ∙ ap (λ (x : ℕ). Some (record { variable = x; positive = false })) is
+    ∙ ap (λ (b : Bool). Some (record { variable = l.variable; positive = b })) sign
+
+number-again : (n : ℕ) → 2 * (n / 2) + (if (not (n % 2 == 1)) then 0 else 1) ≡ n
+number-again n = grind (arith, nat_tests)
+
+known : (l m : Literal) → Some l ≡ Some m → l ≡ m
+known l m is = ap (λ o. unwrap_or o l) is
+
+-- what falsifies a literal has the number of its negation
+pub falsified-number : (f : Falsifier) (l : Literal) → falsified_by f ≡ Some l →
+    (literal_number (negation l) ≡ f.number) × (1 ≤ l.variable)
+falsified-number f l is =
+    elim (cases_lt f.number 2) [
+      | inl low ↦ let clash = sym (falsifies-low f.number low) ∙ is in absurd (cc)
+      | inr some ↦ elim (cases_lt f.number 536870912) [
+        | inl within ↦
+            let it : Literal = record { variable = f.number / 2; positive = f.number % 2 == 1 } in
+            let same : it ≡ l = known it l (sym (falsifies f.number some within) ∙ is) in (
+              ap (λ x. literal_number (negation x)) (sym same) ∙ number-again f.number,
+              subst (λ (x : Literal). 1 ≤ x.variable) same (omega (arith, some)),
+            )
+        | inr high ↦ let clash = sym (falsifies-high f.number high) ∙ is in absurd (cc)
+      ]
+    ]
+
+-- ---- lists of literals
+
+kept-append : (f : Falsifier) (xs ys : List Literal) → kept f xs ++ ys ≡ kept f (xs ++ ys)
+kept-append f xs ys =
+    elim (falsified_by f) as (λ o. in_front o xs ++ ys ≡ in_front o (xs ++ ys)) [
+      | None ↦ refl
+      | Some l ↦ refl
+    ]
+
+-- what stands behind a block's literals
+pub with_block-append : (b : Block) (xs ys : List Literal) →
+    with_block b xs ++ ys ≡ with_block b (xs ++ ys)
+with_block-append b xs ys =
+    kept-append b.first (kept b.second (kept b.third (kept b.fourth xs))) ys
+    ∙ ap (kept b.first)
+    (kept-append b.second (kept b.third (kept b.fourth xs)) ys
+    ∙ ap (kept b.second)
+    (kept-append b.third (kept b.fourth xs) ys
+    ∙ ap (kept b.third) (kept-append b.fourth xs ys)))
+
+-- with one more block, what stood behind the others stands behind it
+pub clause_of-push : (blocks : List Block) (b : Block) (rest : List Literal) →
+    clause_of (blocks ++ b ∷ []) ++ rest ≡ clause_of blocks ++ with_block b rest
+clause_of-push [] b rest = with_block-append b [] rest
+clause_of-push (a ∷ blocks) b rest =
+    with_block-append a (clause_of (blocks ++ b ∷ [])) rest
+    ∙ ap (with_block a) (clause_of-push blocks b rest)
+    ∙ sym (with_block-append a (clause_of blocks) (with_block b rest))
+
+-- ---- numbers within a reach
+
+-- a greater reach is one, too
+pub Within-more : (blocks : List Block) (low high : ℕ) → low ≤ high → Within blocks low →
+    Within blocks high
+unfolding Within
+Within-more [] low high less h = tt
+Within-more (b ∷ blocks) low high less h = (
+  (
+    (let x = h.0.0.0 in omega (arith, less, x), let x = h.0.0.1 in omega (arith, less, x)),
+    (let x = h.0.1.0 in omega (arith, less, x), let x = h.0.1.1 in omega (arith, less, x)),
+  ),
+  Within-more blocks low high less h.1,
+)
+
+-- one block more
+pub Within-push : (blocks : List Block) (b : Block) (reach : ℕ) → Within blocks reach →
+    BlockWithin b reach → Within (blocks ++ b ∷ []) reach
+unfolding Within
+Within-push [] b reach h k = (k, tt)
+Within-push (a ∷ blocks) b reach h k = (h.0, Within-push blocks b reach h.1 k)
+
+-- the block in a place
+pub Within-at : (blocks : List Block) (reach i : ℕ) (d : Block) → Within blocks reach →
+    i < length blocks → BlockWithin (get_or blocks i d) reach
+unfolding Within
+Within-at [] reach i d h within = absurd (omega arith)
+Within-at (b ∷ blocks) reach zero d h within = h.0
+Within-at (b ∷ blocks) reach (suc i) d h within = Within-at blocks reach i d h.1 (omega arith)
+
+Within-drop : (i : ℕ) (blocks : List Block) (reach : ℕ) → Within blocks reach →
+    Within (drop i blocks) reach
+unfolding Within
+Within-drop zero blocks reach h = h
+Within-drop (suc i) [] reach h = tt
+Within-drop (suc i) (b ∷ blocks) reach h = Within-drop i blocks reach h.1
+
+-- the first blocks
+pub Within-take : (i : ℕ) (blocks : List Block) (reach : ℕ) → Within blocks reach →
+    Within (take i blocks) reach
+unfolding Within
+Within-take zero blocks reach h = tt
+Within-take (suc i) [] reach h = tt
+Within-take (suc i) (b ∷ blocks) reach h = (h.0, Within-take i blocks reach h.1)
+
+-- some blocks of a row
+pub Within-range : (blocks : List Block) (from to reach : ℕ) → Within blocks reach →
+    Within (slice_range blocks from to) reach
+Within-range blocks from to reach h = Within-take (to - from) (drop from blocks) reach (Within-drop from blocks reach h)
+
+-- ---- blocks of a list
+
+-- a place past the end has no literal
+pub get-past : (xs : List Literal) (i : ℕ) → length xs ≤ i → slice_get xs i ≡ None
+get-past [] i h = refl
+get-past (x ∷ xs) zero h = absurd (omega arith)
+get-past (x ∷ xs) (suc i) h = get-past xs i (omega arith)

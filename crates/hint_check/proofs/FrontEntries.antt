@@ -1,0 +1,104 @@
+-- The clauses of a formula put in one after another.
+use Rattle.std.proofs.Common.{◌≡◌, ◌+◌, ◌≤◌, ℕ, zero, suc, List, [], ◌∷◌, ◌++◌, length}
+use Rattle.std.proofs.Common.{refl, sym, ap, ◌∙◌, subst, arith, append_assoc}
+use Rattle.std.specs.List.{enumerate_from}
+use Rattle.std.specs.FinMap as fin
+use Rattle.cnf_text.specs.Literal.{Literal}
+use Rattle.hint_check.specs.declared.block.Block.{Block}
+use Rattle.hint_check.specs.declared.slots.Slot.{Slot}
+use Rattle.hint_check.specs.Inner.Blocks.{clause_of, Within}
+use Rattle.hint_check.specs.Inner.Table.{no_slot, slot_at, slot_clause, entry_of, near_entries}
+use Rattle.hint_check.specs.Inner.Table.{clauses_in, SlotsEndBy, SetsSlot}
+use Rattle.hint_check.proofs.LiveStart.{enumerate_from-push}
+use Rattle.hint_check.proofs.TableEntries.{slot-new, slot-grown, slot-pushed}
+
+tail_ends : (slot : Slot) (slots : List Slot) (count : ℕ) → SlotsEndBy (slot ∷ slots) count →
+    SlotsEndBy slots count
+unfolding SlotsEndBy
+tail_ends slot slots count h place = h (suc place)
+
+head_ends : (slot : Slot) (slots : List Slot) (count : ℕ) → SlotsEndBy (slot ∷ slots) count →
+    slot.end ≤ count
+unfolding SlotsEndBy
+head_ends slot slots count h = h 0
+
+entries-grown : (blocks more : List Block) (id : ℕ) (slots : List Slot) →
+    SlotsEndBy slots (length blocks) →
+    near_entries (blocks ++ more) id slots ≡ near_entries blocks id slots
+entries-grown blocks more id [] ends = refl
+entries-grown blocks more id (slot ∷ slots) ends =
+    ap (λ o. entry_of id o ++ near_entries (blocks ++ more) (id + 1) slots)
+    (slot-grown blocks more slot (head_ends slot slots (length blocks) ends))
+    ∙ ap (λ es. entry_of id (slot_clause blocks slot) ++ es)
+    (entries-grown blocks more (id + 1) slots (tail_ends slot slots (length blocks) ends))
+
+append_nil : {A : Type 0} (xs : List A) → xs ++ [] ≡ xs
+append_nil [] = refl
+append_nil (x ∷ xs) = ap (λ ys. x ∷ ys) (append_nil xs)
+
+entries-push : (blocks : List Block) (id : ℕ) (slots : List Slot) (slot : Slot) →
+    near_entries blocks id (slots ++ slot ∷ [])
+    ≡ near_entries blocks id slots ++ entry_of (id + length slots) (slot_clause blocks slot)
+entries-push blocks id [] slot =
+    append_nil (entry_of id (slot_clause blocks slot))
+    ∙ ap (λ k. entry_of k (slot_clause blocks slot)) (omega arith)
+entries-push blocks id (s ∷ slots) slot =
+    ap (λ es. entry_of id (slot_clause blocks s) ++ es)
+    (entries-push blocks (id + 1) slots slot
+    ∙ ap (λ k. near_entries blocks (id + 1) slots ++ entry_of k (slot_clause blocks slot))
+    (let e : id + 1 + length slots ≡ id + length (s ∷ slots) = omega arith in e))
+    ∙ sym (append_assoc (entry_of id (slot_clause blocks s)) (near_entries blocks (id + 1) slots)
+    (entry_of (id + length (s ∷ slots)) (slot_clause blocks slot)))
+
+-- without clauses there is only the slot of 0, which has none
+pub front-none : (blocks : List Block) (slots : List Slot) → slots ≡ no_slot ∷ [] →
+    near_entries blocks 0 slots ≡ enumerate_from 1 []
+front-none blocks slots is = ap (near_entries blocks 0) is
+
+-- one clause more
+pub front-push : (blocks blocks' more : List Block) (slots slots' : List Slot) (slot : Slot)
+    (clauses : List (List Literal)) → SlotsEndBy slots (length blocks) →
+    blocks' ≡ blocks ++ more → slots' ≡ slots ++ slot ∷ [] → slot.start ≡ length blocks →
+    slot.end ≡ length blocks + length more → length slots ≡ length clauses + 1 →
+    near_entries blocks 0 slots ≡ enumerate_from 1 clauses →
+    near_entries blocks' 0 slots' ≡ enumerate_from 1 (clauses ++ clause_of more ∷ [])
+front-push blocks blocks' more slots slots' slot clauses ends grown pushed starts at_end long is =
+    ap (λ bs. near_entries bs 0 slots') grown
+    ∙ ap (near_entries (blocks ++ more) 0) pushed
+    ∙ entries-push (blocks ++ more) 0 slots slot
+    ∙ ap (λ es. es ++ entry_of (0 + length slots) (slot_clause (blocks ++ more) slot))
+    (entries-grown blocks more 0 slots ends ∙ is)
+    ∙ ap (λ o. enumerate_from 1 clauses ++ entry_of (0 + length slots) o)
+    (slot-new blocks more slot starts at_end)
+    ∙ ap (λ k. enumerate_from 1 clauses ++ (k, clause_of more) ∷ [])
+    (let e : 0 + length slots ≡ 1 + length clauses = omega (arith, long) in e)
+    ∙ sym (enumerate_from-push 1 clauses (clause_of more))
+
+-- the clauses of a formula in its slots
+pub front-clauses : (blocks : List Block) (slots : List Slot) (clauses : List (List Literal)) →
+    near_entries blocks 0 slots ≡ enumerate_from 1 clauses →
+    clauses_in blocks 0 slots [] ≡ fin.from_entries (enumerate_from 1 clauses)
+unfolding clauses_in
+front-clauses blocks slots clauses is =
+    ap fin.from_entries (append_nil (near_entries blocks 0 slots) ∙ is)
+
+one_end : (place count : ℕ) → (slot_at (no_slot ∷ []) place).end ≤ count
+one_end zero count = omega arith
+one_end (suc place) count = omega arith
+
+pub ends-none : (slots : List Slot) (count : ℕ) → slots ≡ no_slot ∷ [] → SlotsEndBy slots count
+unfolding SlotsEndBy
+ends-none slots count is place =
+    subst (λ ss. (slot_at ss place).end ≤ count) (sym is) (one_end place count)
+
+-- no block has a number above any
+pub within-none : (blocks : List Block) (reach : ℕ) → blocks ≡ [] → Within blocks reach
+unfolding Within
+within-none blocks reach none = subst (λ bs. Within bs reach) (sym none) tt
+
+-- the next slot is set behind the others
+pub SetsSlot-push : (slots slots' : List Slot) (slot : Slot) → slots' ≡ slots ++ slot ∷ [] →
+    SetsSlot slots slots' (length slots) slot
+unfolding SetsSlot
+SetsSlot-push slots slots' slot is q =
+    ap (λ ss. slot_at ss q) is ∙ slot-pushed slots slot q

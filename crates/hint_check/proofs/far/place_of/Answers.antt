@@ -1,0 +1,7 @@
+use Rattle.std.proofs.Common.{refl}
+use Rattle.hint_check.specs.Inner.Far.{place_of}
+use Rattle.hint_check.proofs.far.place_of.Goals as goal
+
+pub returns : goal.returns
+unfolding place_of
+returns c = refl

@@ -1,0 +1,18 @@
+use Rattle.std.proofs.Common.{ap, sym, subst, ◌∙◌}
+use Rattle.std.specs.FinMap as fin
+use Rattle.std.specs.Option.{IfSome}
+use Rattle.hint_check.specs.Inner.Index.{Indexes}
+use Rattle.hint_check.specs.Inner.Live.{AreParts}
+use Rattle.hint_check.specs.Inner.Table.{Tabled}
+use Rattle.hint_check.proofs.LiveParts.{AreParts-front}
+use Rattle.hint_check.proofs.live.LiveClauses.clear.Goals as goal
+
+pub invariant_of-self : goal.invariant_of-self
+invariant_of-self c =
+    let inside = c.self.inside in (
+      ap (λ t. t.front) c.start_over.ensures ∙ c.self.invariant.0,
+      subst (λ (t : Tabled). AreParts t.live t.front t.own) (sym c.start_over.ensures)
+          (AreParts-front inside.table.front fin.empty),
+      subst (λ index. IfSome index (λ rows. Indexes rows (fin.entries c.start_over.new.self.own)))
+          (sym c.give_up.ensures) tt,
+    )

@@ -1,0 +1,163 @@
+//! Where the blocks of a clause stand, by its id.
+ghost use Rattle.std.specs.Prelude.{◌≡◌, ℕ, ◌<◌, ◌≤◌, ◌+◌, ◌^◌, nat_eq, cond, length, max, true};
+ghost use Rattle.std.specs.Prelude.{None, Some, IfSome, IfOk, OnOk, OnErr, if◌then◌else◌};
+ghost use Rattle.std.specs.Map.{lookup};
+ghost use Rattle.hint_check.specs.Inner.Blocks.{Within};
+ghost use Rattle.hint_check.specs.Inner.Resets.{is_named};
+ghost use Rattle.hint_check.specs.Inner.Table.{no_slot, slot_at, far_at, slot_clause, span_clause};
+ghost use Rattle.hint_check.specs.Inner.Table.{SlotsEndBy, SpansEndBy, SetsSlot};
+
+use crate::block::{Block, Run};
+use crate::far::{Far, Span};
+use std::alloc::AllocError;
+
+/// Where the blocks of a near id's clause stand: from the start up to the end. There is no clause
+/// where the start is behind the end.
+#[derive(Clone, Copy)]
+pub struct Slot {
+    pub start: u32,
+    pub end: u32,
+}
+
+/// The slot of an id that has no clause.
+pub const NO_SLOT: Slot = Slot { start: 1, end: 0 };
+
+/// The slot at a place, and one without a clause where there is none.
+#[inline(always)]
+fn slot_at(slots: &[Slot], place: usize) -> Slot
+    ensures { result ≡ slot_at slots.now place }
+{
+    match slots.get(place) {
+        Some(slot) => *slot,
+        None => NO_SLOT,
+    }
+}
+
+/// The clause that stands where a slot says.
+#[inline(always)]
+pub fn slot_clause(blocks: &[Block], reach: u32, slot: Slot) -> Option<Run<'_>>
+    requires ends { slot.end ≤ length blocks.now }
+    requires within { Within blocks.now reach }
+    ensures { result ≡ slot_clause blocks.now slot }
+{
+    if slot.start <= slot.end {
+        let run = &blocks[slot.start as usize..slot.end as usize];
+        Some(Run::new(run, reach))
+    } else {
+        None
+    }
+}
+
+/// The clause of a near id.
+#[inline(always)]
+pub fn near_clause<'l>(blocks: &'l [Block], reach: u32, slots: &[Slot], id: u64) -> Option<Run<'l>>
+    requires ends { SlotsEndBy slots.now (length blocks.now) }
+    requires within { Within blocks.now reach }
+    ensures { result ≡ slot_clause blocks.now (slot_at slots.now id) }
+{
+    slot_clause(blocks, reach, slot_at(slots, id as usize))
+}
+
+/// How many blocks stand where a slot says.
+fn slot_len(slot: Slot) -> usize {
+    slot.end.saturating_sub(slot.start) as usize
+}
+
+/// The clause that stands where a span says.
+#[inline(always)]
+pub fn span_clause(blocks: &[Block], reach: u32, span: Span) -> Run<'_>
+    requires ends { (span.start ≤ span.end) × (span.end ≤ length blocks.now) }
+    requires within { Within blocks.now reach }
+    ensures { result ≡ span_clause blocks.now span }
+{
+    Run::new(&blocks[span.start..span.end], reach)
+}
+
+/// The clause of a far id.
+#[inline(always)]
+pub fn far_clause<'l>(blocks: &'l [Block], reach: u32, far: &Far, id: u64) -> Option<Run<'l>>
+    requires ends { SpansEndBy far.now (length blocks.now) }
+    requires within { Within blocks.now reach }
+    ensures { result ≡ far_at blocks.now far.now id }
+{
+    if far.is_empty() {
+        return None;
+    }
+    match far.span_of(id) {
+        Some(span) => Some(span_clause(blocks, reach, span)),
+        None => None,
+    }
+}
+
+/// Makes slots up to that of a place, with no clause.
+fn make_slots(slots: &mut Vec<Slot>, place: usize) -> Result<(), AllocError>
+    requires { place + 1 < 2 ^ 64 }
+    ensures room { OnOk result (place < length slots.new.items) }
+    ensures bound { length slots.new.items ≤ max (length slots.old.items) (place + 1) }
+    ensures kept { length slots.old.items ≤ length slots.new.items }
+    ensures same { (i : ℕ) → slot_at slots.new.items i ≡ slot_at slots.old.items i }
+{
+    if slots.len() <= place {
+        slots.resize(place + 1, NO_SLOT)?;
+    }
+    Ok(())
+}
+
+/// Puts a slot at a place, which mostly is the next one, and answers how many blocks it had before.
+#[inline(always)]
+pub fn put_slot(slots: &mut Vec<Slot>, place: usize, slot: Slot) -> Result<usize, AllocError>
+    requires { place + 1 < 2 ^ 64 }
+    ensures put { OnOk result (SetsSlot slots.old.items slots.new.items place slot) }
+    ensures bound { length slots.new.items ≤ max (length slots.old.items) (place + 1) }
+    ensures kept { length slots.old.items ≤ length slots.new.items }
+    ensures same { OnErr result ((i : ℕ)
+        → slot_at slots.new.items i ≡ slot_at slots.old.items i) }
+{
+    if place == slots.len() {
+        slots.push(slot)?;
+        return Ok(0);
+    }
+    make_slots(slots, place)?;
+    let replaced = slot_len(slots[place]);
+    slots[place] = slot;
+    Ok(replaced)
+}
+
+/// Takes the clause out of the slot of an id, where there is one, and answers how many blocks it
+/// had.
+pub fn empty_slot(slots: &mut Vec<Slot>, id: u64) -> usize
+    ensures emptied { SetsSlot slots.old.items slots.new.items id no_slot }
+    ensures length { length slots.new.items ≡ length slots.old.items }
+{
+    let place = id as usize;
+    if place >= slots.len() {
+        return 0;
+    }
+    let emptied = slot_len(slots[place]);
+    slots[place] = NO_SLOT;
+    emptied
+}
+
+/// Puts the slots of these ids back, where they are among the first ones.
+pub fn put_back(slots: &mut Vec<Slot>, first: &[Slot], ids: &[u64])
+    requires { length slots.old.items ≡ length first.now }
+    ensures slots { (i : ℕ) → slot_at slots.new.items i
+        ≡ (if is_named ids.now i then slot_at first.now i else slot_at slots.old.items i) }
+    ensures length { length slots.new.items ≡ length slots.old.items }
+{
+    for id in ids {
+        put_one_back(slots, first, *id as usize);
+    }
+}
+
+/// Puts one slot back, where it is among the first ones.
+fn put_one_back(slots: &mut Vec<Slot>, first: &[Slot], place: usize)
+    requires { length slots.old.items ≡ length first.now }
+    ensures slots { (i : ℕ) → slot_at slots.new.items i
+        ≡ (if nat_eq place i then slot_at first.now i else slot_at slots.old.items i) }
+    ensures length { length slots.new.items ≡ length slots.old.items }
+{
+    if place < first.len() {
+        slots[place] = first[place];
+    }
+}
