@@ -12,8 +12,8 @@ use std::thread::Threads;
 
 const DEVICE: &[u8] = b"cubeboard: F13 device\n";
 
-/// A log whose file can be made or not, which counts how often it is begun, the lines that it should
-/// keep of two refuted cubes, and any other.
+/// A log whose file can be made or not, which counts how often it is begun, the lines that it
+/// should keep of two refuted cubes, and any other.
 #[derive(Drop)]
 struct Counting {
     can_begin: bool,

@@ -146,8 +146,10 @@ module _ (k : CutCase) (x : Post) (b : ℕ) (v : View) (me mid after : Hand) (is
       ∙ o) in (
         record {
           posts =
-              ap (λ (m : Hand). m.0.posts) given.after_is ∙ (ap (λ (m : Hand). m.0.posts) e.0 ∙ posts);
-          owes = ap (λ (m : Hand). m.0.owes) given.after_is ∙ (ap (λ (m : Hand). m.0.owes) e.0 ∙ owes);
+              ap (λ (m : Hand). m.0.posts) given.after_is
+              ∙ (ap (λ (m : Hand). m.0.posts) e.0 ∙ posts);
+          owes = ap (λ (m : Hand). m.0.owes) given.after_is
+              ∙ (ap (λ (m : Hand). m.0.owes) e.0 ∙ owes);
         },
         marked,
         settles marked,

@@ -265,7 +265,8 @@ pub finding_held : (k : CutCase) (known : List Post) (old new : BoardOf) (found 
     (answer ≡ Already) ↔ (mark_at old.marks i ≢ Open)) →
     ((answer ≡ RootMarked) ↔ MarksRoot (tree_on old) old.marks new.marks) →
     FindingHeld k old new found post answer
-finding_held k known old new found post node answer is inside case section here said finding row same
+finding_held k known old new found post node answer is inside case section here said finding row
+    same
     marks
     already root =
     let target = target_of found.leaf found.node in

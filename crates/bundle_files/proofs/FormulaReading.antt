@@ -42,7 +42,8 @@ pub formula_read : (held : Held) (path none read seen taken over written : List 
     × ((is : IsDimacs seen formula) × (said ≡ told_problem is.problem))
     → taken ≡ read → IsOverwritten taken over → written ≡ over
     → IsFormulaRead held path written said
-formula_read held path none read seen taken over written there said found empty is_there seen_is dimacs
+formula_read held path none read seen taken over written there said found empty is_there seen_is
+    dimacs
     taken_is made is = given found.0 found.1 (sym found.2 ∙ is_there) found.3
   where
     given : (proof : Option (List ℕ)) → Gives held path proof → is_some proof ≡ true

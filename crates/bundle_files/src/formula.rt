@@ -1,7 +1,9 @@
 //! A formula in a DIMACS file of its own: the bundle that it makes with a text of cubes and proofs.
 
-ghost use Rattle.std.specs.Prelude.{◌≡◌, ◌≢◌, ◌<◌, ◌≤◌, ◌^◌, ◌-◌, ◌+◌, ◌++◌, ◌∷◌, ℕ, List, [], Some};
-ghost use Rattle.std.specs.Prelude.{None, OnOk, IfOk, IfErr, IfSome, option_map, length, take, drop};
+ghost use Rattle.std.specs.Prelude.{◌≡◌, ◌≢◌, ◌<◌, ◌≤◌, ◌^◌, ◌-◌, ◌+◌, ◌++◌, ◌∷◌, ℕ, List, []};
+ghost use Rattle.std.specs.Prelude.{Some};
+ghost use Rattle.std.specs.Prelude.{None, OnOk, IfOk, IfErr, IfSome, option_map, length, take};
+ghost use Rattle.std.specs.Prelude.{drop};
 ghost use Rattle.std.specs.Bool.{OnTrue, OnFalse};
 ghost use Rattle.case_core.specs.Literal.{Literal};
 ghost use Rattle.case_core.specs.Tokens.{line_tokens};
@@ -116,8 +118,8 @@ fn read_formula<D: Store>(
     Ok((text, problem))
 }
 
-/// Whether a bundle has as many clauses as a problem line says. A bundle with a fault has no clauses
-/// that could be counted, and the run tells the fault.
+/// Whether a bundle has as many clauses as a problem line says. A bundle with a fault has no
+/// clauses that could be counted, and the run tells the fault.
 fn check_count(alloc: Global, bundle: &[u8], said: Problem) -> Result<(), Fault>
     ensures ok { OnOk result ((items : List Item) → StandsFor (icnf_text bundle.now) items
         → length (clauses_of items) ≡ said.clauses) }
@@ -239,8 +241,8 @@ fn read_under<D: Store, I: Source>(
 /// add no clause: that file's text comes first, with its problem line overwritten in its place by
 /// `p inccnf` and blanks, and then a line end.
 ///
-/// So that no clause is added, the clauses of the whole are counted; where the case is wanted, it is
-/// what they are counted by, and it is handed on.
+/// So that no clause is added, the clauses of the whole are counted; where the case is wanted, it
+/// is what they are counted by, and it is handed on.
 ///
 /// `Device` where a call failed, or no file is at a path, and `Memory` where a growth was refused.
 /// Any other fault is one of the formula's file, or tells that the other bytes have clauses.

@@ -22,8 +22,8 @@ use std::alloc::Global;
 use std::sync::Wait;
 use std::thread::Threads;
 
-/// What a run says of a bundle that was read, with the proofs of a folder where one is asked for, by
-/// as many workers and at the cut that the settings say, and with a picture of the tree where
+/// What a run says of a bundle that was read, with the proofs of a folder where one is asked for,
+/// by as many workers and at the cut that the settings say, and with a picture of the tree where
 /// `draws` asks for one; or the first fault of the bundle with these proofs. The gate is called as
 /// `judge_bundle` says. Where the bundle's case was made when it was read, it isn't read again for
 /// the folder's proofs.

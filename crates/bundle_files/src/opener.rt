@@ -10,8 +10,8 @@ use std::io::{ErrorKind, Read, Write};
 use std::rt::Files;
 use std::{fs, io};
 
-/// What opens files for reading and makes files anew, by their paths, and does nothing else: what is
-/// read of them and written to them goes by the files that it hands out.
+/// What opens files for reading and makes files anew, by their paths, and does nothing else: what
+/// is read of them and written to them goes by the files that it hands out.
 pub trait Opener {
     /// A file that was opened, which is read from its beginning.
     type Opened: Read + Drop;

@@ -142,8 +142,8 @@ impl<F> FileStore<F> {
 }
 
 impl<F: Opener> FileStore<F> {
-    /// Appends the bytes of the file at this path, and answers whether there is one, as `Store::read`
-    /// owes it.
+    /// Appends the bytes of the file at this path, and answers whether there is one, as
+    /// `Store::read` owes it.
     pub(crate) fn read_file(&mut self, path: &str, bytes: &mut Vec<u8>) -> Result<bool, Fault>
         requires { self.old.failed < 2 ^ 64 - 1 }
         ensures knows { F.knows self.new.opener ≡ F.knows self.old.opener }

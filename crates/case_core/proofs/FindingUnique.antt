@@ -25,7 +25,8 @@ pub is_judged : {E : Type 0} (r : Result Judged E) (case : CaseOf) (target : Tar
     (text path : List _) (formula : List (List Literal))
     → formula ≡ case.formula → IsPathOf case.tree target path
     →
-    IfOk r (λ judged. (proof : Proof) → IsProofOf text proof → judged ≡ judged_by (start formula path)
+    IfOk r (λ judged. (proof : Proof) → IsProofOf text proof →
+    judged ≡ judged_by (start formula path)
     proof)
     → IfOk r (λ judged. judged ≡ Refuted → IsRefuted formula path)
     → IfOk r (λ judged. IsJudgement case target text judged)
@@ -102,7 +103,8 @@ one_finding case target path first second of has one two =
 
 -- a target that stands at one node alone has one path there
 once_there : (case : CaseOf) (target : Target) (node : ℕ)
-    → ((i : ℕ) → IsTargetAt case.tree i target → i ≡ node) → (i j : ℕ) → IsTargetAt case.tree i target
+    → ((i : ℕ) → IsTargetAt case.tree i target → i ≡ node) → (i j : ℕ) →
+    IsTargetAt case.tree i target
     → IsTargetAt case.tree j target → i ≡ j
 once_there case target node only i j a b = only i a ∙ sym (only j b)
 

@@ -137,7 +137,8 @@ impl<'c> Examiner<'c> {
 
 /// Judges the section of a target, from the formula and the target's path; `None` exactly where the
 /// target has no section. It asks for a target of the case's tree. `AllocError` where a growth was
-/// refused.
+/// refused. It makes an examiner, which goes through the whole formula: for many sections make one,
+/// and examine by it.
 pub fn examine<'c>(
     alloc: Global,
     case: &'c Case,

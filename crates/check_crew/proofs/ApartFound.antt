@@ -88,7 +88,8 @@ found_apart hall passes boards known gathered own seen right = record {
       let same : is.leaf ≡ leaf = cc in (
         is.given,
         subst
-            (λ (l : Leaf). IsGivenFor (known l) hall.of.case l (mark_at boards.marks node) is.given) same
+            (λ (l : Leaf). IsGivenFor (known l) hall.of.case l (mark_at boards.marks node)
+            is.given) same
             is.is,
       );
 }

@@ -107,8 +107,8 @@ module _ (hall : HallOf) (passes : List Pass) (boards : BoardsOf)
       (All-contains (IsPassOf hall) passes pass own some.1).1 in
       seen_marked own pass some.1 node (some.2 node (rw (of_hall, section.target_is) at))
 
-  -- where the finding of each section was seen, a target that has a mark only where it has a section
-  -- has the mark of its finding
+  -- where the finding of each section was seen, a target that has a mark only where it has a
+  -- section has the mark of its finding
   mark_where : All (IsPassOf hall) passes → HaveSeenSections hall.of.case passes
       → (node : ℕ) (target : Target) → IsTargetAt hall.of.case.tree node target
       → ((board row : ℕ) → IsHome hall.of node board row

@@ -16,7 +16,8 @@ use Rattle.check_crew.specs.declared.leaf_proofs.ReadFault.TheVariants.{Memory, 
 use Rattle.check_crew.specs.declared.leaves.Examined.{Examined}
 use Rattle.check_crew.specs.declared.leaves.Examined.TheVariants.{Absent, Found, Other}
 
--- what is known of the proofs that lie elsewhere: where it is, no proof or these bytes for each leaf
+-- what is known of the proofs that lie elsewhere: where it is, no proof or these bytes for each
+-- leaf
 abbrev pub Known : Type 0
 Known = Leaf → Option (Option (List ℕ))
 

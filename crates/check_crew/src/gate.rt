@@ -9,8 +9,8 @@ use case_core::{Case, Judged, Leaf, NodeId, Target};
 use mark_board::Place;
 use std::alloc::{AllocError, Global};
 
-/// The proofs that lie elsewhere, beside the case's sections, as far as that can be told before they
-/// are read.
+/// The proofs that lie elsewhere, beside the case's sections, as far as that can be told before
+/// they are read.
 #[derive(Clone, Copy, PartialEq, Eq, Debug)]
 pub struct Elsewhere {
     /// How many there are.

@@ -1,5 +1,6 @@
 -- A scan over the tokens of clauses, and what was counted.
-use Rattle.std.proofs.Common.{◌≡◌, ◌≢◌, ◌∙◌, sym, ap, refl, subst, ℕ, ◌+◌, ◌≤◌, Bool, true, false, List}
+use Rattle.std.proofs.Common.{◌≡◌, ◌≢◌, ◌∙◌, sym, ap, refl, subst, ℕ, ◌+◌, ◌≤◌, Bool, true, false}
+use Rattle.std.proofs.Common.{List}
 use Rattle.std.proofs.Common.{[], ◌∷◌, ◌++◌, map, length, append-nil, append_assoc, arith, Option}
 use Rattle.std.proofs.Common.{None, Some, cond, eqb, Result, Ok, Err}
 use Rattle.std.specs.Prelude.{not, IfErr, IfOk}

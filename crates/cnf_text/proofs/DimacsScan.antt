@@ -1,6 +1,7 @@
 -- What one symbol more does to a scan of clauses, and which rule it breaks.
 use Rattle.std.proofs.Common.{◌≡◌, ◌∙◌, sym, ap, ℕ, ◌+◌, ◌<◌, ◌≤◌, true}
-use Rattle.std.proofs.Common.{false, List, [], ◌∷◌, ◌++◌, length, take, get_or, length-append, arith}
+use Rattle.std.proofs.Common.{false, List, [], ◌∷◌, ◌++◌, length, take, get_or, length-append}
+use Rattle.std.proofs.Common.{arith}
 use Rattle.std.proofs.lemmas.List.{take_more}
 use Rattle.std.specs.Prelude.{max}
 use Rattle.cnf_text.specs.declared.dimacs.Scan.{Scan}
@@ -24,7 +25,8 @@ pub greatest_in-more : (ls : List Literal) (i old new : ℕ) (l : Literal) → i
     → new ≡ greatest_in (take (i + 1) ls)
 greatest_in-more ls i old new l inside is before after =
     after ∙ ap (λ (n : ℕ). max n l.variable) before
-    ∙ sym (ap greatest_in (take_more ls i l inside ∙ ap (λ (k : Literal). take i ls ++ k ∷ []) (sym is))
+    ∙ sym (ap greatest_in (take_more ls i l inside ∙ ap (λ (k : Literal). take i ls ++ k ∷ [])
+    (sym is))
     ∙ greatest_in-push (take i ls) l)
 
 pub greatest_of-append : (a b : List (List Literal)) →

@@ -1,7 +1,8 @@
 //! The reader of DIMACS texts (the satisfiability suggested format of 1993): a problem line, and
 //! clauses below it.
 
-ghost use Rattle.std.specs.Prelude.{◌≡◌, ◌≢◌, ◌≤◌, [], ℕ, ◌∷◌, List, None, Some, true, false, length};
+ghost use Rattle.std.specs.Prelude.{◌≡◌, ◌≢◌, ◌≤◌, [], ℕ, ◌∷◌, List, None, Some, true, false};
+ghost use Rattle.std.specs.Prelude.{length};
 ghost use Rattle.std.specs.Prelude.{OnOk, OnErr, IfOk, IfErr, MatchOption};
 ghost use Rattle.std.specs.List.{onto_first};
 ghost use Rattle.cnf_text.specs.Literal.{Literal, greatest_variable};

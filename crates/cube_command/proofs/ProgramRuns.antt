@@ -45,7 +45,8 @@ some_mapped f None there is = is
 some_mapped f (Some path) there is = is
 
 -- a bundle that was read, and the one that is judged for it
-pub bundle_of : (held : Held) (file : Sources) (folder input : Option (List ℕ)) (read whole : List ℕ) →
+pub bundle_of : (held : Held) (file : Sources) (folder input : Option (List ℕ))
+    (read whole : List ℕ) →
     IsReadFrom held file input read → IsJudgedOf held folder read whole →
     IsBundleOf held file folder input read whole
 bundle_of held file folder input read whole is_read is_judged = record {
@@ -319,11 +320,13 @@ published_run held later formula sources folder map out input out_old out_new (O
 published_run held later formula sources folder map out input out_old out_new (Ok false) status Same
     old new before after same told report is =
     let one : status ≡ 1 = told.0 in absurd (omega arith)
-published_run held later formula sources folder map out input out_old out_new (Err fault) status Same
+published_run held later formula sources folder map out input out_old out_new (Err fault) status
+    Same
     old new before after same (inl told) report is =
     let above : 2 < status_of fault = above_two fault in
     let has : status ≡ status_of fault = told.0 in absurd (omega arith)
-published_run held later formula sources folder map out input out_old out_new (Err fault) status Same
+published_run held later formula sources folder map out input out_old out_new (Err fault) status
+    Same
     old new before after same (inr told) report is =
     let four : status ≡ 4 = told.1 in absurd (omega arith)
 

@@ -33,7 +33,8 @@ long_line text =
     let sum = long_sum text in omega (arith, digits, hex, sum)
 
 -- so a text begins with one such line at most
-pub one_line : (one other rest more : List ℕ) → digest_line one ++ rest ≡ digest_line other ++ more →
+pub one_line : (one other rest more : List ℕ) → digest_line one ++ rest ≡ digest_line other ++ more
+    →
     (digest_line one ≡ digest_line other) × (rest ≡ more)
 one_line one other rest more same =
     let long : length (digest_line one) ≡ length (digest_line other) =

@@ -41,8 +41,8 @@ use std::thread::Threads;
 /// The program on these words, which are those after its name: `[--workers N] [--cut D] [--formula
 /// CNF] [--proofs DIR] [--progress] [--explain] [--map SVG] [--record OUT] [--log LOG] [FILE]`. It
 /// reads a bundle from FILE, or from `input` where there is none, and writes the report to `output`
-/// or, where there is no report, one line to `errors`. Files are found by `store`. Both writers have
-/// to write at once, without a buffer of their own.
+/// or, where there is no report, one line to `errors`. Files are found by `store`. Both writers
+/// have to write at once, without a buffer of their own.
 ///
 /// With `--formula CNF` the clauses come from that file, a DIMACS text, and FILE adds cubes and
 /// sections, and no clause: the bundle is that text with its problem line overwritten by `p inccnf`
@@ -56,8 +56,8 @@ use std::thread::Threads;
 /// `gate` is called beside each section, and with `--progress` also `watch`, from the first read
 /// on, which may tell a person how far the run is, on a device that it is lent: what it does there
 /// is not `errors`. With
-/// `--explain` so may `explain` tell what was read, and where rejections and a fault come from; then
-/// the text that was read is kept twice. With
+/// `--explain` so may `explain` tell what was read, and where rejections and a fault come from;
+/// then the text that was read is kept twice. With
 /// `--map SVG` a picture of the tree is written to that file, made anew, before the report; with
 /// `--record OUT` then a record to that one: the line `i ` with the SHA-256 of the iCNF text of the
 /// bundle that was read, and the report. With `--log LOG` that file is made anew by `log` before

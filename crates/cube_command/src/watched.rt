@@ -8,8 +8,8 @@ use crate::reading::Watch;
 use cube_report::{Case, Elsewhere, Fault, Found, Gate, Leaf, Target, line_of};
 use std::alloc::{AllocError, Global};
 
-/// The gate that a caller gives, one that watches the run where that is asked for, and the log where
-/// a file for it is.
+/// The gate that a caller gives, one that watches the run where that is asked for, and the log
+/// where a file for it is.
 #[derive(Clone, Copy)]
 pub(crate) struct Watched<'a, G, W, L> {
     pub(crate) alloc: Global,

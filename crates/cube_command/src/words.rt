@@ -1,6 +1,7 @@
 //! The words of the program: what they ask for, and the help.
 
-ghost use Rattle.std.specs.Prelude.{◌≡◌, ◌≢◌, ◌<◌, ◌≤◌, ◌++◌, ℕ, Bool, List, None, Some, false, map};
+ghost use Rattle.std.specs.Prelude.{◌≡◌, ◌≢◌, ◌<◌, ◌≤◌, ◌++◌, ℕ, Bool, List, None, Some, false};
+ghost use Rattle.std.specs.Prelude.{map};
 ghost use Rattle.std.specs.Prelude.{codes, option_map, IfOk, IfErr, IfSome, IsTrue, ◌↔◌};
 ghost use Rattle.std.specs.Prelude.{MatchOption};
 ghost use Rattle.clap.specs.Words.{app_of, first_value, found_of, kind_of, new_app, one_text};

@@ -32,10 +32,13 @@ glyph_is n = (grind (arith), grind (arith))
 
 onto_digits : (k n : ℕ) (acc : List ℕ) → AreDigits acc → AreDigits (digits_onto k 10 false n acc)
 onto_digits zero n acc h = h
-onto_digits (suc k) n acc h = elim (n / 10 == 0) as (λ t. AreDigits (cond t (digit_glyph false (n % 10) ∷ acc) (digits_onto k 10 false (n / 10) (digit_glyph false (n % 10) ∷ acc)))) [
-  | true ↦ ((glyph_is n).0, (glyph_is n).1, h)
-  | false ↦ onto_digits k (n / 10) (digit_glyph false (n % 10) ∷ acc) ((glyph_is n).0, (glyph_is n).1, h)
-]
+onto_digits (suc k) n acc h = elim (n / 10 == 0) as
+    (λ t. AreDigits (cond t (digit_glyph false (n % 10) ∷ acc)
+    (digits_onto k 10 false (n / 10) (digit_glyph false (n % 10) ∷ acc)))) [
+      | true ↦ ((glyph_is n).0, (glyph_is n).1, h)
+      | false ↦ onto_digits k (n / 10) (digit_glyph false (n % 10) ∷ acc)
+          ((glyph_is n).0, (glyph_is n).1, h)
+    ]
 
 pub decimal_digits : (n : ℕ) → AreDigits (decimal n)
 unfolding digits
@@ -44,4 +47,5 @@ decimal_digits n = onto_digits 64 n [] tt
 -- digits have no byte outside of theirs
 pub lacks_digits : (d : ℕ) (bs : List ℕ) → (d < 48) → AreDigits bs → Lacks d bs
 lacks_digits d [] l h = tt
-lacks_digits d (b ∷ bs) l h = (λ e. let low : 48 ≤ b = h.0 in omega (arith, e), lacks_digits d bs l h.2)
+lacks_digits d (b ∷ bs) l h =
+    (λ e. let low : 48 ≤ b = h.0 in omega (arith, e), lacks_digits d bs l h.2)

@@ -1,5 +1,7 @@
 -- Reports that are joined one after the other.
-use Rattle.std.proofs.Common.{◌≡◌, ℕ, zero, suc, ◌+◌, ◌<◌, ◌≤◌, List, [], ◌∷◌, ◌++◌, length, take, get_or, replicate, Vec, refl, sym, ap, ◌∙◌, arith, Bool, true, false, subst}
+use Rattle.std.proofs.Common.{◌≡◌, ℕ, zero, suc, ◌+◌, ◌<◌, ◌≤◌, List, [], ◌∷◌, ◌++◌, length, take}
+use Rattle.std.proofs.Common.{get_or, replicate, Vec, refl, sym, ap, ◌∙◌, arith, Bool, true, false}
+use Rattle.std.proofs.Common.{subst}
 use Rattle.std.proofs.lemmas.List.{take_all}
 use Rattle.case_core.specs.Icnf.{cubes_of}
 use Rattle.split_tree.specs.SplitTree.{SplitTree, size}
@@ -31,8 +33,10 @@ joined_last : (marks : List Mark) (told : List (List Mark)) (last : List Mark) �
 joined_last marks [] last = refl
 joined_last marks (m ∷ told) last = joined_last (joined marks m) told last
 
-all_long : (tree : SplitTree) (reports : List (List ℕ)) (told : List (List Mark)) (marks : List Mark) →
-    AreToldBy tree reports told → length marks ≡ size tree → length (all_joined marks told) ≡ size tree
+all_long : (tree : SplitTree) (reports : List (List ℕ)) (told : List (List Mark))
+    (marks : List Mark) →
+    AreToldBy tree reports told → length marks ≡ size tree →
+    length (all_joined marks told) ≡ size tree
 all_long tree [] [] marks h l = l
 all_long tree [] (m ∷ told) marks h l = absurd h
 all_long tree (r ∷ reports) [] marks h l = absurd h
@@ -86,6 +90,7 @@ is_joined bundle case reports marks text answer is h t a =
           (joined_has_no_model case.formula case.tree _ (none_marked case.tree)
           reports h.0 (cube_leaves case.tree (cubes_of is.items) _ is.tree refl)
           (words_in bundle case is) genuine h.1
-          (λ r l k. let clash : false ≡ true = sym (none_refuted (size case.tree) (0 + r)) ∙ k in absurd (cc))
+          (λ r l k. let clash : false ≡ true = sym (none_refuted (size case.tree) (0 + r)) ∙ k in
+          absurd (cc))
           (sym same ∙ says));
     }

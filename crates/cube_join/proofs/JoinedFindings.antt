@@ -1,5 +1,7 @@
 -- The joined marks of two lists of findings are the findings of some of the sections.
-use Rattle.std.proofs.Common.{◌≡◌, ◌≢◌, ◌⊎◌, ℕ, zero, suc, ◌+◌, ◌-◌, ◌<◌, List, [], ◌∷◌, ◌++◌, length, get_or, refl, sym, ap, ◌∙◌, arith, Bool, true, false, subst, Option, None, Some, inl, inr}
+use Rattle.std.proofs.Common.{◌≡◌, ◌≢◌, ◌⊎◌, ℕ, zero, suc, ◌+◌, ◌-◌, ◌<◌, List, [], ◌∷◌, ◌++◌}
+use Rattle.std.proofs.Common.{length, get_or, refl, sym, ap, ◌∙◌, arith, Bool, true, false, subst}
+use Rattle.std.proofs.Common.{Option, None, Some, inl, inr}
 use Rattle.std.specs.Prelude.{MatchOption, if◌then◌else◌}
 use Rattle.std.proofs.lemmas.Bool.{cases_Bool}
 use Rattle.case_core.specs.Literal.{Literal}
@@ -37,7 +39,8 @@ place tree (Node n) = n
 place_is : (tree : SplitTree) (cubes node : ℕ) (target : Target) → AreCubeLeaves tree cubes →
     IsTargetAt tree node target → place tree target ≡ node
 unfolding place
-place_is tree cubes node (Named (CubeLeaf k)) leaves h = cube_stands tree cubes node k leaves h.0 h.1
+place_is tree cubes node (Named (CubeLeaf k)) leaves h = cube_stands tree cubes node k leaves h.0
+    h.1
 place_is tree cubes node (Named (MissingLeaf j)) leaves h = sym h.2
 place_is tree cubes node (Node n) leaves h = sym h.0
 

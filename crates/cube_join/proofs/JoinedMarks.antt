@@ -14,7 +14,8 @@ open_last Refuted = refl
 open_last (Rejected step reason) = refl
 
 -- each node has the joined mark
-pub mark_joined : (a b : List Mark) (i : ℕ) → mark_at (joined a b) i ≡ joined_mark (mark_at a i) (mark_at b i)
+pub mark_joined : (a b : List Mark) (i : ℕ) → mark_at (joined a b) i ≡ joined_mark (mark_at a i)
+    (mark_at b i)
 mark_joined [] b i = refl
 mark_joined (m ∷ a) [] i = sym (open_last (mark_at (m ∷ a) i))
 mark_joined (m ∷ a) (n ∷ b) zero = refl
@@ -42,7 +43,8 @@ pub joined_refuted : (formula : List (List Literal)) (a b : List Mark) (tree : S
     AreRefuted formula (refuted_by a) [] 0 tree → AreRefuted formula (refuted_by b) [] 0 tree →
     AreRefuted formula (refuted_by (joined a b)) [] 0 tree
 joined_refuted formula a b tree h k r l is =
-    elim (or_one (refuted_by a (0 + r)) (refuted_by b (0 + r)) (sym (refuted_joined a b (0 + r)) ∙ is)) [
+    elim (or_one (refuted_by a (0 + r)) (refuted_by b (0 + r))
+    (sym (refuted_joined a b (0 + r)) ∙ is)) [
       | inl first ↦ h r l first
       | inr second ↦ k r l second
     ]

@@ -42,7 +42,8 @@ join_more old told count now next mark h l m e = record {
       ∙ (get_or-set_other now count k mark Open other ∙ h.after k (omega (arith, many)));
 }
 
-pub join_end : (old told : List Mark) (count : ℕ) (now : List Mark) → IsJoinedTo old told count now →
+pub join_end : (old told : List Mark) (count : ℕ) (now : List Mark) → IsJoinedTo old told count now
+    →
     length told ≡ length old → length told ≤ count → now ≡ joined old told
 join_end old told count now h same all =
     ext_get_or Open now (joined old told)

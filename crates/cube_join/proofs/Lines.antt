@@ -1,6 +1,7 @@
 -- What can be read back of a report's lines.
 use Rattle.std.proofs.Common.{◌≡◌, ℕ, ◌<◌, ◌≤◌, ◌==◌, ◌^◌, List, [], ◌∷◌, ◌++◌}
-use Rattle.std.proofs.Common.{Bool, true, false, refl, sym, ap, ◌∙◌, arith, inl, inr, codes, append_assoc, decimal}
+use Rattle.std.proofs.Common.{Bool, true, false, refl, sym, ap, ◌∙◌, arith, inl, inr, codes}
+use Rattle.std.proofs.Common.{append_assoc, decimal}
 use Rattle.std.specs.Prelude.{if◌then◌else◌}
 use Rattle.std.specs.List.{flat_map}
 use Rattle.std.proofs.lemmas.Bool.{cases_eq}
@@ -55,7 +56,8 @@ status_lacks Refuted = lacks_it 10 (codes " refuted") refl
 status_lacks (Rejected step reason) =
     lacks_append 10 (codes " rejected") (number_field step ++ reason_field reason)
     (lacks_it 10 (codes " rejected") refl)
-    (lacks_append 10 (number_field step) (reason_field reason) (number_lacks step) (reason_lacks reason))
+    (lacks_append 10 (number_field step) (reason_field reason) (number_lacks step)
+    (reason_lacks reason))
 
 -- ---- statuses
 
@@ -76,7 +78,8 @@ one_refuted (Rejected step reason) Refuted e = cc
 one_refuted (Rejected step reason) (Rejected other why) e = refl
 
 -- a status and what is behind its line
-pub status_read : (a b : Mark) (r s : List ℕ) → status_fields a ++ 10 ∷ r ≡ status_fields b ++ 10 ∷ s →
+pub status_read : (a b : Mark) (r s : List ℕ) → status_fields a ++ 10 ∷ r ≡ status_fields b
+    ++ 10 ∷ s →
     (status_fields a ≡ status_fields b) × (r ≡ s)
 status_read a b r s e =
     cut 10 (status_fields a) (status_fields b) r s (status_lacks a) (status_lacks b) e
@@ -119,11 +122,16 @@ AreSmall (l ∷ path) = (l.variable < 2 ^ 64) × AreSmall path
 
 body_lacks : (v : ℕ) (sign : Bool) → Lacks 32 (body (record { variable = v; positive = sign }))
 body_lacks v true = lacks_digits 32 (decimal v) (omega arith) (decimal_digits v)
-body_lacks v false = (λ e. omega (arith, e), lacks_digits 32 (decimal v) (omega arith) (decimal_digits v))
+body_lacks v false = (
+  λ e. omega (arith, e),
+  lacks_digits 32 (decimal v) (omega arith)
+      (decimal_digits v),
+)
 
 no_minus : (bs cs : List ℕ) → AreDigits bs → bs ≡ 45 ∷ cs → ⊥
 no_minus [] cs h e = cc
-no_minus (b ∷ bs) cs h e = let same : b ≡ 45 = cc in let low : 48 ≤ b = h.0 in omega (arith, same, low)
+no_minus (b ∷ bs) cs h e = let same : b ≡ 45 = cc in let low : 48 ≤ b = h.0 in
+    omega (arith, same, low)
 
 one_literal : (v w : ℕ) (a b : Bool) → v < 2 ^ 64 → w < 2 ^ 64 →
     body (record { variable = v; positive = a }) ≡ body (record { variable = w; positive = b }) →
@@ -132,9 +140,11 @@ one_literal v w true true h k e = (decimal_injective v w h k e, refl)
 one_literal v w false false h k e =
     let rest : decimal v ≡ decimal w = cc in (decimal_injective v w h k rest, refl)
 one_literal v w true false h k e = absurd (no_minus (decimal v) (decimal w) (decimal_digits v) e)
-one_literal v w false true h k e = absurd (no_minus (decimal w) (decimal v) (decimal_digits w) (sym e))
+one_literal v w false true h k e =
+    absurd (no_minus (decimal w) (decimal v) (decimal_digits w) (sym e))
 
-first_digit : (bs : List ℕ) (x : List ℕ) (c : ℕ) (cs : List ℕ) → AreDigits bs → bs ++ 32 ∷ x ≡ c ∷ cs →
+first_digit : (bs : List ℕ) (x : List ℕ) (c : ℕ) (cs : List ℕ) → AreDigits bs →
+    bs ++ 32 ∷ x ≡ c ∷ cs →
     c < 58
 first_digit [] x c cs h e = let same : c ≡ 32 = cc in omega (arith, same)
 first_digit (b ∷ bs) x c cs h e =
@@ -145,7 +155,8 @@ first_body : (v : ℕ) (sign : Bool) (x : List ℕ) (c : ℕ) (cs : List ℕ) �
 first_body v true x c cs e = first_digit (decimal v) x c cs (decimal_digits v) e
 first_body v false x c cs e = let same : c ≡ 45 = cc in omega (arith, same)
 
-no_letter : (path : List Literal) (t : List ℕ) (c : ℕ) (cs : List ℕ) → behind path (48 ∷ t) ≡ c ∷ cs → c < 58
+no_letter : (path : List Literal) (t : List ℕ) (c : ℕ) (cs : List ℕ) →
+    behind path (48 ∷ t) ≡ c ∷ cs → c < 58
 no_letter [] t c cs e = let same : c ≡ 48 = cc in omega (arith, same)
 no_letter (l ∷ path) t c cs e = first_body l.variable l.positive (behind path (48 ∷ t)) c cs e
 
@@ -162,7 +173,8 @@ ended s m path t h e =
     omega (arith, low, high)
 
 -- a path and what is behind it
-pub path_read : (p q : List Literal) (s t : List ℕ) → AreSmall p → AreSmall q → Begins s → Begins t →
+pub path_read : (p q : List Literal) (s t : List ℕ) → AreSmall p → AreSmall q → Begins s →
+    Begins t →
     behind p (48 ∷ s) ≡ behind q (48 ∷ t) → (p ≡ q) × (s ≡ t)
 path_read [] [] s t a b h k e = (refl, cc)
 path_read [] (m ∷ q) s t a b h k e = absurd (ended s m q t h e)

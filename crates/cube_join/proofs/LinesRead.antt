@@ -12,7 +12,8 @@ use Rattle.mark_board.specs.Marking.{mark_at}
 use Rattle.tree_map.specs.Fields.{number_field, literal_field, status_fields}
 use Rattle.cube_report.specs.Report.{cube_line, missing_line, node_line, cube_lines, missing_lines}
 use Rattle.cube_report.specs.Report.{cube_node}
-use Rattle.cube_join.proofs.Lines.{status_at, status_read, status_begins, behind, fields_are, AreSmall}
+use Rattle.cube_join.proofs.Lines.{status_at, status_read, status_begins, behind, fields_are}
+use Rattle.cube_join.proofs.Lines.{AreSmall}
 use Rattle.cube_join.proofs.Lines.{path_read}
 
 -- ---- one line
@@ -100,7 +101,8 @@ missing_at : (a b : List Mark) (node : ℕ) (nodes : List ℕ) → status_at a n
 missing_at a b node nodes one rest zero l = one
 missing_at a b node nodes one rest (suc i) l = rest i (omega (arith, l))
 
-pub missing_read_all : (tree : SplitTree) (a b : List Mark) (n : ℕ) (nodes : List ℕ) (r s : List ℕ) →
+pub missing_read_all : (tree : SplitTree) (a b : List Mark) (n : ℕ) (nodes : List ℕ) (r s : List ℕ)
+    →
     missing_lines tree a n nodes ++ r ≡ missing_lines tree b n nodes ++ s →
     ((i : ℕ) → i < length nodes → status_at a (get_or nodes i 0) ≡ status_at b (get_or nodes i 0))
     × (r ≡ s)

@@ -1,5 +1,6 @@
 -- The lines of the inner nodes tell the status of each of them.
-use Rattle.std.proofs.Common.{◌≡◌, ◌⊎◌, ℕ, zero, suc, ◌+◌, ◌-◌, ◌<◌, ◌≤◌, ◌^◌, List, [], ◌∷◌, ◌++◌, length}
+use Rattle.std.proofs.Common.{◌≡◌, ◌⊎◌, ℕ, zero, suc, ◌+◌, ◌-◌, ◌<◌, ◌≤◌, ◌^◌, List, [], ◌∷◌, ◌++◌}
+use Rattle.std.proofs.Common.{length}
 use Rattle.std.proofs.Common.{refl, sym, ◌∙◌, arith, inl, inr, append_assoc, subst, get_or}
 use Rattle.std.proofs.lemmas.Bool.{cases_lt}
 use Rattle.split_tree.specs.SplitTree.{SplitTree, missing, cube, split, size, path_at, IsSplit}
@@ -55,7 +56,8 @@ first_here tree k end Refuted x r l h = inr (k, Refuted, x, omega arith, l, refl
 first_here tree k end (Rejected step reason) x r l h =
     inr (k, Rejected step reason, x, omega arith, l, refl)
 
-first_of_all : (tree : SplitTree) (a : List Mark) (k end : ℕ) (trees : List SplitTree) (r : List ℕ) →
+first_of_all : (tree : SplitTree) (a : List Mark) (k end : ℕ) (trees : List SplitTree) (r : List ℕ)
+    →
     k + length trees ≡ end → First tree k end (node_lines tree a k trees ++ r) r
 first_of_all tree a k end [] r e = inl refl
 first_of_all tree a k end (missing ∷ trees) r e =
@@ -64,7 +66,8 @@ first_of_all tree a k end (cube c ∷ trees) r e =
     later tree k end _ r (first_of_all tree a (suc k) end trees r (omega (arith, e)))
 first_of_all tree a k end (split v p n ∷ trees) r e =
     subst (λ (x : List ℕ). First tree k end x r)
-    (sym (append_assoc (marked_line (path_at tree k) (mark_at a k)) (node_lines tree a (suc k) trees) r))
+    (sym (append_assoc (marked_line (path_at tree k) (mark_at a k))
+    (node_lines tree a (suc k) trees) r))
     (first_here tree k end (mark_at a k) (node_lines tree a (suc k) trees ++ r) r (omega (arith, e))
     (first_of_all tree a (suc k) end trees r (omega (arith, e))))
 
@@ -105,15 +108,18 @@ one_own tree k end Refuted Refuted x y r s w l few g h f i e =
     (both.1, both.2)
 one_own tree k end Refuted (Rejected step reason) x y r s w l few g h f i e =
     let p = small_path tree k (omega (arith, l, few)) w in
-    let both = node_read (path_at tree k) (path_at tree k) Refuted (Rejected step reason) x y p p e in
+    let both = node_read (path_at tree k) (path_at tree k) Refuted (Rejected step reason) x y p p e
+    in
     (both.1, both.2)
 one_own tree k end (Rejected step reason) Refuted x y r s w l few g h f i e =
     let p = small_path tree k (omega (arith, l, few)) w in
-    let both = node_read (path_at tree k) (path_at tree k) (Rejected step reason) Refuted x y p p e in
+    let both = node_read (path_at tree k) (path_at tree k) (Rejected step reason) Refuted x y p p e
+    in
     (both.1, both.2)
 one_own tree k end (Rejected step reason) (Rejected other why) x y r s w l few g h f i e =
     let p = small_path tree k (omega (arith, l, few)) w in
-    let both = node_read (path_at tree k) (path_at tree k) (Rejected step reason) (Rejected other why)
+    let both = node_read (path_at tree k) (path_at tree k) (Rejected step reason)
+    (Rejected other why)
     x y p p e in
     (both.1, both.2)
 
@@ -132,7 +138,8 @@ agree_leaf a b k t trees here rest zero l is =
 agree_leaf a b k t trees here rest (suc i) l is =
     let q : k + suc i ≡ suc k + i = omega arith in rw q (rest i (omega (arith, l)) is)
 
-pub own_read : (tree : SplitTree) (a b : List Mark) (k end : ℕ) (trees : List SplitTree) (r s : List ℕ) →
+pub own_read : (tree : SplitTree) (a b : List Mark) (k end : ℕ) (trees : List SplitTree)
+    (r s : List ℕ) →
     AreWords tree → k + length trees ≡ end → end ≤ size tree → IsOther r → IsOther s →
     node_lines tree a k trees ++ r ≡ node_lines tree b k trees ++ s →
     AgreeOn a b k trees × (r ≡ s)
@@ -148,7 +155,9 @@ own_read tree a b k end (split v p n ∷ trees) r s w c few g h e =
     let one = one_own tree k end (mark_at a k) (mark_at b k) (node_lines tree a (suc k) trees ++ r)
     (node_lines tree b (suc k) trees ++ s) r s w (omega (arith, c)) few g h
     (first_of_all tree a (suc k) end trees r next) (first_of_all tree b (suc k) end trees s next)
-    (sym (append_assoc (marked_line (path_at tree k) (mark_at a k)) (node_lines tree a (suc k) trees) r)
-    ∙ (e ∙ append_assoc (marked_line (path_at tree k) (mark_at b k)) (node_lines tree b (suc k) trees) s)) in
+    (sym (append_assoc (marked_line (path_at tree k) (mark_at a k))
+    (node_lines tree a (suc k) trees) r)
+    ∙ (e ∙ append_assoc (marked_line (path_at tree k) (mark_at b k))
+    (node_lines tree b (suc k) trees) s)) in
     let rest = own_read tree a b (suc k) end trees r s w next few g h one.1 in
     (agree_leaf a b k (split v p n) trees (λ is. one.0) rest.0, rest.1)

@@ -111,8 +111,8 @@ IsJoinedSoFar tree reports marks =
     (told : List (List Mark)) × AreToldBy tree reports told
     × (marks ≡ all_joined (none_marked tree) told)
 
--- What a join of these texts on a bundle promises: each is a report by some marks on the tree of the
--- bundle's cubes; the joined text is the report by the joined marks; the answer is true exactly
+-- What a join of these texts on a bundle promises: each is a report by some marks on the tree of
+-- the bundle's cubes; the joined text is the report by the joined marks; the answer is true exactly
 -- where they mark the root; and where each text is the report on the bundle's formula and tree with
 -- some proofs, the formula then has no model.
 pub record IsJoined (bundle : List ℕ) (reports : List (List ℕ)) (text : List ℕ) (answer : Bool)

@@ -124,12 +124,14 @@ node_more tree marks n (cube k ∷ trees) (suc b) l =
     let q : n + suc b ≡ suc n + b = omega arith in
     rw q (node_more tree marks (suc n) trees b (omega arith))
 node_more tree marks n (split v p m ∷ trees) zero l =
-    let q : n + 0 ≡ n = omega arith in rw q (append-nil (marked_line (path_at tree n) (mark_at marks n)))
+    let q : n + 0 ≡ n = omega arith in
+    rw q (append-nil (marked_line (path_at tree n) (mark_at marks n)))
 node_more tree marks n (split v p m ∷ trees) (suc b) l =
     let q : n + suc b ≡ suc n + b = omega arith in
     rw q (ap (λ (xs : List ℕ). marked_line (path_at tree n) (mark_at marks n) ++ xs)
     (node_more tree marks (suc n) trees b (omega arith))
-    ∙ sym (append_assoc (marked_line (path_at tree n) (mark_at marks n)) (node_lines tree marks (suc n) (take b trees))
+    ∙ sym (append_assoc (marked_line (path_at tree n) (mark_at marks n))
+    (node_lines tree marks (suc n) (take b trees))
     (node_part tree marks (suc n + b) (get_or trees b missing))))
 
 -- the line of an inner node is that of its section, if it has one

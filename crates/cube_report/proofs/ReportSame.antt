@@ -1,18 +1,15 @@
 -- A picture looks at the sections of inner nodes alone, and a report at none.
 use Rattle.std.proofs.Common.{◌≡◌, ◌∙◌, ap, ap₂, refl, sym, subst, ℕ, zero, suc, ◌+◌, ◌-◌, ◌*◌, ◌^◌}
-use Rattle.std.proofs.Common.{Bool, List, [], ◌∷◌, ◌++◌, ◌||◌, if◌then◌else◌, codes, length}
+use Rattle.std.proofs.Common.{Bool, List, [], ◌++◌, ◌||◌, if◌then◌else◌, codes}
 use Rattle.std.proofs.Common.{true, false}
 use Rattle.case_core.specs.Literal.{Literal}
-use Rattle.split_tree.specs.SplitTree.{SplitTree, missing, cube, split, size, total, subtrees}
-use Rattle.split_tree.specs.SplitTree.{path_at}
-use Rattle.split_tree.specs.Leaves.{cube_count, missing_nodes}
+use Rattle.split_tree.specs.SplitTree.{SplitTree, missing, cube, split, size, total}
 use Rattle.case_core.specs.Case.{CaseOf, SectionOf}
 use Rattle.mark_board.specs.declared.mark.Mark.{Mark}
-use Rattle.mark_board.specs.Marking.{marked, refuted_by, mark_at, open_weight, open_branches}
+use Rattle.mark_board.specs.Marking.{marked, refuted_by, open_weight}
 use Rattle.mark_board.specs.TopPlaces.{worth_of}
 use Rattle.tree_map.specs.Picture.{map_text, cells, cell, frame, told, rectangle, colour, head}
 use Rattle.tree_map.specs.Picture.{legend, title, rows}
-use Rattle.tree_map.specs.Fields.{answer_line}
 use Rattle.cube_report.specs.Report.{report_text}
 use Rattle.case_core.specs.Formula.{IsRefuted}
 use Rattle.mark_board.specs.Findings.{AreFindings}

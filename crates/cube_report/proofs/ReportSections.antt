@@ -16,7 +16,7 @@ use Rattle.split_tree.specs.Leaves.{IsPathOf, IsTargetAt}
 use Rattle.mark_board.specs.declared.mark.Mark.{Mark}
 use Rattle.mark_board.specs.declared.mark.Mark.TheVariants.{Open}
 use Rattle.mark_board.specs.Marking.{mark_at}
-use Rattle.mark_board.specs.Findings.{mark_as, AreFindings}
+use Rattle.mark_board.specs.Findings.{mark_as}
 use Rattle.cube_report.specs.Laws.{LineForEachSection}
 
 never_open : (judged : Judged) → Open ≡ mark_as judged → ⊥

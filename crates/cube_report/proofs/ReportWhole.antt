@@ -1,5 +1,6 @@
 -- The parts of a report by marks make it whole.
-use Rattle.std.proofs.Common.{◌≡◌, ℕ, ◌==◌, ◌++◌, List, length, Bool, refl, sym, ◌∙◌, append_assoc, inl, inr}
+use Rattle.std.proofs.Common.{◌≡◌, ℕ, ◌==◌, ◌++◌, List, length, Bool, refl, sym, ◌∙◌, append_assoc}
+use Rattle.std.proofs.Common.{inl, inr}
 use Rattle.std.proofs.lemmas.Bool.{cases_eq}
 use Rattle.split_tree.specs.SplitTree.{SplitTree, subtrees, subtree_at, total}
 use Rattle.split_tree.specs.Leaves.{missing_nodes, cube_count}

@@ -11,8 +11,8 @@ use Rattle.mark_board.specs.Findings.{AreFindings}
 use Rattle.cube_report.specs.Report.{report_text}
 use Rattle.cube_report.specs.Stated.{IsStated, IsWrittenBy}
 
--- by the marks of a case's findings, an inner node has none, and so no line, exactly where it has no
--- section
+-- by the marks of a case's findings, an inner node has none, and so no line, exactly where it has
+-- no section
 abbrev pub LineForEachSection : Type 0
 LineForEachSection = (case : CaseOf) (marks : List Mark) (node : ℕ) → AreFindings case marks
     → IsTargetAt case.tree node (Node node)

@@ -29,8 +29,9 @@ pub fn a_line_for_each_section()
     ensures { LineForEachSection }
 {}
 
-/// A report looks at the tree and the marks alone, a picture at the sections of inner nodes, too: two
-/// cases with the same tree, in which the same inner nodes have sections, have both by the same marks.
+/// A report looks at the tree and the marks alone, a picture at the sections of inner nodes, too:
+/// two cases with the same tree, in which the same inner nodes have sections, have both by the same
+/// marks.
 pub fn same_report()
     ensures { SameReport }
 {}

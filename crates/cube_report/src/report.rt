@@ -17,8 +17,8 @@ use mark_board::{Mark, MarkedTree, open_branches_of};
 use std::alloc::{AllocError, Global};
 use tree_map::{answer, write_number, write_path, write_status};
 
-/// The report by the marks of a tree's nodes, whoever says them: the totals, each cube, each missing
-/// leaf, each inner node with a mark, each open branch, the open weight, and the answer.
+/// The report by the marks of a tree's nodes, whoever says them: the totals, each cube, each
+/// missing leaf, each inner node with a mark, each open branch, the open weight, and the answer.
 /// `AllocError` where a growth was refused.
 pub fn report_of<M: MarkedTree>(alloc: Global, told: &M) -> Result<Vec<u8>, AllocError>
     ensures { IfOk result

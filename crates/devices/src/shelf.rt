@@ -157,8 +157,8 @@ impl<'t> Shelf<'t> {
     }
 
     /// Each path that it and the openers made from it were asked for, in the order of the calls,
-    /// and a line end behind it. `AllocError` where a growth was refused. A contract knows nothing of
-    /// what openers share.
+    /// and a line end behind it. `AllocError` where a growth was refused. A contract knows nothing
+    /// of what openers share.
     pub fn asked(&self) -> Result<Vec<u8>, AllocError> {
         let mut asked = Vec::new(self.alloc);
         for slot in &self.desk.paths {

@@ -1,5 +1,6 @@
 -- Clauses as blocks of falsifiers.
-use Rattle.std.proofs.Common.{◌≡◌, ◌==◌, ◌+◌, ◌-◌, ◌*◌, ◌/◌, ◌%◌, ◌<◌, ◌≤◌, ℕ, zero, suc, Bool, true, false}
+use Rattle.std.proofs.Common.{◌≡◌, ◌==◌, ◌+◌, ◌-◌, ◌*◌, ◌/◌, ◌%◌, ◌<◌, ◌≤◌, ℕ, zero, suc, Bool}
+use Rattle.std.proofs.Common.{true, false}
 use Rattle.std.proofs.Common.{Option, Some, None, List, [], ◌∷◌, ◌++◌, length, drop, take, get_or}
 use Rattle.std.proofs.Common.{not, refl, sym, ap, ◌∙◌, subst, arith, inl, inr}
 use Rattle.std.specs.Prelude.{nat_lt, if◌then◌else◌, slice_range}
@@ -165,7 +166,8 @@ Within-take (suc i) (b ∷ blocks) reach h = (h.0, Within-take i blocks reach h.
 -- some blocks of a row
 pub Within-range : (blocks : List Block) (from to reach : ℕ) → Within blocks reach →
     Within (slice_range blocks from to) reach
-Within-range blocks from to reach h = Within-take (to - from) (drop from blocks) reach (Within-drop from blocks reach h)
+Within-range blocks from to reach h = Within-take (to - from) (drop from blocks) reach
+    (Within-drop from blocks reach h)
 
 -- ---- blocks of a list
 

@@ -46,7 +46,8 @@ made-none made before n m i none is =
     ∙ none_behind n m i
 
 -- what is known of an id is found
-pub known-found : (known : List Known) (shift : ℕ) (entries : List (ℕ × Span)) (id : ℕ) (span : Span)
+pub known-found : (known : List Known) (shift : ℕ) (entries : List (ℕ × Span)) (id : ℕ)
+    (span : Span)
     → Knows known shift entries → Some span ≡ known_at known shift id →
     lookup (nat_eq id) entries ≡ Some span
 unfolding Knows
@@ -59,11 +60,13 @@ if_some true span P h = h
 if_some false span P h = tt
 
 -- what holds of an entry's span holds of what it tells
-pub span-told : (one : Known) (id : ℕ) (P : Span → Type 0) → P one.span → IfSome (known_span one id) P
+pub span-told : (one : Known) (id : ℕ) (P : Span → Type 0) → P one.span →
+    IfSome (known_span one id) P
 span-told one id P h =
     if_some (nat_eq one.id id && nat_le one.span.start one.span.end) one.span P h
 
-weaker : {P Q : Span → Type 0} (o : Option Span) → ((x : Span) → P x → Q x) → IfSome o P → IfSome o Q
+weaker : {P Q : Span → Type 0} (o : Option Span) → ((x : Span) → P x → Q x) → IfSome o P →
+    IfSome o Q
 weaker None w h = tt
 weaker (Some x) w h = w x h
 
@@ -81,7 +84,8 @@ unfolding Knows
 Knows-change known known' shift before after one here others same told knows id =
     elim (cases_Bool (nat_eq one.id id)) [
       | inl this ↦
-          subst (λ k. IfSome (known_at known' shift k) (λ span. lookup (nat_eq k) after ≡ Some span))
+          subst (λ k. IfSome (known_at known' shift k)
+          (λ span. lookup (nat_eq k) after ≡ Some span))
           (eqb-true one.id id this)
           (elim here [
             | inl own ↦ subst (λ o. IfSome o (λ span. lookup (nat_eq one.id) after ≡ Some span))

@@ -1,6 +1,7 @@
 -- The ids listed for each literal.
 use Rattle.std.proofs.Common.{◌≡◌, ◌==◌, ◌||◌, ◌&&◌, ℕ, Bool, true, false, cond, nat_eq, Option}
-use Rattle.std.proofs.Common.{◌+◌, map, Some, None, List, [], ◌∷◌, ◌++◌, refl, sym, ap, ◌∙◌, inl, inr, subst}
+use Rattle.std.proofs.Common.{◌+◌, map, Some, None, List, [], ◌∷◌, ◌++◌, refl, sym, ap, ◌∙◌, inl}
+use Rattle.std.proofs.Common.{inr, subst}
 use Rattle.std.specs.Prelude.{if◌then◌else◌}
 use Rattle.std.specs.Option.{IfSome}
 use Rattle.std.specs.FinMap as fin
@@ -109,7 +110,8 @@ Indexes-names rows entries l ids h is q =
 -- ---- entries by ids, one put or taken out
 
 put-Indexes : (before after : Links) (clause : List Literal) (id q : ℕ) (l : Literal)
-    (old : Option (List Literal)) (b : Bool) → nat_eq id q ≡ b → Lists before after (indexed_part clause) id →
+    (old : Option (List Literal)) (b : Bool) → nat_eq id q ≡ b →
+    Lists before after (indexed_part clause) id →
     IfSome old (λ c. shows c l ≡ true → is_listed before l q ≡ true) →
     IfSome (cond b (Some clause) old) (λ c. shows c l ≡ true → is_listed after l q ≡ true)
 unfolding Lists
@@ -139,7 +141,8 @@ module _ (own own' : List (ℕ × List Literal)) (id : ℕ) where
       subst (λ o. IfSome o (λ c. shows c l ≡ true → is_listed after l q ≡ true))
       (sym (find-lookup q own' ∙ put q))
       (put-Indexes before after clause id q l (lookup (nat_eq q) own) (nat_eq id q) refl lists
-      (subst (λ o. IfSome o (λ c. shows c l ≡ true → is_listed before l q ≡ true)) (find-lookup q own)
+      (subst (λ o. IfSome o (λ c. shows c l ≡ true → is_listed before l q ≡ true))
+      (find-lookup q own)
       (h q l)))
 
   Indexes-take : (rows : Links) → Indexes rows own →
@@ -172,7 +175,8 @@ module _ (own own' : List (ℕ × List Literal)) (id : ℕ) where
   MayIndex-take (Some rows) h taken = Indexes-take rows h taken
 
 Indexes-more : (before after : Links) (own : List (ℕ × List Literal)) (id : ℕ)
-    (clause : List Literal) → Indexes before own → Lists before after (indexed_part clause) id → Indexes after own
+    (clause : List Literal) → Indexes before own → Lists before after (indexed_part clause) id →
+    Indexes after own
 unfolding Indexes Lists
 Indexes-more before after own id clause h lists q l =
     IfSome-weaker (fin.find nat_cmp q own) (h q l)

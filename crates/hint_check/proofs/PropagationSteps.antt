@@ -196,7 +196,8 @@ module _ (set : Literals) (f : Falsifier) (l : Literal) (rest : List Literal)
   effect_open-same first h e =
       effect_open-shape set (One first) f l rest is
       ∙ ap (resume (Some first)) (unfalsified-left set l rest h)
-      ∙ ap (λ b. cond (b && list_all (same first) (unfalsified set rest)) (Forces first) Undecided) e
+      ∙ ap (λ b. cond (b && list_all (same first) (unfalsified set rest)) (Forces first) Undecided)
+      e
 
   -- with another literal more is open
   pub effect_open-other : (first : Literal) → set (negation l) ≡ false → same first l ≡ false →
@@ -205,7 +206,8 @@ module _ (set : Literals) (f : Falsifier) (l : Literal) (rest : List Literal)
   effect_open-other first h e =
       effect_open-shape set (One first) f l rest is
       ∙ ap (resume (Some first)) (unfalsified-left set l rest h)
-      ∙ ap (λ b. cond (b && list_all (same first) (unfalsified set rest)) (Forces first) Undecided) e
+      ∙ ap (λ b. cond (b && list_all (same first) (unfalsified set rest)) (Forces first) Undecided)
+      e
 
   -- more stays more
   pub effect_open-more : effect_open set More (kept f rest) ≡ effect_open set More rest
@@ -284,7 +286,8 @@ chain-end live set hints i past = at_drop_all (chain live set) hints i past
 pub chain-followed : (live seen : Live) (start set : Literals) (hints : List ℕ) (i : ℕ)
     (followed : Followed) → i < length hints → seen ≡ live →
     chain live start hints ≡ chain live set (drop i hints) →
-    ((rest : List ℕ) → chain seen set (get_or hints i 0 ∷ rest) ≡ chain_after followed seen set rest)
+    ((rest : List ℕ) → chain seen set (get_or hints i 0 ∷ rest) ≡ chain_after followed seen set
+    rest)
     → chain live start hints ≡ chain_after followed live set (drop (i + 1) hints)
 chain-followed live seen start set hints i followed within same so_far follows =
     let rest = drop (i + 1) hints in

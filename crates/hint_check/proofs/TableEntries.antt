@@ -20,8 +20,10 @@ use Rattle.std.proofs.Math.Seq.{drop-append_seam, take-length}
 use Rattle.cnf_text.specs.Literal.{Literal}
 use Rattle.hint_check.specs.declared.slots.Slot.{Slot}
 use Rattle.hint_check.specs.declared.far.Span.{Span}
-use Rattle.hint_check.specs.Inner.Table.{no_slot, slot_at, slot_clause, span_clause, near_at, far_at}
-use Rattle.hint_check.specs.Inner.Table.{entry_of, near_entries, far_entries, clauses_in, SlotsEndBy}
+use Rattle.hint_check.specs.Inner.Table.{no_slot, slot_at, slot_clause, span_clause, near_at}
+use Rattle.hint_check.specs.Inner.Table.{far_at}
+use Rattle.hint_check.specs.Inner.Table.{entry_of, near_entries, far_entries, clauses_in}
+use Rattle.hint_check.specs.Inner.Table.{SlotsEndBy}
 use Rattle.hint_check.specs.Inner.Blocks.{clause_of}
 use Rattle.hint_check.specs.declared.block.Block.{Block}
 use Rattle.hint_check.specs.Inner.Table.{SpansEndBy, SetsSlot, ListsAll}
@@ -150,7 +152,8 @@ find-far blocks (e ∷ far) q =
     ∙ mapped (span_clause blocks) (nat_eq q e.0) e.1 (lookup (nat_eq q) far)
 
 -- the own clause of an id is the near one, or else the far one
-pub table-get : (blocks : List Block) (first : ℕ) (slots : List Slot) (far : List (ℕ × Span)) (q : ℕ)
+pub table-get : (blocks : List Block) (first : ℕ) (slots : List Slot) (far : List (ℕ × Span))
+    (q : ℕ)
     →
     fin.get (clauses_in blocks first slots far) q
     ≡ option_or (near_at blocks first slots q) (far_at blocks far q)
@@ -210,7 +213,8 @@ module _ (blocks more : List Block) where
             (Some (clause_of (slice_range (blocks ++ more) slot.start slot.end))) None none
             ∙ sym (cond-false (nat_le slot.start slot.end)
             (Some (clause_of (slice_range blocks slot.start slot.end))) None none)
-        | inr ordered ↦ ap (λ run. if nat_le slot.start slot.end then Some (clause_of run) else None)
+        | inr ordered ↦ ap (λ run. if nat_le slot.start slot.end then Some (clause_of run) else
+            None)
             (slice-append blocks more slot.start slot.end ordered within)
       ]
 
@@ -225,7 +229,8 @@ module _ (blocks more : List Block) where
       IfSome o (λ span. (span.start ≤ span.end) × (span.end ≤ length blocks))
       → option_map (span_clause (blocks ++ more)) o ≡ option_map (span_clause blocks) o
   span-grown None h = refl
-  span-grown (Some span) h = ap (λ run. Some (clause_of run)) (slice-append blocks more span.start span.end h.0 h.1)
+  span-grown (Some span) h =
+      ap (λ run. Some (clause_of run)) (slice-append blocks more span.start span.end h.0 h.1)
 
   pub far-grown : (far : List (ℕ × Span)) → SpansEndBy far (length blocks) → (q : ℕ)
       → far_at (blocks ++ more) far q ≡ far_at blocks far q
@@ -241,7 +246,8 @@ SetsFrom first before after id slot =
 
 module _ (blocks : List Block) (first : ℕ) (before after : List Slot) (id : ℕ) where
   set-cases : (slot : Slot) (q : ℕ) (b : Bool)
-      → slot_clause blocks (cond b slot (slot_at before (q - first))) ≡ cond b (slot_clause blocks slot)
+      → slot_clause blocks (cond b slot (slot_at before (q - first))) ≡ cond b
+      (slot_clause blocks slot)
       (slot_clause blocks (slot_at before (q - first)))
   set-cases slot q true = refl
   set-cases slot q false = refl
@@ -254,7 +260,8 @@ module _ (blocks : List Block) (first : ℕ) (before after : List Slot) (id : �
   set-from slot sets q high =
       near-from blocks first after q high ∙ ap (slot_clause blocks) (sets q high)
       ∙ set-cases slot q (nat_eq id q)
-      ∙ ap (cond (nat_eq id q) (slot_clause blocks slot)) (sym (near-from blocks first before q high))
+      ∙ ap (cond (nat_eq id q) (slot_clause blocks slot))
+      (sym (near-from blocks first before q high))
 
   -- the clause of an id that may have a slot, and those of the others
   pub near-put : (slot : Slot) → first ≤ id → SetsFrom first before after id slot → (q : ℕ)
@@ -264,7 +271,8 @@ module _ (blocks : List Block) (first : ℕ) (before after : List Slot) (id : �
   near-put slot may sets q =
       elim (cases_lt q first) [
         | inl low ↦ near-below blocks first after q low ∙ sym (near-below blocks first before q low)
-            ∙ sym (cond-false (nat_eq id q) (slot_clause blocks slot) (near_at blocks first before q)
+            ∙ sym (cond-false (nat_eq id q) (slot_clause blocks slot)
+            (near_at blocks first before q)
             (ne_eqb id q (λ e. omega (arith, e, low, may))))
         | inr high ↦ set-from slot sets q high
       ]
@@ -339,14 +347,16 @@ SetsSlot-past slots id beyond q =
 
 -- ---- the slots from one on
 
-pub slot-drop : (n : ℕ) (slots : List Slot) (i : ℕ) → slot_at (drop n slots) i ≡ slot_at slots (n + i)
+pub slot-drop : (n : ℕ) (slots : List Slot) (i : ℕ) → slot_at (drop n slots) i ≡ slot_at slots
+    (n + i)
 slot-drop zero slots i = ap (slot_at slots) (let e : i ≡ 0 + i = omega arith in e)
 slot-drop (suc n) [] i = sym (past [] (suc n + i) (omega arith))
 slot-drop (suc n) (slot ∷ slots) i =
     slot-drop n slots i
     ∙ ap (slot_at (slot ∷ slots)) (let e : suc (n + i) ≡ suc n + i = omega arith in e)
 
-pub SetsFrom-all : (before after : List Slot) (id : ℕ) (slot : Slot) → SetsSlot before after id slot →
+pub SetsFrom-all : (before after : List Slot) (id : ℕ) (slot : Slot) →
+    SetsSlot before after id slot →
     SetsFrom 0 before after id slot
 unfolding SetsSlot SetsFrom
 SetsFrom-all before after id slot sets q high =
@@ -376,7 +386,8 @@ module _ (blocks : List Block) (far far' : List (ℕ × Span)) (id : ℕ) where
       →
       ((q : ℕ) → lookup (nat_eq q) far' ≡ cond (nat_eq id q) (Some span) (lookup (nat_eq q) far)) →
       (q : ℕ)
-      → far_at blocks far' q ≡ cond (nat_eq id q) (Some (span_clause blocks span)) (far_at blocks far q)
+      → far_at blocks far' q ≡ cond (nat_eq id q) (Some (span_clause blocks span))
+      (far_at blocks far q)
   far-put span put q = ap (option_map (span_clause blocks)) (put q)
       ∙ mapped_cond (nat_eq id q) (Some span) (lookup (nat_eq q) far)
 
@@ -390,96 +401,99 @@ module _ (blocks : List Block) (far far' : List (ℕ × Span)) (id : ℕ) where
 
 module _ (blocks more : List Block) (first : ℕ) (slots slots' : List Slot)
     (far far' : List (ℕ × Span))
-    (slots_end : SlotsEndBy slots (length blocks)) (spans_end : SpansEndBy far (length blocks)) where
-  both-grown : (q : ℕ)
-      → option_or (near_at (blocks ++ more) first slots q) (far_at (blocks ++ more) far q) ≡ fin.get
-      (clauses_in blocks first slots far) q
-  both-grown q =
-      ap (λ o. option_or o (far_at (blocks ++ more) far q))
-      (near-grown blocks more first slots slots_end q)
-      ∙ ap (option_or (near_at blocks first slots q)) (far-grown blocks more far spans_end q)
-      ∙ sym (table-get blocks first slots far q)
+    (slots_end : SlotsEndBy slots (length blocks)) (spans_end : SpansEndBy far (length blocks))
+  where
+    both-grown : (q : ℕ)
+        → option_or (near_at (blocks ++ more) first slots q) (far_at (blocks ++ more) far q) ≡ fin.get
+        (clauses_in blocks first slots far) q
+    both-grown q =
+        ap (λ o. option_or o (far_at (blocks ++ more) far q))
+        (near-grown blocks more first slots slots_end q)
+        ∙ ap (option_or (near_at blocks first slots q)) (far-grown blocks more far spans_end q)
+        ∙ sym (table-get blocks first slots far q)
 
-  put_first : {A : Type 0} (b : Bool) (v : A) (x y : Option A)
-      → option_or (cond b (Some v) x) y ≡ cond b (Some v) (option_or x y)
-  put_first true v x y = refl
-  put_first false v x y = refl
+    put_first : {A : Type 0} (b : Bool) (v : A) (x y : Option A)
+        → option_or (cond b (Some v) x) y ≡ cond b (Some v) (option_or x y)
+    put_first true v x y = refl
+    put_first false v x y = refl
 
-  put_last : {A : Type 0} (b : Bool) (v : A) (x y : Option A)
-      → option_or (cond b None x) (cond b (Some v) y) ≡ cond b (Some v) (option_or x y)
-  put_last true v x y = refl
-  put_last false v x y = refl
+    put_last : {A : Type 0} (b : Bool) (v : A) (x y : Option A)
+        → option_or (cond b None x) (cond b (Some v) y) ≡ cond b (Some v) (option_or x y)
+    put_last true v x y = refl
+    put_last false v x y = refl
 
-  -- nothing changes where only literals and empty slots are added
-  pub table-same : ((i : ℕ) → slot_at slots' i ≡ slot_at slots i) → far' ≡ far
-      → clauses_in (blocks ++ more) first slots' far' ≡ clauses_in blocks first slots far
-  table-same same is =
-      fin.same_map nat_cmp_total fin.nat_cmp-IsAntisymmetric
-      (clauses_in (blocks ++ more) first slots' far')
-      (clauses_in blocks first slots far) (λ q.
-      table-get (blocks ++ more) first slots' far' q
-      ∙ ap (λ o. option_or o (far_at (blocks ++ more) far' q))
-      (near-same (blocks ++ more) first slots slots' same q)
-      ∙ ap (λ es. option_or (near_at (blocks ++ more) first slots q) (far_at (blocks ++ more) es q)) is
-      ∙ both-grown q)
-
-  module _ (id : ℕ) where
-    inserted : ((q : ℕ)
-        →
-        option_or (near_at (blocks ++ more) first slots' q) (far_at (blocks ++ more) far' q)
-        ≡ cond (nat_eq id q)
-        (Some (clause_of more)) (option_or (near_at (blocks ++ more) first slots q)
-        (far_at (blocks ++ more) far q)))
-        →
-        clauses_in (blocks ++ more) first slots' far'
-        ≡ fin.insert (clauses_in blocks first slots far) id (clause_of more)
-    inserted h =
+    -- nothing changes where only literals and empty slots are added
+    pub table-same : ((i : ℕ) → slot_at slots' i ≡ slot_at slots i) → far' ≡ far
+        → clauses_in (blocks ++ more) first slots' far' ≡ clauses_in blocks first slots far
+    table-same same is =
         fin.same_map nat_cmp_total fin.nat_cmp-IsAntisymmetric
         (clauses_in (blocks ++ more) first slots' far')
-        (fin.insert (clauses_in blocks first slots far) id (clause_of more)) (λ q.
-        table-get (blocks ++ more) first slots' far' q ∙ h q
-        ∙ ap (cond (nat_eq id q) (Some (clause_of more))) (both-grown q)
-        ∙ ap (λ b. cond b (Some (clause_of more)) (fin.get (clauses_in blocks first slots far) q))
-        (same_test_back id q)
-        ∙ sym (fin.get-insert nat_cmp_total (clauses_in blocks first slots far) id (clause_of more) q))
+        (clauses_in blocks first slots far) (λ q.
+        table-get (blocks ++ more) first slots' far' q
+        ∙ ap (λ o. option_or o (far_at (blocks ++ more) far' q))
+        (near-same (blocks ++ more) first slots slots' same q)
+        ∙ ap (λ es. option_or (near_at (blocks ++ more) first slots q)
+        (far_at (blocks ++ more) es q)) is
+        ∙ both-grown q)
 
-    -- the clause of a near id; one that it has in the map is behind it
-    pub table-insert-near : (slot : Slot) → slot.start ≡ length blocks →
-        slot.end ≡ length blocks + length more
-        → first ≤ id → SetsFrom first slots slots' id slot → far' ≡ far
-        →
-        clauses_in (blocks ++ more) first slots' far'
-        ≡ fin.insert (clauses_in blocks first slots far) id (clause_of more)
-    table-insert-near slot starts ends may sets same = inserted (λ q.
-        ap (λ o. option_or o (far_at (blocks ++ more) far' q))
-        (near-put (blocks ++ more) first slots slots' id slot may sets q
-        ∙ ap (λ o. cond (nat_eq id q) o (near_at (blocks ++ more) first slots q))
-        (slot-new blocks more slot starts ends))
-        ∙ ap (λ es. option_or
-        (cond (nat_eq id q) (Some (clause_of more)) (near_at (blocks ++ more) first slots q))
-        (far_at (blocks ++ more) es q)) same
-        ∙ put_first (nat_eq id q) (clause_of more) (near_at (blocks ++ more) first slots q)
-        (far_at (blocks ++ more) far q))
+    module _ (id : ℕ) where
+      inserted : ((q : ℕ)
+          →
+          option_or (near_at (blocks ++ more) first slots' q) (far_at (blocks ++ more) far' q)
+          ≡ cond (nat_eq id q)
+          (Some (clause_of more)) (option_or (near_at (blocks ++ more) first slots q)
+          (far_at (blocks ++ more) far q)))
+          →
+          clauses_in (blocks ++ more) first slots' far'
+          ≡ fin.insert (clauses_in blocks first slots far) id (clause_of more)
+      inserted h =
+          fin.same_map nat_cmp_total fin.nat_cmp-IsAntisymmetric
+          (clauses_in (blocks ++ more) first slots' far')
+          (fin.insert (clauses_in blocks first slots far) id (clause_of more)) (λ q.
+          table-get (blocks ++ more) first slots' far' q ∙ h q
+          ∙ ap (cond (nat_eq id q) (Some (clause_of more))) (both-grown q)
+          ∙ ap (λ b. cond b (Some (clause_of more)) (fin.get (clauses_in blocks first slots far) q))
+          (same_test_back id q)
+          ∙ sym (fin.get-insert nat_cmp_total (clauses_in blocks first slots far) id (clause_of more)
+          q))
 
-    -- the clause of any other
-    pub table-insert-far : (span : Span) → span.start ≡ length blocks →
-        span.end ≡ length blocks + length more
-        → SetsFrom first slots slots' id no_slot
-        →
-        ((q : ℕ) → lookup (nat_eq q) far' ≡ cond (nat_eq id q) (Some span) (lookup (nat_eq q) far))
-        →
-        clauses_in (blocks ++ more) first slots' far'
-        ≡ fin.insert (clauses_in blocks first slots far) id (clause_of more)
-    table-insert-far span starts ends sets put = inserted (λ q.
-        ap (λ o. option_or o (far_at (blocks ++ more) far' q))
-        (near-take (blocks ++ more) first slots slots' id sets q)
-        ∙ ap (option_or (cond (nat_eq id q) None (near_at (blocks ++ more) first slots q)))
-        (far-put (blocks ++ more) far far' id span put q
-        ∙ ap (λ clause. cond (nat_eq id q) (Some clause) (far_at (blocks ++ more) far q))
-        (ap (λ i. clause_of (slice_range (blocks ++ more) i span.end)) starts
-        ∙ ap clause_of (last_part blocks more span.end ends)))
-        ∙ put_last (nat_eq id q) (clause_of more) (near_at (blocks ++ more) first slots q)
-        (far_at (blocks ++ more) far q))
+      -- the clause of a near id; one that it has in the map is behind it
+      pub table-insert-near : (slot : Slot) → slot.start ≡ length blocks →
+          slot.end ≡ length blocks + length more
+          → first ≤ id → SetsFrom first slots slots' id slot → far' ≡ far
+          →
+          clauses_in (blocks ++ more) first slots' far'
+          ≡ fin.insert (clauses_in blocks first slots far) id (clause_of more)
+      table-insert-near slot starts ends may sets same = inserted (λ q.
+          ap (λ o. option_or o (far_at (blocks ++ more) far' q))
+          (near-put (blocks ++ more) first slots slots' id slot may sets q
+          ∙ ap (λ o. cond (nat_eq id q) o (near_at (blocks ++ more) first slots q))
+          (slot-new blocks more slot starts ends))
+          ∙ ap (λ es. option_or
+          (cond (nat_eq id q) (Some (clause_of more)) (near_at (blocks ++ more) first slots q))
+          (far_at (blocks ++ more) es q)) same
+          ∙ put_first (nat_eq id q) (clause_of more) (near_at (blocks ++ more) first slots q)
+          (far_at (blocks ++ more) far q))
+
+      -- the clause of any other
+      pub table-insert-far : (span : Span) → span.start ≡ length blocks →
+          span.end ≡ length blocks + length more
+          → SetsFrom first slots slots' id no_slot
+          →
+          ((q : ℕ) → lookup (nat_eq q) far' ≡ cond (nat_eq id q) (Some span) (lookup (nat_eq q) far))
+          →
+          clauses_in (blocks ++ more) first slots' far'
+          ≡ fin.insert (clauses_in blocks first slots far) id (clause_of more)
+      table-insert-far span starts ends sets put = inserted (λ q.
+          ap (λ o. option_or o (far_at (blocks ++ more) far' q))
+          (near-take (blocks ++ more) first slots slots' id sets q)
+          ∙ ap (option_or (cond (nat_eq id q) None (near_at (blocks ++ more) first slots q)))
+          (far-put (blocks ++ more) far far' id span put q
+          ∙ ap (λ clause. cond (nat_eq id q) (Some clause) (far_at (blocks ++ more) far q))
+          (ap (λ i. clause_of (slice_range (blocks ++ more) i span.end)) starts
+          ∙ ap clause_of (last_part blocks more span.end ends)))
+          ∙ put_last (nat_eq id q) (clause_of more) (near_at (blocks ++ more) first slots q)
+          (far_at (blocks ++ more) far q))
 
 take_both : {A : Type 0} (b : Bool) (x y : Option A)
     → option_or (cond b None x) (cond b None y) ≡ cond b None (option_or x y)
@@ -726,7 +740,8 @@ append-nil [] = refl
 append-nil (x ∷ xs) = ap (λ ys. x ∷ ys) (append-nil xs)
 
 -- an index in which near and far clauses were listed is one of the own clauses
-pub table-Indexes : (start middle rows : Links) (blocks : List Block) (first : ℕ) (slots : List Slot)
+pub table-Indexes : (start middle rows : Links) (blocks : List Block) (first : ℕ)
+    (slots : List Slot)
     (far : List (ℕ × Span)) → ListsAll start middle (near_entries blocks first slots)
     → ListsAll middle rows (far_entries blocks far) →
     Indexes rows (fin.entries (clauses_in blocks first slots far))

@@ -1,5 +1,6 @@
 -- A table as the clauses of its front and others.
-use Rattle.std.proofs.Common.{◌≡◌, ◌+◌, ◌^◌, ◌<◌, ◌≤◌, ℕ, zero, suc, Bool, true, false, cond, nat_eq}
+use Rattle.std.proofs.Common.{◌≡◌, ◌+◌, ◌^◌, ◌<◌, ◌≤◌, ℕ, zero, suc, Bool, true, false, cond}
+use Rattle.std.proofs.Common.{nat_eq}
 use Rattle.std.proofs.Common.{Some, None, List, [], ◌∷◌, ◌++◌, length, take, drop, refl, sym}
 use Rattle.std.proofs.Common.{ap, ◌∙◌, ◌||◌, subst, arith, inl, inr}
 use Rattle.std.specs.Prelude.{if◌then◌else◌}
@@ -36,55 +37,56 @@ drop-same n slots slots' same i =
 
 module _ (blocks more : List Block) (slots slots' : List Slot) (far far' : List (ℕ × Span))
     (front : List Slot) (slots_end : SlotsEndBy slots (length blocks))
-    (spans_end : SpansEndBy far (length blocks)) (front_ends : SlotsEndBy front (length blocks)) where
-  abbrev pub first : ℕ
-  first = length front
+    (spans_end : SpansEndBy far (length blocks)) (front_ends : SlotsEndBy front (length blocks))
+  where
+    abbrev pub first : ℕ
+    first = length front
 
-  front_same : clauses_in (blocks ++ more) 0 front [] ≡ clauses_in blocks 0 front []
-  unfolding SpansEndBy
-  front_same = table-same blocks more 0 front front [] [] front_ends tt (λ i. refl) refl
+    front_same : clauses_in (blocks ++ more) 0 front [] ≡ clauses_in blocks 0 front []
+    unfolding SpansEndBy
+    front_same = table-same blocks more 0 front front [] [] front_ends tt (λ i. refl) refl
 
-  -- nothing changes where only blocks and empty slots are added
-  pub tabled-same : ((i : ℕ) → slot_at slots' i ≡ slot_at slots i) → far' ≡ far →
-      tabled (blocks ++ more) slots' far' front ≡ tabled blocks slots far front
-  tabled-same same is =
-      same_parts (tabled (blocks ++ more) slots' far' front) (tabled blocks slots far front)
-      (table-same blocks more 0 slots slots' far far' slots_end spans_end same is) front_same
-      (table-same blocks more first (drop first slots) (drop first slots') far far'
-      (SlotsEndBy-drop first slots (length blocks) slots_end) spans_end
-      (drop-same first slots slots' same) is)
+    -- nothing changes where only blocks and empty slots are added
+    pub tabled-same : ((i : ℕ) → slot_at slots' i ≡ slot_at slots i) → far' ≡ far →
+        tabled (blocks ++ more) slots' far' front ≡ tabled blocks slots far front
+    tabled-same same is =
+        same_parts (tabled (blocks ++ more) slots' far' front) (tabled blocks slots far front)
+        (table-same blocks more 0 slots slots' far far' slots_end spans_end same is) front_same
+        (table-same blocks more first (drop first slots) (drop first slots') far far'
+        (SlotsEndBy-drop first slots (length blocks) slots_end) spans_end
+        (drop-same first slots slots' same) is)
 
-  module _ (id : ℕ) where
-    -- the clause of a near id behind the front
-    pub tabled-near : (slot : Slot) → slot.start ≡ length blocks →
-        slot.end ≡ length blocks + length more → first ≤ id → SetsSlot slots slots' id slot →
-        far' ≡ far →
-        tabled (blocks ++ more) slots' far' front
-        ≡ with_clause (tabled blocks slots far front) id (clause_of more)
-    tabled-near slot starts ends behind sets is =
-        same_parts (tabled (blocks ++ more) slots' far' front)
-        (with_clause (tabled blocks slots far front) id (clause_of more))
-        (table-insert-near blocks more 0 slots slots' far far' slots_end spans_end id slot starts
-        ends (omega arith) (SetsFrom-all slots slots' id slot sets) is) front_same
-        (table-insert-near blocks more first (drop first slots) (drop first slots') far far'
-        (SlotsEndBy-drop first slots (length blocks) slots_end) spans_end id slot starts ends behind
-        (SetsFrom-behind first slots slots' id slot sets) is)
+    module _ (id : ℕ) where
+      -- the clause of a near id behind the front
+      pub tabled-near : (slot : Slot) → slot.start ≡ length blocks →
+          slot.end ≡ length blocks + length more → first ≤ id → SetsSlot slots slots' id slot →
+          far' ≡ far →
+          tabled (blocks ++ more) slots' far' front
+          ≡ with_clause (tabled blocks slots far front) id (clause_of more)
+      tabled-near slot starts ends behind sets is =
+          same_parts (tabled (blocks ++ more) slots' far' front)
+          (with_clause (tabled blocks slots far front) id (clause_of more))
+          (table-insert-near blocks more 0 slots slots' far far' slots_end spans_end id slot starts
+          ends (omega arith) (SetsFrom-all slots slots' id slot sets) is) front_same
+          (table-insert-near blocks more first (drop first slots) (drop first slots') far far'
+          (SlotsEndBy-drop first slots (length blocks) slots_end) spans_end id slot starts ends behind
+          (SetsFrom-behind first slots slots' id slot sets) is)
 
-    -- the clause of any other
-    pub tabled-far : (span : Span) → span.start ≡ length blocks →
-        span.end ≡ length blocks + length more → SetsSlot slots slots' id no_slot →
-        ((q : ℕ) → lookup (nat_eq q) far' ≡ cond (nat_eq id q) (Some span) (lookup (nat_eq q) far))
-        →
-        tabled (blocks ++ more) slots' far' front
-        ≡ with_clause (tabled blocks slots far front) id (clause_of more)
-    tabled-far span starts ends sets put =
-        same_parts (tabled (blocks ++ more) slots' far' front)
-        (with_clause (tabled blocks slots far front) id (clause_of more))
-        (table-insert-far blocks more 0 slots slots' far far' slots_end spans_end id span starts
-        ends (SetsFrom-all slots slots' id no_slot sets) put) front_same
-        (table-insert-far blocks more first (drop first slots) (drop first slots') far far'
-        (SlotsEndBy-drop first slots (length blocks) slots_end) spans_end id span starts ends
-        (SetsFrom-behind first slots slots' id no_slot sets) put)
+      -- the clause of any other
+      pub tabled-far : (span : Span) → span.start ≡ length blocks →
+          span.end ≡ length blocks + length more → SetsSlot slots slots' id no_slot →
+          ((q : ℕ) → lookup (nat_eq q) far' ≡ cond (nat_eq id q) (Some span) (lookup (nat_eq q) far))
+          →
+          tabled (blocks ++ more) slots' far' front
+          ≡ with_clause (tabled blocks slots far front) id (clause_of more)
+      tabled-far span starts ends sets put =
+          same_parts (tabled (blocks ++ more) slots' far' front)
+          (with_clause (tabled blocks slots far front) id (clause_of more))
+          (table-insert-far blocks more 0 slots slots' far far' slots_end spans_end id span starts
+          ends (SetsFrom-all slots slots' id no_slot sets) put) front_same
+          (table-insert-far blocks more first (drop first slots) (drop first slots') far far'
+          (SlotsEndBy-drop first slots (length blocks) slots_end) spans_end id span starts ends
+          (SetsFrom-behind first slots slots' id no_slot sets) put)
 
 -- an id taken out
 pub tabled-remove : (blocks : List Block) (slots slots' : List Slot) (far far' : List (ℕ × Span))
@@ -127,7 +129,8 @@ tabled-front blocks count slots far front ends less same long none =
     let whole : taken ++ drop count blocks ≡ blocks = take-append-drop count blocks in
     let all : clauses_in blocks 0 front [] ≡ clauses_in taken 0 front [] =
     ap (λ bs. clauses_in bs 0 front []) (sym whole)
-    ∙ table-same taken (drop count blocks) 0 front front [] [] (taken_ends blocks count front ends less)
+    ∙ table-same taken (drop count blocks) 0 front front [] []
+    (taken_ends blocks count front ends less)
     tt (λ i. refl) refl in
     same_parts (tabled taken slots far front) (front_alone (clauses_in blocks 0 front []))
     (ap (clauses_in taken 0 slots) none ∙ table-slots taken 0 front slots [] same ∙ sym all)
@@ -299,7 +302,8 @@ IsTable-emptied blocks reach slots slots' far far' front emptied named id is set
       front_blocks = is.front_blocks;
       front_within = is.front_within;
       front_slots = let low = is.front_slots in omega (arith, low, long);
-      kept = KeepsFront-emptied slots slots' front.slots.items emptied named id sets noted more is.kept;
+      kept = KeepsFront-emptied slots slots' front.slots.items emptied named id sets noted more
+          is.kept;
     }
 
 take-take : (n : ℕ) (blocks : List Block) → take n (take n blocks) ≡ take n blocks
@@ -308,7 +312,8 @@ take-take (suc n) [] = refl
 take-take (suc n) (b ∷ blocks) = ap (λ bs. b ∷ bs) (take-take n blocks)
 
 -- a table that went back to its front
-pub IsTable-front : (blocks : List Block) (slots : List Slot) (far : List (ℕ × Span)) (front : Ahead)
+pub IsTable-front : (blocks : List Block) (slots : List Slot) (far : List (ℕ × Span))
+    (front : Ahead)
     (emptied : List ℕ) → SlotsEndBy front.slots.items front.blocks → front.blocks ≤ length blocks →
     Within (take front.blocks blocks) front.reach → length front.slots.items < 2 ^ 64 →
     ((i : ℕ) → slot_at slots i ≡ slot_at front.slots.items i) →
@@ -323,7 +328,8 @@ IsTable-front blocks slots far front emptied ends less within few same long none
       within = within;
       front_ends = ends;
       front_blocks = omega (arith, kept_blocks);
-      front_within = subst (λ bs. Within bs front.reach) (sym (take-take front.blocks blocks)) within;
+      front_within = subst (λ bs. Within bs front.reach) (sym (take-take front.blocks blocks))
+          within;
       front_slots = omega (arith, long);
       kept = KeepsFront-all slots front.slots.items emptied same;
     }
@@ -331,9 +337,11 @@ IsTable-front blocks slots far front emptied ends less within few same long none
 -- ---- a table made of a front
 
 module _ (all : List Block) (places : List Slot) (blocks : List Block) (slots : List Slot)
-    (far : List (ℕ × Span)) (front : Ahead) (same_blocks : blocks ≡ all) (same_slots : slots ≡ places)
+    (far : List (ℕ × Span)) (front : Ahead) (same_blocks : blocks ≡ all)
+    (same_slots : slots ≡ places)
     (same_front : front.slots.items ≡ places) (none : far ≡ []) where
-  pub tabled-copy : tabled blocks slots far front.slots.items ≡ front_alone (clauses_in all 0 places [])
+  pub tabled-copy : tabled blocks slots far front.slots.items ≡ front_alone
+      (clauses_in all 0 places [])
   tabled-copy =
       same_parts (tabled blocks slots far front.slots.items)
       (front_alone (clauses_in all 0 places []))

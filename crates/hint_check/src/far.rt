@@ -111,7 +111,10 @@ impl Far {
         self.shift = 63;
     }
 
-    /// Makes places where there are fewer than two for each id.
+    /// Makes places where there are fewer than two for each id: the first 2 to the `FIRST_BITS`,
+    /// and then twice as many as before. `shift` is 64 less the bits of a place's number, and 63
+    /// where there are no places, so 65 less it is one bit more than now. Up to 2 to the 40 places
+    /// are made, which no memory holds.
     fn make_places(&mut self) -> Result<(), AllocError>
         ensures { self.new ≡ self.old }
     {

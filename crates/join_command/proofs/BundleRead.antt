@@ -91,9 +91,11 @@ without_call held formula file input before after fault told (inl read) is calle
 without_call held formula file input before after fault told (inr (inl memory)) is called still from
     same =
     let other : fault ≢ Thread = λ e. cc in inr (inl (same other ∙ memory, still))
-without_call held formula file input before after fault told (inr (inr (inl device))) is called still
+without_call held formula file input before after fault told (inr (inr (inl device))) is called
+    still
     from same = absurd (called device)
-without_call held formula file input before after fault told (inr (inr (inr thread))) is called still
+without_call held formula file input before after fault told (inr (inr (inr thread))) is called
+    still
     from same = inr (inl (from thread, still))
 
 -- the same where a call may have failed, none of them one of the input

@@ -28,7 +28,8 @@ use Rattle.join_command.proofs.RecordsTold.{reports_told}
 use Rattle.join_command.proofs.WordsRequests.{handed_on}
 
 -- a fault of the bundle
-fault_of : (held : Held) (bundle front : List ℕ) (paths : List (List ℕ)) (count : ℕ) (kind : CaseFault) →
+fault_of : (held : Held) (bundle front : List ℕ) (paths : List (List ℕ)) (count : ℕ)
+    (kind : CaseFault) →
     (kind ≢ case.Memory → IsFaultOf bundle kind) →
     IsUnjoined held bundle front paths count count (Run (fault_of_case kind))
 fault_of held bundle front paths count case.Memory first = inr (inl (refl, refl))

@@ -389,6 +389,7 @@ fault_allowed texts held asked (Err fault) out_before out_after may why =
     may fault (refused_why held asked fault out_before out_after why)
 
 -- want of memory may be told of any files
-pub memory_allowed : (texts : List ℕ → Type 0) (held : Held) (asked : Asked) → AllowsJoinFaults texts held asked →
+pub memory_allowed : (texts : List ℕ → Type 0) (held : Held) (asked : Asked) →
+    AllowsJoinFaults texts held asked →
     texts (join_fault_line (Run Memory))
 memory_allowed texts held asked may = may (Run Memory) (λ read. absurd (read.0 refl))

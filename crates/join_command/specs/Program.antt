@@ -122,8 +122,8 @@ pub record IsJoinBegun (held : Held) (asked : Asked) (old new : Option (List ℕ
 
 -- ---- faults
 
--- The text at the path of this number, from 1, isn't this line and a report on the tree, and each of
--- those before it is.
+-- The text at the path of this number, from 1, isn't this line and a report on the tree, and each
+-- of those before it is.
 pub record IsStrangerAt (held : Held) (line : List ℕ) (tree : SplitTree) (paths : List (List ℕ))
     (number : ℕ) : Type 0 where
   pub index : ℕ

@@ -7,7 +7,8 @@ use case_core::CaseFault;
 use cube_report::Fault;
 use std::alloc::AllocError;
 
-/// Why reports aren't joined: what a run of `cubeboard` may end with, too, or a RECORD that is none.
+/// Why reports aren't joined: what a run of `cubeboard` may end with, too, or a RECORD that is
+/// none.
 #[derive(Clone, Copy, Debug, PartialEq, Eq)]
 pub enum JoinFault {
     /// The first fault of FILE or the formula's own file, want of memory, or a device that failed.

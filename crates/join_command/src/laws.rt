@@ -10,8 +10,8 @@ ghost use Rattle.cube_command.specs.Record.{record_text};
 ghost use Rattle.cube_join.specs.Joined.{AreReportsWith};
 ghost use Rattle.join_command.specs.Program.{AreTrusted, IsLeftBy, behind_each, line_before};
 
-/// A run of `cubeboard` that was asked for a record leaves one that may be trusted: the line and the
-/// report of which its contract says that they lie at the path of `--record`.
+/// A run of `cubeboard` that was asked for a record leaves one that may be trusted: the line and
+/// the report of which its contract says that they lie at the path of `--record`.
 pub fn a_run_leaves_its_record()
     ensures { (held after : Held) (sources : Sources)
         (folder map out input old new : Option (List ℕ)) (answer : Bool)

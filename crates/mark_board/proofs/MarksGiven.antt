@@ -1,5 +1,6 @@
 -- Marks that are given to a tree's nodes, one after the other.
-use Rattle.std.proofs.Common.{◌≡◌, ℕ, ◌+◌, ◌-◌, ◌<◌, ◌≤◌, List, length, set, get_or, replicate, refl, sym, ap, ◌∙◌, arith}
+use Rattle.std.proofs.Common.{◌≡◌, ℕ, ◌+◌, ◌-◌, ◌<◌, ◌≤◌, List, length, set, get_or, replicate}
+use Rattle.std.proofs.Common.{refl, sym, ap, ◌∙◌, arith}
 use Rattle.std.proofs.Common.{inl, inr, get_or-set_other, get_or-set_same, length-set}
 use Rattle.std.proofs.lemmas.Bool.{cases_eq}
 use Rattle.std.proofs.lemmas.List.{ext_get_or}
@@ -59,7 +60,8 @@ none_open (suc n) zero = refl
 none_open (suc n) (suc k) = none_open n k
 
 -- nothing is given yet
-pub none_given : (tree : SplitTree) (marks : List Mark) (weights rows : List ℕ) (given : List Mark) →
+pub none_given : (tree : SplitTree) (marks : List Mark) (weights rows : List ℕ) (given : List Mark)
+    →
     AreTotals tree weights → rows ≡ weights → given ≡ replicate (length weights) Open →
     IsGiven tree marks 0 given rows
 none_given tree marks weights rows given t e m =
@@ -68,7 +70,8 @@ none_given tree marks weights rows given t e m =
     take_all (size tree) weights (omega (arith, t.long)) in
     let kept : AreRowsKept (subtree_at tree 0) (λ place. worth_of tree (0 + place)) given rows =
     part_kept tree weights rows given 0 (size tree) t (omega (arith, some_node tree))
-    (ap size (sym root)) (e ∙ sym all) (m ∙ ap (λ (xs : List ℕ). replicate (length xs) Open) (sym all)) in
+    (ap size (sym root)) (e ∙ sym all)
+    (m ∙ ap (λ (xs : List ℕ). replicate (length xs) Open) (sym all)) in
     let here : AreRowsKept tree (λ place. worth_of tree (0 + place)) given rows = rw root at kept in
     record {
       before = λ k few. absurd (omega (arith, few));

@@ -13,7 +13,8 @@ use Rattle.check_crew.proofs.SeenTurns.{section_stays}
 use Rattle.own_threads.specs.Inner.Sections.{HasSeenFrom, HasPostedFrom, HavePosted}
 
 -- a new pass has posted what was found of no section
-pub none_posted : (hall : HallOf) (first end : ℕ) (pass : Pass) → IsNewPass hall pass → first ≡ end →
+pub none_posted : (hall : HallOf) (first end : ℕ) (pass : Pass) → IsNewPass hall pass →
+    first ≡ end →
     HasPostedFrom hall first end pass
 none_posted hall first end pass new none =
     let seen : (view_of pass).seen ≡ [] = ap (λ (v : View). v.seen) new.1 in

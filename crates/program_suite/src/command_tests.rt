@@ -251,8 +251,8 @@ fn files(rt: HostRuntime) -> Result<(), Fail> {
     Ok(())
 }
 
-/// The words for one worker and the proofs of the folder D, and those for FILE in front of them. One
-/// worker asks for the leaves' files in their order, where nobody knows how long they are.
+/// The words for one worker and the proofs of the folder D, and those for FILE in front of them.
+/// One worker asks for the leaves' files in their order, where nobody knows how long they are.
 const ALONE: &[&str] = &["--workers", "1", "--proofs", "D"];
 
 const FILE_ALONE: &[&str] = &["FILE", "--workers", "1", "--proofs", "D"];

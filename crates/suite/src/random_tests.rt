@@ -334,8 +334,8 @@ fn differences_over(
     differ
 }
 
-/// The same over the base of these clauses, in two rounds, so that each path follows a longer one or
-/// a shorter one.
+/// The same over the base of these clauses, in two rounds, so that each path follows a longer one
+/// or a shorter one.
 fn differences_of(
     rt: &impl Abort,
     alloc: Global,

@@ -423,8 +423,8 @@ impl Gate for Tally {
     }
 }
 
-// Whatever the number of workers, each section is examined once and told once, between one start and
-// one end.
+// Whatever the number of workers, each section is examined once and told once, between one start
+// and one end.
 #[test]
 fn each_section_is_told_once(rt: HostRuntime) {
     for workers in [1, 2, 4, 32] {

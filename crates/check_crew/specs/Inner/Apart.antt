@@ -1,5 +1,6 @@
 -- What the workers over leaves hand back, and the marks that are compared with it.
-use Rattle.std.specs.Prelude.{◌≡◌, ℕ, List, All, Option, None, MatchOption, Bool, true, false, get_or}
+use Rattle.std.specs.Prelude.{◌≡◌, ℕ, List, All, Option, None, MatchOption, Bool, true, false}
+use Rattle.std.specs.Prelude.{get_or}
 use Rattle.case_core.specs.Leaf.{Leaf}
 use Rattle.case_core.specs.Leaves.{IsLeafAt}
 use Rattle.case_core.specs.Case.{CaseOf}
@@ -13,9 +14,9 @@ use Rattle.check_crew.specs.LeafProofs.{Known, IsExamined, IsReadFault}
 use Rattle.check_crew.specs.declared.leaf_proofs.ReadFault.{ReadFault}
 use Rattle.check_crew.specs.declared.leaves.ExaminedLeaf.{ExaminedLeaf}
 
--- What a worker over leaves hands back, by what is known of the proofs that it reads and how many of
--- its reads have failed: its pass, which owes nothing; unless a fault stopped it, what became of each
--- leaf that it took; and a fault of the device just where a read has failed.
+-- What a worker over leaves hands back, by what is known of the proofs that it reads and how many
+-- of its reads have failed: its pass, which owes nothing; unless a fault stopped it, what became of
+-- each leaf that it took; and a fault of the device just where a read has failed.
 pub record IsLeafShiftOf (hall : HallOf) (held : Known) (failures : ℕ) (pass : Pass)
     (examined : List ExaminedLeaf) (fault : Option ReadFault) : Type 0 where
   pub own : IsPassOf hall pass

@@ -1,6 +1,7 @@
 -- Clauses as blocks of the numbers of what falsifies their literals, for the contracts of private
 -- functions.
-use Rattle.std.specs.Prelude.{◌≡◌, ℕ, ◌≤◌, ◌/◌, ◌%◌, ◌==◌, nat_lt, if◌then◌else◌, Option, None, Some}
+use Rattle.std.specs.Prelude.{◌≡◌, ℕ, ◌≤◌, ◌/◌, ◌%◌, ◌==◌, nat_lt, if◌then◌else◌, Option, None}
+use Rattle.std.specs.Prelude.{Some}
 use Rattle.std.specs.Prelude.{List, [], ◌∷◌, ◌++◌}
 use Rattle.cnf_text.specs.Literal.{Literal}
 use Rattle.hint_check.specs.declared.block.Falsifier.{Falsifier}

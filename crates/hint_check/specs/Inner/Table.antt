@@ -1,6 +1,8 @@
 -- Clauses by their ids as parts of one list of blocks, with those of a front.
-use Rattle.std.specs.Prelude.{◌≡◌, refl, ℕ, ◌+◌, ◌-◌, ◌<◌, ◌≤◌, ◌^◌, ◌⊎◌, nat_eq, nat_lt, nat_le, cond}
-use Rattle.std.specs.Prelude.{if◌then◌else◌, slice_index_or, slice_range, Option, None, Some, List, []}
+use Rattle.std.specs.Prelude.{◌≡◌, refl, ℕ, ◌+◌, ◌-◌, ◌<◌, ◌≤◌, ◌^◌, ◌⊎◌, nat_eq, nat_lt, nat_le}
+use Rattle.std.specs.Prelude.{cond}
+use Rattle.std.specs.Prelude.{if◌then◌else◌, slice_index_or, slice_range, Option, None, Some, List}
+use Rattle.std.specs.Prelude.{[]}
 use Rattle.std.specs.Prelude.{◌∷◌, ◌++◌, length, drop, take, true}
 use Rattle.std.specs.Option.{option_map}
 use Rattle.std.specs.Map.{lookup}

@@ -9,4 +9,5 @@ returns-clause-read g c =
     c.in_ok-read.field-0 c.in_ok-problem.problem c.in_ok-read.ensures.found c.new-text.ensures.items
     c.if-not-branch.false c.deref.ensures.value c.in_ok-problem.ensures.ok c.deref_mut.ensures.value
     c.overwrite_header.ensures
-    (in_place c.overwrite_header.new.text _ _ (c.overwrite_header.auto.text ∙ c.deref_mut.ensures.len))
+    (in_place c.overwrite_header.new.text _ _
+    (c.overwrite_header.auto.text ∙ c.deref_mut.ensures.len))

@@ -30,7 +30,8 @@ loop-one-preserved g c =
             All-rest (λ one. (leaf : Leaf) → g.P.LeafProofs.held one leaf ≡ known leaf) _ _ _ next.0
                 both.0,
             rw c.push_reserved.ensures.items
-                (All-push (λ job. (leaf : Leaf) → g.P.LeafProofs.held job.proofs leaf ≡ known leaf) _
+                (All-push (λ job. (leaf : Leaf) → g.P.LeafProofs.held job.proofs leaf ≡ known leaf)
+                _
                 _ both.1 ((rw next.0 at both.0) 0 c.in-Some.one (omega arith))),
           );
     }

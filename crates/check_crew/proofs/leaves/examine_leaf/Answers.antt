@@ -48,7 +48,8 @@ returns-clause-examined g c =
     subst (λ (t : List ℕ). labels_of t ≡ []) c.deref.ensures.value
     (c.is_for_one_bundle.ensures.plain c.if-is_for_one_bundle.false) in
     let by_text : IsFoundBy c.args.case.now leaf bytes judged =
-    subst (λ (j : Judged). IsFoundBy c.args.case.now leaf bytes j) (sym c.judged-judged.ensures.value)
+    subst (λ (j : Judged). IsFoundBy c.args.case.now leaf bytes j)
+    (sym c.judged-judged.ensures.value)
     (subst (λ (t : List ℕ). IsFoundBy c.args.case.now leaf t finding.judged) c.deref-2.ensures.value
     found.2) in
     let here : IsTargetAt k.case.tree finding.node leaf =

@@ -11,7 +11,8 @@ loop-token-preserved c =
     one_more_scanned c.loop-token.scan c.read.new.self _ _ (joined c.next.new.self) record
     { line = c.token.inside.line; bytes = c.token.inside.bytes.now } c.loop-token.invariant
     (c.in-Some.ensures ∙ ap (λ t. t ∷ joined c.next.new.self) (sym c.token.view_is))
-    (c.in_ok-read.ensures.ok _ (no_cube_mark (number_of c.token.inside.bytes.now)) c.number_word.ensures)
+    (c.in_ok-read.ensures.ok _ (no_cube_mark (number_of c.token.inside.bytes.now))
+    c.number_word.ensures)
 
 pub returns-in_err-read-clause-err : goal.returns-in_err-read-clause-err
 returns-in_err-read-clause-err c =
@@ -21,7 +22,8 @@ returns-in_err-read-clause-err c =
     { line = c.token.inside.line; bytes = c.token.inside.bytes.now } c.in_err-read.field-0.0
     c.loop-token.invariant
     (c.in-Some.ensures ∙ ap (λ t. t ∷ joined c.next.new.self) (sym c.token.view_is))
-    (c.in_err-read.ensures.err _ (no_cube_mark (number_of c.token.inside.bytes.now)) c.number_word.ensures))
+    (c.in_err-read.ensures.err _ (no_cube_mark (number_of c.token.inside.bytes.now))
+    c.number_word.ensures))
 
 pub returns-then-scan-clause-err : goal.returns-then-scan-clause-err
 returns-then-scan-clause-err c =

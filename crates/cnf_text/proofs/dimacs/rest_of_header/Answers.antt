@@ -22,8 +22,10 @@ returns c =
     ∙ ap (λ (lines : List (List Token)). joined (below lines)) ended.1)
     (named c.first.inside.bytes.now c.args.first.bytes c.as_slice.result.now _ c.ne.result
     (ap (λ (t : Token). t.bytes) c.first.view_is) c.as_slice.ensures c.ne.ensures c.if-ne.false)
-    (named c.cnf.inside.bytes.now c.in_ok-cnf.cnf.bytes c.as_slice-else-ne.result.now _ c.ne-else-ne.result
-    (ap (λ (t : Token). t.bytes) c.cnf.view_is) c.as_slice-else-ne.ensures c.ne-else-ne.ensures c.if-ne-2.false)
+    (named c.cnf.inside.bytes.now c.in_ok-cnf.cnf.bytes c.as_slice-else-ne.result.now _
+    c.ne-else-ne.result
+    (ap (λ (t : Token). t.bytes) c.cnf.view_is) c.as_slice-else-ne.ensures c.ne-else-ne.ensures
+    c.if-ne-2.false)
     (c.in_ok-decimal.ensures
     ∙ ap (λ (t : Token). option_map told (decimal t.bytes)) c.variables.view_is)
     (c.in_ok-decimal-2.ensures

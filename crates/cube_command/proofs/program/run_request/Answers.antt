@@ -74,7 +74,8 @@ write_outcome-requires-clause-recorded g c = λ _ _ path is.
       c.deref-4.ensures.value ∙ c.in_ok-made.ensures.record path is,
     )))
 
-pub returns-in_err-write_outcome-clause-beginning : goal.returns-in_err-write_outcome-clause-beginning
+pub returns-in_err-write_outcome-clause-beginning :
+    goal.returns-in_err-write_outcome-clause-beginning
 returns-in_err-write_outcome-clause-beginning g c =
     let judged = rw c.in_ok-read.ensures.held at c.in_ok-made.ensures.outcome in
     begun_of c.from_residual-in_err-write_outcome.result (g.D.Store.held c.args.store.now) _ _

@@ -11,7 +11,8 @@ returns g c =
     let w : c.open_under-open.result
     ≡ open_weight (worth_of tree) (refuted_by (g.M.MarkedTree.marks c.args.told.now)) 0 tree =
     rw (c.root.ensures.value, subtree-root tree) at c.open_under-open.ensures in
-    whole tree (g.M.MarkedTree.marks c.args.told.now) c.write_totals.new.text.items c.write_cubes.new.text.items
+    whole tree (g.M.MarkedTree.marks c.args.told.now) c.write_totals.new.text.items
+    c.write_cubes.new.text.items
     c.write_missing_leaves.new.text.items c.write_nodes.new.text.items
     c.write_open_branches.new.text.items c.write_closing.new.text.items c.open_under-open.result
     (rw c.new-text.ensures.items at c.in_ok-write_totals.ensures) c.in_ok-write_cubes.ensures

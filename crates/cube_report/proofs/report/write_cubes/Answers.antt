@@ -13,7 +13,8 @@ pub loop-before-preserved : goal.loop-before-preserved
 loop-before-preserved g c =
     let tree : c.tree.result.now ≡ (g.M.MarkedTree.splits c.args.told.now) =
     c.tree.ensures in
-    cube_turn (g.M.MarkedTree.splits c.args.told.now) (g.M.MarkedTree.marks c.args.told.now) c.args.text.now.items
+    cube_turn (g.M.MarkedTree.splits c.args.told.now) (g.M.MarkedTree.marks c.args.told.now)
+    c.args.text.now.items
     c.loop-before.text.items c.write_cube.new.text.items c.loop-before.before c.mark_of-mark.result
     c.loop-before.invariant c.in_ok-write_cube.ensures
     (rw tree at (c.cube_count-before-end.ensures.leaves (c.loop-before.before + 1) (omega arith)

@@ -14,7 +14,8 @@ loop-number-preserved g c =
     c.tree-tree.ensures in
     let inside : c.loop-number.number < size (g.M.MarkedTree.splits c.args.told.now) =
     rw (c.size-number-end.ensures, tree) at c.loop-number-test.true in
-    node_turn (g.M.MarkedTree.splits c.args.told.now) (g.M.MarkedTree.marks c.args.told.now) c.args.text.now.items
+    node_turn (g.M.MarkedTree.splits c.args.told.now) (g.M.MarkedTree.marks c.args.told.now)
+    c.args.text.now.items
     c.loop-number.text.items c.match-branches.text.items c.loop-number.number inside
     c.loop-number.invariant
     (elim c.match-branches.branch [
@@ -23,13 +24,15 @@ loop-number-preserved g c =
           is_split (g.M.MarkedTree.splits c.args.told.now) c.loop-number.number _ _
           (rw (tree, c.new-node.ensures) at w.in-Some.ensures) in
           let part =
-          split_part (g.M.MarkedTree.splits c.args.told.now) (g.M.MarkedTree.marks c.args.told.now) c.loop-number.number _ here in
+          split_part (g.M.MarkedTree.splits c.args.told.now) (g.M.MarkedTree.marks c.args.told.now)
+          c.loop-number.number _ here in
           ap (λ x. x.items) w.text-is
           ∙ ((rw c.new-node.ensures at w.in_ok-write_marked.ensures)
           ∙ ap (λ xs. c.loop-number.text.items ++ xs) (sym part))
       | in_default w ↦
           let part =
-          leaf_part (g.M.MarkedTree.splits c.args.told.now) (g.M.MarkedTree.marks c.args.told.now) c.loop-number.number _
+          leaf_part (g.M.MarkedTree.splits c.args.told.now) (g.M.MarkedTree.marks c.args.told.now)
+          c.loop-number.number _
           (rw (tree, c.new-node.ensures) at w.in_default.ensures) in
           ap (λ x. x.items) w.text-is
           ∙ (sym (append-nil c.loop-number.text.items)
@@ -44,6 +47,7 @@ returns g c =
     rw (c.size-number-end.ensures, tree) at c.loop-number-test.false in
     c.loop-number.invariant
     ∙ ap (λ xs. c.args.text.now.items
-    ++ node_lines (g.M.MarkedTree.splits c.args.told.now) (g.M.MarkedTree.marks c.args.told.now) 0 xs)
+    ++ node_lines (g.M.MarkedTree.splits c.args.told.now) (g.M.MarkedTree.marks c.args.told.now) 0
+    xs)
     (take_all c.loop-number.number (subtrees (g.M.MarkedTree.splits c.args.told.now))
     (rw (length-subtrees (g.M.MarkedTree.splits c.args.told.now)) all))

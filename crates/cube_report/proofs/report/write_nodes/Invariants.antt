@@ -7,4 +7,5 @@ abbrev pub invariant-loop-number : goal.invariant-loop-number
 invariant-loop-number g l =
     l.text.items
     ≡ l.initial.text.items
-    ++ node_lines (g.M.MarkedTree.splits l.told) (g.M.MarkedTree.marks l.told) 0 (take l.number (subtrees (g.M.MarkedTree.splits l.told)))
+    ++ node_lines (g.M.MarkedTree.splits l.told) (g.M.MarkedTree.marks l.told) 0
+    (take l.number (subtrees (g.M.MarkedTree.splits l.told)))

@@ -9,7 +9,8 @@ node_of_target-only-requires g c =
     let tree : c.tree-tree.result.now ≡ (g.M.MarkedTree.splits c.args.told.now) =
     c.tree-tree.ensures in
     rw tree (branch_stands (g.M.MarkedTree.splits c.args.told.now) c.in_ok-targets.targets.items
-    (open_branches (refuted_by (g.M.MarkedTree.marks c.args.told.now)) 0 (g.M.MarkedTree.splits c.args.told.now))
+    (open_branches (refuted_by (g.M.MarkedTree.marks c.args.told.now)) 0
+    (g.M.MarkedTree.splits c.args.told.now))
     c.loop-target.target-index
     c.target-item.result c.in_ok-targets.ensures
     (rw c.deref-target-items.ensures.value at c.loop-target-test.true)
@@ -20,7 +21,8 @@ path_of-requires g c =
     let tree : c.tree-tree.result.now ≡ (g.M.MarkedTree.splits c.args.told.now) =
     c.tree-tree.ensures in
     rw tree (branch_stands (g.M.MarkedTree.splits c.args.told.now) c.in_ok-targets.targets.items
-    (open_branches (refuted_by (g.M.MarkedTree.marks c.args.told.now)) 0 (g.M.MarkedTree.splits c.args.told.now))
+    (open_branches (refuted_by (g.M.MarkedTree.marks c.args.told.now)) 0
+    (g.M.MarkedTree.splits c.args.told.now))
     c.loop-target.target-index
     c.target-item.result c.in_ok-targets.ensures
     (rw c.deref-target-items.ensures.value at c.loop-target-test.true)
@@ -33,7 +35,8 @@ loop-target-preserved g c =
     let only : (i : ℕ) → IsTargetAt (g.M.MarkedTree.splits c.args.told.now) i c.target-item.result →
     i ≡ c.node_of_target-only.result = rw tree at c.node_of_target-only.ensures.only in
     open_turn (g.M.MarkedTree.splits c.args.told.now) c.in_ok-targets.targets.items
-    (open_branches (refuted_by (g.M.MarkedTree.marks c.args.told.now)) 0 (g.M.MarkedTree.splits c.args.told.now))
+    (open_branches (refuted_by (g.M.MarkedTree.marks c.args.told.now)) 0
+    (g.M.MarkedTree.splits c.args.told.now))
     c.args.text.now.items c.loop-target.text.items
     c.write_open.new.text.items c.loop-target.target-index c.target-item.result
     c.in_ok-path.path.items c.in_ok-targets.ensures
@@ -45,7 +48,8 @@ loop-target-preserved g c =
 pub returns : goal.returns
 returns g c =
     all_open (g.M.MarkedTree.splits c.args.told.now) c.in_ok-targets.targets.items
-    (open_branches (refuted_by (g.M.MarkedTree.marks c.args.told.now)) 0 (g.M.MarkedTree.splits c.args.told.now))
+    (open_branches (refuted_by (g.M.MarkedTree.marks c.args.told.now)) 0
+    (g.M.MarkedTree.splits c.args.told.now))
     c.args.text.now.items c.loop-target.text.items
     c.loop-target.target-index c.in_ok-targets.ensures
     (rw c.deref-target-items.ensures.value at c.loop-target-test.false) c.loop-target.invariant

@@ -8,4 +8,5 @@ invariant-loop-target g l =
     l.text.items
     ≡ l.initial.text.items
     ++ open_lines (g.M.MarkedTree.splits l.told)
-    (take l.target-index (open_branches (refuted_by (g.M.MarkedTree.marks l.told)) 0 (g.M.MarkedTree.splits l.told)))
+    (take l.target-index (open_branches (refuted_by (g.M.MarkedTree.marks l.told)) 0
+    (g.M.MarkedTree.splits l.told)))

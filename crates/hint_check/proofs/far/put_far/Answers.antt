@@ -31,7 +31,8 @@ pub returns-clause-put : goal.returns-clause-put
 returns-clause-put c q =
     updated c.far.inside.map.entries c.insert.new.self.entries c.args.id
     (Some c.args.span) c.in_ok-replaced.ensures.updates.0 q
-    ∙ ap (λ (es : List (ℕ × Span)). cond (nat_eq c.args.id q) (Some c.args.span) (lookup (nat_eq q) es))
+    ∙ ap (λ (es : List (ℕ × Span)). cond (nat_eq c.args.id q) (Some c.args.span)
+    (lookup (nat_eq q) es))
     (c.far.view_is ∙ c.make_places.ensures)
 
 pub returns-clause-ends : goal.returns-clause-ends

@@ -21,6 +21,7 @@ loop-place-preserved c =
 
 pub returns : goal.returns
 returns c =
-    filter-NamesNeeded c.args.live.now.0 (set_of c.args.reached.now) c.args.pivot c.args.ids.now.items
+    filter-NamesNeeded c.args.live.now.0 (set_of c.args.reached.now) c.args.pivot
+    c.args.ids.now.items
     c.truncate.new.self.items c.requires
     (c.truncate.ensures.items ∙ FiltersInPlace-all c.loop-place.invariant (omega arith))

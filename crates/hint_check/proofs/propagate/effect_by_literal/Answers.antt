@@ -8,7 +8,8 @@ use Rattle.hint_check.proofs.PropagationSteps.{effect_open-many}
 use Rattle.hint_check.proofs.propagate.effect_by_literal.Goals as goal
 
 pub loop-block-init : goal.loop-block-init
-loop-block-init c = sym (effect_open-start (set_of c.args.assignment.now) (clause_of c.args.blocks.now))
+loop-block-init c = sym
+    (effect_open-start (set_of c.args.assignment.now) (clause_of c.args.blocks.now))
 
 pub returns-in-None : goal.returns-in-None
 returns-in-None c =

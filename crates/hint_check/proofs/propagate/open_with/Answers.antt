@@ -3,7 +3,8 @@ use Rattle.hint_check.specs.Inner.Assignment.{set_of}
 use Rattle.hint_check.specs.Inner.Blocks.{kept}
 use Rattle.hint_check.specs.Inner.Propagate.{effect_open}
 use Rattle.hint_check.proofs.PropagationSteps.{effect_open-falsified, effect_open-first}
-use Rattle.hint_check.proofs.PropagationSteps.{effect_open-same, effect_open-other, effect_open-more}
+use Rattle.hint_check.proofs.PropagationSteps.{effect_open-same, effect_open-other}
+use Rattle.hint_check.proofs.PropagationSteps.{effect_open-more}
 use Rattle.hint_check.proofs.propagate.open_with.Goals as goal
 
 pub returns-then-contains : goal.returns-then-contains

@@ -21,7 +21,8 @@ loop-id-init c =
 
 pub span_clause-requires-clause-ends : goal.span_clause-requires-clause-ends
 span_clause-requires-clause-ends c =
-    SpansEndBy-head (c.in-Some.id.now, c.in-Some.span.now) c.next.new.self (length c.args.blocks.now)
+    SpansEndBy-head (c.in-Some.id.now, c.in-Some.span.now) c.next.new.self
+    (length c.args.blocks.now)
     (subst (λ far. SpansEndBy far (length c.args.blocks.now)) c.in-Some.ensures.steps
     c.loop-id.invariant.ends)
 

@@ -42,7 +42,8 @@ loop-place-preserved c rest all h =
           subst (λ rows. Awaits rows behind all) (sym w.index-is)
           (listed-none c.loop-place.index id found behind all (sym (w.in_default.ensures ∙ at)) was)
     ] in
-    subst (λ k. Awaits c.match-slot_clause.index (near_entries blocks k (drop (i + 1) slots) ++ rest)
+    subst (λ k. Awaits c.match-slot_clause.index (near_entries blocks k (drop (i + 1) slots)
+    ++ rest)
     all)
     (let e : id + 1 ≡ c.args.first + (i + 1) = omega arith in e) done
 

@@ -14,7 +14,8 @@ returns-in_err-join_file-clause-err g c =
     (g.D.Store.failures c.args.store.now) (g.D.Store.failures c.join_file.new.store))
     c.in_err-join_file.field-0.0
     (one_not_added (g.D.Store.held c.args.store.now) c.args.line.now c.args.join.now.tree paths
-    c.loop-index.index _ _ c.loop-index.join.marks c.in_err-join_file.field-0.0 inside c.loop-index.invariant.files
+    c.loop-index.index _ _ c.loop-index.join.marks c.in_err-join_file.field-0.0 inside
+    c.loop-index.invariant.files
     (rw (
       c.loop-index.invariant.held,
       c.loop-index.invariant.tree,
@@ -33,7 +34,8 @@ loop-index-preserved g c =
       held = c.join_file.ensures.held ∙ c.loop-index.invariant.held;
       same = c.in_ok-join_file.ensures.ok ∙ c.loop-index.invariant.same;
       tree = c.join_file.ensures.tree ∙ c.loop-index.invariant.tree;
-      files = more_files (g.D.Store.held c.args.store.now) c.args.line.now c.args.join.now.tree paths
+      files = more_files (g.D.Store.held c.args.store.now) c.args.line.now c.args.join.now.tree
+          paths
           c.loop-index.index c.loop-index.join.marks c.join_file.new.join.marks inside
           c.loop-index.invariant.files
           (rw (

@@ -8,7 +8,8 @@ pub returns-clause-asked : goal.returns-clause-asked
 returns-clause-asked g c =
     let formula = c.get_str.ensures
     ∙ formula_asked _ _ _ c.in_ok-parser.ensures c.in_ok-matches.ensures.matches in
-    let file = file_or c.get_str-2.result c.unwrap_or.result _ _ c.unwrap_or.ensures c.get_str-2.ensures
+    let file = file_or c.get_str-2.result c.unwrap_or.result _ _ c.unwrap_or.ensures
+    c.get_str-2.ensures
     refl ∙ file_asked _ _ _ c.in_ok-parser.ensures c.in_ok-matches.ensures.matches in
     let records = c.in_ok-records_in.ensures
     ∙ records_asked _ _ _ c.in_ok-parser.ensures c.in_ok-matches.ensures.matches in

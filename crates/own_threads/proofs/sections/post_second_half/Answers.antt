@@ -18,9 +18,9 @@ loop-place-preserved g c = record {
 pub loop-place-init : goal.loop-place-init
 loop-place-init g c =
     let posted = none_posted (shared_of c.args.desk.core.now) (length c.sections-place.result.now)
-        (length c.args.desk.case.now.sections) c.args.pass c.requires.pass
-        (as_many c.args.desk.case.now c.sections-place.result.now
-        c.sections-place.ensures.targets_are) in
+    (length c.args.desk.case.now.sections) c.args.pass c.requires.pass
+    (as_many c.args.desk.case.now c.sections-place.result.now
+    c.sections-place.ensures.targets_are) in
     record {
       same = c.in_ok-examiner.ensures;
       own = posted.own;

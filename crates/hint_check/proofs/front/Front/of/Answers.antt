@@ -14,7 +14,8 @@ use Rattle.hint_check.proofs.front.Front.of.Goals as goal
 pub loop-clause-init : goal.loop-clause-init
 loop-clause-init c =
     let one : c.push.new.self.items ≡ no_slot ∷ [] =
-    c.in_ok-push.ensures.items ∙ ap (λ (ss : List Slot). ss ++ no_slot ∷ []) c.new-slots.ensures.items in
+    c.in_ok-push.ensures.items ∙ ap (λ (ss : List Slot). ss ++ no_slot ∷ [])
+    c.new-slots.ensures.items in
     record {
       entries = front-none c.new-blocks.result.items c.push.new.self.items one;
       ends = ends-none c.push.new.self.items (length c.new-blocks.result.items) one;
@@ -46,7 +47,8 @@ loop-clause-preserved c =
           (was.long ∙ ap (λ n. n + 1) (sym (length-take-le i clauses (omega arith)))) was.entries
           ∙ ap (λ (x : List Literal). enumerate_from 1 (take i clauses ++ x ∷ []))
           (clause ∙ c.clause-item.is)
-          ∙ ap (enumerate_from 1) (sym (take_more clauses i c.clause-item.result c.loop-clause-test.true));
+          ∙ ap (enumerate_from 1)
+          (sym (take_more clauses i c.clause-item.result c.loop-clause-test.true));
       ends = subst (SlotsEndBy slots') (sym grown)
           (SlotsEndBy-set slots slots' (length slots) slot (length blocks) (length g.0) was.ends
           (SetsSlot-push slots slots' slot c.in_ok-push-2.ensures.items) (omega (arith, at_end)));

@@ -37,7 +37,8 @@ invariant_of-self c =
     c.deref-2.ensures.value
     (subst (λ (ss : List Slot). (i : ℕ) → slot_at made i
     ≡ (if is_named c.deref-2.result.now i then slot_at ss i
-    else slot_at c.truncate-2.new.self.items i)) c.deref.ensures.value c.put_back.ensures.slots))) in
+    else slot_at c.truncate-2.new.self.items i)) c.deref.ensures.value c.put_back.ensures.slots)))
+    in
     let few = c.self.invariant.few in
     subst (λ blocks. IsTable blocks inside.front.reach made c.clear-2.new.self inside.front
     c.clear.new.self.items) (sym c.truncate.ensures.items)
@@ -66,7 +67,8 @@ returns c =
     c.deref-2.ensures.value
     (subst (λ (ss : List Slot). (i : ℕ) → slot_at made i
     ≡ (if is_named c.deref-2.result.now i then slot_at ss i
-    else slot_at c.truncate-2.new.self.items i)) c.deref.ensures.value c.put_back.ensures.slots))) in
+    else slot_at c.truncate-2.new.self.items i)) c.deref.ensures.value c.put_back.ensures.slots)))
+    in
     ap (λ blocks. tabled blocks made far front) c.truncate.ensures.items
     ∙ tabled-front inside.blocks.items inside.front.blocks made far front
     c.self.invariant.front_ends c.self.invariant.front_blocks back long c.clear-2.ensures
