@@ -5,7 +5,7 @@ use Rattle.std.specs.Prelude.{IfSome, is_some, option_map, if◌then◌else◌}
 use Rattle.std.proofs.Common.{Result, Ok, Err, IfOk, IfErr, OnErr, MatchResult, inl, inr, arith}
 use Rattle.std.specs.Io.KnownBytes.{Appends, Keeps}
 use Rattle.bundle_files.specs.Files.{Held, Gives, IsJudgedOf}
-use Rattle.bundle_files.specs.Formula.{Sources, IsBundleOf, IsReadBy, IsReadFrom}
+use Rattle.bundle_files.specs.Formula.{IsReadBy, IsReadFrom}
 use Rattle.bundle_files.proofs.FormulaText.{published}
 use Rattle.bundle_files.specs.Judging.{IsRefusedOf}
 use Rattle.bundle_files.proofs.FilesFormula.{judged_unsatisfiable}
@@ -19,13 +19,14 @@ use Rattle.cube_report.specs.Dimacs.{IsDimacs}
 use Rattle.cube_report.specs.Formula.{HasNoModel}
 use Rattle.cube_report.specs.Literal.{Literal}
 use Rattle.cube_report.specs.Faults.{IsInputFault}
-use Rattle.cube_report.specs.Correct.{AllowsReports, IsOutcome, IsReportOn, IsUnsatisfiable}
+use Rattle.cube_report.specs.Correct.{IsOutcome, IsReportOn, IsUnsatisfiable}
 use Rattle.cube_report.specs.Device.{AppendsBeginning}
 use Rattle.cube_report.specs.Picture.{map_text}
 use Rattle.cube_report.specs.Bundle.{icnf_text}
 use Rattle.cube_command.specs.Program.{IsMade, IsRefused, IsReported, IsLineWritten, fault_line}
-use Rattle.cube_command.specs.Program.{AllowsFaults, IsBegun, IsPictureOn}
+use Rattle.cube_command.specs.Program.{AllowsFaults, IsBegun, IsBundleFor, IsPictureOn}
 use Rattle.cube_command.specs.Record.{digest_line, record_text}
+use Rattle.cube_command.specs.Words.{Asked, sources_of}
 use Rattle.cube_command.specs.Inner.Telling.{IsFaultWritten, status_of, status_of_answer}
 
 -- ---- the run
@@ -45,38 +46,36 @@ some_mapped f None there is = is
 some_mapped f (Some path) there is = is
 
 -- a bundle that was read, and the one that is judged for it
-pub bundle_of : (held : Held) (file : Sources) (folder input : Option (List ℕ))
-    (read whole : List ℕ) →
-    IsReadFrom held file input read → IsJudgedOf held folder read whole →
-    IsBundleOf held file folder input read whole
-bundle_of held file folder input read whole is_read is_judged = record {
+pub bundle_of : (held : Held) (asked : Asked) (input : Option (List ℕ)) (read whole : List ℕ) →
+    IsReadFrom held (sources_of asked) input read → IsJudgedOf held asked.folder read whole →
+    IsBundleFor held asked input read whole
+bundle_of held asked input read whole is_read is_judged = record {
   is_read = is_read;
   is_judged = is_judged;
 }
 
--- its first fault is that of what the words ask for
-pub refused_of : (held : Held) (file : Sources) (folder input : Option (List ℕ)) (read : List ℕ)
-    (fault : Fault) → IsReadFrom held file input read → IsRefusedOf held folder read fault →
-    IsRefused held file folder input fault
-refused_of held file folder input read fault is_read refused = inl (record {
+-- its first fault is that of what is asked for
+pub refused_of : (held : Held) (asked : Asked) (input : Option (List ℕ)) (read : List ℕ)
+    (fault : Fault) → IsReadFrom held (sources_of asked) input read →
+    IsRefusedOf held asked.folder read fault → IsRefused held asked input fault
+refused_of held asked input read fault is_read refused = inl (record {
   read = read;
   whole = refused.whole;
-  bundle = bundle_of held file folder input read refused.whole is_read refused.is_judged;
+  bundle = bundle_of held asked input read refused.whole is_read refused.is_judged;
   first = refused.first;
 })
 
 -- the report that was written, the picture and the record are those on the bundle that was asked
 -- for
-pub reported : (held after : Held) (file : Sources)
-    (folder map out input old new : Option (List ℕ))
+pub reported : (held after : Held) (asked : Asked) (input old new : Option (List ℕ))
     (read whole text picture made : List ℕ) (draws answer : Bool)
-    → IsBundleOf held file folder input read whole → IsOutcome whole draws text picture answer →
-    draws ≡ is_some map
-    → ((at : List ℕ) → out ≡ Some at → made ≡ record_text read text)
-    → Appends old new text → IsMade after map picture → IsMade after out made →
-    IsReported held after file folder map out input old new answer
-reported held after file folder map out input old new read whole text picture made draws answer
-    bundle outcome asked owed written there beside = record {
+    → IsBundleFor held asked input read whole → IsOutcome whole draws text picture answer →
+    draws ≡ is_some asked.picture
+    → ((at : List ℕ) → asked.out ≡ Some at → made ≡ record_text read text)
+    → Appends old new text → IsMade after asked.picture picture → IsMade after asked.out made →
+    IsReported held after asked input old new answer
+reported held after asked input old new read whole text picture made draws answer
+    bundle outcome drawn owed written there beside = record {
       read = read;
       whole = whole;
       bundle = bundle;
@@ -84,13 +83,13 @@ reported held after file folder map out input old new read whole text picture ma
       correct = outcome.correct;
       written = written;
       sound =
-          λ says. judged_unsatisfiable held folder read whole bundle.is_judged
+          λ says. judged_unsatisfiable held asked.folder read whole bundle.is_judged
           (outcome.correct.sound says);
-      drawn = made_there after map _ picture
+      drawn = made_there after asked.picture _ picture
           (λ at is. outcome.drawn
           ∙ ap (λ (b : Bool). if b then map_text outcome.correct.case outcome.correct.marks else [])
-          (asked ∙ ap is_some is)) there;
-      recorded = made_there after out (record_text read text) made owed beside;
+          (drawn ∙ ap is_some is)) there;
+      recorded = made_there after asked.out (record_text read text) made owed beside;
     }
 
 -- a record that was begun by its line, and ended by the report
@@ -104,17 +103,15 @@ whole_record out read text bytes report begun ended made same same_text same_mad
     (same_made ∙ last at is ∙ ap (λ (line : List ℕ). line ++ report) (first at is))
 
 -- what was written of a report that failed, if anything, is a beginning of that on the bundle
-pub begun_of : {E : Type 0} (run : Result Bool E) (held : Held)
-    (file : Sources) (folder input old new : Option (List ℕ)) (read whole text : List ℕ)
-    (before after : ℕ)
-    → IsBundleOf held file folder input read whole → IsReportOn whole text
+pub begun_of : {E : Type 0} (run : Result Bool E) (held : Held) (asked : Asked)
+    (input old new : Option (List ℕ)) (read whole text : List ℕ) (before after : ℕ)
+    → IsBundleFor held asked input read whole → IsReportOn whole text
     → Keeps old new ⊎ ((before < after) × AppendsBeginning old new text)
-    → OnErr run (Keeps old new ⊎ ((before < after) × IsBegun held file folder input old new))
-begun_of (Ok answer) held file folder input old new read whole text before after bundle report
-    wrote = tt
-begun_of (Err fault) held file folder input old new read whole text before after bundle report
+    → OnErr run (Keeps old new ⊎ ((before < after) × IsBegun held asked input old new))
+begun_of (Ok answer) held asked input old new read whole text before after bundle report wrote = tt
+begun_of (Err fault) held asked input old new read whole text before after bundle report
     (inl kept) = inl kept
-begun_of (Err fault) held file folder input old new read whole text before after bundle report
+begun_of (Err fault) held asked input old new read whole text before after bundle report
     (inr begun) = inr (
       begun.0,
       record {
@@ -142,49 +139,21 @@ picture_on whole text picture path map draws answer asked is outcome = (
       (asked ∙ ap is_some is),
 )
 
--- what is allowed for the words is allowed for the request that they make
-pub reports_asked : (texts : List ℕ → Type 0) (held : Held)
-    (file : Sources) (folder : Option (List ℕ)) (asked_file : Sources)
-    (asked_folder input : Option (List ℕ))
-    → file ≡ asked_file → folder ≡ asked_folder
-    → ((read whole : List ℕ) → IsBundleOf held asked_file asked_folder input read whole →
-    AllowsReports texts whole)
-    → (read whole : List ℕ) → IsBundleOf held file folder input read whole →
-    AllowsReports texts whole
-reports_asked texts held file folder asked_file asked_folder input same_file same_folder may read
-    whole bundle = may read whole (rw (same_file, same_folder) at bundle)
-
-pub files_asked : (Allowed : List ℕ → List ℕ → List ℕ → Type 0) (held : Held)
-    (file : Sources) (folder at : Option (List ℕ)) (asked_file : Sources)
-    (asked_folder asked_at input : Option (List ℕ))
-    → file ≡ asked_file → folder ≡ asked_folder → at ≡ asked_at
-    → ((path read whole : List ℕ) → asked_at ≡ Some path →
-    IsBundleOf held asked_file asked_folder input read whole → Allowed path read whole)
-    → (path read whole : List ℕ) → at ≡ Some path →
-    IsBundleOf held file folder input read whole → Allowed path read whole
-files_asked Allowed held file folder at asked_file asked_folder asked_at input same_file
-    same_folder same_at may path read whole is bundle =
-    may path read whole (sym same_at ∙ is) (rw (same_file, same_folder) at bundle)
-
--- the line of a fault with which a run ended
-pub fault_asked : (texts : List ℕ → Type 0) (held : Held)
-    (file : Sources) (folder : Option (List ℕ)) (asked_file : Sources)
-    (asked_folder input : Option (List ℕ)) (run : Result Bool Fault)
-    → file ≡ asked_file → folder ≡ asked_folder
-    → AllowsFaults texts held asked_file asked_folder input
-    → IfErr run (λ fault. IsInputFault fault → IsRefused held file folder input fault)
+-- the line of a fault with which the run of a request ended that asks for what the words ask for
+pub fault_asked : (texts : List ℕ → Type 0) (held : Held) (asked made : Asked)
+    (input : Option (List ℕ)) (run : Result Bool Fault) → made ≡ asked
+    → AllowsFaults texts held asked input
+    → IfErr run (λ fault. IsInputFault fault → IsRefused held made input fault)
     → IfErr run (λ fault. texts (fault_line fault))
-fault_asked texts held file folder asked_file asked_folder input (Ok answer) same_file same_folder
-    may refused = tt
-fault_asked texts held file folder asked_file asked_folder input (Err fault) same_file same_folder
-    may refused = may fault (λ of_input. rw (same_file, same_folder) at (refused of_input))
+fault_asked texts held asked made input (Ok answer) same may refused = tt
+fault_asked texts held asked made input (Err fault) same may refused =
+    may fault
+    (λ of_input. subst (λ (a : Asked). IsRefused held a input fault) same (refused of_input))
 
 -- want of memory may be told of any bundle
-pub memory_asked : (texts : List ℕ → Type 0) (held : Held) (file : Sources)
-    (folder input : Option (List ℕ))
-    → AllowsFaults texts held file folder input → texts (fault_line Memory)
-memory_asked texts held file folder input may =
-    may Memory (λ of_input. absurd (of_input.0 refl))
+pub memory_asked : (texts : List ℕ → Type 0) (held : Held) (asked : Asked)
+    (input : Option (List ℕ)) → AllowsFaults texts held asked input → texts (fault_line Memory)
+memory_asked texts held asked input may = may Memory (λ of_input. absurd (of_input.0 refl))
 
 -- ---- its status
 
@@ -269,93 +238,81 @@ with_five NoProblem is = absurd (omega arith)
 with_five (Counts variables clauses greatest found) is = absurd (omega arith)
 
 -- status 0
-pub sound_run : (held later : Held) (asked file : Sources)
-    (folder map out input out_old out_new : Option (List ℕ)) (run : Result Bool Fault)
-    (status : ℕ) (Same : Type 0) (old new : Option (List ℕ)) (before after : ℕ)
-    → file ≡ asked → ToldRun run status Same old new before after
-    → IfOk run (IsReported held later file folder map out input out_old out_new) → status ≡ 0
-    → (read : List ℕ) × IsReadFrom held asked input read × IsUnsatisfiable read
-sound_run held later asked file folder map out input out_old out_new (Ok true) status Same old new
-    before after same told report is = (
-      report.read,
-      subst (λ (f : Sources). IsReadFrom held f input report.read) same report.bundle.is_read,
-      report.sound refl,
-    )
-sound_run held later asked file folder map out input out_old out_new (Ok false) status Same old new
-    before after same told report is = let one : status ≡ 1 = told.0 in absurd (omega arith)
-sound_run held later asked file folder map out input out_old out_new (Err fault) status Same old new
-    before after same (inl told) report is =
+pub sound_run : (held later : Held) (asked : Asked) (input out_old out_new : Option (List ℕ))
+    (run : Result Bool Fault) (status : ℕ) (Same : Type 0) (old new : Option (List ℕ))
+    (before after : ℕ)
+    → ToldRun run status Same old new before after
+    → IfOk run (IsReported held later asked input out_old out_new) → status ≡ 0
+    → (read : List ℕ) × IsReadFrom held (sources_of asked) input read × IsUnsatisfiable read
+sound_run held later asked input out_old out_new (Ok true) status Same old new before after told
+    report is = (report.read, report.bundle.is_read, report.sound refl)
+sound_run held later asked input out_old out_new (Ok false) status Same old new before after told
+    report is = let one : status ≡ 1 = told.0 in absurd (omega arith)
+sound_run held later asked input out_old out_new (Err fault) status Same old new before after
+    (inl told) report is =
     let above : 2 < status_of fault = above_two fault in
     let has : status ≡ status_of fault = told.0 in absurd (omega arith)
-sound_run held later asked file folder map out input out_old out_new (Err fault) status Same old new
-    before after same (inr told) report is = let four : status ≡ 4 = told.1 in absurd (omega arith)
+sound_run held later asked input out_old out_new (Err fault) status Same old new before after
+    (inr told) report is = let four : status ≡ 4 = told.1 in absurd (omega arith)
 
 -- status 0, where the formula has a file of its own
-abbrev pub IsPublished : Held → List ℕ → Type 0
-IsPublished held path =
+abbrev pub IsPublishedAt : Held → List ℕ → Type 0
+IsPublishedAt held path =
     (text : List ℕ) × Gives held path (Some text)
     × (formula : List (List Literal)) × IsDimacs text formula × HasNoModel formula
 
-published_by : (held later : Held) (sources : Sources)
-    (folder map out input out_old out_new : Option (List ℕ)) (formula : Option (List ℕ))
-    → sources.formula ≡ formula
-    → IsReported held later sources folder map out input out_old out_new true
-    → IfSome formula (IsPublished held)
-published_by held later sources folder map out input out_old out_new None same report = tt
-published_by held later sources folder map out input out_old out_new (Some path) same report =
-    published held path sources.file input folder report.read report.whole report.correct.case
-    (subst (λ (f : Option (List ℕ)). IsReadBy held f sources.file input report.read) same
+published_by : (held later : Held) (asked : Asked) (input out_old out_new : Option (List ℕ))
+    (formula : Option (List ℕ)) → asked.formula ≡ formula
+    → IsReported held later asked input out_old out_new true
+    → IfSome formula (IsPublishedAt held)
+published_by held later asked input out_old out_new None same report = tt
+published_by held later asked input out_old out_new (Some path) same report =
+    published held path asked.file input asked.folder report.read report.whole report.correct.case
+    (subst (λ (f : Option (List ℕ)). IsReadBy held f asked.file input report.read) same
     report.bundle.is_read) report.bundle.is_judged report.correct.judged.case_is
     (report.sound refl)
 
-pub published_run : (held later : Held) (formula : Option (List ℕ)) (sources : Sources)
-    (folder map out input out_old out_new : Option (List ℕ)) (run : Result Bool Fault)
-    (status : ℕ) (Same : Type 0) (old new : Option (List ℕ)) (before after : ℕ)
-    → sources.formula ≡ formula → ToldRun run status Same old new before after
-    → IfOk run (IsReported held later sources folder map out input out_old out_new) → status ≡ 0
-    → IfSome formula (IsPublished held)
-published_run held later formula sources folder map out input out_old out_new (Ok true) status Same
-    old new before after same told report is =
-    published_by held later sources folder map out input out_old out_new formula same report
-published_run held later formula sources folder map out input out_old out_new (Ok false) status Same
-    old new before after same told report is =
-    let one : status ≡ 1 = told.0 in absurd (omega arith)
-published_run held later formula sources folder map out input out_old out_new (Err fault) status
-    Same
-    old new before after same (inl told) report is =
+pub published_run : (held later : Held) (asked : Asked) (input out_old out_new : Option (List ℕ))
+    (run : Result Bool Fault) (status : ℕ) (Same : Type 0) (old new : Option (List ℕ))
+    (before after : ℕ)
+    → ToldRun run status Same old new before after
+    → IfOk run (IsReported held later asked input out_old out_new) → status ≡ 0
+    → IfSome asked.formula (IsPublishedAt held)
+published_run held later asked input out_old out_new (Ok true) status Same old new before after told
+    report is = published_by held later asked input out_old out_new asked.formula refl report
+published_run held later asked input out_old out_new (Ok false) status Same old new before after
+    told report is = let one : status ≡ 1 = told.0 in absurd (omega arith)
+published_run held later asked input out_old out_new (Err fault) status Same old new before after
+    (inl told) report is =
     let above : 2 < status_of fault = above_two fault in
     let has : status ≡ status_of fault = told.0 in absurd (omega arith)
-published_run held later formula sources folder map out input out_old out_new (Err fault) status
-    Same
-    old new before after same (inr told) report is =
-    let four : status ≡ 4 = told.1 in absurd (omega arith)
+published_run held later asked input out_old out_new (Err fault) status Same old new before after
+    (inr told) report is = let four : status ≡ 4 = told.1 in absurd (omega arith)
 
 -- status 3
-pub fault_run : (held : Held) (asked_file : Sources) (asked_folder : Option (List ℕ))
-    (file : Sources) (folder input : Option (List ℕ)) (run : Result Bool Fault) (status : ℕ)
-    (Same : Type 0) (old new : Option (List ℕ)) (before after : ℕ)
-    → file ≡ asked_file → folder ≡ asked_folder → ToldRun run status Same old new before after
-    → IfErr run (λ fault. IsInputFault fault → IsRefused held file folder input fault) → status ≡ 3
+pub fault_run : (held : Held) (asked made : Asked) (input : Option (List ℕ))
+    (run : Result Bool Fault) (status : ℕ) (Same : Type 0) (old new : Option (List ℕ))
+    (before after : ℕ)
+    → made ≡ asked → ToldRun run status Same old new before after
+    → IfErr run (λ fault. IsInputFault fault → IsRefused held made input fault) → status ≡ 3
     →
-    (fault : Fault) × IsInputFault fault × IsRefused held asked_file asked_folder input fault
+    (fault : Fault) × IsInputFault fault × IsRefused held asked input fault
     × IsLineWritten old new before after (fault_line fault)
-fault_run held asked_file asked_folder file folder input (Ok true) status Same old new before after
-    same same_too told refused is = let none : status ≡ 0 = told.0 in absurd (omega arith)
-fault_run held asked_file asked_folder file folder input (Ok false) status Same old new before after
-    same same_too told refused is = let one : status ≡ 1 = told.0 in absurd (omega arith)
-fault_run held asked_file asked_folder file folder input (Err fault) status Same old new before
-    after same same_too (inl told) refused is =
+fault_run held asked made input (Ok true) status Same old new before after same told refused is =
+    let none : status ≡ 0 = told.0 in absurd (omega arith)
+fault_run held asked made input (Ok false) status Same old new before after same told refused is =
+    let one : status ≡ 1 = told.0 in absurd (omega arith)
+fault_run held asked made input (Err fault) status Same old new before after same (inl told)
+    refused is =
     let input_is : IsInputFault fault = input_of_three fault (sym told.0 ∙ is) in (
       fault,
       input_is,
-      subst (λ (f : Sources). IsRefused held f asked_folder input fault) same
-          (subst (λ (f : Option (List ℕ)). IsRefused held file f input fault) same_too
-          (refused input_is)),
+      subst (λ (a : Asked). IsRefused held a input fault) same (refused input_is),
       told.1,
     )
-fault_run held asked_file asked_folder file folder input (Err fault) status Same old new before
-    after same same_too (inr told) refused is = let four : status ≡ 4 = told.1 in
-    absurd (omega arith)
+fault_run held asked made input (Err fault) status Same old new before after same (inr told)
+    refused is =
+    let four : status ≡ 4 = told.1 in absurd (omega arith)
 
 -- status 4
 pub memory_run : (run : Result Bool Fault) (status : ℕ) (Same : Type 0) (old new : Option (List ℕ))

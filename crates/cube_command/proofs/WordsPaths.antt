@@ -8,8 +8,7 @@ use Rattle.std.proofs.lemmas.List.{append_assoc, append_cancel_left}
 use Rattle.std.proofs.lemmas.Slice.Eq.{bytes_eq-Decides}
 use Rattle.bundle_files.specs.Files.{proof_path}
 use Rattle.clap.specs.Words.{Text}
-use Rattle.cube_command.specs.Words.{AreApart, AreTaken, IsInput, IsNoProof, map_of}
-use Rattle.cube_command.specs.Words.{record_of}
+use Rattle.cube_command.specs.Words.{AreApart, AreSpared, Asked, IsElsewhere, IsInput, IsNoProof}
 
 unless_equal : (one other : Text) (equal : Bool) → bytes_eq one other ≡ equal →
     AreApart (Some one) (Some other) → not equal ≡ true
@@ -95,17 +94,17 @@ no_proof_where folder path (Some front) false says is =
 -- ---- files that are read
 
 -- a file that is read is neither the picture nor the record
-pub input_apart : (words : List Text) (path : Text) → AreTaken words → IsInput words path →
-    (map_of words ≢ Some path) × (record_of words ≢ Some path)
-input_apart words path taken (inl formula) = (
-  λ there. taken.1.1.0 path there formula,
-  λ there. taken.1.2.0 path there formula,
+pub input_apart : (asked : Asked) (path : Text) → AreSpared asked → IsInput asked path →
+    IsElsewhere asked path
+input_apart asked path spared (inl formula) = (
+  λ there. spared.1.0 path there formula,
+  λ there. spared.2.0 path there formula,
 )
-input_apart words path taken (inr (inl file)) = (
-  λ there. taken.1.1.1 path there file,
-  λ there. taken.1.2.1 path there file,
+input_apart asked path spared (inr (inl file)) = (
+  λ there. spared.1.1 path there file,
+  λ there. spared.2.1 path there file,
 )
-input_apart words path taken (inr (inr proof)) = (
-  λ there. taken.1.1.2 proof.0 path proof.1 proof.2 there proof.3,
-  λ there. taken.1.2.2 proof.0 path proof.1 proof.2 there proof.3,
+input_apart asked path spared (inr (inr proof)) = (
+  λ there. spared.1.2 proof.0 path proof.1 proof.2 there proof.3,
+  λ there. spared.2.2 proof.0 path proof.1 proof.2 there proof.3,
 )

@@ -11,20 +11,40 @@ use Rattle.clap.specs.Words.{found_of, is_simple, is_simple_and_free, kind_of, m
 use Rattle.clap.specs.Words.{one_text, HasKind, Kinds}
 use Rattle.clap.proofs.OnLiterals.{clap_on_literals}
 use Rattle.clap.proofs.WalkLemmas.{first_value-rows, one_text-rows}
-use Rattle.cube_command.specs.Words.{AreApart, AreSpared, AreTaken, asked_for, file_of, folder_of}
-use Rattle.cube_command.specs.Words.{formula_of, log_of, map_of, record_of, SparesRead}
-use Rattle.cube_command.specs.Words.{words_taken}
-use Rattle.cube_command.specs.Inner.Words.{Reads, SaysFlag, SaysNumber, flag_text}
+use Rattle.cube_command.specs.Words.{AreApart, AreSpared, AreTaken, Asked, asked_for, asked_of}
+use Rattle.cube_command.specs.Words.{nothing_asked, SparesRead, words_taken}
+use Rattle.cube_command.specs.Inner.Words.{Reads, SaysFlag, SaysNumber, asked_found, flag_text}
 
 -- what the parser's matches hold under a name is what the words ask for
-pub found_asked : (parser : Command) (matches : ArgMatches) (words : List Text) (name : Text)
-    → app_of parser ≡ words_taken
-    → HasMatchesOf (app_of parser) words matches →
+one_asked : (parser : Command) (matches : ArgMatches) (words : List Text) →
+    app_of parser ≡ words_taken
+    → HasMatchesOf (app_of parser) words matches → (name : Text) →
     first_value (found_of matches) name ≡ asked_for name words
-found_asked parser matches words name is has =
+one_asked parser matches words is has name =
     first_value-rows (found_of matches) name
     ∙ ap (first_of name)
     ((has (ap is_simple is ∙ refl)).0 ∙ ap (λ (a : App). matches_of a words) is)
+
+-- so it is with all names
+pub found_asked : (parser : Command) (matches : ArgMatches) (words : List Text)
+    → app_of parser ≡ words_taken
+    → HasMatchesOf (app_of parser) words matches →
+    asked_found (found_of matches) ≡ asked_of words
+found_asked parser matches words is has =
+    let formula = one_asked parser matches words is has (codes "formula") in
+    let file = one_asked parser matches words is has (codes "file") in
+    let folder = one_asked parser matches words is has (codes "proofs") in
+    let picture = one_asked parser matches words is has (codes "map") in
+    let out = one_asked parser matches words is has (codes "record") in
+    let log = one_asked parser matches words is has (codes "log") in
+    λ i. record {
+      formula = formula i;
+      file = file i;
+      folder = folder i;
+      picture = picture i;
+      out = out i;
+      log = log i;
+    }
 
 -- what holds of an error holds of the result that hands it on
 pub handed_on : {T E : Type 0} (result : Result T E) (P : E → Type 0) (error : E) → P error
@@ -56,29 +76,19 @@ taken_fails parser words error is fails taken =
     (ap (λ (a : App). fault_of a words) is ∙ taken.0) (fails (parser_simple parser is))
 
 -- words that were parsed, and whose files can be written where they say, are taken
-pub parsed_taken : (parser : Command) (words : List Text)
-    (picture out log formula file folder : Option Text)
+pub parsed_taken : (parser : Command) (words : List Text) (asked : Asked)
     → app_of parser ≡ words_taken
     → (is_simple_and_free (app_of parser) ≡ true → fault_of (app_of parser) words ≡ [])
-    → picture ≡ asked_for (codes "map") words → out ≡ asked_for (codes "record") words
-    → log ≡ asked_for (codes "log") words → formula ≡ asked_for (codes "formula") words
-    → file ≡ asked_for (codes "file") words → folder ≡ asked_for (codes "proofs") words
-    → AreSpared picture out log formula file folder → AreTaken words
-parsed_taken parser words picture out log formula file folder is parsed picture_is out_is log_is
-    formula_is file_is folder_is spared = (
-      sym (ap (λ (a : App). fault_of a words) is) ∙ parsed (parser_simple parser is),
-      rw (picture_is, out_is, log_is, formula_is, file_is, folder_is) at spared,
-    )
+    → asked ≡ asked_of words → AreSpared asked → AreTaken words
+parsed_taken parser words asked is parsed asked_is spared = (
+  sym (ap (λ (a : App). fault_of a words) is) ∙ parsed (parser_simple parser is),
+  subst AreSpared asked_is spared,
+)
 
 -- words whose files can't be written where they say aren't taken
-pub clash_untaken : (words : List Text) (picture out log formula file folder : Option Text)
-    → picture ≡ asked_for (codes "map") words → out ≡ asked_for (codes "record") words
-    → log ≡ asked_for (codes "log") words → formula ≡ asked_for (codes "formula") words
-    → file ≡ asked_for (codes "file") words → folder ≡ asked_for (codes "proofs") words
-    → ¬ AreSpared picture out log formula file folder → ¬ AreTaken words
-clash_untaken words picture out log formula file folder picture_is out_is log_is formula_is file_is
-    folder_is clash taken =
-    clash (rw (picture_is, out_is, log_is, formula_is, file_is, folder_is) taken.1)
+pub clash_untaken : (words : List Text) (asked : Asked) → asked ≡ asked_of words
+    → ¬ AreSpared asked → ¬ AreTaken words
+clash_untaken words asked asked_is clash taken = clash (subst AreSpared (sym asked_is) taken.1)
 
 no_fault : fault_of words_taken [] ≡ []
 unfolding clap_on_literals
@@ -101,28 +111,6 @@ no_log : asked_for (codes "log") [] ≡ None
 unfolding clap_on_literals
 no_log = refl
 
--- what isn't asked for is none of the files that are read
-spared_of_none : (written formula file folder : Option Text) → written ≡ None →
-    SparesRead written formula file folder
-spared_of_none written formula file folder is = (
-  apart_of_none written formula is,
-  apart_of_none written file is,
-  λ in_folder path name one other same. absurd (cc),
-)
-
-no_words_taken : AreTaken []
-no_words_taken = (
-  no_fault,
-  (
-    apart_of_none (map_of []) (record_of []) no_map,
-    spared_of_none (map_of []) (formula_of []) (file_of []) (folder_of []) no_map,
-    spared_of_none (record_of []) (formula_of []) (file_of []) (folder_of []) no_record,
-    apart_of_none (log_of []) (map_of []) no_log,
-    apart_of_none (log_of []) (record_of []) no_log,
-    spared_of_none (log_of []) (formula_of []) (file_of []) (folder_of []) no_log,
-  ),
-)
-
 no_proofs : asked_for (codes "proofs") [] ≡ None
 unfolding clap_on_literals
 no_proofs = refl
@@ -135,6 +123,37 @@ no_file : asked_for (codes "file") [] ≡ None
 unfolding clap_on_literals
 no_file = refl
 
+no_words_asked : asked_of [] ≡ nothing_asked
+no_words_asked = λ i. record {
+  formula = no_formula i;
+  file = no_file i;
+  folder = no_proofs i;
+  picture = no_map i;
+  out = no_record i;
+  log = no_log i;
+}
+
+-- what isn't asked for is none of the files that are read
+spared_of_none : (written : Option Text) → written ≡ None → SparesRead written nothing_asked
+spared_of_none written is = (
+  apart_of_none written None is,
+  apart_of_none written None is,
+  λ in_folder path name one other same. absurd (cc),
+)
+
+nothing_spared : AreSpared nothing_asked
+nothing_spared = (
+  apart_of_none None None refl,
+  spared_of_none None refl,
+  spared_of_none None refl,
+  apart_of_none None None refl,
+  apart_of_none None None refl,
+  spared_of_none None refl,
+)
+
+no_words_taken : AreTaken []
+no_words_taken = (no_fault, subst AreSpared (sym no_words_asked) nothing_spared)
+
 no_words : {A B : Type 0} (f : A → B) (words : List A) → length words ≡ 0 → map f words ≡ []
 no_words f [] none = refl
 no_words f (word ∷ words) none = absurd (cc)
@@ -145,15 +164,9 @@ pub nothing_taken : {A : Type 0} (text : A → Text) (words : List A) → length
 nothing_taken text words none = subst AreTaken (sym (no_words text words none)) no_words_taken
 
 -- no words ask for nothing
-pub nothing_asked : {A : Type 0} (text : A → Text) (words : List A) → length words ≡ 0
-    → (formula_of (map text words) ≡ None) × (file_of (map text words) ≡ None)
-    × (folder_of (map text words) ≡ None)
-nothing_asked text words none = (
-  ap formula_of (no_words text words none) ∙ no_formula,
-  ap file_of (no_words text words none) ∙ no_file,
-  ap folder_of (no_words text words none)
-      ∙ no_proofs,
-)
+pub none_asked : {A : Type 0} (text : A → Text) (words : List A) → length words ≡ 0
+    → asked_of (map text words) ≡ nothing_asked
+none_asked text words none = ap asked_of (no_words text words none) ∙ no_words_asked
 
 -- what the parser's matches read as a number under a name is what the words say
 pub number_asked : (parser : Command) (matches : ArgMatches) (words : List Text) (name : Text)

@@ -3,15 +3,17 @@ use Rattle.std.specs.Prelude.{◌≡◌, ◌<◌, ℕ, Bool, List, ◌++◌, tru
 use Rattle.std.specs.Prelude.{Some}
 use Rattle.std.specs.Io.KnownBytes.{Appends}
 use Rattle.bundle_files.specs.Files.{Held, Gives}
-use Rattle.bundle_files.specs.Formula.{Sources, IsBundleOf, IsFormulaFault}
+use Rattle.bundle_files.specs.Formula.{IsBundleOf, IsFormulaFault}
 use Rattle.cube_report.specs.Case.{CaseOf}
 use Rattle.cube_report.specs.Mark.{Mark}
 use Rattle.cube_report.specs.Picture.{map_text}
 use Rattle.cube_report.specs.declared.fault.Fault.{Fault}
 use Rattle.cube_report.specs.Faults.{IsInputFault, fault_text}
 use Rattle.cube_report.specs.Device.{AppendsBeginning}
-use Rattle.cube_report.specs.Correct.{IsCorrect, IsFaultOn, IsJudged, IsReportOn, IsUnsatisfiable}
-use Rattle.cube_command.specs.Record.{record_text}
+use Rattle.cube_report.specs.Correct.{AllowsReports, IsCorrect, IsFaultOn, IsJudged, IsReportOn}
+use Rattle.cube_report.specs.Correct.{IsUnsatisfiable}
+use Rattle.cube_command.specs.Record.{AllowsRecords, record_text}
+use Rattle.cube_command.specs.Words.{Asked, sources_of}
 
 -- one of the program's statuses
 abbrev pub IsStatus : ℕ → Type 0
@@ -23,43 +25,47 @@ abbrev pub IsMade : Held → Option (List ℕ) → List ℕ → Type 0
 IsMade held None bytes = ⊤
 IsMade held (Some path) bytes = Gives held path (Some bytes)
 
--- The report on the bundle that the words ask for was written, and nothing more; its last line
+-- the bundle that is read for what is asked for, and the one that is judged: with DIR's proofs
+abbrev pub IsBundleFor : Held → Asked → Option (List ℕ) → List ℕ → List ℕ → Type 0
+IsBundleFor held asked input read whole =
+    IsBundleOf held (sources_of asked) asked.folder input read whole
+
+-- The report on the bundle that is asked for was written, and nothing more; its last line
 -- gives this answer, and where it says refuted, the formula of the bundle that was read has no
 -- model. Where a picture is asked for, that of the same case by the same marks was written; where a
 -- record is, that of the bundle that was read and of the very report.
-pub record IsReported (held after : Held) (sources : Sources)
-    (folder map out input old new : Option (List ℕ)) (answer : Bool) : Type 0 where
+pub record IsReported (held after : Held) (asked : Asked) (input old new : Option (List ℕ))
+    (answer : Bool) : Type 0 where
   pub read : List ℕ
   pub whole : List ℕ
-  pub bundle : IsBundleOf held sources folder input read whole
+  pub bundle : IsBundleFor held asked input read whole
   pub text : List ℕ
   pub correct : IsCorrect whole text answer
   pub written : Appends old new text
   pub sound : answer ≡ true → IsUnsatisfiable read
-  pub drawn : IsMade after map (map_text correct.case correct.marks)
-  pub recorded : IsMade after out (record_text read text)
+  pub drawn : IsMade after asked.picture (map_text correct.case correct.marks)
+  pub recorded : IsMade after asked.out (record_text read text)
 
--- the bundle that the words ask for has this fault, its first
-pub record IsBundleRefused (held : Held) (sources : Sources) (folder input : Option (List ℕ))
-    (fault : Fault) : Type 0 where
-  pub read : List ℕ
-  pub whole : List ℕ
-  pub bundle : IsBundleOf held sources folder input read whole
-  pub first : IsFaultOn whole fault
-
--- the bundle that the words ask for has this fault; or the formula's own file has it, or there are
--- clauses that aren't in that file
-abbrev pub IsRefused : Held → Sources → Option (List ℕ) → Option (List ℕ) → Fault → Type 0
-IsRefused held sources folder input fault =
-    IsBundleRefused held sources folder input fault
-    ⊎ IsFormulaFault held sources.formula sources.file input fault
-
--- a beginning of the report on the bundle that the words ask for was written
-pub record IsBegun (held : Held) (sources : Sources) (folder input old new : Option (List ℕ))
+-- the bundle that is asked for has this fault, its first
+pub record IsBundleRefused (held : Held) (asked : Asked) (input : Option (List ℕ)) (fault : Fault)
     : Type 0 where
   pub read : List ℕ
   pub whole : List ℕ
-  pub bundle : IsBundleOf held sources folder input read whole
+  pub bundle : IsBundleFor held asked input read whole
+  pub first : IsFaultOn whole fault
+
+-- the bundle that is asked for has this fault; or the formula's own file has it, or there are
+-- clauses that aren't in that file
+abbrev pub IsRefused : Held → Asked → Option (List ℕ) → Fault → Type 0
+IsRefused held asked input fault =
+    IsBundleRefused held asked input fault
+    ⊎ IsFormulaFault held asked.formula asked.file input fault
+
+-- a beginning of the report on the bundle that is asked for was written
+pub record IsBegun (held : Held) (asked : Asked) (input old new : Option (List ℕ)) : Type 0 where
+  pub read : List ℕ
+  pub whole : List ℕ
+  pub bundle : IsBundleFor held asked input read whole
   pub text : List ℕ
   pub report : IsReportOn whole text
   pub written : AppendsBeginning old new text
@@ -86,10 +92,27 @@ IsPictureOn bundle picture =
 abbrev pub AllowsPictures : (List ℕ → Type 0) → List ℕ → Type 0
 AllowsPictures texts bundle = (picture : List ℕ) → IsPictureOn bundle picture → texts picture
 
+-- these texts have each report on the bundle that is asked for
+abbrev pub AllowsReportsFor : (List ℕ → Type 0) → Held → Asked → Option (List ℕ) → Type 0
+AllowsReportsFor texts held asked input =
+    (read whole : List ℕ) → IsBundleFor held asked input read whole → AllowsReports texts whole
+
+-- where a picture is asked for, its file may have each picture of that bundle
+abbrev pub AllowsPicturesFor : (List ℕ → List ℕ → Type 0) → Held → Asked → Option (List ℕ) →
+    Type 0
+AllowsPicturesFor files held asked input =
+    (path read whole : List ℕ) → asked.picture ≡ Some path →
+    IsBundleFor held asked input read whole → AllowsPictures (files path) whole
+
+-- where a record is asked for, its file may have each record of that bundle
+abbrev pub AllowsRecordsFor : (List ℕ → List ℕ → Type 0) → Held → Asked → Option (List ℕ) → Type 0
+AllowsRecordsFor files held asked input =
+    (path read whole : List ℕ) → asked.out ≡ Some path →
+    IsBundleFor held asked input read whole → AllowsRecords (files path) read whole
+
 -- These texts have the line of each fault that a run may end with: of the faults of an input, that
--- of the bundle that the words ask for.
-abbrev pub AllowsFaults : (List ℕ → Type 0) → Held → Sources → Option (List ℕ) →
-    Option (List ℕ) → Type 0
-AllowsFaults texts held sources folder input =
-    (fault : Fault) → (IsInputFault fault → IsRefused held sources folder input fault)
+-- of the bundle that is asked for.
+abbrev pub AllowsFaults : (List ℕ → Type 0) → Held → Asked → Option (List ℕ) → Type 0
+AllowsFaults texts held asked input =
+    (fault : Fault) → (IsInputFault fault → IsRefused held asked input fault)
     → texts (fault_line fault)

@@ -7,19 +7,19 @@ ghost use Rattle.std.specs.Io.KnownBytes.{Appends, Keeps};
 ghost use Rattle.cube_report.specs.Device.{AppendsBeginning, IsReadFault};
 ghost use Rattle.clap.specs.Words.{kind_of};
 ghost use Rattle.bundle_files.specs.Files.{StaysAllowed};
-ghost use Rattle.bundle_files.specs.Formula.{IsBundleOf, IsOneAbsent};
+ghost use Rattle.bundle_files.specs.Formula.{IsOneAbsent};
 ghost use Rattle.bundle_files.specs.Judging.{IsOutcomeOf, IsRefusedOf, IsJudgingFault};
 ghost use Rattle.bundle_files.specs.Sections.{IsCaseOf};
-ghost use Rattle.cube_report.specs.Correct.{AllowsReports};
 ghost use Rattle.cube_report.specs.Faults.{IsInputFault};
 ghost use Rattle.cube_command.specs.Headline.{IsPublished, IsSound};
-ghost use Rattle.cube_command.specs.Words.{AreApart, AreTaken, file_of, folder_of, map_of};
-ghost use Rattle.cube_command.specs.Words.{formula_of, IsInput, log_of, record_of, sources_of};
-ghost use Rattle.cube_command.specs.Record.{AllowsRecords, record_text};
+ghost use Rattle.cube_command.specs.Words.{AreApart, AreTaken, asked_of, IsElsewhere, IsInput};
+ghost use Rattle.cube_command.specs.Words.{nothing_asked, sources_of};
+ghost use Rattle.cube_command.specs.Record.{record_text};
 ghost use Rattle.cube_command.specs.Program.{IsStatus, IsMade, IsReported, IsRefused, IsBegun};
 ghost use Rattle.cube_command.specs.Program.{IsLineWritten, fault_line, AllowsFaults};
-ghost use Rattle.cube_command.specs.Program.{AllowsPictures};
-ghost use Rattle.cube_command.specs.Inner.Program.{sources_in};
+ghost use Rattle.cube_command.specs.Program.{AllowsPicturesFor, AllowsRecordsFor};
+ghost use Rattle.cube_command.specs.Program.{AllowsReportsFor};
+ghost use Rattle.cube_command.specs.Inner.Words.{asked_in};
 
 use crate::asked::{Telling, asked_in, fault_in};
 use crate::explain::Explain;
@@ -101,57 +101,46 @@ where
 
     // All that is written, also where the call doesn't return. To `output`: the report on the
     // bundle that is judged.
-    requires reports { (read whole : List ℕ)
-        → IsBundleOf (D.held store.old) (sources_of (map S.text words.now))
-        (folder_of (map S.text words.now)) (I.remaining input.old) read whole
-        → AllowsReports (O.allows output.old) whole }
+    requires reports { AllowsReportsFor (O.allows output.old) (D.held store.old)
+        (asked_of (map S.text words.now)) (I.remaining input.old) }
     // To the file for the picture, and to no other: the picture of that bundle.
-    requires pictures { (path read whole : List ℕ) → map_of (map S.text words.now) ≡ Some path
-        → IsBundleOf (D.held store.old) (sources_of (map S.text words.now))
-        (folder_of (map S.text words.now)) (I.remaining input.old) read whole
-        → AllowsPictures (D.allows store.old path) whole }
+    requires pictures { AllowsPicturesFor (D.allows store.old) (D.held store.old)
+        (asked_of (map S.text words.now)) (I.remaining input.old) }
     // To the file for the record, and to no other: the record of that bundle.
-    requires records { (path read whole : List ℕ) → record_of (map S.text words.now) ≡ Some path
-        → IsBundleOf (D.held store.old) (sources_of (map S.text words.now))
-        (folder_of (map S.text words.now)) (I.remaining input.old) read whole
-        → AllowsRecords (D.allows store.old path) read whole }
+    requires records { AllowsRecordsFor (D.allows store.old) (D.held store.old)
+        (asked_of (map S.text words.now)) (I.remaining input.old) }
     // To `errors`: the line of a fault, which is that bundle's where it is one of the input; or the
     // parser's text, which no contract knows, where the words can't be taken.
     requires faults { AllowsFaults (E.allows errors.old) (D.held store.old)
-        (sources_of (map S.text words.now)) (folder_of (map S.text words.now))
-        (I.remaining input.old) }
+        (asked_of (map S.text words.now)) (I.remaining input.old) }
     requires words { ¬ AreTaken (map S.text words.now)
         → (text : List ℕ) → E.allows errors.old text }
 
-    ensures status { IsStatus result }
-
     // Status 0: the formula of the bundle that was read has no model.
-    ensures sound { IsSound result (D.held store.old) (sources_of (map S.text words.now))
+    ensures sound { IsSound result (D.held store.old) (asked_of (map S.text words.now))
         (I.remaining input.old) }
     // With `--formula` the text of that file is a DIMACS text of a formula that has no model.
-    ensures published { IsPublished result (D.held store.old)
-        (formula_of (map S.text words.now)) }
-    // And exactly the report was written, on that bundle with the proofs of DIR: it says refuted.
-    // Status 1: it says open.
+    ensures published { IsPublished result (D.held store.old) (asked_of (map S.text words.now)) }
+
+    ensures status { IsStatus result }
+    // 0: exactly the report was written, on that bundle with the proofs of DIR: it says refuted.
+    // 1: it says open.
     ensures refuted { result ≡ 0 → IsReported (D.held store.old) (D.held store.new)
-        (sources_of (map S.text words.now)) (folder_of (map S.text words.now))
-        (map_of (map S.text words.now)) (record_of (map S.text words.now)) (I.remaining input.old)
+        (asked_of (map S.text words.now)) (I.remaining input.old)
         (O.contents output.old) (O.contents output.new) true }
     ensures open { result ≡ 1 → IsReported (D.held store.old) (D.held store.new)
-        (sources_of (map S.text words.now)) (folder_of (map S.text words.now))
-        (map_of (map S.text words.now)) (record_of (map S.text words.now)) (I.remaining input.old)
+        (asked_of (map S.text words.now)) (I.remaining input.old)
         (O.contents output.old) (O.contents output.new) false }
     // Then nothing is written to `errors`.
     ensures quiet { result < 2 → errors.new ≡ errors.old }
 
     // No file changes but those for the picture and the record, and these only with a report, or
     // with 5.
-    ensures elsewhere { (path : List ℕ) → map_of (map S.text words.now) ≢ Some path
-        → record_of (map S.text words.now) ≢ Some path
+    ensures elsewhere { (path : List ℕ) → IsElsewhere (asked_of (map S.text words.now)) path
         → D.held store.new path ≡ D.held store.old path }
     ensures undrawn { 1 < result → result < 5 → D.held store.new ≡ D.held store.old }
     // And no file changes that is read.
-    ensures kept { (path : List ℕ) → IsInput (map S.text words.now) path
+    ensures kept { (path : List ℕ) → IsInput (asked_of (map S.text words.now)) path
         → D.held store.new path ≡ D.held store.old path }
 
     // With every other status but 5 nothing is written to `output`; with 5 nothing is, or a
@@ -160,9 +149,8 @@ where
         (O.contents output.new) }
     ensures beginning { result ≡ 5 → Keeps (O.contents output.old) (O.contents output.new)
         ⊎ ((O.failures output.old < O.failures output.new)
-        × IsBegun (D.held store.old) (sources_of (map S.text words.now))
-        (folder_of (map S.text words.now))
-        (I.remaining input.old) (O.contents output.old) (O.contents output.new)) }
+        × IsBegun (D.held store.old) (asked_of (map S.text words.now)) (I.remaining input.old)
+        (O.contents output.old) (O.contents output.new)) }
 
     // Status 2: the words can't be taken. They are refused exactly then, unless memory is refused,
     // and nothing is read; no words can be taken.
@@ -170,13 +158,12 @@ where
     ensures unread { result ≡ 2 → (store.new ≡ store.old) × (input.new ≡ input.old) }
     ensures taken { result ≢ 2 → result ≢ 4 → AreTaken (map S.text words.now) }
     ensures none { length words.now ≡ 0 → (result ≢ 2)
-        × (formula_of (map S.text words.now) ≡ None) × (file_of (map S.text words.now) ≡ None)
-        × (folder_of (map S.text words.now) ≡ None) }
+        × (asked_of (map S.text words.now) ≡ nothing_asked) }
     // Status 3: the bundle has a fault, and its first one is told; with `--formula` that file has
     // one, or the other text has clauses.
     ensures fault { result ≡ 3 → (fault : Fault) × IsInputFault fault
-        × IsRefused (D.held store.old) (sources_of (map S.text words.now))
-        (folder_of (map S.text words.now)) (I.remaining input.old) fault
+        × IsRefused (D.held store.old) (asked_of (map S.text words.now)) (I.remaining input.old)
+        fault
         × IsLineWritten (E.contents errors.old) (E.contents errors.new) (E.failures errors.old)
         (E.failures errors.new) (fault_line fault) }
     // Status 4: want of memory or of a thread is told.
@@ -196,8 +183,8 @@ where
     ensures broken { result ≡ 5 →
         (D.failures store.old + I.failures input.old + O.failures output.old
         < D.failures store.new + I.failures input.new + O.failures output.new)
-        ⊎ IsOneAbsent (D.held store.old) (sources_of (map S.text words.now))
-        ⊎ (log_of (map S.text words.now) ≢ None) }
+        ⊎ IsOneAbsent (D.held store.old) (sources_of (asked_of (map S.text words.now)))
+        ⊎ ((asked_of (map S.text words.now)).log ≢ None) }
 {
     match request_of(rt.alloc(), words) {
         Ok(request) => {
@@ -260,52 +247,36 @@ where
     requires store { D.failures store.old < 2 ^ 64 - 1 }
     requires input { I.failures input.old < 2 ^ 64 - 1 }
     requires output { O.failures output.old < 2 ^ 64 - 1 }
-    requires reports { (read whole : List ℕ)
-        → IsBundleOf (D.held store.old) (sources_in request.now)
-        (option_map (λ text. text.now) request.now.proofs) (I.remaining input.old) read whole
-        → AllowsReports (O.allows output.old) whole }
-    requires pictures { (path read whole : List ℕ)
-        → option_map (λ text. text.now) request.now.map ≡ Some path
-        → IsBundleOf (D.held store.old) (sources_in request.now)
-        (option_map (λ text. text.now) request.now.proofs) (I.remaining input.old) read whole
-        → AllowsPictures (D.allows store.old path) whole }
-    requires records { (path read whole : List ℕ)
-        → option_map (λ text. text.now) request.now.out ≡ Some path
-        → IsBundleOf (D.held store.old) (sources_in request.now)
-        (option_map (λ text. text.now) request.now.proofs) (I.remaining input.old) read whole
-        → AllowsRecords (D.allows store.old path) read whole }
-    requires apart { AreApart (option_map (λ text. text.now) request.now.map)
-        (option_map (λ text. text.now) request.now.out) }
+    requires reports { AllowsReportsFor (O.allows output.old) (D.held store.old)
+        (asked_in request.now) (I.remaining input.old) }
+    requires pictures { AllowsPicturesFor (D.allows store.old) (D.held store.old)
+        (asked_in request.now) (I.remaining input.old) }
+    requires records { AllowsRecordsFor (D.allows store.old) (D.held store.old)
+        (asked_in request.now) (I.remaining input.old) }
+    requires apart { AreApart (asked_in request.now).picture (asked_in request.now).out }
     ensures report { IfOk result
-        (IsReported (D.held store.old) (D.held store.new)
-        (sources_in request.now)
-        (option_map (λ text. text.now) request.now.proofs)
-        (option_map (λ text. text.now) request.now.map)
-        (option_map (λ text. text.now) request.now.out) (I.remaining input.old)
-        (O.contents output.old) (O.contents output.new)) }
-    ensures elsewhere { (path : List ℕ) → option_map (λ text. text.now) request.now.map ≢ Some path
-        → option_map (λ text. text.now) request.now.out ≢ Some path
+        (IsReported (D.held store.old) (D.held store.new) (asked_in request.now)
+        (I.remaining input.old) (O.contents output.old) (O.contents output.new)) }
+    ensures elsewhere { (path : List ℕ) → IsElsewhere (asked_in request.now) path
         → D.held store.new path ≡ D.held store.old path }
     ensures undrawn { IfErr result
         (λ fault. fault ≢ Fault.Device → D.held store.new ≡ D.held store.old) }
     ensures fault { IfErr result
-        (λ fault. IsInputFault fault → IsRefused (D.held store.old)
-        (sources_in request.now)
-        (option_map (λ text. text.now) request.now.proofs) (I.remaining input.old) fault) }
+        (λ fault. IsInputFault fault → IsRefused (D.held store.old) (asked_in request.now)
+        (I.remaining input.old) fault) }
     ensures nothing { IfErr result
         (λ fault. fault ≢ Fault.Device → Keeps (O.contents output.old) (O.contents output.new)) }
     ensures beginning { OnErr result (Keeps (O.contents output.old) (O.contents output.new)
         ⊎ ((O.failures output.old < O.failures output.new)
-        × IsBegun (D.held store.old) (sources_in request.now)
-        (option_map (λ text. text.now) request.now.proofs)
-        (I.remaining input.old) (O.contents output.old) (O.contents output.new))) }
+        × IsBegun (D.held store.old) (asked_in request.now) (I.remaining input.old)
+        (O.contents output.old) (O.contents output.new))) }
     ensures failed { D.failures store.old + I.failures input.old + O.failures output.old
         < D.failures store.new + I.failures input.new + O.failures output.new
         → IsErrOf result Fault.Device }
     ensures broken { IsErrOf result Fault.Device →
         (D.failures store.old + I.failures input.old + O.failures output.old
         < D.failures store.new + I.failures input.new + O.failures output.new)
-        ⊎ IsOneAbsent (D.held store.old) (sources_in request.now)
+        ⊎ IsOneAbsent (D.held store.old) (sources_of (asked_in request.now))
         ⊎ (gates.now.logged ≢ None) }
 {
     gates.begins_log()?;
@@ -351,17 +322,17 @@ where
     ensures held { D.held store.new ≡ D.held store.old }
     ensures allowed { StaysAllowed (D.allows store.old) (D.allows store.new) }
     ensures outcome { IfOk result (λ made. IsOutcomeOf (D.held store.old)
-        (option_map (λ text. text.now) request.now.proofs) read.bundle.items draws
+        (asked_in request.now).folder read.bundle.items draws
         made.outcome.text.items made.outcome.map.items made.outcome.refuted) }
     ensures record { IfOk result (λ made. (path : List ℕ)
-        → option_map (λ text. text.now) request.now.out ≡ Some path
+        → (asked_in request.now).out ≡ Some path
         → made.record.items ≡ record_text read.bundle.items made.outcome.text.items) }
     ensures fault { IfErr result (λ fault. IsInputFault fault → IsRefusedOf (D.held store.old)
-        (option_map (λ text. text.now) request.now.proofs) read.bundle.items fault) }
+        (asked_in request.now).folder read.bundle.items fault) }
     ensures ok { OnOk result (D.failures store.new ≡ D.failures store.old) }
     ensures err { IfErr result (IsJudgingFault (D.failures store.old) (D.failures store.new)) }
 {
-    let mut record = begin_record(rt.alloc(), request.out, &read.bundle)?;
+    let mut made = begin_record(rt.alloc(), request.out, &read.bundle)?;
     let outcome = judge_given(
         rt,
         store,
@@ -371,8 +342,11 @@ where
         gate,
         draws,
     )?;
-    end_record(&mut record, request.out, &outcome.text)?;
-    Ok(Recorded { outcome, record })
+    end_record(&mut made, request.out, &outcome.text)?;
+    Ok(Recorded {
+        outcome,
+        record: made,
+    })
 }
 
 /// Writes the picture and the record, where files for them are asked for, and then the report.
@@ -386,18 +360,16 @@ fn write_outcome<D: Store, O: Sink>(
     requires store { D.failures store.old < 2 ^ 64 - 1 }
     requires output { O.failures output.old < 2 ^ 64 - 1 }
     requires report { O.allows output.old outcome.now.text.items }
-    requires picture { (path : List ℕ) → option_map (λ path. path.now) request.now.map ≡ Some path
+    requires picture { (path : List ℕ) → (asked_in request.now).picture ≡ Some path
         → D.allows store.old path outcome.now.map.items }
-    requires recorded { (path : List ℕ) → option_map (λ path. path.now) request.now.out ≡ Some path
+    requires recorded { (path : List ℕ) → (asked_in request.now).out ≡ Some path
         → D.allows store.old path made.now }
-    requires apart { AreApart (option_map (λ path. path.now) request.now.map)
-        (option_map (λ path. path.now) request.now.out) }
-    ensures drawn { OnOk result (IsMade (D.held store.new)
-        (option_map (λ path. path.now) request.now.map) outcome.now.map.items) }
-    ensures recorded { OnOk result (IsMade (D.held store.new)
-        (option_map (λ path. path.now) request.now.out) made.now) }
-    ensures elsewhere { (path : List ℕ) → option_map (λ path. path.now) request.now.map ≢ Some path
-        → option_map (λ path. path.now) request.now.out ≢ Some path
+    requires apart { AreApart (asked_in request.now).picture (asked_in request.now).out }
+    ensures drawn { OnOk result (IsMade (D.held store.new) (asked_in request.now).picture
+        outcome.now.map.items) }
+    ensures recorded { OnOk result (IsMade (D.held store.new) (asked_in request.now).out
+        made.now) }
+    ensures elsewhere { (path : List ℕ) → IsElsewhere (asked_in request.now) path
         → D.held store.new path ≡ D.held store.old path }
     ensures undrawn { IfErr result
         (λ fault. fault ≢ Fault.Device → D.held store.new ≡ D.held store.old) }

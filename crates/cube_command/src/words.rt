@@ -4,18 +4,14 @@ ghost use Rattle.std.specs.Prelude.{◌≡◌, ◌≢◌, ◌<◌, ◌≤◌, �
 ghost use Rattle.std.specs.Prelude.{map};
 ghost use Rattle.std.specs.Prelude.{codes, option_map, IfOk, IfErr, IfSome, IsTrue, ◌↔◌};
 ghost use Rattle.std.specs.Prelude.{MatchOption};
-ghost use Rattle.clap.specs.Words.{app_of, first_value, found_of, kind_of, new_app, one_text};
-ghost use Rattle.clap.specs.Words.{rule_of};
+ghost use Rattle.clap.specs.Words.{app_of, found_of, kind_of, new_app, one_text, rule_of};
 ghost use Rattle.bundle_files.specs.Files.{proof_path};
-ghost use Rattle.cube_command.specs.Words.{AreApart, AreSpared, AreTaken, asked_for, cut_word};
-ghost use Rattle.cube_command.specs.Words.{explain_word, file_word, formula_word, IsNoProof};
-ghost use Rattle.cube_command.specs.Words.{SparesRead};
-ghost use Rattle.cube_command.specs.Words.{log_word, map_word, progress_word, proofs_word};
-ghost use Rattle.cube_command.specs.Words.{record_word};
+ghost use Rattle.cube_command.specs.Words.{AreApart, AreSpared, AreTaken, asked_of, cut_word};
+ghost use Rattle.cube_command.specs.Words.{file_word, flag_word, IsNoProof, path_word, SparesRead};
 ghost use Rattle.cube_command.specs.Words.{with_version, words_taken, workers_word};
-ghost use Rattle.cube_command.specs.Inner.Words.{flag_text, with_flags, with_inputs, with_numbers};
-ghost use Rattle.cube_command.specs.Inner.Words.{with_outputs, with_results, Reads};
-ghost use Rattle.cube_command.specs.Inner.Words.{SaysFlag, SaysNumber};
+ghost use Rattle.cube_command.specs.Inner.Words.{asked_found, asked_in, flag_text, with_flags};
+ghost use Rattle.cube_command.specs.Inner.Words.{with_inputs, with_numbers, with_outputs};
+ghost use Rattle.cube_command.specs.Inner.Words.{with_results, Reads, SaysFlag, SaysNumber};
 
 use clap::builder::ValueParser;
 use clap::error::ErrorKind;
@@ -78,24 +74,8 @@ Example: printf 'p inccnf\\n1 0\\n-1 0\\na 0\\nl 1\\n3 0 1 2 0\\n' | cubeboard";
 /// or the version where that is asked for.
 pub fn request_of<'a, S: AsStr>(alloc: Global, words: &'a [S]) -> Result<Request<'a>, Error>
     // The request is what the words say.
-    ensures formula { IfOk result
-        (λ request. option_map (λ text. text.now) request.formula ≡ asked_for (codes "formula")
-        (map S.text words.now)) }
-    ensures proofs { IfOk result
-        (λ request. option_map (λ text. text.now) request.proofs ≡ asked_for (codes "proofs")
-        (map S.text words.now)) }
-    ensures file { IfOk result
-        (λ request. option_map (λ text. text.now) request.file ≡ asked_for (codes "file")
-        (map S.text words.now)) }
-    ensures map { IfOk result
-        (λ request. option_map (λ text. text.now) request.map ≡ asked_for (codes "map")
-        (map S.text words.now)) }
-    ensures out { IfOk result
-        (λ request. option_map (λ text. text.now) request.out ≡ asked_for (codes "record")
-        (map S.text words.now)) }
-    ensures log { IfOk result
-        (λ request. option_map (λ text. text.now) request.log ≡ asked_for (codes "log")
-        (map S.text words.now)) }
+    ensures asked { IfOk result
+        (λ request. asked_in request ≡ asked_of (map S.text words.now)) }
     ensures settings { IfOk result (λ request. (workers cut : ℕ)
         → SaysNumber (codes "workers") (map S.text words.now) workers → 0 < workers → workers ≤ 32
         → SaysNumber (codes "cut") (map S.text words.now) cut → cut ≤ 6
@@ -119,18 +99,7 @@ pub fn request_of<'a, S: AsStr>(alloc: Global, words: &'a [S]) -> Result<Request
 
 /// The request that was matched.
 fn request_in<'a>(matches: &ArgMatches<'a>) -> Request<'a>
-    ensures formula { option_map (λ text. text.now) result.formula
-        ≡ first_value (found_of matches.now) (codes "formula") }
-    ensures proofs { option_map (λ text. text.now) result.proofs
-        ≡ first_value (found_of matches.now) (codes "proofs") }
-    ensures file { option_map (λ text. text.now) result.file
-        ≡ first_value (found_of matches.now) (codes "file") }
-    ensures map { option_map (λ text. text.now) result.map
-        ≡ first_value (found_of matches.now) (codes "map") }
-    ensures out { option_map (λ text. text.now) result.out
-        ≡ first_value (found_of matches.now) (codes "record") }
-    ensures log { option_map (λ text. text.now) result.log
-        ≡ first_value (found_of matches.now) (codes "log") }
+    ensures asked { asked_in result ≡ asked_found (found_of matches.now) }
     ensures settings { (workers cut : ℕ)
         → Reads (one_text (found_of matches.now) (codes "workers")) workers → 0 < workers
         → workers ≤ 32
@@ -158,18 +127,8 @@ fn request_in<'a>(matches: &ArgMatches<'a>) -> Request<'a>
 
 /// Why the picture, the record and the log can't be written where the request says, if they can't.
 fn clash_in(request: &Request<'_>) -> Option<&'static str>
-    ensures none { result ≡ None → AreSpared (option_map (λ path. path.now) request.now.map)
-        (option_map (λ path. path.now) request.now.out)
-        (option_map (λ path. path.now) request.now.log)
-        (option_map (λ path. path.now) request.now.formula)
-        (option_map (λ path. path.now) request.now.file)
-        (option_map (λ path. path.now) request.now.proofs) }
-    ensures some { IfSome result (λ _. ¬ AreSpared (option_map (λ path. path.now) request.now.map)
-        (option_map (λ path. path.now) request.now.out)
-        (option_map (λ path. path.now) request.now.log)
-        (option_map (λ path. path.now) request.now.formula)
-        (option_map (λ path. path.now) request.now.file)
-        (option_map (λ path. path.now) request.now.proofs)) }
+    ensures none { result ≡ None → AreSpared (asked_in request.now) }
+    ensures some { IfSome result (λ _. ¬ AreSpared (asked_in request.now)) }
 {
     if !are_apart(request.map, request.out) {
         return Some("'--map' and '--record' can't name the same file");
@@ -195,9 +154,7 @@ fn clash_in(request: &Request<'_>) -> Option<&'static str>
 /// Whether the file that is written, where one is asked for, is none of those that are read.
 fn spares_read(written: Option<&str>, request: &Request<'_>) -> bool
     ensures { IsTrue result ↔ SparesRead (option_map (λ path. path.now) written.entry)
-        (option_map (λ path. path.now) request.now.formula)
-        (option_map (λ path. path.now) request.now.file)
-        (option_map (λ path. path.now) request.now.proofs) }
+        (asked_in request.now) }
 {
     if !are_apart(written, request.formula) {
         return false;
@@ -309,14 +266,31 @@ fn parser<'a>(alloc: Global) -> Result<Command<'a>, AllocError>
 fn outputs<'a>(alloc: Global) -> Result<Command<'a>, AllocError>
     ensures { IfOk result (λ parser. app_of parser ≡ with_outputs) }
 {
-    results(alloc)?.arg(log_word(alloc))
+    results(alloc)?.arg(path_word(
+        alloc,
+        "log",
+        "LOG",
+        "A file for a line of each proof as it is judged, made anew",
+    ))
 }
 
 /// A parser that also takes the files for the picture and the record.
 fn results<'a>(alloc: Global) -> Result<Command<'a>, AllocError>
     ensures { IfOk result (λ parser. app_of parser ≡ with_results) }
 {
-    flags(alloc)?.arg(map_word(alloc))?.arg(record_word(alloc))
+    flags(alloc)?
+        .arg(path_word(
+            alloc,
+            "map",
+            "SVG",
+            "A file for a picture of the tree, which is made anew",
+        ))?
+        .arg(path_word(
+            alloc,
+            "record",
+            "OUT",
+            "A file for the report under the SHA-256 of the formula's text, made anew",
+        ))
 }
 
 /// A parser that also takes what is told beside the report.
@@ -324,8 +298,16 @@ fn flags<'a>(alloc: Global) -> Result<Command<'a>, AllocError>
     ensures { IfOk result (λ parser. app_of parser ≡ with_flags) }
 {
     inputs(alloc)?
-        .arg(progress_word(alloc))?
-        .arg(explain_word(alloc))
+        .arg(flag_word(
+            alloc,
+            "progress",
+            "Tells on standard error how far the run is, once a second",
+        ))?
+        .arg(flag_word(
+            alloc,
+            "explain",
+            "Tells on standard error what was read, and why a proof or the input is refused",
+        ))
 }
 
 /// A parser that also takes the formula's file and the folder of proofs.
@@ -333,8 +315,13 @@ fn inputs<'a>(alloc: Global) -> Result<Command<'a>, AllocError>
     ensures { IfOk result (λ parser. app_of parser ≡ with_inputs) }
 {
     numbers(alloc)?
-        .arg(formula_word(alloc))?
-        .arg(proofs_word(alloc))
+        .arg(path_word(
+            alloc,
+            "formula",
+            "CNF",
+            "A DIMACS file with the formula; FILE then has the cubes",
+        ))?
+        .arg(path_word(alloc, "proofs", "DIR", "A folder with the proofs of leaves"))
 }
 
 /// A parser that takes the numbers of workers and of the cut.
@@ -381,86 +368,27 @@ fn cut_word<'a>(alloc: Global) -> Arg<'a>
         .help("The depth at which the tree is cut into parts, from 0 to 6")
 }
 
-/// The formula's own file.
-fn formula_word<'a>(alloc: Global) -> Arg<'a>
-    ensures rule { rule_of result ≡ formula_word }
+/// A word with a path, which isn't empty.
+fn path_word<'a>(alloc: Global, name: &'a str, value: &'a str, help: &'a str) -> Arg<'a>
+    ensures rule { rule_of result ≡ path_word name.entry.now }
     ensures own { result.global ≡ false }
 {
-    Arg::new(alloc, "formula")
-        .long("formula")
-        .value_name("CNF")
+    Arg::new(alloc, name)
+        .long(name)
+        .value_name(value)
         .value_parser(ValueParser::NonEmptyString)
-        .help("A DIMACS file with the formula; FILE then has the cubes")
+        .help(help)
 }
 
-/// The folder of proofs.
-fn proofs_word<'a>(alloc: Global) -> Arg<'a>
-    ensures rule { rule_of result ≡ proofs_word }
+/// A word without a value.
+fn flag_word<'a>(alloc: Global, name: &'a str, help: &'a str) -> Arg<'a>
+    ensures rule { rule_of result ≡ flag_word name.entry.now }
     ensures own { result.global ≡ false }
 {
-    Arg::new(alloc, "proofs")
-        .long("proofs")
-        .value_name("DIR")
-        .value_parser(ValueParser::NonEmptyString)
-        .help("A folder with the proofs of leaves")
-}
-
-/// Whether it is told how far the run is.
-fn progress_word<'a>(alloc: Global) -> Arg<'a>
-    ensures rule { rule_of result ≡ progress_word }
-    ensures own { result.global ≡ false }
-{
-    Arg::new(alloc, "progress")
-        .long("progress")
+    Arg::new(alloc, name)
+        .long(name)
         .action(ArgAction::SetTrue)
-        .help("Tells on standard error how far the run is, once a second")
-}
-
-/// Whether it is told what was read, and where faults and rejections come from.
-fn explain_word<'a>(alloc: Global) -> Arg<'a>
-    ensures rule { rule_of result ≡ explain_word }
-    ensures own { result.global ≡ false }
-{
-    Arg::new(alloc, "explain")
-        .long("explain")
-        .action(ArgAction::SetTrue)
-        .help("Tells on standard error what was read, and why a proof or the input is refused")
-}
-
-/// The file for the picture.
-fn map_word<'a>(alloc: Global) -> Arg<'a>
-    ensures rule { rule_of result ≡ map_word }
-    ensures own { result.global ≡ false }
-{
-    Arg::new(alloc, "map")
-        .long("map")
-        .value_name("SVG")
-        .value_parser(ValueParser::NonEmptyString)
-        .help("A file for a picture of the tree, which is made anew")
-}
-
-/// The file for the record.
-fn record_word<'a>(alloc: Global) -> Arg<'a>
-    ensures rule { rule_of result ≡ record_word }
-    ensures own { result.global ≡ false }
-{
-    Arg::new(alloc, "record")
-        .long("record")
-        .value_name("OUT")
-        .value_parser(ValueParser::NonEmptyString)
-        .help("A file for the report under the SHA-256 of the formula's text, made anew")
-}
-
-/// The file for the log.
-fn log_word<'a>(alloc: Global) -> Arg<'a>
-    ensures rule { rule_of result ≡ log_word }
-    ensures own { result.global ≡ false }
-{
-    Arg::new(alloc, "log")
-        .long("log")
-        .value_name("LOG")
-        .value_parser(ValueParser::NonEmptyString)
-        .help("A file for a line of each proof as it is judged, made anew")
+        .help(help)
 }
 
 /// The bundle's file.

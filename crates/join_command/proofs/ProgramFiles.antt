@@ -22,8 +22,9 @@ use Rattle.join_command.specs.Words.{Asked, sources_of}
 use Rattle.join_command.specs.Program.{AreFiles, AreRead, IsJoinBegun, IsJoinOf, IsJoinWritten}
 use Rattle.join_command.specs.Program.{IsStrangerAt, behind_each, line_before}
 use Rattle.cube_report.specs.Device.{AppendsBeginning}
-use Rattle.join_command.specs.Inner.Files.{IsUnjoined, IsUnreadBundle, IsUnwritten}
+use Rattle.join_command.specs.Inner.Files.{AreNotAdded, IsUnjoined, IsUnreadBundle, IsUnwritten}
 use Rattle.cube_report.specs.declared.fault.Fault.{Fault}
+use Rattle.cube_report.specs.declared.fault.Fault.TheVariants.{Memory}
 use Rattle.join_command.proofs.RecordsTold.{reports_told}
 use Rattle.join_command.proofs.WordsRequests.{handed_on}
 
@@ -64,6 +65,40 @@ pub bundle_fault : {T : Type 0} (held : Held) (bundle front : List ℕ) (paths :
 bundle_fault held bundle front paths count kind result first is =
     handed_on result (IsUnjoined held bundle front paths count count) (Run (fault_of_case kind))
     (fault_of held bundle front paths count kind first) is
+
+-- why the records of the bundle's case weren't joined is why none were on the bundle
+unjoined : (held : Held) (bundle front : List ℕ) (paths : List (List ℕ)) (before after : ℕ)
+    (case : CaseOf) (tree : SplitTree) (fault : JoinFault) → IsCaseOf bundle case →
+    tree ≡ case.tree → AreNotAdded held front tree paths before after fault →
+    IsUnjoined held bundle front paths before after fault
+unjoined held bundle front paths before after case tree (Run fault) is same added = inr added
+unjoined held bundle front paths before after case tree (Stranger number) is same added = (
+  added.0,
+  (
+    case,
+    is,
+    subst (λ (x : SplitTree). IsStrangerAt held front x paths number) same added.1,
+  ),
+)
+
+pub records_fault : {T : Type 0} (held : Held) (bundle front : List ℕ) (paths : List (List ℕ))
+    (before after : ℕ) (case : CaseOf) (tree : SplitTree) (fault : JoinFault)
+    (result : Result T JoinFault) → IsCaseOf bundle case → tree ≡ case.tree →
+    AreNotAdded held front tree paths before after fault →
+    IsErrAnd result (λ told. told ≡ fault) →
+    IfErr result (IsUnjoined held bundle front paths before after)
+records_fault held bundle front paths before after case tree fault result is same added told =
+    handed_on result (IsUnjoined held bundle front paths before after) fault
+    (unjoined held bundle front paths before after case tree fault is same added) told
+
+-- so is want of memory for the report
+pub memory_fault : {T : Type 0} (held : Held) (bundle front : List ℕ) (paths : List (List ℕ))
+    (before after : ℕ) (result : Result T JoinFault) → after ≡ before →
+    IsErrAnd result (λ told. told ≡ Run Memory) →
+    IfErr result (IsUnjoined held bundle front paths before after)
+memory_fault held bundle front paths before after result same told =
+    handed_on result (IsUnjoined held bundle front paths before after) (Run Memory)
+    (inr (inl (refl, same))) told
 
 -- the joined report, on the bundle's case
 pub joined_on : (held : Held) (paths : List (List ℕ)) (line bundle : List ℕ) (case : CaseOf)

@@ -17,9 +17,9 @@ use Rattle.cube_report.specs.Mark.{Mark}
 use Rattle.cube_report.specs.Report.{report_text}
 use Rattle.bundle_files.specs.Files.{Held}
 use Rattle.bundle_files.proofs.FilesFormula.{judged_keeps_items}
-use Rattle.bundle_files.specs.Formula.{Sources}
 use Rattle.cube_command.specs.Program.{IsReported}
 use Rattle.cube_command.specs.Record.{digest_line, record_text}
+use Rattle.cube_command.specs.Words.{Asked}
 use Rattle.cube_command.proofs.RecordLines.{one_line}
 use Rattle.cube_join.specs.Joined.{AreReportsWith, IsReportWith}
 use Rattle.join_command.specs.Program.{AreTrusted, IsLeftBy, IsOwnRecord, behind_each, line_before}
@@ -85,14 +85,13 @@ reports_told false bundle texts reports case is parts are =
 
 -- ---- a run that leaves a record
 
-pub left_by_run : (held after : Held) (sources : Sources)
-    (folder map out input old new : Option (List ℕ)) (answer : Bool)
-    (run : IsReported held after sources folder map out input old new answer) →
+pub left_by_run : (held after : Held) (asked : Asked) (input old new : Option (List ℕ))
+    (answer : Bool) (run : IsReported held after asked input old new answer) →
     IsLeftBy run.read (record_text run.read run.text)
-left_by_run held after sources folder map out input old new answer run =
+left_by_run held after asked input old new answer run =
     let correct = run.correct in record {
       held = held;
-      folder = folder;
+      folder = asked.folder;
       whole = run.whole;
       judged = run.bundle.is_judged;
       left = (run.text, (correct.case, correct.marks, correct.judged, correct.text), refl);

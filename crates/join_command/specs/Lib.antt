@@ -1,3 +1,4 @@
+pub mod Headline
 pub mod Words
 pub mod Program
 pub mod Inner

@@ -5,14 +5,9 @@ use Rattle.std.specs.Str.{bytes_eq}
 use Rattle.clap.specs.Lexer.{usize_max}
 use Rattle.clap.specs.Words.{App, Rule, Text, all_of, fault_of, first_of, matches_of, new_app}
 use Rattle.clap.specs.Words.{new_rule, with_rule}
-use Rattle.clap.specs.declared.builder.action.ArgAction.TheVariants.{Append, SetTrue}
+use Rattle.clap.specs.declared.builder.action.ArgAction.TheVariants.{Append}
 use Rattle.bundle_files.specs.Formula.{Sources, sources_by}
-use Rattle.cube_command.specs.Words.{formula_word}
-
--- `--unbound`, without a value
-abbrev pub unbound_word : Rule
-unbound_word =
-    record (new_rule (codes "unbound")) { long = Some (codes "unbound"); action = Some SetTrue }
+use Rattle.cube_command.specs.Words.{flag_word, path_word, with_version}
 
 -- one text without a name, which has to be there
 abbrev pub file_word : Rule
@@ -27,15 +22,11 @@ records_word = record (new_rule (codes "records")) {
   range = Some (record { start_inclusive = 1; end_inclusive = usize_max });
 }
 
--- the words come without the program's name, and `--version` may be among them
-abbrev pub with_version : App → App
-with_version parser =
-    record parser { top = record parser.top { no_binary_name = true; has_version = true } }
-
+-- the words of `cubejoin`
 abbrev pub words_taken : App
 words_taken =
     with_rule (with_rule (with_rule (with_rule (with_version (new_app (codes "cubejoin")))
-    formula_word) unbound_word) file_word) records_word
+    (path_word (codes "formula"))) (flag_word (codes "unbound"))) file_word) records_word
 
 -- these words fit that: `clap` finds no fault in them, and they ask for neither help nor the
 -- version

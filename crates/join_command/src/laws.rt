@@ -4,18 +4,17 @@ ghost use Rattle.std.specs.Prelude.{◌≡◌, Bool, ℕ, List, Option};
 ghost use Rattle.case_core.specs.Case.{CaseOf};
 ghost use Rattle.case_core.specs.Sections.{IsCaseOf};
 ghost use Rattle.bundle_files.specs.Files.{Held};
-ghost use Rattle.bundle_files.specs.Formula.{Sources};
 ghost use Rattle.cube_command.specs.Program.{IsReported};
 ghost use Rattle.cube_command.specs.Record.{record_text};
+ghost use Rattle.cube_command.specs.Words.{Asked};
 ghost use Rattle.cube_join.specs.Joined.{AreReportsWith};
 ghost use Rattle.join_command.specs.Program.{AreTrusted, IsLeftBy, behind_each, line_before};
 
 /// A run of `cubeboard` that was asked for a record leaves one that may be trusted: the line and
 /// the report of which its contract says that they lie at the path of `--record`.
 pub fn a_run_leaves_its_record()
-    ensures { (held after : Held) (sources : Sources)
-        (folder map out input old new : Option (List ℕ)) (answer : Bool)
-        (run : IsReported held after sources folder map out input old new answer)
+    ensures { (held after : Held) (asked : Asked) (input old new : Option (List ℕ))
+        (answer : Bool) (run : IsReported held after asked input old new answer)
         → IsLeftBy run.read (record_text run.read run.text) }
 {}
 

@@ -1,19 +1,15 @@
 //! The program: from its words and its streams to its status.
 
 ghost use Rattle.std.specs.Prelude.{◌≡◌, ◌≢◌, ◌⊎◌, ◌<◌, ◌+◌, ◌^◌, ◌-◌, List, ℕ, map, true, false};
-ghost use Rattle.std.specs.Prelude.{IfOk, IfErr, IfSome, OnOk, OnErr, Some};
+ghost use Rattle.std.specs.Prelude.{IfOk, IfErr, OnOk, OnErr};
 ghost use Rattle.std.specs.Io.KnownBytes.{Keeps};
 ghost use Rattle.clap.specs.Words.{kind_of};
 ghost use Rattle.cube_report.specs.declared.fault.Fault.TheVariants.{Memory, Device};
-ghost use Rattle.cube_report.specs.Correct.{IsUnsatisfiable};
-ghost use Rattle.cube_report.specs.Dimacs.{IsDimacs};
-ghost use Rattle.cube_report.specs.Formula.{HasNoModel};
-ghost use Rattle.cube_report.specs.Literal.{Literal};
-ghost use Rattle.bundle_files.specs.Files.{Gives};
 ghost use Rattle.cube_join.specs.Joined.{IsJoined};
 ghost use Rattle.cube_command.specs.Program.{IsLineWritten, IsStatus};
 ghost use Rattle.join_command.specs.Words.{AreTaken, asked_of};
-ghost use Rattle.join_command.specs.Program.{AllowsJoinFaults, AreFiles, AreRead, AreTrusted};
+ghost use Rattle.join_command.specs.Headline.{IsPublishedJoin, IsSoundJoin};
+ghost use Rattle.join_command.specs.Program.{AllowsJoinFaults, AreFiles, AreRead};
 ghost use Rattle.join_command.specs.Program.{IsAskedAbsent, IsJoinBegun, IsJoinOn, IsJoinWritten};
 ghost use Rattle.join_command.specs.Program.{IsReadingFault, IsRefused, behind_each};
 ghost use Rattle.join_command.specs.Program.{join_fault_line};
@@ -77,25 +73,17 @@ where
     requires words { ¬ AreTaken (map S.text words.now)
         → (text : List ℕ) → E.allows errors.old text }
 
-    ensures status { IsStatus result }
-
     // Status 0: where the RECORDs that were read are what is taken for granted, that `cubeboard`
     // wrote them and that no digest collides, or with `--unbound` that they are reports on the
     // bundle's formula and cubes, the formula of the bundle that was read has no model.
-    ensures sound { result ≡ 0 → (bundle : List ℕ) × (texts : List (List ℕ))
-        × AreRead (D.held store.old) (asked_of (map S.text words.now)) bundle texts
-        × (AreTrusted (asked_of (map S.text words.now)).unbound bundle texts
-        → IsUnsatisfiable bundle) }
+    ensures sound { IsSoundJoin result (D.held store.old) (asked_of (map S.text words.now)) }
     // With `--formula` the text of that file is a DIMACS text of a formula that by the same premise
     // has no model.
-    ensures published { result ≡ 0 → IfSome (asked_of (map S.text words.now)).formula (λ path.
-        (bundle : List ℕ) × (texts : List (List ℕ))
-        × AreRead (D.held store.old) (asked_of (map S.text words.now)) bundle texts
-        × (text : List ℕ) × Gives (D.held store.old) path (Some text)
-        × (formula : List (List Literal)) × IsDimacs text formula
-        × (AreTrusted (asked_of (map S.text words.now)).unbound bundle texts
-        → HasNoModel formula)) }
-    // And exactly the joined report was written: it says refuted. Status 1: it says open.
+    ensures published { IsPublishedJoin result (D.held store.old)
+        (asked_of (map S.text words.now)) }
+
+    ensures status { IsStatus result }
+    // 0: exactly the joined report was written, and it says refuted. 1: it says open.
     ensures refuted { result ≡ 0 → IsJoinWritten (D.held store.old)
         (asked_of (map S.text words.now)) (O.contents output.old) (O.contents output.new) true }
     ensures open { result ≡ 1 → IsJoinWritten (D.held store.old)

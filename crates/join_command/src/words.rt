@@ -2,9 +2,9 @@
 
 ghost use Rattle.std.specs.Prelude.{◌≡◌, false, map, option_map, codes, IfOk, IfErr};
 ghost use Rattle.clap.specs.Words.{app_of, found_of, kind_of, new_app, rule_of};
-ghost use Rattle.cube_command.specs.Words.{formula_word};
+ghost use Rattle.cube_command.specs.Words.{flag_word, path_word, with_version};
 ghost use Rattle.join_command.specs.Words.{AreTaken, asked_of, file_word, is_given, records_word};
-ghost use Rattle.join_command.specs.Words.{unbound_word, with_version, words_taken};
+ghost use Rattle.join_command.specs.Words.{words_taken};
 ghost use Rattle.join_command.specs.Inner.Words.{asked_in, records_found};
 
 use clap::builder::ValueParser;
@@ -110,7 +110,7 @@ fn texts<'a>(alloc: Global) -> Command<'a>
 
 /// The formula's own file.
 fn formula_word<'a>(alloc: Global) -> Arg<'a>
-    ensures rule { rule_of result ≡ formula_word }
+    ensures rule { rule_of result ≡ path_word (codes "formula") }
     ensures own { result.global ≡ false }
 {
     Arg::new(alloc, "formula")
@@ -122,7 +122,7 @@ fn formula_word<'a>(alloc: Global) -> Arg<'a>
 
 /// Whether the records are plain reports.
 fn unbound_word<'a>(alloc: Global) -> Arg<'a>
-    ensures rule { rule_of result ≡ unbound_word }
+    ensures rule { rule_of result ≡ flag_word (codes "unbound") }
     ensures own { result.global ≡ false }
 {
     Arg::new(alloc, "unbound")

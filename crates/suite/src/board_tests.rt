@@ -163,11 +163,16 @@ fn posted_and_stored(
     Some(seen_again(board, became))
 }
 
-/// Posts findings on a new top board, as on a part's.
+/// Posts findings on a new top board of a case, as on a part's.
+fn posted_above(rt: &impl Abort, alloc: Global, case: &Case, posts: &[Target]) -> Option<Seen> {
+    let mut board = Board::new(alloc, case, 1, Place::Top).expect(rt, "memory");
+    posted(rt, alloc, &mut board, posts)
+}
+
+/// The same of a bundle's case.
 fn posted_on_top(rt: &impl Abort, alloc: Global, bundle: &str, posts: &[Target]) -> Option<Seen> {
     let case = case(rt, alloc, bundle);
-    let mut board = Board::new(alloc, &case, 1, Place::Top).expect(rt, "memory");
-    posted(rt, alloc, &mut board, posts)
+    posted_above(rt, alloc, &case, posts)
 }
 
 /// The verdict of a part of cut 1 that a cube's finding makes.
@@ -269,6 +274,12 @@ fn takes_verdicts(rt: &impl Abort, alloc: Global, above: &mut Board) -> bool
         && takes_verdict(rt, alloc, above, 1, Became::TopMarked, 0)
 }
 
+/// Whether a new top board of a case takes them.
+fn top_takes_verdicts(rt: &impl Abort, alloc: Global, case: &Case) -> bool {
+    let mut above = Board::new(alloc, case, 1, Place::Top).expect(rt, "memory");
+    takes_verdicts(rt, alloc, &mut above)
+}
+
 // Both branches of the root weigh half. A second finding of a leaf changes nothing, and the second
 // leaf marks the root.
 #[test]
@@ -295,8 +306,7 @@ fn leaves_of_one_part(rt: HostRuntime) {
 #[test]
 fn verdicts_on_top(rt: HostRuntime) {
     let case = case(&rt, rt.alloc(), BOTH_CUBES);
-    let mut above = Board::new(rt.alloc(), &case, 1, Place::Top).expect(&rt, "memory");
-    assert!(rt; takes_verdicts(&rt, rt.alloc(), &mut above));
+    assert!(rt; top_takes_verdicts(&rt, rt.alloc(), &case));
 }
 
 // A refuted root covers the leaves under it, but it is no finding of theirs. A rejected leaf stays

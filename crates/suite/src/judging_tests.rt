@@ -601,19 +601,39 @@ fn first_wrong_in_turn(
     None
 }
 
-/// The same of a table by one judge, in two rounds, so that the first proof, too, follows another.
-fn first_wrong_of_one_judge(rt: &impl Abort, alloc: Global, table: &Table) -> Option<&'static str> {
-    let (clauses, lists) = *table;
-    let formula = formula(rt, alloc, clauses);
-    let base = Base::new(alloc, &formula).expect(rt, "memory");
-    let mut judge = Judge::over(alloc, &base).expect(rt, "memory");
+/// The same in two rounds, so that the first proof, too, follows another.
+fn first_wrong_in_rounds(
+    rt: &impl Abort,
+    alloc: Global,
+    judge: &mut Judge,
+    lists: &[&[Proof]],
+) -> Option<&'static str> {
     for _ in 0..2 {
-        let wrong = first_wrong_in_turn(rt, alloc, &mut judge, lists);
+        let wrong = first_wrong_in_turn(rt, alloc, judge, lists);
         if wrong.is_some() {
             return wrong;
         }
     }
     None
+}
+
+/// The same by one judge over a base.
+fn first_wrong_over(
+    rt: &impl Abort,
+    alloc: Global,
+    base: &Base,
+    lists: &[&[Proof]],
+) -> Option<&'static str> {
+    let mut judge = Judge::over(alloc, base).expect(rt, "memory");
+    first_wrong_in_rounds(rt, alloc, &mut judge, lists)
+}
+
+/// The same of a table by one judge.
+fn first_wrong_of_one_judge(rt: &impl Abort, alloc: Global, table: &Table) -> Option<&'static str> {
+    let (clauses, lists) = *table;
+    let formula = formula(rt, alloc, clauses);
+    let base = Base::new(alloc, &formula).expect(rt, "memory");
+    first_wrong_over(rt, alloc, &base, lists)
 }
 
 #[test]

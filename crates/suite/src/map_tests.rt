@@ -1,6 +1,6 @@
 //! The pictures of small trees, written by hand from what a cell is.
 use crate::cases::{case, finding_of};
-use case_core::Target;
+use case_core::{Case, Target};
 use fixtures::bundles::{BOTH_CUBES, HALF, ONE_CUBE, QUARTER, REJECTED, WHOLE};
 use fixtures::four;
 use fixtures::targets::{cube, inner};
@@ -99,15 +99,25 @@ fn picture(rt: &impl Abort, alloc: Global, said: Said<'_>, cells: &str) -> Strin
     .expect(rt, "memory")
 }
 
-/// The picture of the boards of a bundle after the findings of these targets are posted.
-fn map(rt: &impl Abort, alloc: Global, bundle: &str, targets: &[Target]) -> Vec<u8> {
-    let case = case(rt, alloc, bundle);
-    let mut boards = Boards::new(alloc, &case, 1).expect(rt, "memory");
+/// Posts the findings of these targets.
+fn post_all(rt: &impl Abort, alloc: Global, boards: &mut Boards, targets: &[Target]) {
     for target in targets {
         let finding = finding_of(rt, alloc, boards.case(), *target).expect(rt, "no section");
         let _ = boards.post(finding);
     }
+}
+
+/// The picture of a case's boards after that.
+fn map_after(rt: &impl Abort, alloc: Global, case: &Case, targets: &[Target]) -> Vec<u8> {
+    let mut boards = Boards::new(alloc, case, 1).expect(rt, "memory");
+    post_all(rt, alloc, &mut boards, targets);
     map_of(alloc, &boards).expect(rt, "memory")
+}
+
+/// The same of a bundle's case.
+fn map(rt: &impl Abort, alloc: Global, bundle: &str, targets: &[Target]) -> Vec<u8> {
+    let case = case(rt, alloc, bundle);
+    map_after(rt, alloc, &case, targets)
 }
 
 /// Those boards are drawn in a picture that says this, with these cells.

@@ -1,56 +1,52 @@
+use Rattle.std.proofs.Common.{◌≡◌, arith, map, subst, sym}
+use Rattle.cube_command.specs.Words.{AreApart, Asked, asked_of, IsElsewhere}
+use Rattle.cube_command.specs.Program.{AllowsPicturesFor, AllowsRecordsFor, AllowsReportsFor}
 use Rattle.cube_command.proofs.WordsPaths.{input_apart}
-use Rattle.cube_command.proofs.WordsRequests.{nothing_asked, nothing_taken}
+use Rattle.cube_command.proofs.WordsRequests.{none_asked, nothing_taken}
 use Rattle.cube_command.proofs.ProgramRuns.{device_run, fault_run, memory_run, sound_run}
-use Rattle.cube_command.proofs.ProgramRuns.{fault_asked, files_asked, memory_asked}
-use Rattle.cube_command.proofs.ProgramRuns.{published_run, reports_asked}
-use Rattle.cube_command.specs.Program.{AllowsPictures}
-use Rattle.cube_command.specs.Record.{AllowsRecords}
-use Rattle.bundle_files.specs.Formula.{sources_by}
-use Rattle.std.proofs.Common.{◌≡◌, ap₂, arith, List, ℕ}
+use Rattle.cube_command.proofs.ProgramRuns.{fault_asked, memory_asked, published_run}
 use Rattle.cube_command.proofs.program.command.Goals as goal
 
 pub run_request-run-requires-clause-reports : goal.run_request-run-requires-clause-reports
 run_request-run-requires-clause-reports g c = λ κs within.
-    reports_asked (g.O.Sink.allows c.args.output.now) (g.D.Store.held c.args.store.now) _ _ _ _
-    (g.I.Source.remaining c.args.input.now)
-    (ap₂ sources_by c.in-Ok.ensures.formula c.in-Ok.ensures.file) c.in-Ok.ensures.proofs
-    c.requires.reports
+    subst
+    (λ (a : Asked). AllowsReportsFor (g.O.Sink.allows c.args.output.now)
+    (g.D.Store.held c.args.store.now) a (g.I.Source.remaining c.args.input.now))
+    (sym c.in-Ok.ensures.asked) c.requires.reports
 
 pub run_request-run-requires-clause-pictures : goal.run_request-run-requires-clause-pictures
 run_request-run-requires-clause-pictures g c = λ κs within.
-    files_asked
-    (λ (path read whole : List ℕ). AllowsPictures (g.D.Store.allows c.args.store.now path) whole)
-    (g.D.Store.held c.args.store.now) _ _ _ _ _ _ (g.I.Source.remaining c.args.input.now)
-    (ap₂ sources_by c.in-Ok.ensures.formula c.in-Ok.ensures.file) c.in-Ok.ensures.proofs
-    c.in-Ok.ensures.map c.requires.pictures
+    subst
+    (λ (a : Asked). AllowsPicturesFor (g.D.Store.allows c.args.store.now)
+    (g.D.Store.held c.args.store.now) a (g.I.Source.remaining c.args.input.now))
+    (sym c.in-Ok.ensures.asked) c.requires.pictures
 
 pub run_request-run-requires-clause-records : goal.run_request-run-requires-clause-records
 run_request-run-requires-clause-records g c = λ κs within.
-    files_asked
-    (λ (path read whole : List ℕ).
-    AllowsRecords (g.D.Store.allows c.args.store.now path) read whole)
-    (g.D.Store.held c.args.store.now) _ _ _ _ _ _ (g.I.Source.remaining c.args.input.now)
-    (ap₂ sources_by c.in-Ok.ensures.formula c.in-Ok.ensures.file) c.in-Ok.ensures.proofs
-    c.in-Ok.ensures.out c.requires.records
+    subst
+    (λ (a : Asked). AllowsRecordsFor (g.D.Store.allows c.args.store.now)
+    (g.D.Store.held c.args.store.now) a (g.I.Source.remaining c.args.input.now))
+    (sym c.in-Ok.ensures.asked) c.requires.records
 
 pub run_request-run-requires-clause-apart : goal.run_request-run-requires-clause-apart
 run_request-run-requires-clause-apart g c = λ κs within.
-    rw (c.in-Ok.ensures.map, c.in-Ok.ensures.out) c.in-Ok.ensures.taken.1.0
+    subst (λ (a : Asked). AreApart a.picture a.out) (sym c.in-Ok.ensures.asked)
+    c.in-Ok.ensures.taken.1.0
 
 pub tell_run-status-requires-clause-fault : goal.tell_run-status-requires-clause-fault
 tell_run-status-requires-clause-fault g c =
-    fault_asked (g.E.Sink.allows c.args.errors.now) (g.D.Store.held c.args.store.now) _ _ _ _
-    (g.I.Source.remaining c.args.input.now) c.run_request-run.result
-    (ap₂ sources_by c.in-Ok.ensures.formula c.in-Ok.ensures.file) c.in-Ok.ensures.proofs
-    c.requires.faults c.run_request-run.ensures.fault
+    fault_asked (g.E.Sink.allows c.args.errors.now) (g.D.Store.held c.args.store.now)
+    (asked_of (map g.S.AsStr.text c.args.words.now)) _ (g.I.Source.remaining c.args.input.now)
+    c.run_request-run.result c.in-Ok.ensures.asked c.requires.faults
+    c.run_request-run.ensures.fault
 
 pub tell_run-status-requires-clause-memory : goal.tell_run-status-requires-clause-memory
 tell_run-status-requires-clause-memory g c =
-    memory_asked (g.E.Sink.allows c.args.errors.now) _ _ _ _ c.requires.faults
+    memory_asked (g.E.Sink.allows c.args.errors.now) _ _ _ c.requires.faults
 
 pub refused-requires-clause-memory : goal.refused-requires-clause-memory
 refused-requires-clause-memory g c =
-    memory_asked (g.E.Sink.allows c.args.errors.now) _ _ _ _ c.requires.faults
+    memory_asked (g.E.Sink.allows c.args.errors.now) _ _ _ c.requires.faults
 
 pub refused-requires-clause-words : goal.refused-requires-clause-words
 refused-requires-clause-words g c =
@@ -58,32 +54,35 @@ refused-requires-clause-words g c =
 
 pub returns-in-Ok-clause-sound : goal.returns-in-Ok-clause-sound
 returns-in-Ok-clause-sound g c = λ zero.
-    sound_run (g.D.Store.held c.args.store.now) _ _ _ _ _ _ _ (g.O.Sink.contents c.args.output.now)
+    sound_run (g.D.Store.held c.args.store.now) _ (asked_of (map g.S.AsStr.text c.args.words.now))
+    (g.I.Source.remaining c.args.input.now) (g.O.Sink.contents c.args.output.now)
     (g.O.Sink.contents c.run_request-run.new.output) c.run_request-run.result
     c.tell_run-status.result _
     (g.E.Sink.contents c.args.errors.now) (g.E.Sink.contents c.tell_run-status.new.errors)
     (g.E.Sink.failures c.args.errors.now) (g.E.Sink.failures c.tell_run-status.new.errors)
-    (ap₂ sources_by c.in-Ok.ensures.formula c.in-Ok.ensures.file)
-    c.tell_run-status.ensures.told c.run_request-run.ensures.report zero
+    c.tell_run-status.ensures.told
+    (rw c.in-Ok.ensures.asked at c.run_request-run.ensures.report) zero
 
 pub returns-in-Ok-clause-published : goal.returns-in-Ok-clause-published
 returns-in-Ok-clause-published g c = λ zero.
-    published_run (g.D.Store.held c.args.store.now) _ _ _ _ _ _ _
+    published_run (g.D.Store.held c.args.store.now) _
+    (asked_of (map g.S.AsStr.text c.args.words.now)) (g.I.Source.remaining c.args.input.now)
     (g.O.Sink.contents c.args.output.now)
     (g.O.Sink.contents c.run_request-run.new.output) c.run_request-run.result
     c.tell_run-status.result _
     (g.E.Sink.contents c.args.errors.now) (g.E.Sink.contents c.tell_run-status.new.errors)
     (g.E.Sink.failures c.args.errors.now) (g.E.Sink.failures c.tell_run-status.new.errors)
-    c.in-Ok.ensures.formula c.tell_run-status.ensures.told c.run_request-run.ensures.report zero
+    c.tell_run-status.ensures.told
+    (rw c.in-Ok.ensures.asked at c.run_request-run.ensures.report) zero
 
 pub returns-in-Ok-clause-fault : goal.returns-in-Ok-clause-fault
 returns-in-Ok-clause-fault g c = λ three.
-    fault_run (g.D.Store.held c.args.store.now) _ _ _ _ _ c.run_request-run.result
+    fault_run (g.D.Store.held c.args.store.now) (asked_of (map g.S.AsStr.text c.args.words.now)) _
+    (g.I.Source.remaining c.args.input.now) c.run_request-run.result
     c.tell_run-status.result _
     (g.E.Sink.contents c.args.errors.now) (g.E.Sink.contents c.tell_run-status.new.errors)
     (g.E.Sink.failures c.args.errors.now) (g.E.Sink.failures c.tell_run-status.new.errors)
-    (ap₂ sources_by c.in-Ok.ensures.formula c.in-Ok.ensures.file) c.in-Ok.ensures.proofs
-    c.tell_run-status.ensures.told c.run_request-run.ensures.fault three
+    c.in-Ok.ensures.asked c.tell_run-status.ensures.told c.run_request-run.ensures.fault three
 
 pub returns-in-Ok-clause-memory : goal.returns-in-Ok-clause-memory
 returns-in-Ok-clause-memory g c = λ four.
@@ -101,13 +100,13 @@ returns-in-Ok-clause-device g c = λ five.
 
 pub returns-in-Ok-clause-kept : goal.returns-in-Ok-clause-kept
 returns-in-Ok-clause-kept g c = λ path input.
-    let other = input_apart _ path c.in-Ok.ensures.taken input in
-    c.run_request-run.ensures.elsewhere path (rw c.in-Ok.ensures.map other.0)
-    (rw c.in-Ok.ensures.out other.1)
+    c.run_request-run.ensures.elsewhere path
+    (subst (λ (a : Asked). IsElsewhere a path) (sym c.in-Ok.ensures.asked)
+    (input_apart (asked_of (map g.S.AsStr.text c.args.words.now)) path c.in-Ok.ensures.taken.1
+    input))
 
 pub returns-in-Err-clause-none : goal.returns-in-Err-clause-none
 returns-in-Err-clause-none g c = λ empty.
     let four : c.refused.result ≡ 4 =
     c.refused.ensures.usage (c.in-Err.ensures.refused (nothing_taken _ _ empty)) in
-    let asked = nothing_asked g.S.AsStr.text c.args.words.now empty in
-    (λ two. omega (arith, four, two), asked.0, asked.1, asked.2)
+    (λ two. omega (arith, four, two), none_asked g.S.AsStr.text c.args.words.now empty)

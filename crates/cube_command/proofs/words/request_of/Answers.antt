@@ -16,67 +16,30 @@ returns-in_err-matches-clause-refused g c =
 
 pub returns-in-Some-clause-refused : goal.returns-in-Some-clause-refused
 returns-in-Some-clause-refused g c = λ taken.
-    absurd (clash_untaken _ _ _ _ _ _ _
-    (c.request_in-request.ensures.map
-    ∙ found_asked _ _ _ _ c.in_ok-parser.ensures c.in_ok-matches.ensures.matches)
-    (c.request_in-request.ensures.out
-    ∙ found_asked _ _ _ _ c.in_ok-parser.ensures c.in_ok-matches.ensures.matches)
-    (c.request_in-request.ensures.log
-    ∙ found_asked _ _ _ _ c.in_ok-parser.ensures c.in_ok-matches.ensures.matches)
-    (c.request_in-request.ensures.formula
-    ∙ found_asked _ _ _ _ c.in_ok-parser.ensures c.in_ok-matches.ensures.matches)
-    (c.request_in-request.ensures.file
-    ∙ found_asked _ _ _ _ c.in_ok-parser.ensures c.in_ok-matches.ensures.matches)
-    (c.request_in-request.ensures.proofs
-    ∙ found_asked _ _ _ _ c.in_ok-parser.ensures c.in_ok-matches.ensures.matches)
-    c.in-Some.ensures.some taken)
+    let asked = c.request_in-request.ensures.asked
+    ∙ found_asked _ _ _ c.in_ok-parser.ensures c.in_ok-matches.ensures.matches in
+    absurd (clash_untaken _ _ asked c.in-Some.ensures.some taken)
 
 pub returns : goal.returns
-returns g c = record {
-  formula =
-      c.request_in-request.ensures.formula
-      ∙ found_asked _ _ _ _ c.in_ok-parser.ensures c.in_ok-matches.ensures.matches;
-  proofs =
-      c.request_in-request.ensures.proofs
-      ∙ found_asked _ _ _ _ c.in_ok-parser.ensures c.in_ok-matches.ensures.matches;
-  file =
-      c.request_in-request.ensures.file
-      ∙ found_asked _ _ _ _ c.in_ok-parser.ensures c.in_ok-matches.ensures.matches;
-  map =
-      c.request_in-request.ensures.map
-      ∙ found_asked _ _ _ _ c.in_ok-parser.ensures c.in_ok-matches.ensures.matches;
-  out =
-      c.request_in-request.ensures.out
-      ∙ found_asked _ _ _ _ c.in_ok-parser.ensures c.in_ok-matches.ensures.matches;
-  log =
-      c.request_in-request.ensures.log
-      ∙ found_asked _ _ _ _ c.in_ok-parser.ensures c.in_ok-matches.ensures.matches;
-  settings = λ workers cut says_workers least most says_cut top.
-      c.request_in-request.ensures.settings workers cut
-      (number_asked _ _ _ _ workers c.in_ok-parser.ensures c.in_ok-matches.ensures.matches
-      says_workers)
-      least most
-      (number_asked _ _ _ _ cut c.in_ok-parser.ensures c.in_ok-matches.ensures.matches says_cut)
-      top;
-  progress = λ asked says.
-      c.request_in-request.ensures.progress asked
-      (flag_asked _ _ _ _ asked c.in_ok-parser.ensures c.in_ok-matches.ensures.matches says);
-  explain = λ asked says.
-      c.request_in-request.ensures.explain asked
-      (flag_asked _ _ _ _ asked c.in_ok-parser.ensures c.in_ok-matches.ensures.matches says);
-  taken = parsed_taken _ _ _ _ _ _ _ _ c.in_ok-parser.ensures c.in_ok-matches.ensures.kinds
-      (c.request_in-request.ensures.map
-      ∙ found_asked _ _ _ _ c.in_ok-parser.ensures c.in_ok-matches.ensures.matches)
-      (c.request_in-request.ensures.out
-      ∙ found_asked _ _ _ _ c.in_ok-parser.ensures c.in_ok-matches.ensures.matches)
-      (c.request_in-request.ensures.log
-      ∙ found_asked _ _ _ _ c.in_ok-parser.ensures c.in_ok-matches.ensures.matches)
-      (c.request_in-request.ensures.formula
-      ∙ found_asked _ _ _ _ c.in_ok-parser.ensures c.in_ok-matches.ensures.matches)
-      (c.request_in-request.ensures.file
-      ∙ found_asked _ _ _ _ c.in_ok-parser.ensures c.in_ok-matches.ensures.matches)
-      (c.request_in-request.ensures.proofs
-      ∙ found_asked _ _ _ _ c.in_ok-parser.ensures c.in_ok-matches.ensures.matches)
-      (c.in-None.ensures.none refl);
-  refused = tt;
-}
+returns g c =
+    let asked = c.request_in-request.ensures.asked
+    ∙ found_asked _ _ _ c.in_ok-parser.ensures c.in_ok-matches.ensures.matches in
+    record {
+      asked = asked;
+      settings = λ workers cut says_workers least most says_cut top.
+          c.request_in-request.ensures.settings workers cut
+          (number_asked _ _ _ _ workers c.in_ok-parser.ensures c.in_ok-matches.ensures.matches
+          says_workers)
+          least most
+          (number_asked _ _ _ _ cut c.in_ok-parser.ensures c.in_ok-matches.ensures.matches says_cut)
+          top;
+      progress = λ asked says.
+          c.request_in-request.ensures.progress asked
+          (flag_asked _ _ _ _ asked c.in_ok-parser.ensures c.in_ok-matches.ensures.matches says);
+      explain = λ asked says.
+          c.request_in-request.ensures.explain asked
+          (flag_asked _ _ _ _ asked c.in_ok-parser.ensures c.in_ok-matches.ensures.matches says);
+      taken = parsed_taken _ _ _ c.in_ok-parser.ensures c.in_ok-matches.ensures.kinds asked
+          (c.in-None.ensures.none refl);
+      refused = tt;
+    }
