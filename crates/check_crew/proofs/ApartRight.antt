@@ -1,7 +1,7 @@
 -- Which nodes are noted when marks are compared.
-use Rattle.std.proofs.Common.{◌≡◌, ◌≢◌, ℕ, zero, suc, ◌<◌, Bool, true, false, List, Option, None}
+use Rattle.std.proofs.Common.{◌≡◌, ◌≢◌, ℕ, ◌<◌, Bool, true, false, List, Option, None}
 use Rattle.std.proofs.Common.{Some}
-use Rattle.std.proofs.Common.{refl, sym, ◌∙◌, subst, get_or, set, replicate}
+use Rattle.std.proofs.Common.{refl, sym, ◌∙◌, subst, set}
 use mathlib.Core.Logic.{dite}
 use native.Mathlib.Decide.{ℕ_discrete}
 use Rattle.std.specs.Prelude.{is_none}
@@ -25,17 +25,6 @@ noted_more known case marks right place were is node noted =
     (λ (e : node ≡ place). subst (IsRightAt known case marks) (sym e) is)
     (λ (ne : node ≢ place).
     were node (sym (get_or-set_other right place node true false ne) ∙ noted))
-
-never : (count node : ℕ) → get_or (replicate count false) node false ≡ false
-never zero node = refl
-never (suc count) zero = refl
-never (suc count) (suc node) = never count node
-
--- at first none is noted
-pub none_noted : (known : Known) (case : CaseOf) (marks : List Mark) (count : ℕ) →
-    AreRightAt known case marks (replicate count false)
-none_noted known case marks count node noted =
-    let clash : true ≡ false = sym noted ∙ never count node in absurd (cc)
 
 -- where a node is no leaf, no leaf stands there
 pub no_leaf : (tree : SplitTree) (node : ℕ) (leaf : Leaf) (found : Option Leaf) → node < size tree

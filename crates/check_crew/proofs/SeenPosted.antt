@@ -2,10 +2,7 @@
 use Rattle.std.proofs.Common.{◌≡◌, ◌≢◌, ℕ, List, [], ◌∷◌, ◌++◌, refl, ap, ◌∙◌}
 use Rattle.std.proofs.Common.{inl, inr}
 use Rattle.std.proofs.lemmas.Bool.{cases_Bool}
-use Rattle.case_core.specs.Leaves.{IsTargetAt}
-use Rattle.case_core.specs.Target.{Target}
 use Rattle.case_core.specs.Judged.{Judged}
-use Rattle.case_core.specs.Finding.{HasSection}
 use Rattle.mark_board.specs.declared.mark.Mark.TheVariants.{Open}
 use Rattle.mark_board.specs.Findings.{mark_as}
 use Rattle.mark_board.specs.declared.posted.Posted.{Posted}
@@ -14,7 +11,7 @@ use Rattle.board_hall.specs.declared.view.CutCase.{CutCase}
 use Rattle.board_hall.specs.declared.view.Post.{Post}
 use Rattle.board_hall.specs.declared.view.View.{View}
 use Rattle.board_hall.specs.Posts.{mark_in, is_at}
-use Rattle.board_hall.specs.Clauses.{Stays, IsPosted, Becomes, HasPosted, HasSectionAt}
+use Rattle.board_hall.specs.Clauses.{Stays, IsPosted, Becomes, HasPosted}
 use Rattle.board_hall.proofs.PostsLists.{never_open}
 use Rattle.check_crew.specs.Seen.{HasSeen, HasSeenMark}
 
@@ -76,25 +73,3 @@ posted_new k node judged result before after same new is =
       home = rw same is.is_post.home;
       is = has.mark ∙ ap mark_as is.is_post.judged_is;
     }
-
--- so is the finding of a section, also where somebody had posted it
-pub posted_section : (k : CutCase) (node : ℕ) (target : Target) (judged : Judged) (result : Posted)
-    (before after : View) → after.of ≡ k → IsTargetAt k.case.tree node target
-    → HasSection k.case target → IsPosted k node judged result before after →
-    HasSeenMark after node judged
-posted_section k node target judged result before after same here has is = record {
-  board = is.post.board;
-  row = is.post.row;
-  home = rw same is.is_post.home;
-  is = by_answer result is.becomes ∙ ap mark_as is.is_post.judged_is;
-}
-  where
-    there : HasSectionAt k is.post
-    there = (target, rw is.is_post.home.is_row.here here, has)
-
-    by_answer : (result : Posted) → Becomes k is.post result before after →
-        mark_in after.seen is.post.board is.post.row ≡ mark_as is.post.judged
-    by_answer posted.Marked becomes = becomes.0.mark
-    by_answer (posted.RootMarked verdict) becomes = becomes.0.mark
-    by_answer posted.TopMarked becomes = becomes.0.mark
-    by_answer (posted.Already finding) becomes = becomes.2 there

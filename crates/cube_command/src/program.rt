@@ -293,7 +293,7 @@ where
     let draws = request.map.is_some();
     let made = judge_recorded(rt, store, read, request, gates, draws)?;
     telling.tell_report(rt.alloc(), bundle, &made.outcome.text);
-    write_outcome(store, output, request, &made.outcome, &made.record)?;
+    write_outcome(store, output, request, &made.outcome, &made.bytes)?;
     Ok(made.outcome.refuted)
 }
 
@@ -301,7 +301,7 @@ where
 #[derive(Drop)]
 struct Recorded {
     outcome: Outcome,
-    record: Vec<u8>,
+    bytes: Vec<u8>,
 }
 
 /// Judges what was read, and makes the record where a file for it is asked for.
@@ -326,7 +326,7 @@ where
         made.outcome.text.items made.outcome.map.items made.outcome.refuted) }
     ensures record { IfOk result (λ made. (path : List ℕ)
         → (asked_in request.now).out ≡ Some path
-        → made.record.items ≡ record_text read.bundle.items made.outcome.text.items) }
+        → made.bytes.items ≡ record_text read.bundle.items made.outcome.text.items) }
     ensures fault { IfErr result (λ fault. IsInputFault fault → IsRefusedOf (D.held store.old)
         (asked_in request.now).folder read.bundle.items fault) }
     ensures ok { OnOk result (D.failures store.new ≡ D.failures store.old) }
@@ -345,7 +345,7 @@ where
     end_record(&mut made, request.out, &outcome.text)?;
     Ok(Recorded {
         outcome,
-        record: made,
+        bytes: made,
     })
 }
 

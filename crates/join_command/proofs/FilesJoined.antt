@@ -2,7 +2,7 @@
 use Rattle.std.proofs.Common.{◌≡◌, ◌+◌, ◌<◌, ℕ, zero, suc, List, [], ◌∷◌, ◌++◌, length, take}
 use Rattle.std.proofs.Common.{get_or}
 use Rattle.std.proofs.Common.{refl, sym, subst, ap, ◌∙◌, arith, inl, inr, Some, None, map, Bor}
-use Rattle.std.proofs.lemmas.List.{append_cancel_left, map-append, take_all}
+use Rattle.std.proofs.lemmas.List.{append_cancel_left, map-append}
 use Rattle.case_core.specs.SplitTree.{SplitTree}
 use Rattle.cube_report.specs.Mark.{Mark}
 use Rattle.bundle_files.specs.Files.{Held, Gives}
@@ -57,15 +57,6 @@ more_files held line tree paths index marks next l h one = (
       (line ++ one.0) h.1 one.1),
   so_far_more tree h.0 marks next one.2 one.0 h.2 one.3 one.4,
 )
-
--- all files
-pub all_files : (held : Held) (line : List ℕ) (tree : SplitTree) (paths : List (List ℕ))
-    (index : ℕ) (marks : List Mark) → length paths ≡ index →
-    AreJoined held line tree paths index marks →
-    (reports : List (List ℕ)) × AreFiles held paths (behind_each line reports)
-    × IsJoinedSoFar tree reports marks
-all_files held line tree paths index marks l h =
-    (h.0, rw (take_all index paths (omega (arith, l))) at h.1, h.2)
 
 -- why one of them wasn't joined is why they weren't
 pub one_not_added : (held : Held) (line : List ℕ) (tree : SplitTree) (paths : List (List ℕ))

@@ -1,0 +1,216 @@
+#!/usr/bin/env python3
+"""Tries the wrong bodies of the crates: edits of functions, each of which the prover has to refuse.
+
+    python3 scripts/wrong_bodies.py                  tries all
+    python3 scripts/wrong_bodies.py CRATE [NAME ..]  tries those of a crate, or of these the ones whose names begin so
+    python3 scripts/wrong_bodies.py --each [CRATE [NAME ..]]
+                                                     tries each in a check of its own
+
+A wrong body is a file crates/CRATE/wrong-bodies/NAME.edit with the lines that an edit of `rt must-fail` has, `file: src/FILE.rt` and pairs
+`old: TEXT` and `new: TEXT`, and a line `function: PATH`, the function that has to be refused, as a check prints it below its crate.
+
+A function is proved against the contracts of those that it calls, and never against their bodies. So wrong bodies of different functions don't touch
+each other, and they are tried together, in as many checks of a crate as one function has wrong bodies. Each has to be refused by itself: the check has
+to say of its function that a goal of its own isn't proved. That it calls one that isn't proved doesn't count, and neither does a proof that only lacks
+a name that the edit took away. The libraries below are those of the launchers, which are built first where a source has changed: a refusal says
+something only where the right bodies are proved.
+
+The last line tells how many were refused; the status is 0 where all of them were.
+"""
+import concurrent.futures
+import os
+import pathlib
+import re
+import shutil
+import subprocess
+import sys
+import tempfile
+
+import build
+
+# How often a check that is killed, most likely for memory, is tried in all, and what a check may take, in bytes.
+TRIES = 2
+MEMORY_OF_A_CHECK = 4_000_000_000
+VERDICT = re.compile(r"fn (\S+): (.*)")
+UNPROVED = re.compile(r"note: (\S+:\d+:\d+: it is not proved .*|\S+:\d+:\d+: .*not proved.*)")
+IN_PROOFS = re.compile(r"(?:\./)?proofs/(\S+)/(?:Answers|Invariants|Proof)\.antt:\d+:\d+: error: (.*)")
+NAMES = re.compile(r"has no field|is not in scope|has no `|was not admitted")
+
+
+class Edit:
+    """A wrong body: its function, and the texts that change places in files of the crate."""
+
+    def __init__(self, file):
+        self.name, self.function, self.changes = file.stem, "", []
+        path = old = ""
+        for line in file.read_text().splitlines():
+            word, _, rest = line.partition(":")
+            if word == "file":
+                path = rest.strip()
+            elif word == "function":
+                self.function = rest.strip()
+            elif word == "old":
+                old = rest[1:]
+            elif word == "new":
+                self.changes.append((path, old, rest[1:]))
+
+    def changed(self, texts, folder):
+        """The files that it changes, where others have these texts; None where what it takes away isn't there once."""
+        made = {}
+        for path, old, new in self.changes:
+            text = made.get(path) or texts.get(path) or (folder / path).read_text()
+            if text.count(old) != 1:
+                return None
+            made[path] = text.replace(old, new)
+        return made
+
+    def fault(self, folder):
+        """Why it can't be tried by itself, if it can't."""
+        if not self.function or not self.changes:
+            return "it has no function, or no text to change"
+        if lost := [path for path, old, _ in self.changes if not (old and path.startswith("src/") and (folder / path).is_file())]:
+            return f"there is no file {lost[0]} in src/, or no text to change"
+        return None if self.changed({}, folder) else "a text that it changes doesn't stand in its file once"
+
+
+def edits_of(folder, names):
+    """The wrong bodies of a crate whose names begin with one of these; all where there are none."""
+    files = sorted((folder / "wrong-bodies").glob("*.edit"))
+    return [Edit(it) for it in files if not names or it.stem.startswith(tuple(names))]
+
+
+def rounds_of(edits, folder, is_each):
+    """The edits in as few rounds as there can be with no function twice in one, each with the texts that it makes."""
+    rounds = []
+    for edit in edits:
+        for taken, texts in [] if is_each else rounds:
+            made = None if any(it.function == edit.function for it in taken) else edit.changed(texts, folder)
+            if made:
+                taken.append(edit)
+                texts.update(made)
+                break
+        else:
+            rounds.append(([edit], edit.changed({}, folder)))
+    return rounds
+
+
+class Answer:
+    """What a check said of its functions."""
+
+    def __init__(self, crate, said):
+        self.said, self.verdicts, self.reasons, self.by_proof, notes = said, {}, {}, {}, []
+        for line in said.splitlines():
+            if found := UNPROVED.match(line):
+                notes.append(found[1])
+            elif found := IN_PROOFS.match(line):
+                self.by_proof.setdefault(found[1].replace("/", "::"), []).append(found[2])
+            elif found := VERDICT.match(line):
+                name = found[1].removeprefix(f"{crate}::")
+                self.verdicts[name], self.reasons[name], notes = found[2], notes, []
+
+    def refusal(self, function):
+        """Whether the check refuses the function for a goal of its own, and what it says of it."""
+        verdict, notes = self.verdicts.get(function), self.reasons.get(function)
+        if verdict is None:
+            return False, "the check says nothing of the function"
+        if verdict.startswith("proved") or verdict.startswith("no proof: it calls"):
+            return False, f"NOT REFUSED: {verdict}"
+        if notes:
+            return True, notes[0]
+        if "did not prove" in verdict:
+            return True, verdict
+        told = self.by_proof.get(function, [])
+        if open_goals := [it for it in told if not NAMES.search(it)]:
+            return True, open_goals[0]
+        return False, f"refused by a name alone, which shows nothing of a contract: {(told or [verdict])[0]}"
+
+
+class Tries:
+    """The checks of one crate, each of which begins with what those before it have proved."""
+
+    def __init__(self, kit, kept, crate, room):
+        self.crate, self.room, self.kit = crate, room / crate.name, kit
+        self.words = [*build.Prover(kit, kept, None).words(crate), "--logic-built", f"{kit.folder}/logic_built", "--jobs", "1"]
+        self.words += ["--incremental", str(self.room / "proved")]
+        shutil.copytree(crate.folder, self.room / "crate", ignore=shutil.ignore_patterns("out", "wrong-bodies"))
+        (self.room / "proved").mkdir()
+
+    def check(self, edits, texts):
+        """What a check says of the functions of these edits where the files have these texts."""
+        shutil.rmtree(self.room / "crate/src")
+        shutil.copytree(self.crate.folder / "src", self.room / "crate/src")
+        for path, text in texts.items():
+            (self.room / "crate" / path).write_text(text)
+        words = [f"{self.kit.folder}/bin/rattle", "check", *self.words]
+        words += [it for edit in edits for it in ("--only", edit.function)]
+        how = {"cwd": self.room / "crate", "stdin": subprocess.DEVNULL, "stdout": subprocess.PIPE, "stderr": subprocess.STDOUT, "text": True}
+        for _ in range(TRIES):
+            ran = subprocess.run(words, **how)
+            if ran.returncode >= 0:
+                break
+        return Answer(self.crate.name, ran.stdout)
+
+    def round(self, edits, texts):
+        """Whether each of these edits is refused, and what is told of it. Where the check doesn't come to functions, each is tried by itself."""
+        answer = self.check(edits, texts)
+        if answer.verdicts or len(edits) == 1:
+            lost = "" if answer.verdicts else "; ".join(it for it in answer.said.splitlines() if "error" in it)[:300]
+            return [(it, *((False, f"BAD: {lost}") if lost else answer.refusal(it.function))) for it in edits]
+        return [told for alone, text in rounds_of(edits, self.crate.folder, True) for told in self.round(alone, text)]
+
+
+def try_crate(kit, kept, crate, edits, room, is_each):
+    """Tries the edits of a crate, and answers for each whether it is refused, with a line to print."""
+    faults = [(it, False, f"BAD: {why}") for it in edits if (why := it.fault(crate.folder))]
+    bad = {it for it, _, _ in faults}
+    tries, told = Tries(kit, kept, crate, room), faults
+    for taken, texts in rounds_of([it for it in edits if it not in bad], crate.folder, is_each):
+        told = [*told, *tries.round(taken, texts)]
+    shutil.rmtree(tries.room)
+    for edit, is_refused, why in told:
+        how = "refused, as it must be" if is_refused else "FAILED"
+        print(f"wrong body {crate.name}/{edit.name}: {how}: {' '.join(why.split())[:160]}", flush=True)
+    return [is_refused for _, is_refused, _ in told]
+
+
+def crates_of(names):
+    """The crates with wrong bodies, those first whose proofs take longest, each as a launcher's build knows it."""
+    found = [it for it in build.lines_of_crates() if (build.ROOT / "crates" / it / "wrong-bodies").is_dir()]
+    made = [build.below(it)[-1] for it in found if not names or it == names[0]]
+    return sorted(made, key=lambda it: -sum(map(os.path.getsize, it.files())))
+
+
+def lane_count():
+    """How many checks run at once: as many as there are processors and there is memory for, and one at least."""
+    told = re.search(r"MemAvailable:\s+(\d+)", pathlib.Path("/proc/meminfo").read_text())
+    held = int(told[1]) * 1024 // MEMORY_OF_A_CHECK if told else 1
+    return max(min(len(os.sched_getaffinity(0)), held), 1)
+
+
+def tried(names, is_each):
+    """Tries wrong bodies over libraries that are proved, and answers the status: names as on the command line."""
+    crates = crates_of(names)
+    if not crates:
+        sys.exit("wrong_bodies.py: there is no such crate with wrong bodies")
+    # (all programs share their libraries)
+    kit, kept = build.Kit(), build.Kept(crates[0])
+    with tempfile.TemporaryDirectory(prefix="wrong-bodies-") as at, concurrent.futures.ThreadPoolExecutor(lane_count()) as lanes:
+        room = pathlib.Path(at)
+        given = [lanes.submit(try_crate, kit, kept, it, edits_of(it.folder, names[1:]), room, is_each) for it in crates]
+        told = [it for one in given for it in one.result()]
+    print(f"wrong_bodies: {sum(told)} passed, {len(told) - sum(told)} failed")
+    return 0 if told and all(told) else 1
+
+
+def main():
+    words = sys.argv[1:]
+    is_each = words[:1] == ["--each"]
+    for program in ("cubeboard", "cubejoin"):
+        built = subprocess.run([sys.executable, str(build.ROOT / "scripts/build.py"), program])
+        if built.returncode:
+            return built.returncode
+    return tried(words[is_each:], is_each)
+
+
+if __name__ == "__main__":
+    sys.exit(main())

@@ -1,0 +1,20 @@
+#!/bin/sh
+# Tries scripts/wrong_bodies.py on the crates of tests/wrong-bodies, where each file of a wrong body says in its line `told:` how the line begins that
+# has to be told of it: of wrong bodies that are refused, of right ones, which mustn't count, and of those that can't be tried. The last line counts.
+root=$(CDPATH= cd -- "$(dirname -- "$0")/.." && pwd) || exit 1
+. "$root/scripts/runs.sh"
+cp -R "$root/tests/wrong-bodies/." "$here/run/" && mkdir "$here/run/scripts" && cp "$root/scripts/build.py" "$root/scripts/wrong_bodies.py" "$here/run/scripts/" || exit 1
+for crate in numbers lost; do
+    python3 -c 'import sys; sys.path.insert(0, sys.argv[1]); import wrong_bodies; sys.exit(wrong_bodies.tried([sys.argv[2]], False))' \
+        "$here/run/scripts" "$crate" > "$here/$crate" 2>&1
+    [ $? -eq 1 ]
+    count "$crate: the status is 1 where a body isn't refused" $?
+    for file in "$here/run/crates/$crate/wrong-bodies/"*.edit; do
+        name=$(basename "$file" .edit)
+        grep -F -q "wrong body $crate/$name: $(sed -n 's/^told: //p' "$file")" "$here/$crate"
+        count "$crate/$name: it is told as its file says" $? || cat "$here/$crate"
+    done
+done
+grep -q '^wrong_bodies: 2 passed, 5 failed$' "$here/numbers" && grep -q '^wrong_bodies: 1 passed, 1 failed$' "$here/lost"
+count "the last lines count" $?
+finish
