@@ -3,7 +3,9 @@
 # has to be told of it: of wrong bodies that are refused, of right ones, which mustn't count, and of those that can't be tried. The last line counts.
 root=$(CDPATH= cd -- "$(dirname -- "$0")/.." && pwd) || exit 1
 . "$root/scripts/runs.sh"
-cp -R "$root/tests/wrong-bodies/." "$here/run/" && mkdir "$here/run/scripts" && cp "$root/scripts/build.py" "$root/scripts/wrong_bodies.py" "$here/run/scripts/" || exit 1
+cp -R "$root/tests/wrong-bodies/." "$here/run/" && mkdir "$here/run/scripts" || exit 1
+cp "$root/scripts/build.py" "$root/scripts/wrong_bodies.py" "$here/run/scripts/" && cp "$root/HANDLES" "$here/run/" || exit 1
+printf 'numbers:\nlost:\n' > "$here/run/crates.txt"
 for crate in numbers lost; do
     python3 -c 'import sys; sys.path.insert(0, sys.argv[1]); import wrong_bodies; sys.exit(wrong_bodies.tried([sys.argv[2]], False))' \
         "$here/run/scripts" "$crate" > "$here/$crate" 2>&1
@@ -15,6 +17,6 @@ for crate in numbers lost; do
         count "$crate/$name: it is told as its file says" $? || cat "$here/$crate"
     done
 done
-grep -q '^wrong_bodies: 2 passed, 5 failed$' "$here/numbers" && grep -q '^wrong_bodies: 1 passed, 1 failed$' "$here/lost"
+grep -q '^wrong_bodies: 2 passed, 6 failed$' "$here/numbers" && grep -q '^wrong_bodies: 1 passed, 1 failed$' "$here/lost"
 count "the last lines count" $?
 finish

@@ -78,23 +78,42 @@ fn tell_in_folder<R: Eprint + Files + AllocGlobal>(
     let Ok(case) = read_bundle(alloc, bundle) else {
         return Ok(());
     };
-    let cubes = case.tree().cube_count();
     let mut left = number;
     for place in 0..case.tree().leaf_count() {
-        let (kind, leaf) = match place.checked_sub(cubes) {
-            None => ("", place.saturating_add(1)),
-            Some(missing) => ("m", missing.saturating_add(1)),
-        };
-        let path = format!(in alloc; "{folder}/{kind}{leaf}.lrat")?;
-        if let Ok(proof) = fs::read(device, path.as_str()) {
-            let lines = line_count(&proof).saturating_add(1);
-            if left <= lines {
-                return tell_in_proof(device, path.as_str(), &proof, left);
-            }
-            left = left.saturating_sub(lines);
+        let path = path_of(alloc, folder, case.tree().cube_count(), place)?;
+        match tell_behind(device, path.as_str(), left)? {
+            Some(behind) => left = behind,
+            None => return Ok(()),
         }
     }
     Ok(())
+}
+
+/// Where a folder has the proof of the leaf in this place, where the cubes come first.
+fn path_of(alloc: Global, folder: &str, cubes: u32, place: u32) -> io::Result<String> {
+    let (kind, leaf) = match place.checked_sub(cubes) {
+        None => ("", place.saturating_add(1)),
+        Some(missing) => ("m", missing.saturating_add(1)),
+    };
+    Ok(format!(in alloc; "{folder}/{kind}{leaf}.lrat")?)
+}
+
+/// Tells the line of this number from a proof's label line on, where the proof has it; otherwise
+/// answers its number from behind the proof on.
+fn tell_behind<R: Eprint + Files + AllocGlobal>(
+    device: &R,
+    path: &str,
+    number: u64,
+) -> io::Result<Option<u64>> {
+    let Ok(proof) = fs::read(device, path) else {
+        return Ok(Some(number));
+    };
+    let lines = line_count(&proof).saturating_add(1);
+    if number > lines {
+        return Ok(Some(number.saturating_sub(lines)));
+    }
+    tell_in_proof(device, path, &proof, number)?;
+    Ok(None)
 }
 
 /// Tells a line of a folder's proof, where 1 is the label line above it, which the file hasn't.

@@ -28,3 +28,13 @@ pub fn capped(number: u32) -> u32
     }
     number
 }
+
+/// Half of a number that is above seven, and two otherwise.
+pub fn lowered(number: u32) -> u32
+    ensures { result ≤ number + 2 }
+{
+    if number > 7 {
+        return number / 2;
+    }
+    2
+}
