@@ -173,11 +173,17 @@ def try_crate(kit, kept, crate, edits, room, is_each):
     return [is_refused for _, is_refused, _ in told]
 
 
+def work_of(crate):
+    """How long the wrong bodies of a crate take, in a measure of its own: the crate's bytes for each round."""
+    functions = [it.function for it in edits_of(crate.folder, [])]
+    return sum(map(os.path.getsize, crate.files())) * max(map(functions.count, functions), default=0)
+
+
 def crates_of(names):
-    """The crates with wrong bodies, those first whose proofs take longest, each as a launcher's build knows it."""
+    """The crates with wrong bodies, those first that take longest, each as a launcher's build knows it."""
     found = [it for it in build.lines_of_crates() if (build.ROOT / "crates" / it / "wrong-bodies").is_dir()]
     made = [build.below(it)[-1] for it in found if not names or it == names[0]]
-    return sorted(made, key=lambda it: -sum(map(os.path.getsize, it.files())))
+    return sorted(made, key=work_of, reverse=True)
 
 
 def lane_count():
