@@ -1,7 +1,7 @@
 """Runs ./check in a folder and writes the times that it took into a document, between two marks.
 
 What each process of the prover has used is read from /proc a few times a second; its command line says of which crate it is, and
-whether it proves the crate, its tests, or its wrong bodies. Called by gate_times.sh: FOLDER DOCUMENT."""
+whether it proves the crate, its tests, or the crate with an edit. Called by gate_times.sh: FOLDER DOCUMENT."""
 import os
 import resource
 import subprocess
@@ -9,7 +9,7 @@ import sys
 import time
 
 TICK = os.sysconf("SC_CLK_TCK")
-PARTS = ("proof", "tests", "wrong bodies")
+PARTS = ("proof", "tests", "edits")
 BEGIN, END = "<!-- times: begin -->", "<!-- times: end -->"
 
 
@@ -31,8 +31,8 @@ def label_of(process):
     except OSError:
         return None
     crate = words[words.index(b"--crate-name") + 1].decode()
-    if "wrong-bodies-" in folder:
-        return crate, "wrong bodies"
+    if "rt-edit-" in folder:
+        return crate, "edits"
     return crate, "tests" if b"--test" in words else "proof"
 
 
@@ -63,9 +63,9 @@ def run(folder):
     return started.returncode, time.monotonic() - begun, spent.ru_utime + spent.ru_stime, parts
 
 
-def wrong_body_count(folder, crate):
-    at = f"{folder}/crates/{crate}/wrong-bodies"
-    names = os.listdir(at) if os.path.isdir(at) else []
+def edit_count(folder, crate):
+    must_fail = f"{folder}/crates/{crate}/must-fail"
+    names = os.listdir(must_fail) if os.path.isdir(must_fail) else []
     return sum(name.endswith(".edit") for name in names)
 
 
@@ -78,15 +78,15 @@ def table_of(folder, wall, total, parts):
         f"`./check` from a clean clone: {wall / 60:.0f} minutes on {os.cpu_count()} cores, "
         f"{total / 60:.0f} processor minutes. In processor seconds:",
         "",
-        "| Crate | its proof | its tests | its wrong bodies | their number |",
+        "| Crate | its proof | its tests | its edits | number of edits |",
         "|---|---|---|---|---|",
     ]
     for crate, row in zip(crates, rows):
         times = " | ".join(f"{seconds:.0f}" for seconds in row)
-        lines.append(f"| {crate} | {times} | {wrong_body_count(folder, crate)} |")
+        lines.append(f"| {crate} | {times} | {edit_count(folder, crate)} |")
     sums = [sum(row[place] for row in rows) for place in range(3)]
-    count = sum(wrong_body_count(folder, crate) for crate in crates)
-    lines.append(f"| together | {' | '.join(f'{seconds:.0f}' for seconds in sums)} | {count} |")
+    edits = sum(edit_count(folder, crate) for crate in crates)
+    lines.append(f"| together | {' | '.join(f'{seconds:.0f}' for seconds in sums)} | {edits} |")
     lines += ["", f"Compiling, linking, running the tests and the scripts took {total - sum(sums):.0f} more."]
     return lines
 

@@ -1,6 +1,6 @@
 #!/bin/sh
 # Runs ./check in a clean clone of what is committed, and writes into docs/PROOFS.md what it took: the wall time, the
-# processor time in all, and the processor seconds of each crate's proof, tests and wrong bodies. Run it with nothing else
+# processor time in all, and the processor seconds of each crate's proof, tests and must-fail edits. Run it with nothing else
 # running. The status is that of ./check.
 root=$(CDPATH= cd -- "$(dirname -- "$0")/.." && pwd) || exit 1
 here=$(mktemp -d) || exit 1

@@ -9,8 +9,8 @@ checked, so that the time between two files is the later one's; that holds only 
     rm -rf crates/CRATE/out/incremental; (cd crates/CRATE && rt check --jobs 1)
 
 It prints the seconds in all, the N greatest (25 where N is left out), and what they were for: `Lts` is what follows the body
-and its loans, `Proof` its goals, `lemma` a room of proofs/ or specs/. A gate takes these seconds twice for a crate with
-wrong bodies, and once more for each wrong body of the function.
+and its loans, `Proof` its goals, `lemma` a room of proofs/ or specs/. A gate takes these seconds twice for a crate with more
+than one must-fail edit, and once more for each edit of the function.
 """
 import os
 import re

@@ -1,19 +1,20 @@
 #!/usr/bin/env python3
-"""Tries the wrong bodies of the crates: edits of functions, each of which the prover has to refuse.
+"""Tries the must-fail edits of the crates, many at a time: for who writes one, or changes a contract. The verdict is that of `rt ci`, which tries each in a
+check of its own.
 
     python3 scripts/wrong_bodies.py                  tries all
     python3 scripts/wrong_bodies.py CRATE [NAME ..]  tries those of a crate, or of these the ones whose names begin so
     python3 scripts/wrong_bodies.py --each [CRATE [NAME ..]]
                                                      tries each in a check of its own
 
-A wrong body is a file crates/CRATE/wrong-bodies/NAME.edit with the lines that an edit of `rt must-fail` has, `file: src/FILE.rt` and pairs
-`old: TEXT` and `new: TEXT`, and a line `function: PATH`, the function that has to be refused, as a check prints it below its crate.
+Each file crates/CRATE/must-fail/NAME.edit has a line `# function: PATH`, which `rt` passes over: the function that has to be refused, as a check prints it
+below its crate.
 
 A function is proved against the contracts of those that it calls, and never against their bodies. So wrong bodies of different functions don't touch
 each other, and they are tried together, in as many checks of a crate as one function has wrong bodies. Each has to be refused by itself: the check has
 to say of its function that a goal of its own isn't proved. That it calls one that isn't proved doesn't count, and neither does a proof that only lacks
-a name that the edit took away. The libraries below are those of the launchers, which are built first where a source has changed: a refusal says
-something only where the right bodies are proved.
+a name that the edit took away; `rt ci` counts each refusal of the crate. The libraries below are those of the launchers, which are built first where a
+source has changed: a refusal says something only where the right bodies are proved.
 
 The last line tells how many were refused; the status is 0 where all of them were.
 """
@@ -44,7 +45,7 @@ class Edit:
         self.name, self.function, self.changes = file.stem, "", []
         path = old = ""
         for line in file.read_text().splitlines():
-            word, _, rest = line.partition(":")
+            word, _, rest = line.removeprefix("# ").partition(":")
             if word == "file":
                 path = rest.strip()
             elif word == "function":
@@ -75,7 +76,7 @@ class Edit:
 
 def edits_of(folder, names):
     """The wrong bodies of a crate whose names begin with one of these; all where there are none."""
-    files = sorted((folder / "wrong-bodies").glob("*.edit"))
+    files = sorted((folder / "must-fail").glob("*.edit"))
     return [Edit(it) for it in files if not names or it.stem.startswith(tuple(names))]
 
 
@@ -132,7 +133,7 @@ class Tries:
         self.crate, self.room, self.kit = crate, room / crate.name, kit
         self.words = [*build.Prover(kit, kept, None).words(crate), "--logic-built", f"{kit.folder}/logic_built", "--jobs", "1"]
         self.words += ["--incremental", str(self.room / "proved")]
-        shutil.copytree(crate.folder, self.room / "crate", ignore=shutil.ignore_patterns("out", "wrong-bodies"))
+        shutil.copytree(crate.folder, self.room / "crate", ignore=shutil.ignore_patterns("out", "must-fail"))
         (self.room / "proved").mkdir()
 
     def check(self, edits, texts):
@@ -181,7 +182,7 @@ def work_of(crate):
 
 def crates_of(names):
     """The crates with wrong bodies, those first that take longest, each as a launcher's build knows it."""
-    found = [it for it in build.lines_of_crates() if (build.ROOT / "crates" / it / "wrong-bodies").is_dir()]
+    found = [it for it in build.lines_of_crates() if (build.ROOT / "crates" / it / "must-fail").is_dir()]
     made = [build.below(it)[-1] for it in found if not names or it == names[0]]
     return sorted(made, key=work_of, reverse=True)
 

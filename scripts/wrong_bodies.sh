@@ -1,5 +1,5 @@
 #!/bin/sh
-# Tries scripts/wrong_bodies.py on the crates of tests/wrong-bodies, where each file of a wrong body says in its line `told:` how the line begins that
+# Tries scripts/wrong_bodies.py on the crates of tests/wrong-bodies, where each file of a wrong body says in its line `# told:` how the line begins that
 # has to be told of it: of wrong bodies that are refused, of right ones, which mustn't count, and of those that can't be tried. The last line counts.
 root=$(CDPATH= cd -- "$(dirname -- "$0")/.." && pwd) || exit 1
 . "$root/scripts/runs.sh"
@@ -13,9 +13,9 @@ for crate in numbers lost; do
         "$here/run/scripts" "$crate" > "$here/$crate" 2>&1
     [ $? -eq 1 ]
     count "$crate: the status is 1 where a body isn't refused" $?
-    for file in "$here/run/crates/$crate/wrong-bodies/"*.edit; do
+    for file in "$here/run/crates/$crate/must-fail/"*.edit; do
         name=$(basename "$file" .edit)
-        grep -F -q "wrong body $crate/$name: $(sed -n 's/^told: //p' "$file")" "$here/$crate"
+        grep -F -q "wrong body $crate/$name: $(sed -n 's/^# told: //p' "$file")" "$here/$crate"
         count "$crate/$name: it is told as its file says" $? || cat "$here/$crate"
     done
 done

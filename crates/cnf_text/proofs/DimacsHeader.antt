@@ -2,7 +2,6 @@
 use Rattle.std.proofs.Common.{◌≡◌, ◌∙◌, sym, ap, refl, ℕ, Bool, true, false, List, [], ◌∷◌, codes}
 use Rattle.std.proofs.Common.{Option, None, Some, is_some}
 use Rattle.std.specs.Prelude.{IfNone, not}
-use Rattle.std.specs.Bool.{OnTrue, OnFalse}
 use Rattle.std.specs.List.{onto_first}
 use Rattle.std.specs.Option.{option_map}
 use Rattle.std.specs.Str.{bytes_eq}
@@ -28,12 +27,6 @@ named read bytes text word other same same_text is isnt =
     not_other true e = refl
     not_other false e = absurd (cc)
 
--- what is left below the line that was left
-pub left_below : (old new : List (List Token)) (found : Bool) → OnTrue found (new ≡ below old)
-    → OnFalse found ((below old ≡ []) × (new ≡ [] ∷ [])) → joined new ≡ joined (below old)
-left_below old new true there none = ap joined there
-left_below old new false there none = rw (none.0, none.1) refl
-
 some_number : (some : Option ℕ) (number : ℕ) → Some number ≡ option_map told some
     → (value : ℕ) × (some ≡ Some value) × (number ≡ told value)
 some_number None number e = absurd (cc)
@@ -52,17 +45,17 @@ header_made p cnf v c lines variables clauses is_p is_cnf is_v is_c =
     rw (is_p, is_cnf, is_v, is_c) refl
 
 -- four tokens, and none behind them
-pub header_read : (p cnf v c : Token) (old one two three left : List (List Token))
+pub header_read : (p cnf v c : Token) (old one two three four : List (List Token))
     (variables clauses : ℕ)
     → old ≡ onto_first cnf one → one ≡ onto_first v two → two ≡ onto_first c three
-    → three ≡ [] ∷ below three → joined left ≡ joined (below three)
+    → three ≡ [] ∷ below three → four ≡ three
     → bytes_eq p.bytes (codes "p") ≡ true → bytes_eq cnf.bytes (codes "cnf") ≡ true
     → Some variables ≡ option_map told (decimal v.bytes)
     → Some clauses ≡ option_map told (decimal c.bytes)
     → (problem : Problem)
     × (record { variables = variables; clauses = clauses } ≡ told_problem problem)
-    × (after_problem (onto_first p old) ≡ Some (problem, joined left))
-header_read p cnf v c old one two three left variables clauses first second third fourth same is_p
+    × (after_problem (onto_first p old) ≡ Some (problem, joined (below four)))
+header_read p cnf v c old one two three four variables clauses first second third fourth same is_p
     is_cnf is_v is_c =
     let found = some_number (decimal v.bytes) variables is_v in
     let many = some_number (decimal c.bytes) clauses is_c in
@@ -76,7 +69,8 @@ header_read p cnf v c old one two three left variables clauses first second thir
           ∙ header_made p cnf v c (below three) found.0 many.0 is_p is_cnf found.1 many.1
           ∙ ap
           (λ (tokens : List Token).
-          Some (record { variables = found.0; clauses = many.0 }, tokens)) (sym same),
+          Some (record { variables = found.0; clauses = many.0 }, tokens))
+          (sym (ap (λ (lines : List (List Token)). joined (below lines)) same)),
     )
   where
     two_told : (a b c d : ℕ) → a ≡ c → b ≡ d

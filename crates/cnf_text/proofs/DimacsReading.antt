@@ -1,7 +1,7 @@
 -- A scan over the tokens of clauses, and what was counted.
 use Rattle.std.proofs.Common.{◌≡◌, ◌≢◌, ◌∙◌, sym, ap, refl, subst, ℕ, ◌+◌, ◌≤◌, Bool, true, false}
 use Rattle.std.proofs.Common.{List}
-use Rattle.std.proofs.Common.{[], ◌∷◌, ◌++◌, map, length, append-nil, append_assoc, arith, Option}
+use Rattle.std.proofs.Common.{[], ◌∷◌, ◌++◌, map, length, append-nil, arith, Option}
 use Rattle.std.proofs.Common.{None, Some, cond, eqb, Result, Ok, Err}
 use Rattle.std.specs.Prelude.{not, IfErr, IfOk}
 use Rattle.std.specs.List.{AllByRecursion}
@@ -9,11 +9,12 @@ use Rattle.std.proofs.lemmas.List.{map-append}
 use Rattle.cnf_text.specs.declared.dimacs.Scan.{Scan}
 use Rattle.cnf_text.specs.declared.dimacs.Problem as code
 use Rattle.cnf_text.specs.declared.dimacs.DimacsFault.{DimacsFault}
+use Rattle.cnf_text.specs.declared.icnf.Broken.{Broken}
 use Rattle.cnf_text.specs.declared.icnf.TextFault.{TextFault}
 use Rattle.cnf_text.specs.declared.icnf.TextFault.TheVariants.{Header, Token as BadToken}
 use Rattle.cnf_text.specs.declared.icnf.TextFault.TheVariants.{Unfinished, TooLarge, Limit, Memory}
 use Rattle.cnf_text.specs.Literal.{Literal}
-use Rattle.cnf_text.specs.Numbers.{Number}
+use Rattle.cnf_text.specs.Numbers.{Number, number_of}
 use Rattle.cnf_text.specs.Tokens.{Token, token_lines}
 use Rattle.cnf_text.specs.Icnf.{Symbol, Signed, EndMark, CubeMark, symbol_of_number, Item}
 use Rattle.cnf_text.specs.Icnf.{ClauseItem, CubeItem, spelled, clauses_of, cubes_of, Begins, Within}
@@ -22,10 +23,11 @@ use Rattle.cnf_text.specs.Dimacs.{Problem, after_problem, clause_symbol, clause_
 use Rattle.cnf_text.specs.Dimacs.{greatest_in, greatest_of, IsDimacs, KeepsLimits}
 use Rattle.cnf_text.specs.Dimacs.{ClausesFaultAtFirst, IsClausesFault, told}
 use Rattle.cnf_text.specs.Dimacs.{told_problem, IsDimacsFault}
-use Rattle.cnf_text.specs.Inner.Icnf.{Read}
+use Rattle.cnf_text.specs.Inner.Icnf.{Read, told_on}
 use Rattle.cnf_text.specs.Inner.Dimacs.{HasScanned, Scans, BreaksScan, open_of, IsMiscount}
 use Rattle.cnf_text.proofs.IcnfSteps.{read_begins, not_ended}
 use Rattle.cnf_text.proofs.DimacsScan.{greatest_empty}
+use Rattle.cnf_text.proofs.TokensUpTo.{UpTo, next_token, one_more, at_end}
 
 -- no number is the mark of a cube
 number_mark : (number : Number) (zero : Bool)
@@ -39,23 +41,50 @@ pub no_cube_mark : (number : Option Number) → symbol_of_number number ≢ Cube
 no_cube_mark None e = cc
 no_cube_mark (Some number) e = number_mark number (eqb number.magnitude 0) e
 
--- the tokens that a scan has read, and those that are left
-pub record ScannedUpTo (scan : Scan) (tokens left : List Token) : Type 0 where
-  pub before : List Token
-  pub parts : tokens ≡ before ++ left
-  pub scanned : HasScanned scan (clause_symbols before)
+-- a scan that has read nothing
+pub none_scanned :
+    HasScanned (record { clauses = 0; literals = 0; greatest = 0; inside = false }) []
+none_scanned = record {
+  literals = [];
+  clauses = [];
+  read = record {
+    items = [];
+    written = refl;
+    ended_clauses = refl;
+    ended_cubes = refl;
+    is_opening = refl;
+    counted_clause_literals = refl;
+    counted_cube_literals = refl;
+    within = record {
+      variables = tt;
+      clauses = omega arith;
+      clause_literals = omega arith;
+      cubes = omega arith;
+      cube_literals = omega arith;
+      cube_lengths = tt;
+    };
+  };
+  count = refl;
+  greatest = refl;
+}
+
+-- how far a scan is in the tokens, which it has read
+pub record ScannedUpTo (scan : Scan) (tokens : List Token) (words : List (List ℕ)) (count : ℕ)
+    : Type 0 where
+  pub up : UpTo tokens words count
+  pub scanned : HasScanned scan (clause_symbols up.before)
 
 -- one token more is read
-pub one_more_scanned : (old new : Scan) (tokens left rest : List Token) (token : Token)
-    → ScannedUpTo old tokens left → left ≡ token ∷ rest → Scans old new (clause_symbol token)
-    → ScannedUpTo new tokens rest
-one_more_scanned old new tokens left rest token r is scans = record {
-  before = r.before ++ token ∷ [];
-  parts = r.parts ∙ rw is (sym (append_assoc r.before (token ∷ []) rest));
-  scanned =
-      rw (map-append clause_symbol r.before (token ∷ []))
-      (scans (clause_symbols r.before) r.scanned);
-}
+pub one_more_scanned : (old new : Scan) (tokens : List Token) (words more : List (List ℕ))
+    (bytes : List ℕ) (count : ℕ) → ScannedUpTo old tokens words count → words ≡ bytes ∷ more
+    → Scans old new (symbol_of_number (number_of bytes)) → ScannedUpTo new tokens more (count + 1)
+one_more_scanned old new tokens words more bytes count r is scans =
+    let next = next_token tokens words more bytes count r.up is in
+    record {
+      up = one_more tokens r.up.before bytes more count r.up.counted next;
+      scanned = rw (map-append clause_symbol r.up.before (next.token ∷ []), next.same)
+          (scans (clause_symbols r.up.before) r.scanned);
+    }
 
 scan_begins : (scan : Scan) (before : List Symbol) → HasScanned scan before → Begins Within before
 scan_begins scan before has =
@@ -70,26 +99,36 @@ first_fault tokens Header line b s h first = absurd h
 first_fault tokens Unfinished line b s h first = absurd h
 first_fault tokens Memory line b s h first = absurd h
 
--- the next token breaks a rule
-pub scan_broken : (scan : Scan) (tokens left rest : List Token) (token : Token) (fault : TextFault)
-    → ScannedUpTo scan tokens left → left ≡ token ∷ rest
-    → BreaksScan scan (clause_symbol token) token.line fault → IsClausesFault tokens fault
-scan_broken scan tokens left rest token fault r is breaks =
-    let broken = breaks (clause_symbols r.before) r.scanned in
-    first_fault tokens fault token.line (clause_symbols r.before) (clause_symbol token) broken
+-- the next token breaks a rule, and its line is told
+pub scan_broken : (scan : Scan) (tokens : List Token) (words more : List (List ℕ))
+    (bytes : List ℕ) (count line : ℕ) (rule : Broken)
+    → ScannedUpTo scan tokens words count → words ≡ bytes ∷ more
+    → BreaksScan scan (symbol_of_number (number_of bytes)) rule
+    → ((before after : List Token) (token : Token) → tokens ≡ before ++ token ∷ after
+    → length before ≡ count → line ≡ token.line) → IsClausesFault tokens (told_on line rule)
+scan_broken scan tokens words more bytes count line rule r is breaks line_of =
+    let next = next_token tokens words more bytes count r.up is in
+    let on_line : line ≡ next.token.line =
+    line_of r.up.before next.after next.token next.parts r.up.counted in
+    let broken : FaultAt (clause_symbols r.up.before) (clause_symbol next.token) next.token.line
+    (told_on line rule) =
+    rw (next.same, ← on_line) (breaks line (clause_symbols r.up.before) r.scanned) in
+    first_fault tokens (told_on line rule) next.token.line (clause_symbols r.up.before)
+    (clause_symbol next.token) broken
     (record {
-      before = r.before;
-      token = token;
-      after = rest;
-      parts = r.parts ∙ ap (λ x. r.before ++ x) is;
-      so_far = scan_begins scan (clause_symbols r.before) r.scanned;
+      before = r.up.before;
+      token = next.token;
+      after = next.after;
+      parts = next.parts;
+      so_far = scan_begins scan (clause_symbols r.up.before) r.scanned;
       broken = broken;
     })
 
 -- no token is left
-pub all_scanned : (scan : Scan) (tokens left : List Token) → ScannedUpTo scan tokens left
-    → left ≡ [] → HasScanned scan (clause_symbols tokens)
-all_scanned scan tokens left r is = rw (r.parts, is, append-nil) r.scanned
+pub all_scanned : (scan : Scan) (tokens : List Token) (words : List (List ℕ)) (count : ℕ)
+    → ScannedUpTo scan tokens words count → words ≡ []
+    → HasScanned scan (clause_symbols tokens)
+all_scanned scan tokens words count r is = rw (at_end tokens words count r.up is) at r.scanned
 
 open_inside : (inside : Bool) → inside ≡ true → open_of inside ≡ open_of false → ⊥
 open_inside true is e = cc

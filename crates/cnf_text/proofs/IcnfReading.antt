@@ -1,41 +1,33 @@
 -- A run of the reader over the tokens.
-use Rattle.std.proofs.Common.{◌≡◌, ◌≢◌, ℕ, List, [], ◌∷◌, ◌++◌, sym, ◌∙◌, ap, append_assoc, Result}
-use Rattle.std.proofs.Common.{Ok, Err}
-use Rattle.std.proofs.lemmas.List.{append-nil, map-append}
+use Rattle.std.proofs.Common.{◌≡◌, ◌≢◌, ℕ, ◌+◌, List, [], ◌∷◌, ◌++◌, length, ap, Result, Ok, Err}
+use Rattle.std.proofs.lemmas.List.{map-append}
 use Rattle.std.specs.Prelude.{IfErr, IfOk}
 use Rattle.cnf_text.specs.declared.icnf.Reader.{Reader}
 use Rattle.cnf_text.specs.declared.icnf.Word.{Word}
+use Rattle.cnf_text.specs.declared.icnf.Broken.{Broken}
 use Rattle.cnf_text.specs.declared.icnf.TextFault.{TextFault}
 use Rattle.cnf_text.specs.declared.icnf.TextFault.TheVariants.{Header, Token as BadToken}
 use Rattle.cnf_text.specs.declared.icnf.TextFault.TheVariants.{Unfinished, TooLarge, Limit, Memory}
 use Rattle.cnf_text.specs.Icnf.{Symbol, symbol_of, symbols_of, Item, spelled, Within, FaultAt}
 use Rattle.cnf_text.specs.Icnf.{FaultAtFirst, IsTokensFault, AreItems, IsFileOf}
-use Rattle.cnf_text.specs.Inner.Icnf.{Means, HasRead, Advances, BreaksRule}
+use Rattle.cnf_text.specs.Inner.Icnf.{Means, HasRead, Advances, BreaksRule, told_on}
 use Rattle.cnf_text.specs.declared.icnf.IcnfFile.{IcnfFile}
 use Rattle.cnf_text.specs.Tokens.{Token}
 use Rattle.cnf_text.proofs.IcnfSteps.{read_begins}
+use Rattle.cnf_text.proofs.TokensUpTo.{UpTo, next_token, one_more, at_end}
 
--- the tokens that the reader has read, and those that are left
-pub record ReadUpTo (reader : Reader) (tokens left : List Token) : Type 0 where
-  pub before : List Token
-  pub parts : tokens ≡ before ++ left
-  pub read : HasRead reader (symbols_of before)
+-- how far the reader is in the tokens, which it has read
+pub record ReadUpTo (reader : Reader) (tokens : List Token) (words : List (List ℕ)) (count : ℕ)
+    : Type 0 where
+  pub up : UpTo tokens words count
+  pub read : HasRead reader (symbols_of up.before)
 
 -- what a function refuses of a symbol, said of the word for it
-pub err_at : {R : Type 0} (r : Result R TextFault) (reader : Reader) (s : Symbol) (word : Word)
-    (line : ℕ) → ((symbol : Symbol) → Means word symbol → symbol ≡ s) →
-    IfErr r (λ fault. (at_line : ℕ) → BreaksRule reader s at_line fault) →
-    IfErr r (λ fault. (symbol : Symbol) → Means word symbol → BreaksRule reader symbol line fault)
-err_at (Ok x) reader s word line is h = tt
-err_at (Err fault) reader s word line is h = λ symbol means. rw (is symbol means) (h line)
-
--- a fault of the symbol that a word means is one of each symbol that it means
-pub err_here : {R : Type 0} (r : Result R TextFault) (reader : Reader) (s : Symbol) (word : Word)
-    (line : ℕ) → ((symbol : Symbol) → Means word symbol → symbol ≡ s) →
-    IfErr r (λ fault. BreaksRule reader s line fault) →
-    IfErr r (λ fault. (symbol : Symbol) → Means word symbol → BreaksRule reader symbol line fault)
-err_here (Ok x) reader s word line is h = tt
-err_here (Err fault) reader s word line is h = λ symbol means. rw (is symbol means) h
+pub err_here : {R : Type 0} (r : Result R Broken) (reader : Reader) (s : Symbol) (word : Word) →
+    ((symbol : Symbol) → Means word symbol → symbol ≡ s) → IfErr r (BreaksRule reader s) →
+    IfErr r (λ rule. (symbol : Symbol) → Means word symbol → BreaksRule reader symbol rule)
+err_here (Ok x) reader s word is h = tt
+err_here (Err rule) reader s word is h = λ symbol means. rw (is symbol means) h
 
 -- the first token that breaks a rule is the fault of the tokens
 pub fault_first : (tokens : List Token) (fault : TextFault) →
@@ -54,36 +46,49 @@ pub symbols_push : (before : List Token) (token : Token) →
 symbols_push before token = map-append (λ t. symbol_of t.bytes) before (token ∷ [])
 
 -- one token more is read
-pub one_more_token : (old new : Reader) (tokens left rest : List Token) (token : Token) →
-    ReadUpTo old tokens left → left ≡ token ∷ rest → Advances old new (symbol_of token.bytes) →
-    ReadUpTo new tokens rest
-one_more_token old new tokens left rest token r is advances = record {
-  before = r.before ++ token ∷ [];
-  parts = r.parts ∙ rw is (sym (append_assoc r.before (token ∷ []) rest));
-  read = rw (symbols_push r.before token) (advances (symbols_of r.before) r.read);
-}
+pub one_more_token : (old new : Reader) (tokens : List Token) (words more : List (List ℕ))
+    (bytes : List ℕ) (count : ℕ) →
+    ReadUpTo old tokens words count → words ≡ bytes ∷ more → Advances old new (symbol_of bytes) →
+    ReadUpTo new tokens more (count + 1)
+one_more_token old new tokens words more bytes count r is advances =
+    let next = next_token tokens words more bytes count r.up is in
+    record {
+      up = one_more tokens r.up.before bytes more count r.up.counted next;
+      read = rw (symbols_push r.up.before next.token, next.same)
+          (advances (symbols_of r.up.before) r.read);
+    }
 
--- the next token breaks a rule
-pub broken_by : (reader : Reader) (tokens left rest : List Token) (token : Token)
-    (fault : TextFault) → ReadUpTo reader tokens left → left ≡ token ∷ rest →
-    BreaksRule reader (symbol_of token.bytes) token.line fault → fault ≢ Memory →
-    IsTokensFault tokens fault
-broken_by reader tokens left rest token fault r is refuses other =
-    let broken = refuses other (symbols_of r.before) r.read in
-    fault_first tokens fault token.line (symbols_of r.before) (symbol_of token.bytes) broken
+-- the next token breaks a rule, and its line is told
+pub broken_by : (reader : Reader) (tokens : List Token) (words more : List (List ℕ))
+    (bytes : List ℕ) (count line : ℕ) (rule : Broken) →
+    ReadUpTo reader tokens words count → words ≡ bytes ∷ more →
+    BreaksRule reader (symbol_of bytes) rule →
+    ((before after : List Token) (token : Token) → tokens ≡ before ++ token ∷ after →
+    length before ≡ count → line ≡ token.line) →
+    told_on line rule ≢ Memory → IsTokensFault tokens (told_on line rule)
+broken_by reader tokens words more bytes count line rule r is refuses line_of other =
+    let next = next_token tokens words more bytes count r.up is in
+    let on_line : line ≡ next.token.line =
+    line_of r.up.before next.after next.token next.parts r.up.counted in
+    let broken : FaultAt (symbols_of r.up.before) (symbol_of next.token.bytes) next.token.line
+    (told_on line rule) =
+    rw (next.same, ← on_line)
+    (refuses line (λ e. other (ap (told_on line) e)) (symbols_of r.up.before) r.read) in
+    fault_first tokens (told_on line rule) next.token.line (symbols_of r.up.before)
+    (symbol_of next.token.bytes) broken
     (record {
-      before = r.before;
-      token = token;
-      after = rest;
-      parts = r.parts ∙ ap (λ x. r.before ++ x) is;
+      before = r.up.before;
+      token = next.token;
+      after = next.after;
+      parts = next.parts;
       so_far = read_begins _ _ _ _ _ _ _ r.read;
       broken = broken;
     })
 
 -- no token is left
-pub all_read : (reader : Reader) (tokens left : List Token) → ReadUpTo reader tokens left →
-    left ≡ [] → HasRead reader (symbols_of tokens)
-all_read reader tokens left r is = rw (r.parts, is, append-nil) r.read
+pub all_read : (reader : Reader) (tokens : List Token) (words : List (List ℕ)) (count : ℕ) →
+    ReadUpTo reader tokens words count → words ≡ [] → HasRead reader (symbols_of tokens)
+all_read reader tokens words count r is = rw (at_end tokens words count r.up is) at r.read
 
 pub unfinished : (reader : Reader) (tokens : List Token) → HasRead reader (symbols_of tokens) →
     ((before : List Symbol) → HasRead reader before → (items : List Item) → before ≡ spelled items →

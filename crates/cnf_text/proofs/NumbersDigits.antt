@@ -6,7 +6,9 @@ use Rattle.std.specs.List.{list_all}
 use Rattle.std.specs.Char.{is_ascii_digit}
 use Rattle.std.proofs.lemmas.List.Sums.{fold_more}
 use Rattle.std.proofs.lemmas.List.Folds.{list_all_more, list_all_at}
-use Rattle.std.proofs.lemmas.Bool.{and_right, ne_eqb}
+use Rattle.std.proofs.Common.{inl, inr}
+use Rattle.std.proofs.lemmas.Bool.{and_right, ne_eqb, cases_Bool}
+use Rattle.std.proofs.lemmas.Slice.Eq.{bytes_eq-Decides}
 use Rattle.std.proofs.lemmas.List.{take_all, length-take-le, take-take}
 use Rattle.std.specs.Option.{option_map}
 use Rattle.cnf_text.specs.declared.numbers.Number as code
@@ -107,6 +109,21 @@ large_number (Some number) told e large =
 pub other_symbol : (bytes : List ℕ) → bytes_eq bytes (97 ∷ []) ≡ false →
     symbol_of bytes ≡ symbol_of_number (number_of bytes)
 other_symbol bytes h = rw h refl
+
+-- no word that spells a number is the mark of a cube
+mark_no_number : number_of (97 ∷ []) ≡ None
+unfolding number_of decimal
+mark_no_number = refl
+
+pub number_no_mark : (bytes : List ℕ) (number : code.Number) →
+    option_map capped (number_of bytes) ≡ Some number → bytes_eq bytes (97 ∷ []) ≡ false
+number_no_mark bytes number is = elim (cases_Bool (bytes_eq bytes (97 ∷ []))) [
+  | inl mark ↦ absurd (
+      let none : Some number ≡ None =
+      sym is ∙ ap (option_map capped) (ap number_of ((bytes_eq-Decides bytes (97 ∷ [])).0 mark)
+      ∙ mark_no_number) in cc)
+  | inr other ↦ other
+]
 
 -- one more digit
 pub digits_step : (bs : List ℕ) (i : ℕ) → i < length bs →

@@ -215,6 +215,14 @@ pub words_of_tokens : (bs : List ℕ)
 unfolding token_lines
 words_of_tokens bs = sym (lines_again 1 (slice_split is_line_end bs))
 
+-- whatever number its first line has
+pub whatever_line : (n : ℕ) (bs : List ℕ)
+    → map (λ (t : Token). t.bytes) (tokens_of bs)
+    ≡ map (λ (t : Token). t.bytes) (joined (token_lines n bs))
+unfolding token_lines
+whatever_line n bs =
+    lines_again 1 (slice_split is_line_end bs) ∙ sym (lines_again n (slice_split is_line_end bs))
+
 -- a text has no more words than bytes
 pub no_more_words : (bs : List ℕ) → length (map (λ (t : Token). t.bytes) (tokens_of bs)) ≤ length bs
 no_more_words bs = rw (length-map (tokens_of bs) (λ (t : Token). t.bytes)) (count-tokens 1 bs)

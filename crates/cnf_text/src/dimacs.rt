@@ -6,8 +6,10 @@ ghost use Rattle.std.specs.Prelude.{length};
 ghost use Rattle.std.specs.Prelude.{OnOk, OnErr, IfOk, IfErr, MatchOption};
 ghost use Rattle.std.specs.List.{onto_first};
 ghost use Rattle.cnf_text.specs.Literal.{Literal, greatest_variable};
-ghost use Rattle.cnf_text.specs.Tokens.{joined};
-ghost use Rattle.cnf_text.specs.Icnf.{Symbol, Signed, EndMark, CubeMark};
+ghost use Rattle.cnf_text.specs.Tokens.{joined, below};
+ghost use Rattle.cnf_text.specs.Numbers.{number_of};
+ghost use Rattle.cnf_text.specs.Words.{IsToldAs};
+ghost use Rattle.cnf_text.specs.Icnf.{Symbol, Signed, EndMark, CubeMark, symbol_of_number};
 ghost use Rattle.cnf_text.specs.Dimacs as dimacs;
 ghost use Rattle.cnf_text.specs.Dimacs.{after_problem, clause_symbols, greatest_of, HasClauses};
 ghost use Rattle.cnf_text.specs.Dimacs.{IsClausesFault, IsDimacs, IsDimacsFault, KeepsLimits};
@@ -15,10 +17,11 @@ ghost use Rattle.cnf_text.specs.Dimacs.{told_problem};
 ghost use Rattle.cnf_text.specs.Inner.Icnf.{Means};
 ghost use Rattle.cnf_text.specs.Inner.Dimacs.{HasScanned, Scans, BreaksScan, IsMiscount};
 
-use crate::icnf::{MAX_CLAUSES, MAX_LITERALS, TextFault, Word, number_word};
+use crate::icnf::{Broken, MAX_CLAUSES, MAX_LITERALS, TextFault, Word, number_word};
 use crate::literal::Lit;
 use crate::numbers::decimal;
 use crate::tokens::{Token, Tokens};
+use crate::words as told;
 use thiserror::Error;
 
 /// What the problem line of a DIMACS text says. One past the greatest `u64` is told as that.
@@ -69,18 +72,17 @@ struct Scan {
 
 impl Scan {
     /// The first literal of a clause.
-    fn begin_clause(&mut self, literal: Lit) -> Result<(), TextFault>
+    fn begin_clause(&mut self, literal: Lit) -> Result<(), Broken>
         requires between { self.old.inside ≡ false }
         requires range { literal.variable ≤ greatest_variable }
         ensures ok { OnOk result (Scans self.old self.new (Signed literal)) }
-        ensures err { IfErr result
-            (λ fault. (line : ℕ) → BreaksScan self.old (Signed literal) line fault) }
+        ensures err { IfErr result (BreaksScan self.old (Signed literal)) }
     {
         if self.clauses >= MAX_CLAUSES {
-            return Err(TextFault::Limit);
+            return Err(Broken::Limit);
         }
         if self.literals >= MAX_LITERALS {
-            return Err(TextFault::Limit);
+            return Err(Broken::Limit);
         }
         self.clauses += 1;
         self.literals += 1;
@@ -90,15 +92,14 @@ impl Scan {
     }
 
     /// One more literal of the clause that is open.
-    fn add_to_clause(&mut self, literal: Lit) -> Result<(), TextFault>
+    fn add_to_clause(&mut self, literal: Lit) -> Result<(), Broken>
         requires inside { self.old.inside ≡ true }
         requires range { literal.variable ≤ greatest_variable }
         ensures ok { OnOk result (Scans self.old self.new (Signed literal)) }
-        ensures err { IfErr result
-            (λ fault. (line : ℕ) → BreaksScan self.old (Signed literal) line fault) }
+        ensures err { IfErr result (BreaksScan self.old (Signed literal)) }
     {
         if self.literals >= MAX_LITERALS {
-            return Err(TextFault::Limit);
+            return Err(Broken::Limit);
         }
         self.literals += 1;
         self.greatest = self.greatest.max(literal.variable());
@@ -106,11 +107,10 @@ impl Scan {
     }
 
     /// A literal, wherever it stands.
-    fn literal(&mut self, literal: Lit) -> Result<(), TextFault>
+    fn literal(&mut self, literal: Lit) -> Result<(), Broken>
         requires range { literal.variable ≤ greatest_variable }
         ensures ok { OnOk result (Scans self.old self.new (Signed literal)) }
-        ensures err { IfErr result
-            (λ fault. (line : ℕ) → BreaksScan self.old (Signed literal) line fault) }
+        ensures err { IfErr result (BreaksScan self.old (Signed literal)) }
     {
         if self.inside {
             self.add_to_clause(literal)
@@ -120,13 +120,13 @@ impl Scan {
     }
 
     /// An end mark between two clauses, which is an empty one.
-    fn empty_clause(&mut self) -> Result<(), TextFault>
+    fn empty_clause(&mut self) -> Result<(), Broken>
         requires between { self.old.inside ≡ false }
         ensures ok { OnOk result (Scans self.old self.new EndMark) }
-        ensures err { IfErr result (λ fault. (line : ℕ) → BreaksScan self.old EndMark line fault) }
+        ensures err { IfErr result (BreaksScan self.old EndMark) }
     {
         if self.clauses >= MAX_CLAUSES {
-            return Err(TextFault::Limit);
+            return Err(Broken::Limit);
         }
         self.clauses += 1;
         Ok(())
@@ -141,9 +141,9 @@ impl Scan {
     }
 
     /// An end mark, wherever it stands.
-    fn end(&mut self) -> Result<(), TextFault>
+    fn end(&mut self) -> Result<(), Broken>
         ensures ok { OnOk result (Scans self.old self.new EndMark) }
-        ensures err { IfErr result (λ fault. (line : ℕ) → BreaksScan self.old EndMark line fault) }
+        ensures err { IfErr result (BreaksScan self.old EndMark) }
     {
         if self.inside {
             self.end_clause();
@@ -154,26 +154,38 @@ impl Scan {
     }
 
     /// One token more.
-    fn read(&mut self, word: Word, line: u64) -> Result<(), TextFault>
+    fn read(&mut self, word: Word) -> Result<(), Broken>
         ensures ok { OnOk result ((symbol : Symbol) → symbol ≢ CubeMark → Means word symbol
             → Scans self.old self.new symbol) }
-        ensures err { IfErr result (λ fault. (symbol : Symbol) → symbol ≢ CubeMark
-            → Means word symbol → BreaksScan self.old symbol line fault) }
+        ensures err { IfErr result (λ broken. (symbol : Symbol) → symbol ≢ CubeMark
+            → Means word symbol → BreaksScan self.old symbol broken) }
     {
         match word {
             Word::Literal(literal) => self.literal(literal),
             Word::End => self.end(),
-            Word::TooLarge => Err(TextFault::TooLarge { line }),
-            Word::Cube | Word::Unknown => Err(TextFault::Token { line }),
+            Word::TooLarge => Err(Broken::TooLarge),
+            Word::Cube | Word::Unknown => Err(Broken::Token),
         }
     }
 }
 
-/// The scan of the tokens that are left, all of which are those of clauses that have ended.
-fn read_clauses(tokens: &mut Tokens) -> Result<Scan, TextFault>
+/// What a word below the problem line is to the reader.
+#[inline(always)]
+fn clause_word(word: told::Word<'_>) -> Word
+    ensures { (bytes : List ℕ) → IsToldAs bytes word.entry
+        → Means result (symbol_of_number (number_of bytes)) }
+{
+    match word {
+        told::Word::Number(number) => number_word(number),
+        told::Word::Other(_) => Word::Unknown,
+    }
+}
+
+/// The scan of the lines below this one, whose tokens are all those of clauses that have ended.
+fn read_clauses(tokens: Tokens) -> Result<Scan, TextFault>
     ensures ok { IfOk result (λ scan. (scan.inside ≡ false)
-        × HasScanned scan (clause_symbols (joined tokens.old))) }
-    ensures err { IfErr result (IsClausesFault (joined tokens.old)) }
+        × HasScanned scan (clause_symbols (joined (below tokens.entry)))) }
+    ensures err { IfErr result (IsClausesFault (joined (below tokens.entry))) }
 {
     let mut scan = Scan {
         clauses: 0,
@@ -181,8 +193,14 @@ fn read_clauses(tokens: &mut Tokens) -> Result<Scan, TextFault>
         greatest: 0,
         inside: false,
     };
-    while let Some(token) = tokens.next() {
-        scan.read(number_word(token.bytes), token.line)?;
+    let mut words = tokens.words_below();
+    let mut count = 0;
+    while let Some((word, rest)) = words.next() {
+        if let Err(broken) = scan.read(clause_word(word)) {
+            return Err(broken.on_line(tokens.line_below(count)));
+        }
+        words = rest;
+        count += 1;
     }
     if scan.inside {
         return Err(TextFault::Unfinished);
@@ -190,11 +208,11 @@ fn read_clauses(tokens: &mut Tokens) -> Result<Scan, TextFault>
     Ok(scan)
 }
 
-/// What the problem line says whose first token is this one, if it is one; and goes below it.
+/// What the problem line says whose first token is this one, if it is one.
 fn rest_of_header(first: Token<'_>, tokens: &mut Tokens) -> Option<Problem>
     ensures { MatchOption result (after_problem (onto_first first.entry tokens.old) ≡ None)
         (λ said. (problem : dimacs.Problem) × (said ≡ told_problem problem)
-        × (after_problem (onto_first first.entry tokens.old) ≡ Some (problem, joined tokens.new))) }
+        × (after_problem (onto_first first.entry tokens.old) ≡ Some (problem, joined (below tokens.new)))) }
 {
     let cnf = tokens.next_in_line()?;
     let variables = tokens.next_in_line()?;
@@ -202,7 +220,6 @@ fn rest_of_header(first: Token<'_>, tokens: &mut Tokens) -> Option<Problem>
     if tokens.next_in_line().is_some() {
         return None;
     }
-    let _ = tokens.next_line();
     if first.bytes != b"p".as_slice() || cnf.bytes != b"cnf".as_slice() {
         return None;
     }
@@ -212,11 +229,11 @@ fn rest_of_header(first: Token<'_>, tokens: &mut Tokens) -> Option<Problem>
     })
 }
 
-/// What the problem line says, if the first line that has a token is one; and goes below it.
+/// What the problem line says, if the first line that has a token is one; and goes to it.
 fn read_header(tokens: &mut Tokens) -> Option<Problem>
     ensures { MatchOption result (after_problem tokens.old ≡ None)
         (λ said. (problem : dimacs.Problem) × (said ≡ told_problem problem)
-        × (after_problem tokens.old ≡ Some (problem, joined tokens.new))) }
+        × (after_problem tokens.old ≡ Some (problem, joined (below tokens.new)))) }
 {
     loop {
         if let Some(first) = tokens.next_in_line() {
@@ -258,7 +275,7 @@ fn read_counted(text: &[u8]) -> Result<Problem, DimacsFault>
     let Some(problem) = read_header(&mut tokens) else {
         return Err(DimacsFault::NoProblem);
     };
-    match read_clauses(&mut tokens) {
+    match read_clauses(tokens) {
         Ok(scan) => counted(problem, scan),
         Err(fault) => Err(DimacsFault::Text(fault)),
     }

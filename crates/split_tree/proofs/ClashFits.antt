@@ -1,8 +1,6 @@
 -- A list of cubes has a tree exactly where no two of them clash.
 use Rattle.std.proofs.Common.{◌≡◌, ℕ, zero, suc, ◌+◌, ◌<◌, List, [], ◌∷◌, length, Bool, true, false}
-use Rattle.std.proofs.Common.{refl, sym, ◌∙◌, inl, inr, arith, Vec, Option, Some, None, MatchBool}
-use Rattle.std.specs.Option.{is_some}
-use Rattle.split_tree.specs.declared.shape.Shape.{Shape}
+use Rattle.std.proofs.Common.{refl, sym, ◌∙◌, inl, inr, arith}
 use Rattle.std.specs.List.{AllByRecursion}
 use Rattle.std.specs.Bool.{beq}
 use Rattle.std.proofs.lemmas.Bool.{eq-eqb, cases_Bool}
@@ -11,7 +9,7 @@ use Rattle.cnf_text.specs.Literal.{Literal}
 use Rattle.split_tree.specs.Clash.{relation_of, cube_at, AllFit}
 use Rattle.split_tree.specs.SplitTree.{SplitTree, missing, cube, split, Numbered, numbered}
 use Rattle.split_tree.specs.SplitTree.{SplitsOn, going_with, going, IsTreeOf}
-use Rattle.split_tree.specs.Inner.Grow.{AreFit, AreShapesOf}
+use Rattle.split_tree.specs.Inner.Grow.{AreFit}
 
 all_numbered : (P : List Literal → Type 0) (k : ℕ) (cubes : List (List Literal)) →
     ((j : ℕ) → j < length cubes → P (cube_at cubes j)) →
@@ -121,7 +119,7 @@ merge_one v number [] cubes s a t f = absurd s
 merge_one v number (l ∷ left) cubes s a t f =
     merge_sign v number l l.positive left cubes s a refl t f
 
-merge_fit : (v : ℕ) (cubes : List Numbered) → AllByRecursion (λ d. SplitsOn v d.literals) cubes →
+pub merge_fit : (v : ℕ) (cubes : List Numbered) → AllByRecursion (λ d. SplitsOn v d.literals) cubes →
     AreFit (going true cubes) → AreFit (going false cubes) → AreFit cubes
 merge_fit v [] s t f = tt
 merge_fit v (c ∷ cubes) s t f =
@@ -134,10 +132,3 @@ tree_fits missing cubes h = rw h tt
 tree_fits (cube k) cubes h = rw h (tt, tt)
 tree_fits (split v p n) cubes h =
     merge_fit v cubes h.1 (tree_fits p (going true cubes) h.2) (tree_fits n (going false cubes) h.3)
-
--- whether there is a tree tells whether all fit
-pub fits_or_not : {Z : Type 0} (cubes : List (List Literal)) (shapes : Option (Vec Shape Z)) →
-    AreShapesOf (numbered 1 cubes) shapes →
-    MatchBool (is_some shapes) (AllFit cubes) (AllFit cubes → ⊥)
-fits_or_not {Z} cubes (Some rows) h = all_fit 1 cubes (tree_fits h.0 (numbered 1 cubes) h.1)
-fits_or_not {Z} cubes None h = λ a. h (are_fit 1 cubes a)

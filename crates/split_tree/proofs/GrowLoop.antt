@@ -183,7 +183,7 @@ pub weigh : List (List Numbered) → ℕ
 weigh [] = 0
 weigh (c ∷ waiting) = 1 + 2 * literals_of c + weigh waiting
 
-weigh_push : (ws : List (List Numbered)) (c : List Numbered) →
+pub weigh_push : (ws : List (List Numbered)) (c : List Numbered) →
     weigh (ws ++ c ∷ []) ≡ weigh ws + (1 + 2 * literals_of c)
 unfolding weigh
 weigh_push [] c = omega arith
@@ -191,12 +191,12 @@ weigh_push (d ∷ ws) c =
     let h : weigh (ws ++ c ∷ []) ≡ weigh ws + (1 + 2 * literals_of c) = weigh_push ws c in
     omega arith
 
-all_push : {X : Type 0} (P : X → Type 0) (xs : List X) (x : X) → AllByRecursion P xs → P x →
+pub all_push : {X : Type 0} (P : X → Type 0) (xs : List X) (x : X) → AllByRecursion P xs → P x →
     AllByRecursion P (xs ++ x ∷ [])
 all_push P [] x h k = (k, tt)
 all_push P (y ∷ xs) x h k = (h.0, all_push P xs x h.1 k)
 
-all_pop : {X : Type 0} (P : X → Type 0) (xs : List X) (x : X) → AllByRecursion P (xs ++ x ∷ []) →
+pub all_pop : {X : Type 0} (P : X → Type 0) (xs : List X) (x : X) → AllByRecursion P (xs ++ x ∷ []) →
     AllByRecursion P xs × P x
 all_pop P [] x h = (tt, h.0)
 all_pop P (y ∷ xs) x h = let r = all_pop P xs x h.1 in ((h.0, r.0), r.1)

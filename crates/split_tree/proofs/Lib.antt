@@ -4,6 +4,8 @@ pub mod ClashTotal
 mod GrowWays
 mod GrowLoop
 pub mod ClashFits
+mod SecondWalk
+mod SecondAlike
 pub mod NodesCoding
 mod NodesEnds
 pub mod SplitTreeLabels

@@ -2,4 +2,5 @@
 pub mod Clash
 pub mod Nodes
 pub mod Grow
+pub mod Second
 pub mod Tables

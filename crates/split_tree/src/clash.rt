@@ -2,7 +2,7 @@ ghost use Rattle.std.specs.Prelude.{◌≡◌, ◌<◌, ◌^◌, ◌-◌, length
 ghost use Rattle.split_tree.specs.Clash.{relation_of, AllFit, IsClashFault, cube_lists};
 ghost use Rattle.split_tree.specs.Inner.Clash.{IsFitting, FaultAfter};
 
-use crate::grow::{at_root, grow};
+use crate::second::fitting;
 use cnf_text::literal::Lit;
 use std::alloc::{AllocError, Global};
 use thiserror::Error;
@@ -67,35 +67,6 @@ pub fn compare(left: &[Lit], right: &[Lit]) -> Relation
     } else {
         Relation::Prefix
     }
-}
-
-/// Whether no two of these cubes clash.
-fn all_fit(alloc: Global, cubes: &[Vec<Lit>]) -> Result<bool, AllocError>
-    requires { length cubes.now < 2 ^ 32 }
-    ensures { IfOk result
-        (λ fit. MatchBool fit (AllFit (cube_lists cubes.now)) (AllFit (cube_lists cubes.now) → ⊥)) }
-{
-    let start = at_root(alloc, cubes)?;
-    Ok(grow(alloc, start)?.is_some())
-}
-
-/// How many cubes fit before the first that clashes with one before it, where some two clash.
-fn fitting(alloc: Global, cubes: &[Vec<Lit>]) -> Result<usize, AllocError>
-    requires few { length cubes.now < 2 ^ 32 }
-    requires clash { AllFit (cube_lists cubes.now) → ⊥ }
-    ensures { IfOk result (IsFitting (cube_lists cubes.now)) }
-{
-    let mut fit = 0;
-    let mut clash = cubes.len();
-    while fit + 1 < clash {
-        let middle = fit + (clash - fit) / 2;
-        if all_fit(alloc, &cubes[..middle])? {
-            fit = middle;
-        } else {
-            clash = middle;
-        }
-    }
-    Ok(fit)
 }
 
 /// The fault of these cubes, of which some two clash.

@@ -24,6 +24,16 @@ ghost use Rattle.split_tree.specs.Clash.{cube_lists};
 ghost use Rattle.split_tree.specs.Inner.Grow.{cubes_ahead, IsShapeAt, AreShapesOf, waiting};
 
 impl<'a> Ahead<'a> {
+    /// Whether the cube hasn't ended, and its next literal is of this variable.
+    pub fn splits_on(&self, variable: u32) -> bool
+        ensures { IsTrue result ↔ SplitsOn variable self.now.literals.now }
+    {
+        match self.literals.first() {
+            Some(next) => next.variable() == variable,
+            None => false,
+        }
+    }
+
     /// The cube behind its next literal, where that has this sign.
     fn going(&self, sign: bool) -> Option<Ahead<'a>>
         ensures { cubes_ahead (option_to_list result)
@@ -45,9 +55,8 @@ fn all_split_on(variable: u32, cubes: &[Ahead]) -> bool
         (cubes_ahead cubes.now) }
 {
     for cube in cubes {
-        match cube.literals.first() {
-            Some(next) if next.variable() == variable => {}
-            _ => return false,
+        if !cube.splits_on(variable) {
+            return false;
         }
     }
     true
@@ -94,7 +103,7 @@ fn cubes_going<'a>(
 }
 
 /// Lets the branches of a split on these cubes wait, the positive one on top.
-fn push_branches<'a>(
+pub fn push_branches<'a>(
     alloc: Global,
     cubes: &[Ahead<'a>],
     pending: &mut Vec<Vec<Ahead<'a>>>,

@@ -9,6 +9,7 @@ mod nodes;
 mod parts;
 mod readers;
 mod rows;
+mod second;
 mod shape;
 mod tables;
 mod top;

@@ -3,14 +3,14 @@ use Rattle.std.specs.Prelude.{◌≡◌, ℕ, ◌+◌, ◌≤◌, Bool, true, fa
 use Rattle.cnf_text.specs.declared.dimacs.Scan.{Scan}
 use Rattle.cnf_text.specs.declared.icnf.Open.{Open}
 use Rattle.cnf_text.specs.declared.icnf.Open.TheVariants.{Nothing, InClause}
-use Rattle.cnf_text.specs.declared.icnf.TextFault.{TextFault}
+use Rattle.cnf_text.specs.declared.icnf.Broken.{Broken}
 use Rattle.cnf_text.specs.declared.dimacs.Problem.{Problem}
 use Rattle.cnf_text.specs.declared.dimacs.DimacsFault.{DimacsFault}
 use Rattle.cnf_text.specs.declared.dimacs.DimacsFault.TheVariants.{Counts}
 use Rattle.cnf_text.specs.Literal.{Literal}
 use Rattle.cnf_text.specs.Icnf.{Symbol, FaultAt}
 use Rattle.cnf_text.specs.Dimacs.{greatest_of}
-use Rattle.cnf_text.specs.Inner.Icnf.{Read}
+use Rattle.cnf_text.specs.Inner.Icnf.{Read, told_on}
 
 abbrev pub open_of : Bool → Open
 open_of true = InClause
@@ -35,10 +35,11 @@ abbrev pub Scans : Scan → Scan → Symbol → Type 0
 Scans old new symbol =
     (before : List Symbol) → HasScanned old before → HasScanned new (before ++ symbol ∷ [])
 
--- the symbol, on this line, breaks a rule
-abbrev pub BreaksScan : Scan → Symbol → ℕ → TextFault → Type 0
-BreaksScan scan symbol line fault =
-    (before : List Symbol) → HasScanned scan before → FaultAt before symbol line fault
+-- the symbol, on whatever line, breaks this rule
+abbrev pub BreaksScan : Scan → Symbol → Broken → Type 0
+BreaksScan scan symbol rule =
+    (line : ℕ) (before : List Symbol) → HasScanned scan before
+    → FaultAt before symbol line (told_on line rule)
 
 -- the problem line says otherwise than was counted, and this is told
 abbrev pub IsMiscount : Problem → ℕ → ℕ → DimacsFault → Type 0

@@ -5,8 +5,10 @@ use Rattle.cnf_text.specs.declared.icnf.Open.TheVariants.{Nothing, InClause, InC
 use Rattle.cnf_text.specs.declared.icnf.Reader.{Reader}
 use Rattle.cnf_text.specs.declared.icnf.Word.{Word}
 use Rattle.cnf_text.specs.declared.icnf.Word.TheVariants as words
+use Rattle.cnf_text.specs.declared.icnf.Broken.{Broken}
+use Rattle.cnf_text.specs.declared.icnf.Broken.TheVariants as broken
 use Rattle.cnf_text.specs.declared.icnf.TextFault.{TextFault}
-use Rattle.cnf_text.specs.declared.icnf.TextFault.TheVariants.{Memory}
+use Rattle.cnf_text.specs.declared.icnf.TextFault.TheVariants as fault
 use Rattle.cnf_text.specs.Literal.{Literal, greatest_variable}
 use Rattle.cnf_text.specs.Icnf.{Symbol, Signed, EndMark, CubeMark, Unknown, Item, ClauseItem}
 use Rattle.cnf_text.specs.Icnf.{CubeItem, spelled, clauses_of, cubes_of, literal_count, Within}
@@ -65,8 +67,15 @@ abbrev pub Advances : Reader → Reader → Symbol → Type 0
 Advances old new symbol =
     (before : List Symbol) → HasRead old before → HasRead new (before ++ symbol ∷ [])
 
--- the symbol, on this line, breaks a rule, unless memory ran out
-abbrev pub BreaksRule : Reader → Symbol → ℕ → TextFault → Type 0
-BreaksRule reader symbol line fault =
-    fault ≢ Memory → (before : List Symbol) → HasRead reader before
-    → FaultAt before symbol line fault
+-- the fault of a token on this line that breaks a rule
+abbrev pub told_on : ℕ → Broken → TextFault
+told_on line broken.Token = fault.Token line
+told_on line broken.TooLarge = fault.TooLarge line
+told_on line broken.Limit = fault.Limit
+told_on line broken.Memory = fault.Memory
+
+-- the symbol, on whatever line, breaks this rule, unless memory ran out
+abbrev pub BreaksRule : Reader → Symbol → Broken → Type 0
+BreaksRule reader symbol rule =
+    (line : ℕ) → rule ≢ broken.Memory → (before : List Symbol) → HasRead reader before
+    → FaultAt before symbol line (told_on line rule)

@@ -1,10 +1,12 @@
-use Rattle.std.proofs.Common.{length}
-use Rattle.cnf_text.specs.Tokens.{joined}
+use Rattle.std.proofs.Common.{◌+◌, ◌<◌, ◌^◌, length}
+use Rattle.cnf_text.specs.Tokens.{joined, below}
 use Rattle.cnf_text.proofs.dimacs.read_clauses.Given as goal
 use Rattle.cnf_text.proofs.DimacsReading.{ScannedUpTo}
 
-abbrev pub invariant-loop-token : goal.invariant-loop-token
-invariant-loop-token l = ScannedUpTo l.scan (joined l.fn.tokens) (joined l.tokens)
+abbrev pub invariant-loop-word : goal.invariant-loop-word
+invariant-loop-word l =
+    ScannedUpTo l.scan (joined (below l.fn.tokens)) l.words l.count
+    × (l.count + length l.words < 2 ^ 64)
 
-abbrev pub decreases-loop-token : goal.decreases-loop-token
-decreases-loop-token l = length (joined l.tokens)
+abbrev pub decreases-loop-word : goal.decreases-loop-word
+decreases-loop-word l = length l.words

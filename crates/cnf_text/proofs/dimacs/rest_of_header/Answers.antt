@@ -1,9 +1,9 @@
-use Rattle.std.proofs.Common.{◌≡◌, ap, ◌∙◌, ◌∷◌, [], List}
+use Rattle.std.proofs.Common.{◌≡◌, ap, ◌∙◌, ◌∷◌, []}
 use Rattle.std.specs.Option.{option_map}
 use Rattle.cnf_text.specs.Dimacs.{told}
 use Rattle.cnf_text.specs.Numbers.{decimal}
-use Rattle.cnf_text.specs.Tokens.{Token, below, joined}
-use Rattle.cnf_text.proofs.DimacsHeader.{header_read, left_below, named, where_none}
+use Rattle.cnf_text.specs.Tokens.{Token, below}
+use Rattle.cnf_text.proofs.DimacsHeader.{header_read, named, where_none}
 use Rattle.cnf_text.proofs.dimacs.rest_of_header.Goals as goal
 
 pub returns : goal.returns
@@ -15,11 +15,9 @@ returns c =
     c.is_some.result c.is_some.ensures c.if-is_some.false c.next_in_line-4.ensures.none in
     header_read c.args.first c.in_ok-cnf.cnf c.in_ok-variables.variables c.in_ok-clauses.clauses
     c.args.tokens.now c.next_in_line.new.self c.next_in_line-2.new.self c.next_in_line-3.new.self
-    c.next_line.new.self c.in_ok-decimal.field-0 c.in_ok-decimal-2.field-0
+    c.next_in_line-4.new.self c.in_ok-decimal.field-0 c.in_ok-decimal-2.field-0
     c.in_ok-cnf.ensures.some c.in_ok-variables.ensures.some c.in_ok-clauses.ensures.some ended.0
-    (left_below c.next_in_line-4.new.self c.next_line.new.self c.next_line.result
-    c.next_line.ensures.found c.next_line.ensures.none
-    ∙ ap (λ (lines : List (List Token)). joined (below lines)) ended.1)
+    ended.1
     (named c.first.inside.bytes.now c.args.first.bytes c.as_slice.result.now _ c.ne.result
     (ap (λ (t : Token). t.bytes) c.first.view_is) c.as_slice.ensures c.ne.ensures c.if-ne.false)
     (named c.cnf.inside.bytes.now c.in_ok-cnf.cnf.bytes c.as_slice-else-ne.result.now _
