@@ -2,19 +2,18 @@
 use Rattle.std.proofs.Common.{zero, suc, ◌+◌, ◌-◌, ◌<◌, ◌≤◌, length, get_or, take, arith, ◌≡◌, ◌==◌}
 use Rattle.std.proofs.Common.{◌&&◌, ℕ, Bool, true, false, nat_eq, List, [], ◌∷◌, ◌++◌, refl, sym}
 use Rattle.std.proofs.Common.{ap, ◌∙◌, inl, inr, subst}
-use Rattle.std.specs.Prelude.{if◌then◌else◌, nat_lt, slice_set, Some, cond}
-use Rattle.std.specs.Map.{lookup}
-use Rattle.std.specs.Option.{unwrap_or}
-use Rattle.std.proofs.lemmas.Bool.{cases_Bool, cases_lt, eqb-true, eq-eqb, ne_eqb, lt-ltb, le-ltb}
+use Rattle.std.specs.Prelude.{if◌then◌else◌, nat_lt}
+use Rattle.std.proofs.lemmas.Bool.{cases_Bool, cases_lt, eqb-true, eq-eqb, lt-ltb}
 use Rattle.std.proofs.lemmas.Bool.{ltb-true, both_ways, and_parts, and_from, false_from_ne_true}
 use Rattle.std.proofs.lemmas.Bool.{cond-true, cond-false, or_left, or_right}
 use Rattle.std.proofs.lemmas.List.{take_more, take_all, take-append-le, get_or_append_left}
-use Rattle.std.proofs.lemmas.List.{get_or_push, length_push, get_or-set_same, get_or-set_other}
+use Rattle.std.proofs.lemmas.List.{get_or_push, length_push}
 use Rattle.std.proofs.lemmas.List.{append-nil, append_assoc}
-use Rattle.hint_check.specs.Inner.Resets.{is_named, Resets}
+use Rattle.hint_check.specs.Inner.Resets.{is_named}
 use Rattle.hint_check.specs.declared.index.Link.{Link}
-use Rattle.hint_check.specs.Inner.Index.{Links, no_link, ids_at, once, IsLast, LeadBack, last_place}
-use Rattle.hint_check.specs.Inner.Index.{NotesLast, SetsPlace, Adds, numbers_of}
+use Rattle.hint_check.specs.Inner.Index.{Links, no_link, ids_at, once, IsLast, LeadBack}
+use Rattle.hint_check.specs.Inner.Index.{NotesLast, Adds, numbers_of}
+use Rattle.hint_check.specs.Inner.Stamps.{Marks, stamp_at, Forgets}
 
 -- one more link
 pub ids_at-push : (links : Links) (x : Link) (n : ℕ)
@@ -44,16 +43,20 @@ unfolding LeadBack
 LeadBack-none place below = absurd (omega (arith, below))
 
 -- nothing is noted of no links
-pub NotesLast-none : (reach : ℕ) → NotesLast [] reach [] []
-unfolding NotesLast IsLast
-NotesLast-none reach n =
-    elim (nat_lt n reach) as (λ b. ((if b then get_or [] n 0 else 0) ≤ 0)
-    × (ids_at (take (if b then get_or [] n 0 else 0) []) n ≡ ids_at (take 0 []) n)
-    × (0 < (if b then get_or [] n 0 else 0) →
-    (get_or [] ((if b then get_or [] n 0 else 0) - 1) no_link).number ≡ n)) [
-      | true ↦ (omega arith, refl, λ some. absurd (omega (arith, some)))
-      | false ↦ (omega arith, refl, λ some. absurd (omega (arith, some)))
-    ]
+none-last : (n place : ℕ) → 0 ≡ place → IsLast [] n 0 place
+unfolding IsLast
+none-last n place none =
+    subst (IsLast [] n 0) none (omega arith, refl, λ some. absurd (omega (arith, some)))
+
+no-stamp : (n : ℕ) → 0 ≡ stamp_at ([], []) n
+no-stamp n = elim (nat_lt n 2097152) as (λ b. ◌≡◌ {A = ℕ} 0 (if b then get_or [] n 0 else 0)) [
+  | true ↦ refl
+  | false ↦ refl
+]
+
+pub NotesLast-none : NotesLast [] ([], [])
+unfolding NotesLast
+NotesLast-none n = none-last n (stamp_at ([], []) n) (no-stamp n)
 
 -- A walk along a number's chain has come to this place: the ids it has put behind the first ones,
 -- and those from the place on, are all ids of the number.
@@ -63,12 +66,12 @@ Walks links n first ids place =
     × (0 < place → (get_or links (place - 1) no_link).number ≡ n)
 
 -- a walk begins at the last link of its number
-pub Walks-start : (links : Links) (reach : ℕ) (near : List ℕ) (far : List (ℕ × ℕ)) (n place : ℕ)
+pub Walks-start : (links : Links) (heads : Marks) (n place : ℕ)
     (first : List ℕ)
-    → NotesLast links reach near far → place ≡ last_place reach near far n →
+    → NotesLast links heads → place ≡ stamp_at heads n →
     Walks links n first first place
 unfolding NotesLast IsLast
-Walks-start links reach near far n place first notes is =
+Walks-start links heads n place first notes is =
     let last = subst (λ p. IsLast links n (length links) p) (sym is) (notes n) in (
       last.0,
       ap (λ ids. first ++ ids)
@@ -127,21 +130,21 @@ module _ (links : Links) (n : ℕ) (first ids : List ℕ) (place : ℕ) (link : 
   )
 
 -- where a number's last link stands
-module _ (links : Links) (reach : ℕ) (near : List ℕ) (far : List (ℕ × ℕ))
-    (notes : NotesLast links reach near far) (n : ℕ) where
-  pub start-ids : ids_at (take (last_place reach near far n) links) n ≡ ids_at links n
+module _ (links : Links) (heads : Marks)
+    (notes : NotesLast links heads) (n : ℕ) where
+  pub start-ids : ids_at (take (stamp_at heads n) links) n ≡ ids_at links n
   unfolding NotesLast IsLast
   start-ids = (notes n).1 ∙ ap (λ ls. ids_at ls n) (take_all (length links) links (omega arith))
 
   -- the last link of a number is one of the links
-  pub start-within : last_place reach near far n ≤ length links
+  pub start-within : stamp_at heads n ≤ length links
   unfolding NotesLast IsLast
   start-within = (notes n).0
 
 -- one more link, which leads back to the last one of its number
-module _ (links : Links) (reach : ℕ) (near : List ℕ) (far : List (ℕ × ℕ)) (x : Link)
-    (leads : LeadBack links) (notes : NotesLast links reach near far)
-    (back : x.before ≡ last_place reach near far x.number) where
+module _ (links : Links) (heads : Marks) (x : Link)
+    (leads : LeadBack links) (notes : NotesLast links heads)
+    (back : x.before ≡ stamp_at heads x.number) where
   abbrev pub pushed : Links
   pushed = links ++ x ∷ []
 
@@ -175,23 +178,22 @@ module _ (links : Links) (reach : ℕ) (near : List ℕ) (far : List (ℕ × ℕ
             subst (λ l. IsLast pushed l.number place l.before)
             (sym (get_or_push links x no_link place at))
             (subst (λ p. IsLast pushed x.number place p) (sym back)
-            (subst (λ p. IsLast pushed x.number p (last_place reach near far x.number)) at
-            (carried x.number (length links) (last_place reach near far x.number) (omega arith)
+            (subst (λ p. IsLast pushed x.number p (stamp_at heads x.number)) at
+            (carried x.number (length links) (stamp_at heads x.number) (omega arith)
             (notes x.number))))
       ]
 
   -- the last link of each number is noted, after one more link
-  pub NotesLast-push : (near' : List ℕ) (far' : List (ℕ × ℕ)) →
-      SetsPlace reach near far near' far' x.number (length pushed) →
-      NotesLast pushed reach near' far'
-  unfolding NotesLast SetsPlace IsLast
-  NotesLast-push near' far' sets n =
+  pub NotesLast-push : (heads' : Marks) → ((n : ℕ) → stamp_at heads' n
+      ≡ (if nat_eq x.number n then length pushed else stamp_at heads n)) → NotesLast pushed heads'
+  unfolding NotesLast IsLast
+  NotesLast-push heads' sets n =
       subst (λ p. IsLast pushed n (length pushed) p) (sym (sets n))
       (elim (cases_Bool (nat_eq x.number n)) [
         | inl this ↦
             subst (λ p. IsLast pushed n (length pushed) p)
             (sym
-            (cond-true (nat_eq x.number n) (length pushed) (last_place reach near far n) this)) (
+            (cond-true (nat_eq x.number n) (length pushed) (stamp_at heads n) this)) (
               omega arith,
               refl,
               λ some. ap (λ l. l.number)
@@ -201,9 +203,9 @@ module _ (links : Links) (reach : ℕ) (near : List ℕ) (far : List (ℕ × ℕ
             )
         | inr other ↦
             let was =
-            carried n (length links) (last_place reach near far n) (omega arith) (notes n) in
+            carried n (length links) (stamp_at heads n) (omega arith) (notes n) in
             subst (λ p. IsLast pushed n (length pushed) p)
-            (sym (cond-false (nat_eq x.number n) (length pushed) (last_place reach near far n)
+            (sym (cond-false (nat_eq x.number n) (length pushed) (stamp_at heads n)
             other)) (
               let more = length_push links x in omega (arith, more, was.0),
               was.1
@@ -218,128 +220,65 @@ module _ (links : Links) (reach : ℕ) (near : List ℕ) (far : List (ℕ × ℕ
             )
       ])
 
--- other lists that note the same
-pub NotesLast-same : (links : Links) (reach : ℕ) (near near' : List ℕ) (far far' : List (ℕ × ℕ))
-    → ((n : ℕ) → last_place reach near' far' n ≡ last_place reach near far n) →
-    NotesLast links reach near far → NotesLast links reach near' far'
+-- other stamps that note the same
+pub NotesLast-same : (links : Links) (heads heads' : Marks)
+    → ((n : ℕ) → stamp_at heads' n ≡ stamp_at heads n) → NotesLast links heads
+    → NotesLast links heads'
 unfolding NotesLast
-NotesLast-same links reach near near' far far' same notes n =
+NotesLast-same links heads heads' same notes n =
     subst (λ p. IsLast links n (length links) p) (sym (same n)) (notes n)
 
--- ---- what is noted for a number
-
-near-place : (reach : ℕ) (near : List ℕ) (far : List (ℕ × ℕ)) (n : ℕ) → n < reach →
-    last_place reach near far n ≡ get_or near n 0
-near-place reach near far n low =
-    cond-true (nat_lt n reach) (get_or near n 0) (unwrap_or (lookup (nat_eq n) far) 0)
-    (lt-ltb n reach low)
-
-far-place : (reach : ℕ) (near : List ℕ) (far : List (ℕ × ℕ)) (n : ℕ) → reach ≤ n →
-    last_place reach near far n ≡ unwrap_or (lookup (nat_eq n) far) 0
-far-place reach near far n high =
-    cond-false (nat_lt n reach) (get_or near n 0) (unwrap_or (lookup (nat_eq n) far) 0)
-    (le-ltb n reach high)
-
-module _ (reach : ℕ) (near : List ℕ) (far : List (ℕ × ℕ)) (number place : ℕ) where
-  other : (n : ℕ) (p : ℕ) → (number ≡ n → ⊥) → p ≡ last_place reach near far n →
-      p ≡ (if nat_eq number n then place else last_place reach near far n)
-  other n p apart is =
-      is
-      ∙ sym (cond-false (nat_eq number n) place (last_place reach near far n)
-      (ne_eqb number n apart))
-
-  -- a place noted for a number within reach
-  pub SetsPlace-near : (made : List ℕ) → number < reach →
-      ((n : ℕ) → get_or made n 0 ≡ get_or near n 0) → number < length made
-      → SetsPlace reach near far (slice_set made number place) far number place
-  unfolding SetsPlace
-  SetsPlace-near made low same room n =
-      elim (cases_lt n reach) [
-        | inl under ↦ near-place reach (slice_set made number place) far n under
-            ∙ elim (cases_Bool (nat_eq number n)) [
-              | inl this ↦ ap (λ k. get_or (slice_set made number place) k 0)
-                  (sym (eqb-true number n this)) ∙ get_or-set_same made number place 0 room
-                  ∙ sym (cond-true (nat_eq number n) place (last_place reach near far n) this)
-              | inr apart ↦ let differ : number ≡ n → ⊥ =
-                  λ e. both_ways (nat_eq number n) apart (eq-eqb number n e) in
-                  other n (get_or (slice_set made number place) n 0) differ
-                  (get_or-set_other made number n place 0 (λ e. differ (sym e)) ∙ same n
-                  ∙ sym (near-place reach near far n under))
-            ]
-        | inr over ↦ other n (last_place reach (slice_set made number place) far n)
-            (λ e. omega (arith, e, low, over))
-            (far-place reach (slice_set made number place) far n over
-            ∙ sym (far-place reach near far n over))
-      ]
-
-  -- a place noted for a number out of reach
-  pub SetsPlace-far : (far' : List (ℕ × ℕ)) → reach ≤ number
-      →
-      ((q : ℕ) →
-      lookup (nat_eq q) far' ≡ cond (nat_eq number q) (Some place) (lookup (nat_eq q) far))
-      → SetsPlace reach near far near far' number place
-  unfolding SetsPlace
-  SetsPlace-far far' high put n =
-      elim (cases_lt n reach) [
-        | inl under ↦ other n (last_place reach near far' n) (λ e. omega (arith, e, high, under))
-            (near-place reach near far' n under ∙ sym (near-place reach near far n under))
-        | inr over ↦ far-place reach near far' n over ∙ ap (λ o. unwrap_or o 0) (put n)
-            ∙ elim (cases_Bool (nat_eq number n)) [
-              | inl this ↦ ap (λ o. unwrap_or o 0)
-                  (cond-true (nat_eq number n) (Some place) (lookup (nat_eq n) far) this)
-                  ∙ sym (cond-true (nat_eq number n) place (last_place reach near far n) this)
-              | inr apart ↦ ap (λ o. unwrap_or o 0)
-                  (cond-false (nat_eq number n) (Some place) (lookup (nat_eq n) far) apart)
-                  ∙ sym (far-place reach near far n over)
-                  ∙ sym (cond-false (nat_eq number n) place (last_place reach near far n) apart)
-            ]
-      ]
+-- what is noted for a number, once room was made and one of them was set
+pub noted : (number n place count stamp middle old : ℕ)
+    → stamp ≡ (if nat_eq number n then place else middle) → place ≡ count → middle ≡ old
+    → stamp ≡ (if nat_eq number n then count else old)
+noted number n place count stamp middle old set is same = set ∙ rw (is, same) refl
 
 -- ---- an id listed once
 
-module _ (links : Links) (reach : ℕ) (near : List ℕ) (far : List (ℕ × ℕ)) (leads : LeadBack links)
-    (notes : NotesLast links reach near far) (n id : ℕ) where
+module _ (links : Links) (heads : Marks) (leads : LeadBack links)
+    (notes : NotesLast links heads) (n id : ℕ) where
   abbrev last : Link
-  last = get_or links (last_place reach near far n - 1) no_link
+  last = get_or links (stamp_at heads n - 1) no_link
 
   -- where the number has a link, its ids are the last link's and others
-  last-first : 0 < last_place reach near far n → (more : List ℕ) × (ids_at links n ≡ last.id ∷ more)
+  last-first : 0 < stamp_at heads n → (more : List ℕ) × (ids_at links n ≡ last.id ∷ more)
   last-first some =
       let walks =
-      Walks-start links reach near far n (last_place reach near far n) [] notes refl in (
+      Walks-start links heads n (stamp_at heads n) [] notes refl in (
         ids_at (take last.before links) n,
-        sym (start-ids links reach near far notes n)
-            ∙ first-id links n [] [] (last_place reach near far n) last leads some walks refl,
+        sym (start-ids links heads notes n)
+            ∙ first-id links n [] [] (stamp_at heads n) last leads some walks refl,
       )
 
   -- an id that the last link has isn't listed again
-  pub once-there : has_id links (last_place reach near far n) id ≡ true →
+  pub once-there : has_id links (stamp_at heads n) id ≡ true →
       once id (ids_at links n) ≡ ids_at links n
   once-there there =
-      let parts = and_parts (nat_lt 0 (last_place reach near far n)) (last.id == id) there in
-      let found = last-first (ltb-true 0 (last_place reach near far n) parts.0) in
+      let parts = and_parts (nat_lt 0 (stamp_at heads n)) (last.id == id) there in
+      let found = last-first (ltb-true 0 (stamp_at heads n) parts.0) in
       ap (once id) found.1
       ∙ cond-true (last.id == id) (last.id ∷ found.0) (id ∷ last.id ∷ found.0) parts.1 ∙ sym found.1
 
   -- an id that the last link doesn't have is listed
-  pub once-more : has_id links (last_place reach near far n) id ≡ false →
+  pub once-more : has_id links (stamp_at heads n) id ≡ false →
       once id (ids_at links n) ≡ id ∷ ids_at links n
   once-more apart =
-      elim (cases_lt 0 (last_place reach near far n)) [
+      elim (cases_lt 0 (stamp_at heads n)) [
         | inl some ↦
             let found = last-first some in
             let differ : (last.id == id) ≡ false =
             false_from_ne_true (last.id == id)
-            (λ same. both_ways (has_id links (last_place reach near far n) id) apart
-            (and_from (nat_lt 0 (last_place reach near far n)) (last.id == id)
-            (lt-ltb 0 (last_place reach near far n) some) same)) in
+            (λ same. both_ways (has_id links (stamp_at heads n) id) apart
+            (and_from (nat_lt 0 (stamp_at heads n)) (last.id == id)
+            (lt-ltb 0 (stamp_at heads n) some) same)) in
             ap (once id) found.1
             ∙ cond-false (last.id == id) (last.id ∷ found.0) (id ∷ last.id ∷ found.0) differ
             ∙ ap (λ ids. id ∷ ids) (sym found.1)
         | inr none ↦
-            let empty : ids_at links n ≡ [] = sym (start-ids links reach near far notes n)
+            let empty : ids_at links n ≡ [] = sym (start-ids links heads notes n)
             ∙ ap (λ k. ids_at (take k links) n)
-            (let e : last_place reach near far n ≡ 0 = omega (arith, none) in e) in
+            (let e : stamp_at heads n ≡ 0 = omega (arith, none) in e) in
             ap (once id) empty ∙ ap (λ ids. id ∷ ids) (sym empty)
       ]
 
@@ -384,34 +323,25 @@ number-there (link ∷ links) (suc i) n below is =
     (number-there links i n (omega arith) is)
 
 -- where all links are forgotten, nothing is noted
-module _ (links : Links) (reach : ℕ) (near near' : List ℕ) (far : List (ℕ × ℕ))
-    (notes : NotesLast links reach near far)
-    (forgets : Resets 0 (numbers_of links) near near') where
-  none-noted : (n : ℕ) → n < reach → get_or near' n 0 ≡ 0
-  unfolding NotesLast IsLast Resets
-  none-noted n low =
-      let last =
-      subst (λ p. IsLast links n (length links) p) (near-place reach near far n low) (notes n) in
+module _ (links : Links) (heads heads' : Marks) (notes : NotesLast links heads)
+    (forgets : Forgets (numbers_of links) heads heads') where
+  none-noted : (n : ℕ) → 0 ≡ stamp_at heads' n
+  unfolding NotesLast IsLast
+  none-noted n =
       elim (cases_Bool (is_named (numbers_of links) n)) [
-        | inl there ↦ forgets n
-            ∙ cond-true (is_named (numbers_of links) n) 0 (get_or near n 0) there
-        | inr none ↦ forgets n ∙ cond-false (is_named (numbers_of links) n) 0 (get_or near n 0) none
-            ∙ elim (cases_lt 0 (get_or near n 0)) [
+        | inl there ↦ sym (forgets n
+            ∙ cond-true (is_named (numbers_of links) n) 0 (stamp_at heads n) there)
+        | inr none ↦ sym (forgets n
+            ∙ cond-false (is_named (numbers_of links) n) 0 (stamp_at heads n) none
+            ∙ elim (cases_lt 0 (stamp_at heads n)) [
               | inl some ↦ absurd (both_ways (is_named (numbers_of links) n) none
-                  (number-there links (get_or near n 0 - 1) n (omega (arith, some, last.0))
-                  (last.2 some)))
-              | inr at ↦ let e : get_or near n 0 ≡ 0 = omega (arith, at) in e
-            ]
+                  (number-there links (stamp_at heads n - 1) n
+                  (let within = (notes n).0 in omega (arith, some, within)) ((notes n).2 some)))
+              | inr at ↦ let e : stamp_at heads n ≡ 0 = omega (arith, at) in e
+            ])
       ]
 
   -- with all heads forgotten, nothing is noted of no links
-  pub NotesLast-forgotten : NotesLast [] reach near' []
+  pub NotesLast-forgotten : NotesLast [] heads'
   unfolding NotesLast
-  NotesLast-forgotten n =
-      subst (λ p. IsLast [] n 0 p)
-      (elim (cases_lt n reach) [
-        | inl under ↦ near-place reach [] [] n under
-            ∙ sym (near-place reach near' [] n under ∙ none-noted n under)
-        | inr over ↦ far-place reach [] [] n over ∙ sym (far-place reach near' [] n over)
-      ])
-      (NotesLast-none reach n)
+  NotesLast-forgotten n = none-last n (stamp_at heads' n) (none-noted n)

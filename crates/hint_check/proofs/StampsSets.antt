@@ -330,7 +330,7 @@ forget_more false true old = refl
 forget_more false false old = refl
 
 -- one number more
-Forgets-push : (numbers : List ℕ) (number : ℕ) (before middle after : Marks) →
+pub Forgets-push : (numbers : List ℕ) (number : ℕ) (before middle after : Marks) →
     Forgets numbers before middle →
     ((n : ℕ) → stamp_at after n ≡ (if number == n then 0 else stamp_at middle n)) →
     Forgets (numbers ++ number ∷ []) before after

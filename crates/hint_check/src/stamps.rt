@@ -127,7 +127,7 @@ impl Stamps {
     }
 
     /// Sets the stamp of a number to 0.
-    fn forget(&mut self, number: u32)
+    pub fn forget(&mut self, number: u32)
         ensures { (n : ℕ)
             → stamp_at self.new n ≡ (if number == n then 0 else stamp_at self.old n) }
     {

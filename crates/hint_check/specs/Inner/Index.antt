@@ -1,15 +1,15 @@
 -- For each literal the ids of the clauses that may hold it.
-use Rattle.std.specs.Prelude.{◌≡◌, ℕ, ◌-◌, ◌<◌, ◌≤◌, ◌==◌, nat_eq, nat_lt, slice_index}
+use Rattle.std.specs.Prelude.{◌≡◌, ℕ, ◌-◌, ◌<◌, ◌≤◌, ◌==◌, nat_eq}
 use Rattle.std.specs.Prelude.{slice_index_or, take, length, Bool, true, ◌&&◌, ◌||◌, if◌then◌else◌}
 use Rattle.std.specs.Prelude.{List, [], ◌∷◌, ◌++◌, Option, Some, None, map as map_list}
-use Rattle.std.specs.Option.{unwrap_or, IfSome}
+use Rattle.std.specs.Option.{IfSome}
 use Rattle.std.specs.List.{list_any}
-use Rattle.std.specs.Map.{lookup}
 use Rattle.std.specs.Ordering.{nat_cmp}
 use Rattle.std.specs.FinMap as map
 use Rattle.cnf_text.specs.Literal.{Literal, literal_number}
 use Rattle.hint_check.specs.Literals.{has, is_tautology}
 use Rattle.hint_check.specs.declared.index.Link.{Link}
+use Rattle.hint_check.specs.Inner.Stamps.{Marks, stamp_at}
 
 -- the links, in the order in which they were made
 abbrev pub Links : Type 0
@@ -38,23 +38,10 @@ LeadBack links =
     → IsLast links (slice_index_or links place no_link).number place
     (slice_index_or links place no_link).before
 
--- what is noted for a number: among the near ones, which are those below the reach, or among the
--- others
-abbrev pub last_place : ℕ → List ℕ → List (ℕ × ℕ) → ℕ → ℕ
-last_place reach near far number =
-    if nat_lt number reach then slice_index near number
-    else unwrap_or (lookup (nat_eq number) far) 0
-
 -- for each number its last link is noted
-unfoldable pub NotesLast : Links → ℕ → List ℕ → List (ℕ × ℕ) → Type 0
-NotesLast links reach near far =
-    (number : ℕ) → IsLast links number (length links) (last_place reach near far number)
-
--- the place is noted for the number, and for others what was
-unfoldable pub SetsPlace : ℕ → List ℕ → List (ℕ × ℕ) → List ℕ → List (ℕ × ℕ) → ℕ → ℕ → Type 0
-SetsPlace reach near far near' far' number place =
-    (n : ℕ) → last_place reach near' far' n
-    ≡ (if nat_eq number n then place else last_place reach near far n)
+unfoldable pub NotesLast : Links → Marks → Type 0
+NotesLast links heads =
+    (number : ℕ) → IsLast links number (length links) (stamp_at heads number)
 
 -- the numbers of the links
 abbrev pub numbers_of : Links → List ℕ

@@ -1,20 +1,17 @@
 use Rattle.std.proofs.Common.{◌-◌, ◌++◌, ap, ◌∙◌, arith, subst, sym}
 use Rattle.std.proofs.lemmas.List.{get_or_default}
 use Rattle.cnf_text.specs.Literal.{literal_number}
-use Rattle.hint_check.specs.declared.index.TheConstants.{REACH}
-use Rattle.hint_check.specs.Inner.Index.{last_place, ids_at, no_link}
+use Rattle.hint_check.specs.Inner.Index.{ids_at, no_link}
+use Rattle.hint_check.specs.Inner.Stamps.{stamp_at}
 use Rattle.hint_check.proofs.IndexChains.{Walks, Walks-start, Walks-end, Walks-smaller, Walks-step}
 use Rattle.hint_check.proofs.index.Index.list.Goals as goal
 
 pub loop-place-init : goal.loop-place-init
 loop-place-init c =
     let inside = c.self.inside in
-    Walks-start inside.links.items REACH inside.near.items inside.far.entries
-    (literal_number c.args.lit) c.last_place-place.result c.args.ids.now.items
-    c.self.invariant.1
-    (c.last_place-place.ensures
-    ∙ ap (λ near. last_place REACH near inside.far.entries c.number.result) c.deref.ensures.value
-    ∙ ap (last_place REACH inside.near.items inside.far.entries) c.number.ensures.value)
+    Walks-start inside.links.items inside.heads (literal_number c.args.lit) c.get-place.result
+    c.args.ids.now.items c.self.invariant.1
+    (c.get-place.ensures ∙ ap (stamp_at inside.heads) c.number.ensures.value)
 
 pub index-link-requires : goal.index-link-requires
 index-link-requires c =
