@@ -36,6 +36,9 @@ VERDICT = re.compile(r"fn (\S+): (.*)")
 UNPROVED = re.compile(r"note: (\S+:\d+:\d+: it is not proved .*|\S+:\d+:\d+: .*not proved.*)")
 IN_PROOFS = re.compile(r"(?:\./)?proofs/(\S+)/(?:Answers|Invariants|Proof)\.antt:\d+:\d+: error: (.*)")
 NAMES = re.compile(r"has no field|is not in scope|has no `|was not admitted")
+PLACE = re.compile(r"(\S+?):(\d+):")
+BEGINS = re.compile(r"\s*(?:pub(?:\(\w+\))? )?(?:const )?fn (\w+)")
+BEFORE = ("#[", "///")
 
 
 class Edit:
@@ -95,10 +98,26 @@ def rounds_of(edits, folder, is_each):
     return rounds
 
 
-class Answer:
-    """What a check said of its functions."""
+def function_at(folder, note):
+    """The name of the function in which the place of a note stands, with what stands right before it; empty where there is none."""
+    path, line = PLACE.match(note).groups()
+    if not (folder / path).is_file():
+        return ""
+    lines, name = (folder / path).read_text().splitlines(), ""
+    for at, text in enumerate(lines, 1):
+        if found := BEGINS.match(text):
+            while at > 1 and lines[at - 2].strip().startswith(BEFORE):
+                at -= 1
+            if at > int(line):
+                break
+            name = found[1]
+    return name
 
-    def __init__(self, crate, said):
+
+class Answer:
+    """What a check of the crate in a folder said of its functions."""
+
+    def __init__(self, crate, said, folder):
         self.said, self.verdicts, self.reasons, self.by_proof, notes = said, {}, {}, {}, []
         for line in said.splitlines():
             if found := UNPROVED.match(line):
@@ -107,14 +126,15 @@ class Answer:
                 self.by_proof.setdefault(found[1].replace("/", "::"), []).append(found[2])
             elif found := VERDICT.match(line):
                 name = found[1].removeprefix(f"{crate}::")
-                self.verdicts[name], self.reasons[name], notes = found[2], notes, []
+                here = [it for it in notes if function_at(folder, it) == name.split("::")[-1]]
+                self.verdicts[name], self.reasons[name], notes = found[2], here, []
 
     def refusal(self, function):
         """Whether the check refuses the function for a goal of its own, and what it says of it."""
         verdict, notes = self.verdicts.get(function), self.reasons.get(function)
         if verdict is None:
             return False, "the check says nothing of the function"
-        if verdict.startswith("proved") or verdict.startswith("no proof: it calls"):
+        if verdict.startswith(("proved", "no proof: it calls", "could not tell")):
             return False, f"NOT REFUSED: {verdict}"
         if notes:
             return True, notes[0]
@@ -149,7 +169,7 @@ class Tries:
             ran = subprocess.run(words, **how)
             if ran.returncode >= 0:
                 break
-        return Answer(self.crate.name, ran.stdout)
+        return Answer(self.crate.name, ran.stdout, self.room / "crate")
 
     def round(self, edits, texts):
         """Whether each of these edits is refused, and what is told of it. Where the check doesn't come to functions, each is tried by itself."""
