@@ -50,8 +50,8 @@ next_token tokens words more bytes count up is =
     next_of tokens up.before up.left bytes more count up.parts (sym is ∙ up.are_left)
 
 -- one token more is read
-abbrev pub one_more : (tokens so_far : List Token) (bytes : List ℕ) (more : List (List ℕ)) (count : ℕ)
-    → length so_far ≡ count → NextToken tokens so_far bytes more count
+abbrev pub one_more : (tokens so_far : List Token) (bytes : List ℕ) (more : List (List ℕ))
+    (count : ℕ) → length so_far ≡ count → NextToken tokens so_far bytes more count
     → UpTo tokens more (count + 1)
 one_more tokens so_far bytes more count counted next = record {
   before = so_far ++ next.token ∷ [];
@@ -84,32 +84,3 @@ pub next_behind : (next : Option Token) (left rest : List Token)
     → rest ≡ drop 1 left
 next_behind None left rest is = is.1 ∙ sym (ap (drop 1) is.0)
 next_behind (Some token) left rest is = sym (ap (drop 1) is)
-
-behind : (before rest : List Token) → drop (length before) (before ++ rest) ≡ rest
-behind [] rest = refl
-behind (token ∷ before) rest = behind before rest
-
-same_first : (one other : Token) (more after : List Token) → one ∷ more ≡ other ∷ after
-    → one.line ≡ other.line
-same_first one other more after e = cc
-
--- the first token that is left behind so many
-pub line_at : (tokens left more before after : List Token) (found token : Token) (count : ℕ)
-    → left ≡ drop count tokens → left ≡ found ∷ more → tokens ≡ before ++ token ∷ after
-    → length before ≡ count → found.line ≡ token.line
-line_at tokens left more before after found token count is first parts counted =
-    same_first found token more after
-    (sym first ∙ is ∙ rw (parts, ← counted) (behind before (token ∷ after)))
-
--- there is one
-pub no_end : (tokens left before after : List Token) (token : Token) (count : ℕ)
-    → left ≡ drop count tokens → left ≡ [] → tokens ≡ before ++ token ∷ after
-    → length before ≡ count → ⊥
-no_end tokens left before after token count is none parts counted =
-    let e : [] ≡ token ∷ after =
-    sym none ∙ is ∙ rw (parts, ← counted) (behind before (token ∷ after)) in cc
-
-pub some_token : (tokens before after : List Token) (token : Token) → tokens ≡ []
-    → tokens ≡ before ++ token ∷ after → ⊥
-some_token tokens [] after token none parts = cc
-some_token tokens (first ∷ before) after token none parts = cc

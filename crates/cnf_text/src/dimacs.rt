@@ -1,21 +1,20 @@
 //! The reader of DIMACS texts (the satisfiability suggested format of 1993): a problem line, and
 //! clauses below it.
 
-ghost use Rattle.std.specs.Prelude.{◌≡◌, ◌≢◌, ◌≤◌, [], ℕ, ◌∷◌, List, None, Some, true, false};
+ghost use Rattle.std.specs.Prelude.{◌≡◌, ◌≢◌, ◌≤◌, [], ℕ, ◌∷◌, List, true, false};
 ghost use Rattle.std.specs.Prelude.{length};
-ghost use Rattle.std.specs.Prelude.{OnOk, OnErr, IfOk, IfErr, MatchOption};
+ghost use Rattle.std.specs.Prelude.{OnOk, OnErr, IfOk, IfErr};
 ghost use Rattle.std.specs.List.{onto_first};
 ghost use Rattle.cnf_text.specs.Literal.{Literal, greatest_variable};
 ghost use Rattle.cnf_text.specs.Tokens.{joined, below};
 ghost use Rattle.cnf_text.specs.Numbers.{number_of};
 ghost use Rattle.cnf_text.specs.Words.{IsToldAs};
 ghost use Rattle.cnf_text.specs.Icnf.{Symbol, Signed, EndMark, CubeMark, symbol_of_number};
-ghost use Rattle.cnf_text.specs.Dimacs as dimacs;
-ghost use Rattle.cnf_text.specs.Dimacs.{after_problem, clause_symbols, greatest_of, HasClauses};
+ghost use Rattle.cnf_text.specs.Dimacs.{clause_symbols, greatest_of, HasClauses};
 ghost use Rattle.cnf_text.specs.Dimacs.{IsClausesFault, IsDimacs, IsDimacsFault, KeepsLimits};
 ghost use Rattle.cnf_text.specs.Dimacs.{told_problem};
 ghost use Rattle.cnf_text.specs.Inner.Icnf.{Means};
-ghost use Rattle.cnf_text.specs.Inner.Dimacs.{HasScanned, Scans, BreaksScan, IsMiscount};
+ghost use Rattle.cnf_text.specs.Inner.Dimacs.{HasProblem, HasScanned, Scans, BreaksScan, IsMiscount};
 
 use crate::icnf::{Broken, MAX_CLAUSES, MAX_LITERALS, TextFault, Word, number_word};
 use crate::literal::Lit;
@@ -210,9 +209,7 @@ fn read_clauses(tokens: Tokens) -> Result<Scan, TextFault>
 
 /// What the problem line says whose first token is this one, if it is one.
 fn rest_of_header(first: Token<'_>, tokens: &mut Tokens) -> Option<Problem>
-    ensures { MatchOption result (after_problem (onto_first first.entry tokens.old) ≡ None)
-        (λ said. (problem : dimacs.Problem) × (said ≡ told_problem problem)
-        × (after_problem (onto_first first.entry tokens.old) ≡ Some (problem, joined (below tokens.new)))) }
+    ensures { HasProblem (onto_first first.entry tokens.old) result (joined (below tokens.new)) }
 {
     let cnf = tokens.next_in_line()?;
     let variables = tokens.next_in_line()?;
@@ -231,9 +228,7 @@ fn rest_of_header(first: Token<'_>, tokens: &mut Tokens) -> Option<Problem>
 
 /// What the problem line says, if the first line that has a token is one; and goes to it.
 fn read_header(tokens: &mut Tokens) -> Option<Problem>
-    ensures { MatchOption result (after_problem tokens.old ≡ None)
-        (λ said. (problem : dimacs.Problem) × (said ≡ told_problem problem)
-        × (after_problem tokens.old ≡ Some (problem, joined (below tokens.new)))) }
+    ensures { HasProblem tokens.old result (joined (below tokens.new)) }
 {
     loop {
         if let Some(first) = tokens.next_in_line() {
