@@ -90,7 +90,8 @@ impl<'c> Board<'c> {
         ensures case { IsDataOf self.entry.case result }
         ensures board { stored_board self.entry.case result ≡ self.entry }
     {
-        self.stored
+        let Board { stored, .. } = self;
+        stored
     }
 
     /// The board of which this is kept. It asks for the case of that board.
@@ -250,8 +251,7 @@ impl<'c> Board<'c> {
         ensures sound { (node : ℕ) → IsTargetAt self.now.case.tree node target → result ≡ Refuted
             → IsRefuted self.now.case.formula (path_at self.now.case.tree node) }
     {
-        let node = self.case.tree().node_of_target(target);
-        self.stored.rows.mark_of(self.row_on(node))
+        self.mark_at(self.case.tree().node_of_target(target))
     }
 
     /// Whether a node is marked: refuted, or an inner node with both branches marked. It asks for a
@@ -270,6 +270,17 @@ impl<'c> Board<'c> {
 
 impl<'c> Board<'c> {
     ghost use Rattle.mark_board.specs.Boards.{IsPlaceFor};
+
+    /// What is posted of a node itself, of which findings are posted on this board.
+    pub(crate) fn mark_at(&self, node: NodeId) -> Mark
+        requires { TakesNode self.now node }
+        ensures mark { (row : ℕ) → IsRowOn self.now node row
+            → result ≡ mark_at self.now.marks row }
+        ensures sound { result ≡ Refuted
+            → IsRefuted self.now.case.formula (path_at self.now.case.tree node) }
+    {
+        self.stored.rows.mark_of(self.row_on(node))
+    }
 
     /// Whether a node stands under the root of the part.
     fn is_below(&self, root: u32, node: NodeId) -> bool
