@@ -175,15 +175,24 @@ pub own_takes : (board : BoardOf) (above : split.Top) (node : ℕ) → IsTopOn b
     HasOwnPlace board.cut board.case.tree node → TakesNode board node
 own_takes board above node on own = rw on.place_is (
   own.0,
-  record { is_row = record { within = own.1.within; here = own.1.here }; has_targets = own.1.inner },
+  record {
+    is_row = record { within = own.1.within; here = own.1.here };
+    has_targets = own.1.inner;
+  },
 )
 
 -- each node that the top board takes has a place of its own
 pub takes_own : (board : BoardOf) (above : split.Top) (node : ℕ) → IsTopOn board above →
     TakesNode board node → HasOwnPlace board.cut board.case.tree node
 takes_own board above node on takes =
-    let at = rw on.place_is at takes in
-    (at.0, record { within = at.1.is_row.within; here = at.1.is_row.here; inner = at.1.has_targets })
+    let at = rw on.place_is at takes in (
+      at.0,
+      record {
+        within = at.1.is_row.within;
+        here = at.1.is_row.here;
+        inner = at.1.has_targets;
+      },
+    )
 
 -- the place that was found for a node is its row
 pub top_row : (board : BoardOf) (above : split.Top) (node row place : ℕ) → IsTopOn board above →

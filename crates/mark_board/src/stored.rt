@@ -6,7 +6,8 @@ ghost use Rattle.mark_board.specs.Board.{board_tree};
 ghost use Rattle.mark_board.specs.BoardData.{place_of, IsDataOf};
 ghost use Rattle.mark_board.specs.TopPlaces.{part_count, part_root, worth_of};
 ghost use Rattle.mark_board.specs.declared.mark.Mark.TheVariants.{Open};
-ghost use Rattle.mark_board.specs.declared.place.Place.TheVariants.{Part as part_place, Top as at_top};
+ghost use Rattle.mark_board.specs.declared.place.Place.TheVariants.{Part as part_place};
+ghost use Rattle.mark_board.specs.declared.place.Place.TheVariants.{Top as at_top};
 
 use crate::rows::Rows;
 use case_core::{Case, NodeId, Tree};

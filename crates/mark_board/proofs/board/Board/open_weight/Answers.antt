@@ -5,7 +5,8 @@ use Rattle.mark_board.proofs.board.Board.open_weight.Goals as goal
 
 pub weight_of-requires : goal.weight_of-requires
 weight_of-requires c =
-    kept_some (tree_on c.args.self.now) _ _ _ (kept_on c.args.self.now _ _ c.self.view_is c.self.invariant)
+    kept_some (tree_on c.args.self.now) _ _ _
+    (kept_on c.args.self.now _ _ c.self.view_is c.self.invariant)
 
 pub returns : goal.returns
 returns c =

@@ -13,14 +13,16 @@ loop-node-init c =
 pub index-requires : goal.index-requires
 index-requires c =
     let board = c.args.self.now in
-    let k = nodes_long board.case.tree board.cut c.args.above.now.nodes.items c.requires.above.nodes in
+    let k =
+    nodes_long board.case.tree board.cut c.args.above.now.nodes.items c.requires.above.nodes in
     let l = c.loop-node.invariant.0 in
     omega (arith, k, l, c.args.above.now.nodes.ok)
 
 pub index-requires-in-loop-node-2 : goal.index-requires-in-loop-node-2
 index-requires-in-loop-node-2 c =
     let board = c.args.self.now in
-    let k = nodes_long board.case.tree board.cut c.args.above.now.nodes.items c.requires.above.nodes in
+    let k =
+    nodes_long board.case.tree board.cut c.args.above.now.nodes.items c.requires.above.nodes in
     let b : AreBranches (top board.cut board.case.tree) c.loop-node.place _ _ =
     rw (c.requires.above.is_top, c.new-here.ensures) at c.in-Some.ensures in
     let l = b.within in

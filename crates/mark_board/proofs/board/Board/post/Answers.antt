@@ -20,12 +20,18 @@ returns-in-Marked-clause-already c = λ row at.
 
 pub returns-in-RootMarked-clause-marks : goal.returns-in-RootMarked-clause-marks
 returns-in-RootMarked-clause-marks c = λ row at.
-    rw (c.root_posted.ensures.answer, ← same_row c.args.self.now _ _ _ row c.node.ensures.value c.row_on-row.ensures at)
+    rw (
+      c.root_posted.ensures.answer,
+      ← same_row c.args.self.now _ _ _ row c.node.ensures.value c.row_on-row.ensures at,
+    )
     (rw (c.mark_for.ensures, c.judged.ensures.value) at c.in-RootMarked.ensures.marks)
 
 pub returns-in-RootMarked-clause-already : goal.returns-in-RootMarked-clause-already
 returns-in-RootMarked-clause-already c = λ row at.
-    rw (c.root_posted.ensures.answer, ← same_row c.args.self.now _ _ _ row c.node.ensures.value c.row_on-row.ensures at)
+    rw (
+      c.root_posted.ensures.answer,
+      ← same_row c.args.self.now _ _ _ row c.node.ensures.value c.row_on-row.ensures at,
+    )
     c.in-RootMarked.ensures.already
 
 pub returns-in-Already-clause-already : goal.returns-in-Already-clause-already

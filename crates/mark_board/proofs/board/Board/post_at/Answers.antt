@@ -11,7 +11,8 @@ use Rattle.mark_board.proofs.board.Board.post_at.Goals as goal
 pub post-requires-clause-root : goal.post-requires-clause-root
 post-requires-clause-root c =
     rw (c.tree-tree.ensures.tree, ap (λ board. board.case) c.self.view_is)
-    (part_inside c.args.self.now _ _ (on_part c.args.self.now _ _ c.self.view_is c.self.invariant _ _ c.in-Part.is))
+    (part_inside c.args.self.now _ _
+    (on_part c.args.self.now _ _ c.self.view_is c.self.invariant _ _ c.in-Part.is))
 
 -- the tree of a part's board
 below : (c : goal.Joined-region) (part root : ℕ) → c.self.inside.stored.region ≡ Part part root
@@ -19,7 +20,8 @@ below : (c : goal.Joined-region) (part root : ℕ) → c.self.inside.stored.regi
 below c part root is =
     ap (λ tree. subtree_at tree root)
     (c.tree-tree.ensures.tree ∙ ap (λ board. board.case.tree) c.self.view_is)
-    ∙ part_tree c.args.self.now _ _ (on_part c.args.self.now _ _ c.self.view_is c.self.invariant _ _ is)
+    ∙ part_tree c.args.self.now _ _
+    (on_part c.args.self.now _ _ c.self.view_is c.self.invariant _ _ is)
 
 -- the tree of the top board
 over : (c : goal.Joined-region) (above : split.Top) → c.self.inside.stored.region ≡ Top above

@@ -2,7 +2,9 @@ use Rattle.mark_board.proofs.BoardRows.{on_part, part_inside, part_below, part_t
 use Rattle.mark_board.proofs.board.Board.takes.Goals as goal
 
 pub is_below-requires : goal.is_below-requires
-is_below-requires c = part_inside c.args.self.now _ _ (on_part c.args.self.now _ _ c.self.view_is c.self.invariant _ _ c.in-Part.is)
+is_below-requires c =
+    part_inside c.args.self.now _ _
+    (on_part c.args.self.now _ _ c.self.view_is c.self.invariant _ _ c.in-Part.is)
 
 pub returns-in-Part : goal.returns-in-Part
 returns-in-Part c =

@@ -16,7 +16,8 @@ slice_bounds-new-end c =
     inside c.args.case.now.tree c.in_ok-root.root c.in_ok-root.ensures.within in
     let t : AreTotals c.args.case.now.tree c.weights.result.now =
     rw c.tree-tree.ensures.tree at c.weights.ensures in
-    let e : c.end_of-end.result ≡ c.in_ok-root.root + size (subtree_at c.args.case.now.tree c.in_ok-root.root) =
+    let e : c.end_of-end.result
+    ≡ c.in_ok-root.root + size (subtree_at c.args.case.now.tree c.in_ok-root.root) =
     rw c.tree-tree.ensures.tree at c.end_of-end.ensures in
     let i = c.index.ensures.value in
     omega (arith, w, t.long, e, i)

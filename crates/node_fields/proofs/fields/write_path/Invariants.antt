@@ -1,7 +1,7 @@
 use Rattle.std.proofs.Common.{◌≡◌, ◌++◌, take}
 use Rattle.std.specs.List.{flat_map}
-use Rattle.tree_map.specs.Fields.{literal_field}
-use Rattle.tree_map.proofs.fields.write_path.Given as goal
+use Rattle.node_fields.specs.Fields.{literal_field}
+use Rattle.node_fields.proofs.fields.write_path.Given as goal
 
 abbrev pub invariant-loop-lit : goal.invariant-loop-lit
 invariant-loop-lit l =
