@@ -4,7 +4,7 @@ use Rattle.std.proofs.Common.{Bool, true, false, refl, sym, ap, ◌∙◌, arith
 use Rattle.std.proofs.Common.{append_assoc, append-nil}
 use Rattle.std.proofs.lemmas.Fmt.{decimal_nonempty, decimal_digit}
 use Rattle.case_core.specs.Literal.{Literal, IsVariable}
-use Rattle.tree_map.specs.Fields.{literal_field}
+use Rattle.node_fields.specs.Fields.{literal_field}
 use Rattle.cube_join.specs.Inner.Fields.{EndsNumber, AreVariables, path_text}
 use Rattle.cube_join.proofs.Bytes.{AreDigits, decimal_digits}
 

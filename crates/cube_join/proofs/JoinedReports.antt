@@ -13,7 +13,7 @@ use Rattle.mark_board.specs.declared.mark.Mark.{Mark}
 use Rattle.mark_board.specs.declared.mark.Mark.TheVariants.{Open}
 use Rattle.mark_board.specs.Marking.{mark_at}
 use Rattle.mark_board.specs.Findings.{AreFindings}
-use Rattle.tree_map.specs.Fields.{status_fields}
+use Rattle.node_fields.specs.Fields.{status_fields}
 use Rattle.cube_report.specs.Report.{report_text}
 use Rattle.cube_join.specs.Joined.{AreReportsWith, AreToldBy, IsReportWith, all_joined, joined}
 use Rattle.cube_join.specs.Joined.{none_marked}

@@ -14,7 +14,7 @@ use Rattle.mark_board.specs.declared.mark.Mark.{Mark}
 use Rattle.mark_board.specs.declared.mark.Mark.TheVariants.{Open, Refuted, Rejected}
 use Rattle.mark_board.specs.Marking.{is_refuted, mark_at}
 use Rattle.mark_board.proofs.MarkingLaws.{test_same, test_other}
-use Rattle.tree_map.specs.Fields.{number_field, literal_field, reason_field, status_fields}
+use Rattle.node_fields.specs.Fields.{number_field, literal_field, reason_field, status_fields}
 use Rattle.cube_join.specs.Inner.Fields.{Lacks}
 use Rattle.cube_join.proofs.Bytes.{lacks_append, cut, AreDigits, decimal_digits, lacks_digits}
 

@@ -9,7 +9,7 @@ use Rattle.split_tree.specs.SplitTree.{SplitTree, subtrees}
 use Rattle.split_tree.specs.SplitTree.{path_at}
 use Rattle.mark_board.specs.declared.mark.Mark.{Mark}
 use Rattle.mark_board.specs.Marking.{mark_at}
-use Rattle.tree_map.specs.Fields.{number_field, literal_field, status_fields}
+use Rattle.node_fields.specs.Fields.{number_field, literal_field, status_fields}
 use Rattle.cube_report.specs.Report.{cube_line, missing_line, node_line, cube_lines, missing_lines}
 use Rattle.cube_report.specs.Report.{cube_node}
 use Rattle.cube_join.proofs.Lines.{status_at, status_read, status_begins, behind, fields_are}

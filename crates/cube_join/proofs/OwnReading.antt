@@ -8,7 +8,7 @@ use Rattle.split_tree.proofs.NavigationPaths.{one_node, path_positive, path_nega
 use Rattle.mark_board.specs.declared.mark.Mark.{Mark}
 use Rattle.mark_board.specs.declared.mark.Mark.TheVariants.{Open, Refuted, Rejected}
 use Rattle.mark_board.specs.Marking.{mark_at}
-use Rattle.tree_map.specs.Fields.{status_fields}
+use Rattle.node_fields.specs.Fields.{status_fields}
 use Rattle.cube_report.specs.Report.{node_line}
 use Rattle.cube_report.specs.Report.{marked_line, node_lines}
 use Rattle.cube_join.specs.Inner.Reading.{IsOther}

@@ -7,7 +7,7 @@ use Rattle.mark_board.specs.declared.mark.Mark.{Mark}
 use Rattle.mark_board.specs.declared.mark.Mark.TheVariants.{Open}
 use Rattle.mark_board.specs.Marking.{marked, open_weight, open_branches, refuted_by}
 use Rattle.mark_board.specs.TopPlaces.{worth_of}
-use Rattle.tree_map.specs.Fields.{number_field, answer_line}
+use Rattle.node_fields.specs.Fields.{number_field, answer_line}
 use Rattle.cube_report.specs.Report.{total_line, cube_lines, missing_lines, node_lines, open_lines}
 use Rattle.cube_report.specs.Report.{weight_line}
 use Rattle.cube_join.specs.Joined.{HasSmallSteps, IsLegible, IsToldBy}

@@ -9,7 +9,7 @@ use Rattle.split_tree.specs.SplitTree.{SplitTree, missing, cube, split, size, pa
 use Rattle.split_tree.proofs.NavigationPaths.{path_positive, path_negative}
 use Rattle.mark_board.specs.declared.mark.Mark.{Mark}
 use Rattle.mark_board.specs.declared.mark.Mark.TheVariants.{Open, Refuted, Rejected}
-use Rattle.tree_map.specs.Fields.{literal_field, status_fields}
+use Rattle.node_fields.specs.Fields.{literal_field, status_fields}
 use Rattle.cube_report.specs.Report.{cube_line, missing_line, node_line}
 use Rattle.cube_join.specs.Joined.{HasVariables}
 use Rattle.cube_join.specs.Inner.Fields.{EndsNumber, AreVariables, path_text}

@@ -3,7 +3,7 @@ use Rattle.std.proofs.Common.{◌≡◌, ◌≢◌, ℕ, List, ◌∷◌, ◌++�
 use Rattle.case_core.specs.Reason.{Reason}
 use Rattle.case_core.specs.Reason.TheVariants.{Unreadable, Id, Hint, Unit as NotUnit}
 use Rattle.case_core.specs.Reason.TheVariants.{Empty, Group, Candidate, End}
-use Rattle.tree_map.specs.Fields.{reason_field}
+use Rattle.node_fields.specs.Fields.{reason_field}
 
 -- the text doesn't begin with this front
 abbrev pub IsNotBehind : List ℕ → List ℕ → Type 0

@@ -13,7 +13,7 @@ use Rattle.mark_board.specs.declared.mark.Mark.{Mark}
 use Rattle.mark_board.specs.declared.mark.Mark.TheVariants.{Open, Refuted, Rejected}
 use Rattle.mark_board.specs.Marking.{mark_at, marked, open_branches, open_weight, refuted_by}
 use Rattle.mark_board.specs.TopPlaces.{worth_of}
-use Rattle.tree_map.specs.Fields.{answer_line, literal_field, number_field, status_fields}
+use Rattle.node_fields.specs.Fields.{answer_line, literal_field, number_field, status_fields}
 use Rattle.cube_report.specs.Report.{cube_line, cube_lines, cube_node, marked_line, missing_line}
 use Rattle.cube_report.specs.Report.{missing_lines, node_line, node_lines, open_lines, report_text}
 use Rattle.cube_report.specs.Report.{total_line, weight_line}

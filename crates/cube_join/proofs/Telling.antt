@@ -15,7 +15,7 @@ use Rattle.mark_board.specs.Marking.{NodeWithTree, marked, open_weight, open_bra
 use Rattle.mark_board.specs.Marking.{refuted_by}
 use Rattle.mark_board.specs.TopPlaces.{worth_of}
 use Rattle.mark_board.proofs.MarkingLaws.{test_same, test_other}
-use Rattle.tree_map.specs.Fields.{answer_line}
+use Rattle.node_fields.specs.Fields.{answer_line}
 use Rattle.cube_report.specs.Report.{total_line, cube_lines, missing_lines, open_lines, open_line}
 use Rattle.cube_report.specs.Report.{weight_line, cube_node}
 use Rattle.cube_report.specs.Report.{node_lines, report_text}

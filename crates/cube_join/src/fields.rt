@@ -5,7 +5,7 @@ ghost use Rattle.std.specs.Prelude.{◌≡◌, ◌≢◌, ◌<◌, ◌≤◌, �
 ghost use Rattle.std.specs.Prelude.{IfOk, IfSome, IsNone, IsSomeAnd, MatchOption};
 ghost use Rattle.std.specs.Option.{SomeIff};
 ghost use Rattle.case_core.specs.Literal.{Literal, IsVariable};
-ghost use Rattle.tree_map.specs.Fields.{literal_field};
+ghost use Rattle.node_fields.specs.Fields.{literal_field};
 ghost use Rattle.cube_join.specs.Inner.Fields.{EndsNumber, AreVariables, Lacks, path_text};
 
 use case_core::Lit;

@@ -3,7 +3,7 @@
 ghost use Rattle.std.specs.Prelude.{◌≡◌, ℕ, List, ◌∷◌, ◌++◌, IsSomeAnd};
 ghost use Rattle.case_core.specs.Reason.{Reason};
 ghost use Rattle.mark_board.specs.declared.mark.Mark.{Mark};
-ghost use Rattle.tree_map.specs.Fields.{reason_field, status_fields};
+ghost use Rattle.node_fields.specs.Fields.{reason_field, status_fields};
 ghost use Rattle.cube_join.specs.Inner.Fields.{HasSmallStep};
 
 use crate::fields::{behind, number_at_front};

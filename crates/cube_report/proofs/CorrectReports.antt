@@ -14,7 +14,7 @@ use Rattle.mark_board.specs.Marking.{refuted_by, marked, open_weight, open_branc
 use Rattle.mark_board.specs.TopPlaces.{worth_of}
 use Rattle.cube_report.specs.declared.fault.Fault.{Fault}
 use Rattle.cube_report.specs.Faults.{IsInputFault}
-use Rattle.tree_map.specs.Fields.{answer_line}
+use Rattle.node_fields.specs.Fields.{answer_line}
 use Rattle.cube_report.specs.Report.{total_line, cube_lines, missing_lines, node_lines, open_lines}
 use Rattle.cube_report.specs.Report.{weight_line}
 use Rattle.cube_report.specs.Stated.{IsStated}

@@ -8,7 +8,7 @@ use Rattle.std.proofs.lemmas.List.{take_all}
 use Rattle.case_core.specs.Literal.{Literal}
 use Rattle.split_tree.specs.SplitTree.{SplitTree, missing, cube, split, size, subtrees, subtree_at}
 use Rattle.split_tree.specs.SplitTree.{path_at, IsSplit, IsLeaf}
-use Rattle.split_tree.specs.Leaves.{missing_nodes, HasLeaf, IsTargetAt, IsPathOf}
+use Rattle.split_tree.specs.Leaves.{missing_nodes, HasLeaf, IsLeafAt, IsTargetAt}
 use Rattle.split_tree.specs.declared.node.Leaf.TheVariants.{Cube as CubeLeaf}
 use Rattle.split_tree.specs.declared.node.Leaf.TheVariants.{Missing as MissingLeaf}
 use Rattle.split_tree.specs.declared.node.Target.{Target}
@@ -93,13 +93,6 @@ pub missing_stands : (tree : SplitTree) (b : ℕ) → b < length (missing_nodes 
     IsTargetAt tree (get_or (missing_nodes tree) b 0) (Named (MissingLeaf (b + 1)))
 missing_stands tree b l =
     let q : (b + 1) - 1 ≡ b = omega arith in (omega arith, omega arith, rw q refl)
-
-pub missing_path : (tree : SplitTree) (b : ℕ) (path : List Literal) →
-    IsPathOf tree (Named (MissingLeaf (b + 1))) path →
-    path ≡ path_at tree (get_or (missing_nodes tree) b 0)
-missing_path tree b path p =
-    let q : (b + 1) - 1 ≡ b = omega arith in
-    p.2 ∙ ap (path_at tree) (p.1.2 ∙ ap (λ (i : ℕ). get_or (missing_nodes tree) i 0) q)
 
 -- ---- inner nodes
 
@@ -198,15 +191,17 @@ goes_on first text next before line after e f g = rw (f, e, g) (append_assoc fir
 
 -- one more cube's line
 pub cube_turn : (tree : SplitTree) (marks : List Mark) (first text next : List ℕ) (b : ℕ)
-    (mark : Mark) → text ≡ first ++ cube_lines tree marks 1 b →
+    (mark : Mark) (node : ℕ) → text ≡ first ++ cube_lines tree marks 1 b →
     next ≡ text ++ cube_line (b + 1) mark → HasLeaf tree (CubeLeaf (b + 1)) →
-    ((node : ℕ) → IsTargetAt tree node (Named (CubeLeaf (b + 1))) → mark ≡ mark_at marks node) →
-    next ≡ first ++ cube_lines tree marks 1 (b + 1)
-cube_turn tree marks first text next b mark e f has is =
+    ((other : ℕ) → IsLeafAt tree other (CubeLeaf (b + 1)) → other ≡ node) →
+    mark ≡ mark_at marks node → next ≡ first ++ cube_lines tree marks 1 (b + 1)
+cube_turn tree marks first text next b mark node e f has only is =
     let q : b + 1 ≡ suc b = omega arith in
     let r : 1 + b ≡ b + 1 = omega arith in
     let m : mark ≡ mark_at marks (cube_node (b + 1) 0 (subtrees tree)) =
-    is (cube_node (b + 1) 0 (subtrees tree)) (cube_stands tree (b + 1) has) in
+    is
+    ∙ ap (mark_at marks)
+    (sym (only (cube_node (b + 1) 0 (subtrees tree)) (cube_stands tree (b + 1) has))) in
     let more : cube_lines tree marks 1 (b + 1)
     ≡ cube_lines tree marks 1 b ++ cube_line (b + 1) mark =
     ap (cube_lines tree marks 1) q
@@ -219,19 +214,20 @@ cube_turn tree marks first text next b mark e f has is =
 
 -- one more missing leaf's line
 pub missing_turn : (tree : SplitTree) (marks : List Mark) (first text next : List ℕ) (b : ℕ)
-    (path : List Literal) (mark : Mark) → b < length (missing_nodes tree) →
+    (path : List Literal) (mark : Mark) (node : ℕ) → b < length (missing_nodes tree) →
     text ≡ first ++ missing_lines tree marks 1 (take b (missing_nodes tree)) →
     next ≡ text ++ missing_line (b + 1) path mark →
-    IsPathOf tree (Named (MissingLeaf (b + 1))) path →
-    ((node : ℕ) → IsTargetAt tree node (Named (MissingLeaf (b + 1))) → mark ≡ mark_at marks node) →
+    ((other : ℕ) → IsLeafAt tree other (MissingLeaf (b + 1)) → other ≡ node) →
+    path ≡ path_at tree node → mark ≡ mark_at marks node →
     next ≡ first ++ missing_lines tree marks 1 (take (b + 1) (missing_nodes tree))
-missing_turn tree marks first text next b path mark l e f of is =
+missing_turn tree marks first text next b path mark node l e f only of is =
     let q : b + 1 ≡ suc b = omega arith in
     let r : 1 + b ≡ b + 1 = omega arith in
-    let n : ℕ = get_or (missing_nodes tree) b 0 in
+    let same : node ≡ get_or (missing_nodes tree) b 0 =
+    sym (only (get_or (missing_nodes tree) b 0) (missing_stands tree b l)) in
     let m : mark ≡ mark_at marks (get_or (missing_nodes tree) b 0) =
-    is (get_or (missing_nodes tree) b 0) (missing_stands tree b l) in
-    let p : path ≡ path_at tree (get_or (missing_nodes tree) b 0) = missing_path tree b path of in
+    is ∙ ap (mark_at marks) same in
+    let p : path ≡ path_at tree (get_or (missing_nodes tree) b 0) = of ∙ ap (path_at tree) same in
     let more : missing_lines tree marks 1 (take (b + 1) (missing_nodes tree))
     ≡ missing_lines tree marks 1 (take b (missing_nodes tree)) ++ missing_line (b + 1) path mark =
     ap (λ (k : ℕ). missing_lines tree marks 1 (take k (missing_nodes tree))) q
@@ -271,19 +267,18 @@ some_place = record { node = 0; tree = missing }
 
 -- one more open branch's line
 pub open_turn : (tree : SplitTree) (targets : List Target) (places : List NodeWithTree)
-    (first text next : List ℕ) (b : ℕ) (target : Target) (path : List Literal) →
+    (first text next : List ℕ) (b : ℕ) (target : Target) (path : List Literal) (node : ℕ) →
     AreTargetsAt tree targets places →
     b < length targets → target ≡ get_or targets b target →
     text ≡ first ++ open_lines tree (take b places) → next ≡ text ++ open_line path →
-    IsPathOf tree target path →
-    ((i j : ℕ) → IsTargetAt tree i target → IsTargetAt tree j target → i ≡ j) →
+    ((other : ℕ) → IsTargetAt tree other target → other ≡ node) → path ≡ path_at tree node →
     next ≡ first ++ open_lines tree (take (b + 1) places)
-open_turn tree targets places first text next b target path are l item e f of once =
+open_turn tree targets places first text next b target path node are l item e f only of =
     let q : b + 1 ≡ suc b = omega arith in
     let here : IsTargetAt tree (get_or places b some_place).node target =
     rw (← item) at (target_stands tree targets places b target some_place are l) in
     let p : path ≡ path_at tree (get_or places b some_place).node =
-    of.2 ∙ ap (path_at tree) (once of.0 (get_or places b some_place).node of.1 here) in
+    of ∙ ap (path_at tree) (sym (only (get_or places b some_place).node here)) in
     let long : b < length places = rw (same_long tree targets places are) at l in
     let more : open_lines tree (take (b + 1) places)
     ≡ open_lines tree (take b places) ++ open_line path =

@@ -10,7 +10,7 @@ use Rattle.mark_board.specs.Marking.{marked, open_weight, open_branches, refuted
 use Rattle.mark_board.specs.TopPlaces.{worth_of}
 use Rattle.mark_board.proofs.MarkingLaws.{test_same, test_other}
 use Rattle.mark_board.proofs.MarkingWalk.{zero_is_marked, some_not_marked}
-use Rattle.tree_map.specs.Fields.{answer_line}
+use Rattle.node_fields.specs.Fields.{answer_line}
 use Rattle.cube_report.specs.Report.{total_line, cube_lines, missing_lines, open_lines, weight_line}
 use Rattle.cube_report.specs.Report.{node_lines, report_text}
 

@@ -5,7 +5,7 @@ ghost use Rattle.split_tree.specs.SplitTree.{subtrees, total, path_at};
 ghost use Rattle.split_tree.specs.Leaves.{cube_count, missing_nodes, IsTargetAt, HasTarget};
 ghost use Rattle.split_tree.specs.declared.node.Target.TheVariants.{Node};
 ghost use Rattle.mark_board.specs.Marking.{open_branches, refuted_by, mark_at};
-ghost use Rattle.tree_map.specs.Fields.{answer_line};
+ghost use Rattle.node_fields.specs.Fields.{answer_line};
 ghost use Rattle.cube_report.specs.Report.{total_line, cube_line, missing_line, node_line};
 ghost use Rattle.cube_report.specs.Report.{open_line, weight_line, cube_lines, missing_lines};
 ghost use Rattle.cube_report.specs.Report.{node_lines, open_lines, marked_line, report_text};
@@ -14,8 +14,8 @@ ghost use Rattle.mark_board.specs.Findings.{mark_as};
 
 use case_core::{Judged, Leaf, Lit, NodeId, Target, Tree};
 use mark_board::{Mark, MarkedTree, open_branches_of};
+use node_fields::{answer, write_number, write_path, write_status};
 use std::alloc::{AllocError, Global};
-use tree_map::{answer, write_number, write_path, write_status};
 
 /// The report by the marks of a tree's nodes, whoever says them: the totals, each cube, each
 /// missing leaf, each inner node with a mark, each open branch, the open weight, and the answer.
@@ -94,7 +94,7 @@ fn write_cubes<M: MarkedTree>(text: &mut Vec<u8>, told: &M) -> Result<(), AllocE
 {
     for before in 0..told.tree().cube_count() {
         let number = before + 1;
-        let mark = told.mark_of(Target::Leaf(Leaf::Cube(number)));
+        let mark = told.mark_at(told.tree().node_of_leaf(Leaf::Cube(number)));
         write_cube(text, number as u64, mark)?;
     }
     Ok(())
@@ -115,10 +115,9 @@ fn write_missing_leaves<M: MarkedTree>(
     let tree = told.tree();
     for before in 0..tree.missing_count() {
         let number = before + 1;
-        let leaf = Leaf::Missing(number);
-        let path = tree.path_of(alloc, Target::Leaf(leaf))?;
-        let mark = told.mark_of(Target::Leaf(leaf));
-        write_missing(text, number as u64, &path, mark)?;
+        let node = tree.node_of_leaf(Leaf::Missing(number));
+        let path = tree.path_to(alloc, node)?;
+        write_missing(text, number as u64, &path, told.mark_at(node))?;
     }
     Ok(())
 }
@@ -147,15 +146,15 @@ fn write_marked<M: MarkedTree>(
     told: &M,
     node: NodeId,
 ) -> Result<(), AllocError>
-    requires { IsTargetAt (M.splits told.now) node (Node node) }
+    requires { node < size (M.splits told.now) }
     ensures { OnOk result (text.new.items ≡ text.old.items
         ++ marked_line (path_at (M.splits told.now) node) (mark_at (M.marks told.now) node)) }
 {
-    let mark = told.mark_of(Target::Node(node));
+    let mark = told.mark_at(node);
     if let Mark::Open = mark {
         return Ok(());
     }
-    let path = told.tree().path_of(alloc, Target::Node(node))?;
+    let path = told.tree().path_to(alloc, node)?;
     write_node(text, &path, mark)
 }
 
@@ -172,9 +171,7 @@ fn write_open_branches<M: MarkedTree>(
     let tree = told.tree();
     let targets = open_branches_of(alloc, told)?;
     for target in &targets {
-        // The proof takes from this call that a target stands at one node alone.
-        let _only = tree.node_of_target(*target);
-        let path = tree.path_of(alloc, *target)?;
+        let path = tree.path_to(alloc, tree.node_of_target(*target))?;
         write_open(text, &path)?;
     }
     Ok(())

@@ -385,12 +385,11 @@ part_listed cut tree nodes e k l =
 
 module _ (above : BoardOf) (parts : List BoardOf) (h : AreBoards above parts) where
   -- the mark that the top board has of an own node is that of all boards
-  pub mark_on_top : (target : Target) (node : ℕ) (mark : Mark) →
-      IsPlaceFor above.cut above.case.tree node Top → IsTargetAt above.case.tree node target →
-      ((i row : ℕ) → IsTargetAt above.case.tree i target → IsRowOn above i row →
-      mark ≡ mark_at above.marks row) → mark ≡ mark_at (boards_of above parts).marks node
-  mark_on_top target node mark p here is =
-      is node p.row here (rw h.at_top.place_is p.is_row)
+  pub mark_on_top : (node : ℕ) (mark : Mark) → IsPlaceFor above.cut above.case.tree node Top →
+      ((row : ℕ) → IsRowOn above node row → mark ≡ mark_at above.marks row) →
+      mark ≡ mark_at (boards_of above parts).marks node
+  mark_on_top node mark p is =
+      is p.row (rw h.at_top.place_is p.is_row)
       ∙ read_on_top above parts h node p.row p.is_row p.has_targets
 
   -- the item at a part's number is the part's board, whatever stands for one that isn't there
@@ -407,16 +406,13 @@ module _ (above : BoardOf) (parts : List BoardOf) (h : AreBoards above parts) wh
       rw (part_is_there k board l e, b.case_is, b.cut_is, b.place_is) at
 
   -- the mark that a part's board has is that of all boards
-  pub mark_in_part : (k : ℕ) (target : Target) (node : ℕ) (board : BoardOf) (mark : Mark) →
-      IsPlaceFor above.cut above.case.tree node (Part k) → IsTargetAt above.case.tree node target →
-      board ≡ get_or parts k board →
-      ((i row : ℕ) → IsTargetAt board.case.tree i target → IsRowOn board i row →
-      mark ≡ mark_at board.marks row) → mark ≡ mark_at (boards_of above parts).marks node
-  mark_in_part k target node board mark p here e is =
-      let b = h.at_part k p.is_place in
+  pub mark_in_part : (k node : ℕ) (board : BoardOf) (mark : Mark) →
+      IsPlaceFor above.cut above.case.tree node (Part k) → board ≡ get_or parts k board →
+      ((row : ℕ) → IsRowOn board node row → mark ≡ mark_at board.marks row) →
+      mark ≡ mark_at (boards_of above parts).marks node
+  mark_in_part k node board mark p e is =
       let same : board ≡ get_or parts k above = part_is_there k board p.is_place e in
-      let case : board.case ≡ above.case = ap (λ (x : BoardOf). x.case) same ∙ b.case_is in
-      is node p.row (rw case here) (part_row_on k node p.row board p.is_place e p.is_row)
+      is p.row (part_row_on k node p.row board p.is_place e p.is_row)
       ∙ (ap (λ (x : BoardOf). mark_at x.marks p.row) same
       ∙ read_in_part above parts h k node p.row p.is_place p.is_row)
 

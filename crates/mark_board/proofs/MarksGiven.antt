@@ -1,10 +1,10 @@
 -- Marks that are given to a tree's nodes, one after the other.
-use Rattle.std.proofs.Common.{◌≡◌, ℕ, ◌+◌, ◌-◌, ◌<◌, ◌≤◌, List, length, set, get_or, replicate}
+use Rattle.std.proofs.Common.{◌≡◌, ℕ, ◌+◌, ◌<◌, ◌≤◌, List, length, set, replicate}
 use Rattle.std.proofs.Common.{refl, sym, ap, ◌∙◌, arith}
-use Rattle.std.proofs.Common.{inl, inr, get_or-set_other, get_or-set_same, length-set}
+use Rattle.std.proofs.Common.{inl, inr, get_or-set_other, get_or-set_same}
 use Rattle.std.proofs.lemmas.Bool.{cases_eq}
 use Rattle.std.proofs.lemmas.List.{ext_get_or}
-use Rattle.std.proofs.Common.{◌≢◌, ◌↔◌, zero, suc, [], ◌∷◌, take, drop, subst, zero-add}
+use Rattle.std.proofs.Common.{◌≢◌, ◌↔◌, zero, suc, take, drop, subst, zero-add}
 use Rattle.std.proofs.lemmas.List.{take_all}
 use Rattle.split_tree.specs.Navigation.{AreTotals}
 use Rattle.split_tree.proofs.NodesCoding.{subtree-root, some_node}

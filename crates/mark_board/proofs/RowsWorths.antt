@@ -8,13 +8,11 @@ use Rattle.split_tree.specs.Navigation.{AreTotals}
 use Rattle.split_tree.proofs.NodesCoding.{branches_at, some_node}
 use Rattle.split_tree.proofs.SplitTreeLabels.{handed_down, below, inside}
 use Rattle.split_tree.proofs.TablesTotals.{weight_some}
-use Rattle.case_core.specs.Literal.{Literal}
 use Rattle.mark_board.specs.declared.mark.Mark.{Mark}
 use Rattle.mark_board.specs.declared.mark.Mark.TheVariants.{Open}
-use Rattle.mark_board.specs.Marking.{whole_weight, AreRefuted, refuted_by}
+use Rattle.mark_board.specs.Marking.{whole_weight}
 use Rattle.mark_board.specs.Rows.{IsWeighed, AreRowsKept}
 use Rattle.mark_board.proofs.RowsPosts.{new_kept}
-use Rattle.mark_board.proofs.MarkingSound.{sound_first}
 use Rattle.mark_board.specs.TopPlaces.{worth_of}
 use Rattle.mark_board.proofs.MarkingLaws.{open_sum}
 
@@ -109,9 +107,3 @@ part_kept tree weights rows marks root n t h e r m =
     rw (r, m) (new_kept (subtree_at tree root) (λ place. worth_of tree (root + place))
     (take n (drop root weights)) (part_weighed tree root h)
     (part_rows tree weights root n t h e) (part_worths tree weights root n t h e))
-
--- a board with nothing posted is sound
-pub part_sound : (formula : List (List Literal)) (path : List Literal) (t : SplitTree) (n : ℕ)
-    (marks : List Mark) → marks ≡ replicate n Open →
-    AreRefuted formula (refuted_by marks) path 0 t
-part_sound formula path t n marks e = rw e (sound_first formula path t n)

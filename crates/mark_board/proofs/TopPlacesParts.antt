@@ -77,12 +77,18 @@ part_read cut tree roots part x e l h =
     rw (e, parts_on_top cut tree) refl in
     r ∙ (m ∙ get_or-map (top_node cut tree) (missing_nodes (top cut tree)) part l)
 
--- the root of a part is a node of the tree
-pub part_within : (cut : ℕ) (tree : SplitTree) (part : ℕ) → part < part_count cut tree →
-    part_root cut tree part < size tree
-part_within cut tree part l =
+-- a part has a place on the top board
+pub place_within : (cut : ℕ) (tree : SplitTree) (part : ℕ) → part < part_count cut tree →
+    part_place cut tree part < size (top cut tree)
+place_within cut tree part l =
     let r = missing_is 0 (subtrees (top cut tree)) part l in
     let k : length (subtrees (top cut tree)) ≡ size (top cut tree) =
     length-subtrees (top cut tree) in
     let e : part_place cut tree part ≡ r.0 = r.2 ∙ zero-add r.0 in
-    node_within tree cut (part_place cut tree part) (rw e (omega (arith, r.1, k)))
+    rw e (omega (arith, r.1, k))
+
+-- the root of a part is a node of the tree
+pub part_within : (cut : ℕ) (tree : SplitTree) (part : ℕ) → part < part_count cut tree →
+    part_root cut tree part < size tree
+part_within cut tree part l =
+    node_within tree cut (part_place cut tree part) (place_within cut tree part l)

@@ -1,31 +1,30 @@
 //! The board of a part of a cut, or the one above the parts.
 
-ghost use Rattle.std.specs.Prelude.{◌≡◌, ◌≢◌, ◌≤◌, ◌<◌, ◌↔◌, ℕ, IfOk, IsTrue, replicate};
+ghost use Rattle.std.specs.Prelude.{◌≡◌, ◌≢◌, ◌≤◌, ◌<◌, ◌↔◌, ℕ, IfOk, IsTrue, true, replicate};
 ghost use Rattle.case_core.specs.Formula.{IsRefuted};
 ghost use Rattle.split_tree.specs.SplitTree.{size, subtree_at, path_at};
 ghost use Rattle.split_tree.specs.Leaves.{IsTargetAt};
-ghost use Rattle.split_tree.specs.Parts.{top};
-ghost use Rattle.mark_board.specs.Board.{IsPlace, board_tree, tree_on, worth_on, IsRowOn};
+ghost use Rattle.split_tree.specs.Navigation.{HasBelow};
+ghost use Rattle.mark_board.specs.Board.{IsPlace, board_tree, tree_on, node_on, worth_on, IsRowOn};
 ghost use Rattle.mark_board.specs.Board.{IsTargetRow, HasNode, TakesNode, TakesTarget};
 ghost use Rattle.mark_board.specs.Marking.{marked, open_weight, refuted_by, mark_at};
-ghost use Rattle.mark_board.specs.TopPlaces.{part_count, part_place, part_root};
+ghost use Rattle.mark_board.specs.TopPlaces.{part_count, part_place};
 ghost use Rattle.mark_board.specs.Findings.{mark_as};
 ghost use Rattle.mark_board.specs.Posting.{marks_after, MarksRoot, posted_answer};
 ghost use Rattle.mark_board.specs.Posting.{part_posted_answer, IsPostedOn, GivesBack};
 ghost use Rattle.mark_board.specs.Posting.{GivesPartBack};
-ghost use Rattle.mark_board.specs.BoardData.{board_of, stored_board, IsDataOf};
+ghost use Rattle.mark_board.specs.BoardData.{stored_board, IsDataOf};
+ghost use Rattle.case_core.specs.declared.finding.Finding.{Finding};
 ghost use Rattle.mark_board.specs.declared.mark.Mark.TheVariants.{Open, Refuted};
 ghost use Rattle.mark_board.specs.declared.place.Place.TheVariants.{Top};
 ghost use Rattle.mark_board.specs.declared.rows.Answer.TheVariants.{RootMarked, Already};
 
-use crate::kind::Kind;
 use crate::mark::Mark;
-use crate::part::{PartBoard, PartVerdict};
+use crate::part::{PartVerdict, mark_for};
 use crate::place::Place;
 use crate::posted::{PartPosted, Posted};
 use crate::rows::Answer;
-use crate::stored::{BoardData, Stored};
-use crate::top::TopBoard;
+use crate::stored::{BoardData, Region};
 use case_core::{Case, Finding, NodeId, Target};
 use std::alloc::{AllocError, Global};
 use std::marker::Model;
@@ -39,7 +38,8 @@ use std::marker::Model;
 /// A post goes down one path of the tree. Only `new` takes memory.
 #[derive(Drop)]
 pub struct Board<'c> {
-    kind: Kind<'c>,
+    case: &'c Case,
+    stored: BoardData,
 }
 
 impl<'c> Model for Board<'c> {
@@ -52,21 +52,11 @@ impl<'c> Model for Board<'c> {
 
     ghost coded = { Prim.hlevel (codes, case_code) };
 
-    ghost use Rattle.mark_board.specs.BoardData.{board_of};
+    ghost use Rattle.mark_board.specs.BoardData.{stored_board, IsDataOf};
 
-    ghost view = { λ b. board_of b.kind };
-}
+    ghost view = { λ b. stored_board b.case.now b.stored };
 
-/// The node at the root of a part, by the part's number from 0 in tree order. `AllocError` where a
-/// growth was refused.
-fn root_of_part(alloc: Global, case: &Case, cut: u32, part: u32) -> Result<NodeId, AllocError>
-    requires cut { cut ≤ 6 }
-    requires part { part < part_count cut case.now.tree }
-    ensures value { IfOk result (λ root. root ≡ part_root cut case.now.tree part) }
-    ensures within { IfOk result (λ root. root < size case.now.tree) }
-{
-    let parts = case.tree().parts(alloc, cut)?;
-    Ok(parts[part as usize])
+    ghost invariant = { λ b. IsDataOf b.case.now b.stored };
 }
 
 impl<'c> Board<'c> {
@@ -87,14 +77,11 @@ impl<'c> Board<'c> {
         ensures marks { IfOk result
             (λ board. board.marks ≡ replicate (size (board_tree cut case.now.tree place)) Open) }
     {
-        let kind = match place {
-            Place::Part(part) => {
-                let root = root_of_part(alloc, case, cut, part)?;
-                Kind::Part(PartBoard::new(alloc, case, cut, part, root)?)
-            }
-            Place::Top => Kind::Top(TopBoard::new(alloc, case, cut)?),
+        let stored = match place {
+            Place::Part(part) => BoardData::of_part(alloc, case, cut, part)?,
+            Place::Top => BoardData::of_top(alloc, case, cut)?,
         };
-        Ok(Board { kind })
+        Ok(Board { case, stored })
     }
 
     /// What to keep of the board while its case is lent to others: its cut, place, marks and open
@@ -103,11 +90,8 @@ impl<'c> Board<'c> {
         ensures case { IsDataOf self.entry.case result }
         ensures board { stored_board self.entry.case result ≡ self.entry }
     {
-        let kind = match self.kind {
-            Kind::Part(board) => Stored::Part(board.unbind()),
-            Kind::Top(board) => Stored::Top(board.unbind()),
-        };
-        BoardData { kind }
+        let Board { stored, .. } = self;
+        stored
     }
 
     /// The board of which this is kept. It asks for the case of that board.
@@ -115,11 +99,7 @@ impl<'c> Board<'c> {
         requires { IsDataOf case.now stored }
         ensures { result ≡ stored_board case.now stored }
     {
-        let kind = match stored.kind {
-            Stored::Part(stored) => Kind::Part(PartBoard::bind(case, stored)),
-            Stored::Top(stored) => Kind::Top(TopBoard::bind(case, stored)),
-        };
-        Board { kind }
+        Board { case, stored }
     }
 
     /// Marks a finding's target as the finding says, if nothing was posted of that target itself: a
@@ -148,9 +128,11 @@ impl<'c> Board<'c> {
         ensures verdict { IsPostedOn self.old result }
         ensures back { GivesBack result finding.entry }
     {
-        match &mut self.kind {
-            Kind::Part(board) => board.post(finding),
-            Kind::Top(board) => board.post(finding),
+        let row = self.row_on(finding.node());
+        match self.post_at(row, mark_for(finding.judged())) {
+            Answer::Marked => Posted::Marked,
+            Answer::RootMarked => self.root_posted(),
+            Answer::Already => Posted::Already(finding),
         }
     }
 
@@ -179,13 +161,11 @@ impl<'c> Board<'c> {
         // A verdict that wasn't posted is given back.
         ensures back { GivesPartBack result verdict.entry }
     {
-        match &mut self.kind {
-            Kind::Part(_) => unreachable!(),
-            Kind::Top(board) => match board.post_part(&verdict) {
-                Answer::Marked => PartPosted::Marked,
-                Answer::RootMarked => PartPosted::RootMarked,
-                Answer::Already => PartPosted::Already(verdict),
-            },
+        let row = self.row_of_part(verdict.part());
+        match self.post_at(row, Mark::Refuted) {
+            Answer::Marked => PartPosted::Marked,
+            Answer::RootMarked => PartPosted::RootMarked,
+            Answer::Already => PartPosted::Already(verdict),
         }
     }
 
@@ -193,19 +173,16 @@ impl<'c> Board<'c> {
     pub fn case(&self) -> &'c Case
         ensures { result.now ≡ self.now.case }
     {
-        match &self.kind {
-            Kind::Part(board) => board.case(),
-            Kind::Top(board) => board.case(),
-        }
+        self.case
     }
 
     /// Where it stands: at the top, or at a part, by the part's number from 0 in tree order.
     pub fn place(&self) -> Place
         ensures { result ≡ self.now.place }
     {
-        match &self.kind {
-            Kind::Part(board) => board.place(),
-            Kind::Top(_) => Place::Top,
+        match &self.stored.region {
+            Region::Part { part, .. } => Place::Part(*part),
+            Region::Top(_) => Place::Top,
         }
     }
 
@@ -214,9 +191,9 @@ impl<'c> Board<'c> {
     pub fn takes(&self, node: NodeId) -> bool
         ensures { IsTrue result ↔ TakesNode self.now node }
     {
-        match &self.kind {
-            Kind::Part(board) => board.takes(node),
-            Kind::Top(board) => board.takes(node),
+        match &self.stored.region {
+            Region::Part { root, .. } => self.is_below(*root, node),
+            Region::Top(above) => self.is_above(above, node),
         }
     }
 
@@ -226,10 +203,7 @@ impl<'c> Board<'c> {
         requires { TakesNode self.now node }
         ensures { IsTargetRow self.now node result }
     {
-        match &self.kind {
-            Kind::Part(board) => board.row_of(node),
-            Kind::Top(board) => board.place_of(node),
-        }
+        self.row_on(node)
     }
 
     /// The row at which a part's verdict stands. It asks for the top board, and for a part of its
@@ -239,9 +213,9 @@ impl<'c> Board<'c> {
         requires part { part < part_count self.now.cut self.now.case.tree }
         ensures { result ≡ part_place self.now.cut self.now.case.tree part }
     {
-        match &self.kind {
-            Kind::Part(_) => unreachable!(),
-            Kind::Top(board) => board.place_of_part(part),
+        match &self.stored.region {
+            Region::Part { .. } => unreachable!(),
+            Region::Top(above) => self.place_of_part(above, part),
         }
     }
 
@@ -252,10 +226,7 @@ impl<'c> Board<'c> {
         ensures { result
             ≡ open_weight (worth_on self.now) (refuted_by self.now.marks) 0 (tree_on self.now) }
     {
-        match &self.kind {
-            Kind::Part(board) => board.open_weight(),
-            Kind::Top(board) => board.open_weight(),
-        }
+        self.stored.rows.weight_of(0)
     }
 
     /// The weight of the open leaves under a node, whatever is marked above it. It asks for a node
@@ -267,10 +238,7 @@ impl<'c> Board<'c> {
             → result ≡ open_weight (worth_on self.now) (refuted_by self.now.marks) row
             (subtree_at (tree_on self.now) row) }
     {
-        match &self.kind {
-            Kind::Part(board) => board.open_under(node),
-            Kind::Top(board) => board.open_under(board.place_of(node)),
-        }
+        self.stored.rows.weight_of(self.row_on(node))
     }
 
     /// What is posted of a target itself: `Open` where it merely lies under a marked node. It asks
@@ -283,11 +251,7 @@ impl<'c> Board<'c> {
         ensures sound { (node : ℕ) → IsTargetAt self.now.case.tree node target → result ≡ Refuted
             → IsRefuted self.now.case.formula (path_at self.now.case.tree node) }
     {
-        let node = self.case().tree().node_of_target(target);
-        match &self.kind {
-            Kind::Part(board) => board.mark_of(node),
-            Kind::Top(board) => board.mark_of(board.place_of(node)),
-        }
+        self.mark_at(self.case.tree().node_of_target(target))
     }
 
     /// Whether a node is marked: refuted, or an inner node with both branches marked. It asks for a
@@ -300,15 +264,81 @@ impl<'c> Board<'c> {
         ensures sound { IsTrue result
             → IsRefuted self.now.case.formula (path_at self.now.case.tree node) }
     {
-        match &self.kind {
-            Kind::Part(board) => board.node_marked(node),
-            Kind::Top(board) => board.place_marked(board.place_of(node)),
-        }
+        self.stored.rows.weight_of(self.row_on(node)) == 0
     }
 }
 
 impl<'c> Board<'c> {
     ghost use Rattle.mark_board.specs.Boards.{IsPlaceFor};
+
+    /// What is posted of a node itself, of which findings are posted on this board.
+    pub(crate) fn mark_at(&self, node: NodeId) -> Mark
+        requires { TakesNode self.now node }
+        ensures mark { (row : ℕ) → IsRowOn self.now node row
+            → result ≡ mark_at self.now.marks row }
+        ensures sound { result ≡ Refuted
+            → IsRefuted self.now.case.formula (path_at self.now.case.tree node) }
+    {
+        self.stored.rows.mark_of(self.row_on(node))
+    }
+
+    /// Whether a node stands under the root of the part.
+    fn is_below(&self, root: u32, node: NodeId) -> bool
+        requires { root < size self.now.case.tree }
+        ensures { IsTrue result ↔ HasBelow self.now.case.tree root node }
+    {
+        let end = self.case.tree().end_of(NodeId::new(root));
+        root <= node.number() && node.number() < end
+    }
+
+    /// The row of a node that stands on the board.
+    fn row_on(&self, node: NodeId) -> usize
+        requires { HasNode self.now node }
+        ensures { IsRowOn self.now node result }
+    {
+        match &self.stored.region {
+            Region::Part { root, .. } => node.index() - *root as usize,
+            Region::Top(above) => self.place_above(above, node),
+        }
+    }
+
+    /// Marks the node of a row as this says, if it has no mark yet.
+    fn post_at(&mut self, row: usize, mark: Mark) -> Answer
+        requires row { row < size (tree_on self.old) }
+        requires judged { mark ≢ Open }
+        requires sound { mark ≡ Refuted → IsRefuted self.old.case.formula
+            (path_at self.old.case.tree (node_on self.old row)) }
+        ensures same { (self.new.case ≡ self.old.case) × (self.new.cut ≡ self.old.cut)
+            × (self.new.place ≡ self.old.place) }
+        ensures marks { self.new.marks ≡ marks_after result self.old.marks row mark }
+        ensures already { (result ≡ Already) ↔ (mark_at self.old.marks row ≢ Open) }
+        ensures root { (result ≡ RootMarked)
+            ↔ MarksRoot (tree_on self.old) self.old.marks self.new.marks }
+    {
+        let tree = self.case.tree();
+        let BoardData { region, rows, .. } = &mut self.stored;
+        match region {
+            Region::Part { root, .. } => rows.post(tree, *root as usize, row, mark),
+            Region::Top(above) => rows.post(&above.tree, 0, row, mark),
+        }
+    }
+
+    /// What a post says that marked the root.
+    fn root_posted(&self) -> Posted<'c>
+        requires { marked (refuted_by self.now.marks) 0 (tree_on self.now) ≡ true }
+        ensures answer { posted_answer result ≡ RootMarked }
+        ensures verdict { IsPostedOn self.now result }
+        ensures back { (finding : Finding) → GivesBack result finding }
+    {
+        match &self.stored.region {
+            Region::Part { part, .. } => Posted::RootMarked(PartVerdict {
+                case: self.case,
+                cut: self.stored.cut,
+                part: *part,
+            }),
+            Region::Top(_) => Posted::TopMarked,
+        }
+    }
 
     /// The board on which findings of a node are posted. It asks for the top board.
     pub(crate) fn place_for(&self, node: NodeId) -> Place
@@ -316,9 +346,9 @@ impl<'c> Board<'c> {
         requires node { node < size self.now.case.tree }
         ensures { IsPlaceFor self.now.cut self.now.case.tree node result }
     {
-        match &self.kind {
-            Kind::Part(_) => unreachable!(),
-            Kind::Top(board) => match board.part_at(board.place_of(node)) {
+        match &self.stored.region {
+            Region::Part { .. } => unreachable!(),
+            Region::Top(above) => match self.part_at(above, self.place_above(above, node)) {
                 Some(part) => Place::Part(part),
                 None => Place::Top,
             },

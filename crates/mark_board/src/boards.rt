@@ -142,11 +142,19 @@ impl<'c> Boards<'c> {
         ensures sound { (node : ℕ) → IsTargetAt self.now.case.tree node target → result ≡ Refuted
             → IsRefuted self.now.case.formula (path_at self.now.case.tree node) }
     {
-        let asked = target;
-        let node = self.case().tree().node_of_target(asked);
+        self.mark_at(self.case().tree().node_of_target(target))
+    }
+
+    /// What is posted of a node. It asks for a node of the case's tree.
+    pub fn mark_at(&self, node: NodeId) -> Mark
+        requires { node < size self.now.case.tree }
+        ensures mark { result ≡ mark_at self.now.marks node }
+        ensures sound { result ≡ Refuted
+            → IsRefuted self.now.case.formula (path_at self.now.case.tree node) }
+    {
         match self.above.place_for(node) {
-            Place::Top => self.above.mark_of(target),
-            Place::Part(part) => self.parts[part as usize].mark_of(target),
+            Place::Top => self.above.mark_at(node),
+            Place::Part(part) => self.parts[part as usize].mark_at(node),
         }
     }
 
@@ -178,7 +186,7 @@ impl<'c> Boards<'c> {
         if let Place::Part(part) = self.above.place_for(node) {
             return self.parts[part as usize].open_under(node);
         }
-        if let Mark::Refuted = self.above.mark_of(Target::Node(node)) {
+        if let Mark::Refuted = self.above.mark_at(node) {
             return 0;
         }
         match self.case().tree().branches(node) {
@@ -208,8 +216,8 @@ impl<'c> MarkedTree for Boards<'c> {
         self.case().tree()
     }
 
-    fn mark_of(&self, target: Target) -> Mark {
-        Boards::mark_of(self, target)
+    fn mark_at(&self, node: NodeId) -> Mark {
+        Boards::mark_at(self, node)
     }
 
     fn open_under(&self, node: NodeId) -> u64 {

@@ -1,9 +1,9 @@
 //! The boards of a case: what is refuted, and how much is open below each node.
 #![tactic(auto)]
 
+mod above;
 mod board;
 mod boards;
-mod kind;
 mod laws;
 mod mark;
 mod marked_tree;
@@ -13,7 +13,6 @@ mod place;
 mod posted;
 mod rows;
 mod stored;
-mod top;
 mod walk;
 
 pub use board::Board;

@@ -25,11 +25,10 @@ pub trait MarkedTree {
     fn tree(&self) -> &Tree
         ensures { result.now ≡ splits self.now };
 
-    /// The mark of a target. It asks for a target of the tree.
-    fn mark_of(&self, target: Target) -> Mark
-        requires { HasTarget (splits self.now) target }
-        ensures { (node : ℕ) → IsTargetAt (splits self.now) node target
-            → result ≡ mark_at (marks self.now) node };
+    /// The mark of a node. It asks for a node of the tree.
+    fn mark_at(&self, node: NodeId) -> Mark
+        requires { node < size (splits self.now) }
+        ensures { result ≡ mark_at (marks self.now) node };
 
     /// The weight of the leaves under a node that lie under no marked node from there on. It asks
     /// for a node of the tree.

@@ -82,8 +82,8 @@ impl<'t> MarkedTree for Marks<'t> {
         self.tree
     }
 
-    fn mark_of(&self, target: Target) -> Mark {
-        self.rows.mark_of(self.tree.node_of_target(target).index())
+    fn mark_at(&self, node: NodeId) -> Mark {
+        self.rows.mark_of(node.index())
     }
 
     fn open_under(&self, node: NodeId) -> u64 {

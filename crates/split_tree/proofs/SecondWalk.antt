@@ -205,7 +205,8 @@ before_other xs ys c bound rises apart = record {
 -- ---- the walk
 
 -- The cubes that wait at nodes, with a bound: where those below a number fit at each node, all
--- cubes below it fit, and the other way round; and the cube of the bound clashes with one before it.
+-- cubes below it fit, and the other way round; and the cube of the bound clashes with one before
+-- it.
 pub record Walks (start : List Numbered) (bound : ℕ) (nodes : List (List Numbered)) : Type 0 where
   pub enough : (k : ℕ) → k ≤ bound → AllByRecursion (λ cubes. AreFit (below k cubes)) nodes
       → AreFit (below k start)

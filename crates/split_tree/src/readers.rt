@@ -1,7 +1,7 @@
 //! What a tree answers. None of these but `path_of` takes memory.
 
 ghost use Rattle.std.specs.Prelude.{ℕ, ◌≡◌, ◌≤◌, ◌+◌, ◌<◌, ◌↔◌, length, IfOk, IsTrue};
-ghost use Rattle.split_tree.specs.SplitTree.{size, total, subtree_at, depth_at};
+ghost use Rattle.split_tree.specs.SplitTree.{size, total, subtree_at, depth_at, path_at};
 ghost use Rattle.split_tree.specs.Navigation.{IsBelow, StepsToward, HasBranches, IsParentOf};
 ghost use Rattle.split_tree.specs.Navigation.{AreTotals};
 ghost use Rattle.split_tree.specs.Leaves.{missing_nodes, cube_count, leaf_count, IsLeafAt};
@@ -169,7 +169,15 @@ impl Tree {
         requires { HasTarget self.now target }
         ensures { IfOk result (λ path. IsPathOf self.now target path.items) }
     {
-        let node = self.node_of_target(target);
+        self.path_to(alloc, self.node_of_target(target))
+    }
+
+    /// The path of a node: the literals on the way down to it from the root. It asks for a node of
+    /// the tree. `AllocError` where a growth was refused.
+    pub fn path_to(&self, alloc: Global, node: NodeId) -> Result<Vec<Lit>, AllocError>
+        requires { node < size self.now }
+        ensures { IfOk result (λ path. path.items ≡ path_at self.now node) }
+    {
         self.nodes.path_to(alloc, node.index())
     }
 

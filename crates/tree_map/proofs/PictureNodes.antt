@@ -1,14 +1,12 @@
 -- What is told of a node, and whether one is rejected.
 use Rattle.std.proofs.Common.{◌≡◌, ◌==◌, ℕ, suc, ◌+◌, ◌-◌, ◌<◌, List, [], ◌++◌, Bool, true}
-use Rattle.std.proofs.Common.{false, ◌||◌, inl, inr, refl, sym, ap, ◌∙◌, arith}
+use Rattle.std.proofs.Common.{false, ◌||◌, inl, inr, refl, sym, ◌∙◌, arith}
 use Rattle.std.proofs.lemmas.Bool.{cases_eq}
 use Rattle.std.specs.Prelude.{codes, is_some}
-use Rattle.case_core.specs.Literal.{Literal}
-use Rattle.split_tree.specs.SplitTree.{SplitTree, missing, cube, split, size, subtree_at, path_at}
+use Rattle.split_tree.specs.SplitTree.{SplitTree, missing, cube, split, size, subtree_at}
 use Rattle.split_tree.specs.SplitTree.{IsLeaf, IsSplit}
-use Rattle.split_tree.specs.Leaves.{IsTargetAt, IsPathOf}
+use Rattle.split_tree.specs.Leaves.{IsTargetAt}
 use Rattle.split_tree.specs.declared.node.Leaf.TheVariants.{Missing as MissingLeaf}
-use Rattle.split_tree.specs.declared.node.Target.{Target}
 use Rattle.split_tree.specs.declared.node.Target.TheVariants.{Leaf as Named, Node}
 use Rattle.split_tree.proofs.LeavesNodes.{missing_at}
 use Rattle.case_core.specs.Case.{CaseOf, proof_for}
@@ -18,7 +16,7 @@ use Rattle.mark_board.specs.TopPlaces.{worth_of}
 use Rattle.mark_board.proofs.MarkingLaws.{test_same, test_other}
 use Rattle.mark_board.proofs.MarkingWalk.{zero_is_marked, some_not_marked, all_is_open}
 use Rattle.mark_board.proofs.MarkingWalk.{less_not_whole}
-use Rattle.tree_map.specs.Fields.{number_field, status_fields}
+use Rattle.node_fields.specs.Fields.{number_field, status_fields}
 use Rattle.tree_map.specs.Picture.{is_rejected, one_rejected, shown, colour, frame, own_status}
 use Rattle.tree_map.specs.Picture.{path_fields, told}
 
@@ -81,13 +79,6 @@ pub frame_none : (case : CaseOf) (node : ℕ) (t : SplitTree) →
 frame_none case node missing e = refl
 frame_none case node (cube k) e = refl
 frame_none case node (split v p n) e = rw e refl
-
--- the path of a target that stands at one node alone
-pub path_is : (tree : SplitTree) (target : Target) (node there : ℕ) (path : List Literal) →
-    IsPathOf tree target path → IsTargetAt tree node target →
-    ((n : ℕ) → IsTargetAt tree n target → n ≡ there) → path ≡ path_at tree node
-path_is tree target node there path of at only =
-    of.2 ∙ ap (path_at tree) (only of.0 of.1 ∙ sym (only node at))
 
 -- ---- the class by the colour
 

@@ -14,7 +14,7 @@ use Rattle.mark_board.specs.declared.mark.Mark.{Mark}
 use Rattle.mark_board.specs.declared.mark.Mark.TheVariants.{Open, Refuted, Rejected}
 use Rattle.mark_board.specs.Marking.{marked, open_weight, wholly_open, mark_at, refuted_by}
 use Rattle.mark_board.specs.TopPlaces.{worth_of}
-use Rattle.tree_map.specs.Fields.{number_field, literal_field, status_fields, answer_line}
+use Rattle.node_fields.specs.Fields.{number_field, literal_field, status_fields, answer_line}
 
 -- an attribute: its name with what opens it, its number, and what closes it
 unfoldable pub attribute : List ℕ → ℕ → List ℕ

@@ -8,10 +8,10 @@ ghost use Rattle.tree_map.specs.Picture.{attribute, edges, rectangle, is_rejecte
 ghost use Rattle.tree_map.specs.Picture.{shown, colour, frame, own_status, path_fields, told};
 ghost use Rattle.tree_map.specs.Inner.Picture.{cell_of};
 
-use crate::fields::{write_number, write_path, write_status};
 use case_core::{Case, Leaf, NodeId, Target};
 use itoa::Buffer;
 use mark_board::{Boards, Mark};
+use node_fields::{write_number, write_path, write_status};
 use std::alloc::{AllocError, Global};
 
 /// Where a node's cell lies.
@@ -183,15 +183,7 @@ fn rejected(boards: &Boards<'_>, node: NodeId) -> bool
     requires { node < size boards.now.case.tree }
     ensures { result ≡ is_rejected (mark_at boards.now.marks node) }
 {
-    matches!(mark_at(boards, node), Mark::Rejected { .. })
-}
-
-/// The mark of a node.
-fn mark_at(boards: &Boards<'_>, node: NodeId) -> Mark
-    requires { node < size boards.now.case.tree }
-    ensures { result ≡ mark_at boards.now.marks node }
-{
-    boards.mark_of(boards.case().tree().target_at(node))
+    matches!(boards.mark_at(node), Mark::Rejected { .. })
 }
 
 /// Another class for an inner node that has a section of its own.
@@ -223,7 +215,7 @@ fn write_told(
     ensures { OnOk result (text.new.items ≡ text.old.items
         ++ told boards.now.case boards.now.marks node (subtree_at boards.now.case.tree node)) }
 {
-    let mark = mark_at(boards, node);
+    let mark = boards.mark_at(node);
     match boards.case().tree().target_at(node) {
         Target::Leaf(Leaf::Cube(number)) => {
             text.extend_from_slice(b"a")?;
@@ -252,8 +244,7 @@ fn write_own_status(text: &mut Vec<u8>, mark: Mark) -> Result<(), AllocError>
 {
     match mark {
         Mark::Open => Ok(()),
-        Mark::Refuted => write_status(text, Mark::Refuted),
-        Mark::Rejected { step, reason } => write_status(text, Mark::Rejected { step, reason }),
+        other => write_status(text, other),
     }
 }
 
@@ -267,11 +258,7 @@ fn write_path_to(
     requires { node < size case.now.tree }
     ensures { OnOk result (text.new.items ≡ text.old.items ++ path_fields case.now.tree node) }
 {
-    let tree = case.tree();
-    let target = tree.target_at(node);
-    // The proof takes from this call that a target stands at one node alone.
-    let _only = tree.node_of_target(target);
-    write_path(text, &tree.path_of(alloc, target)?)?;
+    write_path(text, &case.tree().path_to(alloc, node)?)?;
     text.extend_from_slice(b" 0")?;
     Ok(())
 }

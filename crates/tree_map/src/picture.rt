@@ -7,10 +7,10 @@ ghost use Rattle.tree_map.specs.Picture.{title, open_tenths, per_cent, cells, ro
 ghost use Rattle.tree_map.specs.Inner.Picture.{IsPending, cell_of, below, next_cells};
 
 use crate::cell::{Cell, width, write_attribute, write_cell, write_rectangle};
-use crate::fields::{answer, write_number};
 use case_core::{NodeId, Tree};
 use itoa::Buffer;
 use mark_board::Boards;
+use node_fields::{answer, write_number};
 use std::alloc::{AllocError, Global};
 
 /// The picture of the boards' tree by their marks, as SVG: the root at the top, and each node as

@@ -3,7 +3,7 @@ use Rattle.std.specs.Prelude.{ℕ, ◌<◌, ◌^◌, ◌≢◌, List, [], ◌∷
 use Rattle.case_core.specs.Literal.{Literal, IsVariable}
 use Rattle.mark_board.specs.declared.mark.Mark.{Mark}
 use Rattle.mark_board.specs.declared.mark.Mark.TheVariants.{Open, Refuted, Rejected}
-use Rattle.tree_map.specs.Fields.{literal_field}
+use Rattle.node_fields.specs.Fields.{literal_field}
 
 -- none of the bytes is this one
 abbrev pub Lacks : ℕ → List ℕ → Type 0

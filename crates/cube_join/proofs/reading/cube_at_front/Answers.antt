@@ -1,5 +1,5 @@
 use Rattle.std.proofs.Common.{◌∷◌, ◌++◌, ◌∙◌, decimal}
-use Rattle.tree_map.specs.Fields.{status_fields}
+use Rattle.node_fields.specs.Fields.{status_fields}
 use Rattle.cube_join.proofs.ReadingFronts.{cube_text, cube_status}
 use Rattle.cube_join.proofs.reading.cube_at_front.Goals as goal
 

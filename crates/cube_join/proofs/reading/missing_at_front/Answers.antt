@@ -1,5 +1,5 @@
 use Rattle.std.proofs.Common.{◌∷◌, ◌++◌, ◌∙◌, decimal}
-use Rattle.tree_map.specs.Fields.{status_fields}
+use Rattle.node_fields.specs.Fields.{status_fields}
 use Rattle.cube_join.specs.Inner.Fields.{path_text}
 use Rattle.cube_join.proofs.ReadingFronts.{missing_text, missing_path, status_ends}
 use Rattle.cube_join.proofs.reading.missing_at_front.Goals as goal

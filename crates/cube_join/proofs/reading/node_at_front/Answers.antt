@@ -1,5 +1,5 @@
 use Rattle.std.proofs.Common.{◌∷◌, ◌++◌, ◌∙◌, sym}
-use Rattle.tree_map.specs.Fields.{status_fields}
+use Rattle.node_fields.specs.Fields.{status_fields}
 use Rattle.split_tree.specs.SplitTree.{path_at}
 use Rattle.split_tree.proofs.NavigationPaths.{one_node}
 use Rattle.cube_join.specs.Inner.Fields.{path_text}

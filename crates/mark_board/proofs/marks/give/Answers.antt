@@ -1,4 +1,4 @@
-use Rattle.std.proofs.Common.{◌≡◌, ℕ, arith}
+use Rattle.std.proofs.Common.{ℕ, arith}
 use Rattle.split_tree.proofs.NodesCoding.{subtree-root, some_node}
 use Rattle.mark_board.specs.TopPlaces.{worth_of}
 use Rattle.mark_board.specs.Rows.{AreRowsKept}

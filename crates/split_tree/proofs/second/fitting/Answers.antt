@@ -28,7 +28,12 @@ loop-node-smaller c =
     let alike = rw c.deref.ensures.value at c.alike_len-alike.ensures in
     elim c.if-alike-gt1.branch [
       | then-alike-gt1+in_ok-push_branches w ↦
-          rw (w.pending-is, w.in_ok-push_branches.ensures, w.deref-then-alike-gt1.ensures.value, popped)
+          rw (
+            w.pending-is,
+            w.in_ok-push_branches.ensures,
+            w.deref-then-alike-gt1.ensures.value,
+            popped,
+          )
           (elim alike.alike [
             | inl few ↦ absurd (omega (arith, w.if-alike-gt1.true))
             | inr split ↦
@@ -76,7 +81,8 @@ pub overflow_sub-result : goal.overflow_sub-result
 overflow_sub-result c =
     let none_left : c.loop-node.pending.items ≡ [] =
     nil_from_length c.loop-node.pending.items (omega (arith, c.in_default.ensures.cases)) in
-    bound_some (cube_lists c.args.cubes.now) c.loop-node.bound (rw none_left at c.loop-node.invariant)
+    bound_some (cube_lists c.args.cubes.now) c.loop-node.bound
+    (rw none_left at c.loop-node.invariant)
 
 pub returns : goal.returns
 returns c =

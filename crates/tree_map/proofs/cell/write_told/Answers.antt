@@ -2,7 +2,7 @@ use Rattle.std.proofs.Common.{◌≡◌, List, ℕ, ◌++◌, ◌∙◌, ap, sym
 use Rattle.std.specs.Prelude.{codes}
 use Rattle.split_tree.specs.SplitTree.{missing, subtree_at}
 use Rattle.mark_board.specs.Marking.{mark_at}
-use Rattle.tree_map.specs.Fields.{status_fields}
+use Rattle.node_fields.specs.Fields.{status_fields}
 use Rattle.tree_map.specs.Picture.{path_fields}
 use Rattle.tree_map.proofs.PictureNodes.{missing_stands, told_missing}
 use Rattle.tree_map.proofs.PictureTexts.{and_then}
@@ -27,5 +27,5 @@ returns-in_ok-write_status-in-Leaf-Missing c =
     let all =
     and_then first c.write_path_to.new.text.items c.write_status-in-Leaf-Missing.new.text.items
     (codes "m" ++ path) (status_fields (mark_at marks c.args.node)) named
-    (rw c.mark_at-mark.ensures at c.in_ok-write_status-in-Leaf-Missing.ensures) in
+    (rw c.mark_at-mark.ensures.mark at c.in_ok-write_status-in-Leaf-Missing.ensures) in
     all ∙ ap (λ xs. first ++ xs) (sym (told_missing case marks c.args.node _ here))

@@ -1,5 +1,4 @@
-use Rattle.std.proofs.Common.{◌≡◌, ◌+◌, ◌∙◌, ℕ, ap, arith, refl}
-use Rattle.split_tree.specs.declared.node.Target.TheVariants.{Node}
+use Rattle.std.proofs.Common.{◌≡◌, ◌+◌, ◌∙◌, ℕ, ap, arith}
 use Rattle.mark_board.specs.Marking.{refuted_by}
 use Rattle.mark_board.specs.Boards.{boards_of}
 use Rattle.mark_board.proofs.BoardsGathered.{mark_on_top}
@@ -15,33 +14,22 @@ returns-in-Part t c =
     c.in-Part.part c.args.node c.open_under.result c.index.result.now c.in-Part.ensures
     c.index.ensures c.open_under.ensures)
 
-pub mark_of-requires : goal.mark_of-requires
-mark_of-requires t c =
-    let i =
-    own_is_inner c.self.inside.above.cut c.self.inside.above.case.tree c.args.node
-    c.in_default.ensures in (
-      c.args.node,
-      (refl, i.within, i.inner),
-      (
-        c.in_default.ensures.row,
-        own_row c.self.inside.above c.self.inside.parts.items c.self.invariant c.args.node
-            c.in_default.ensures,
-      ),
-    )
+pub mark_at-requires : goal.mark_at-requires
+mark_at-requires t c = (
+  c.in_default.ensures.row,
+  own_row c.self.inside.above c.self.inside.parts.items c.self.invariant c.args.node
+      c.in_default.ensures,
+)
 
 pub returns-in-Refuted : goal.returns-in-Refuted
 returns-in-Refuted t c =
     let v : boards_of c.self.inside.above c.self.inside.parts.items ≡ c.args.self.now =
     c.self.view_is in
-    let i =
-    own_is_inner c.self.inside.above.cut c.self.inside.above.case.tree c.args.node
-    c.in_default.ensures in
     let e =
-    mark_on_top c.self.inside.above c.self.inside.parts.items c.self.invariant (Node c.args.node)
-    c.args.node c.mark_of.result c.in_default.ensures (refl, i.within, i.inner)
-    c.mark_of.ensures.mark in
+    mark_on_top c.self.inside.above c.self.inside.parts.items c.self.invariant c.args.node
+    c.mark_at.result c.in_default.ensures c.mark_at.ensures.mark in
     rw (← v) (none_below c.self.inside.above c.self.inside.parts.items c.self.invariant c.args.node
-    c.mark_of.result c.in_default.ensures e c.in-Refuted.is)
+    c.mark_at.result c.in_default.ensures e c.in-Refuted.is)
 
 pub unreachable-requires : goal.unreachable-requires
 unreachable-requires t c =
@@ -61,19 +49,15 @@ sum : (t : ℕ) → (c : goal.After-open_under-in-Some-2 t) →
 sum t c =
     let v : boards_of c.self.inside.above c.self.inside.parts.items ≡ c.args.self.now =
     c.self.view_is in
-    let i =
-    own_is_inner c.self.inside.above.cut c.self.inside.above.case.tree c.args.node
-    c.in_default.ensures in
     let e =
-    mark_on_top c.self.inside.above c.self.inside.parts.items c.self.invariant (Node c.args.node)
-    c.args.node c.mark_of.result c.in_default.ensures (refl, i.within, i.inner)
-    c.mark_of.ensures.mark in
+    mark_on_top c.self.inside.above c.self.inside.parts.items c.self.invariant c.args.node
+    c.mark_at.result c.in_default.ensures c.mark_at.ensures.mark in
     let tree : c.tree.result.now ≡ c.self.inside.above.case.tree =
     rw (← v) at (c.tree.ensures.tree ∙ ap (λ x. x.tree) c.case.ensures) in
     both_open c.self.inside.above c.self.inside.parts.items c.self.invariant c.args.self.now v
     c.args.node _ _
-    c.open_under-in-Some.result c.open_under-in-Some-2.result c.mark_of.result
-    (rw tree at c.in-Some.ensures) e c.in_default-mark_of.not-Refuted c.open_under-in-Some.ensures
+    c.open_under-in-Some.result c.open_under-in-Some-2.result c.mark_at.result
+    (rw tree at c.in-Some.ensures) e c.in_default-mark_at.not-Refuted c.open_under-in-Some.ensures
     c.open_under-in-Some-2.ensures
 
 pub overflow_add-result : goal.overflow_add-result

@@ -1,29 +1,18 @@
-use Rattle.std.proofs.Common.{◌≡◌, ap, ◌∙◌}
-use Rattle.mark_board.specs.Boards.{boards_of}
-use Rattle.mark_board.proofs.BoardsGathered.{mark_on_top, mark_in_part}
+use Rattle.std.proofs.Common.{◌≡◌, ℕ, ap, ◌∙◌}
+use Rattle.split_tree.specs.Leaves.{IsTargetAt}
 use Rattle.mark_board.proofs.boards.Boards.mark_of.Goals as goal
 
-pub returns-in-Top-clause-mark : goal.returns-in-Top-clause-mark
-returns-in-Top-clause-mark c = λ node here.
-    let v : boards_of c.self.inside.above c.self.inside.parts.items ≡ c.args.self.now =
-    c.self.view_is in
+-- the node that is found is each at which the target stands
+found : (c : goal.After-mark_at) (node : ℕ)
+    → IsTargetAt c.args.self.now.case.tree node c.args.target → node ≡ c.node_of_target.result
+found c node here =
     let tree : c.tree.result.now ≡ c.args.self.now.case.tree =
-    c.tree.ensures.tree ∙ ap (λ x. x.tree) c.case.ensures in
-    let same : node ≡ c.node_of_target-node.result =
-    c.node_of_target-node.ensures.only node (rw tree here) in
-    rw (← v) (mark_on_top c.self.inside.above c.self.inside.parts.items c.self.invariant
-    c.args.target node c.mark_of.result (rw (← same) at c.in-Top.ensures) (rw (← v) at here)
-    c.mark_of.ensures.mark)
+    c.tree.ensures.tree ∙ ap (λ case. case.tree) c.case.ensures in
+    c.node_of_target.ensures.only node (rw tree here)
 
-pub returns-in-Part-clause-mark : goal.returns-in-Part-clause-mark
-returns-in-Part-clause-mark c = λ node here.
-    let v : boards_of c.self.inside.above c.self.inside.parts.items ≡ c.args.self.now =
-    c.self.view_is in
-    let tree : c.tree.result.now ≡ c.args.self.now.case.tree =
-    c.tree.ensures.tree ∙ ap (λ x. x.tree) c.case.ensures in
-    let same : node ≡ c.node_of_target-node.result =
-    c.node_of_target-node.ensures.only node (rw tree here) in
-    rw (← v) (mark_in_part c.self.inside.above c.self.inside.parts.items c.self.invariant
-    c.in-Part.part c.args.target node c.index.result.now c.mark_of-in-Part.result
-    (rw (← same) at c.in-Part.ensures) (rw (← v) at here) c.index.ensures
-    c.mark_of-in-Part.ensures.mark)
+pub returns-clause-mark : goal.returns-clause-mark
+returns-clause-mark c = λ node here. rw (found c node here) c.mark_at.ensures.mark
+
+pub returns-clause-sound : goal.returns-clause-sound
+returns-clause-sound c = λ node here is.
+    rw (found c node here) (c.mark_at.ensures.sound is)

@@ -1,4 +1,4 @@
-use Rattle.std.proofs.Common.{◌≡◌, refl, arith}
+use Rattle.std.proofs.Common.{refl, arith}
 use Rattle.mark_board.proofs.MarksGiven.{none_given, all_given}
 use Rattle.mark_board.proofs.marks.Marks.of.Goals as goal
 

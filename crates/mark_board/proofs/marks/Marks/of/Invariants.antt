@@ -1,4 +1,3 @@
-use Rattle.split_tree.specs.SplitTree.{size}
 use Rattle.mark_board.proofs.MarksGiven.{IsGiven}
 use Rattle.mark_board.proofs.marks.Marks.of.Given as goal
 
