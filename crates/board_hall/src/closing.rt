@@ -16,7 +16,7 @@ ghost use Rattle.board_hall.specs.Inner.Closing.{AreHome};
 use crate::hall::Hall;
 use crate::pass::Pass;
 use crate::plays::{Meet, Meeting};
-use crate::rule::{Place as Seated, Shares};
+use crate::rule::{HallSeat, Shares};
 use atomic_table::Closed;
 use case_core::Case;
 use mark_board::{Board, BoardData, Boards};
@@ -24,7 +24,7 @@ use std::alloc::Global;
 use std::marker::Brand;
 
 /// A seat sees what another posted and has seen, and stands for it too.
-fn meet<N: Meeting>(shared: &Shares, seat: &mut Seated, other: Seated)
+fn meet<N: Meeting>(shared: &Shares, seat: &mut HallSeat, other: HallSeat)
     requires own { (seat.old.table_id ≡ shared.now.table_id)
         × (other.table_id ≡ shared.now.table_id) }
     requires words { 0 < shared.now.table_id.words }
@@ -38,7 +38,7 @@ fn meet<N: Meeting>(shared: &Shares, seat: &mut Seated, other: Seated)
 }
 
 /// The first pass meets each other one.
-fn gather(shared: &Shares, first: Pass, mut others: Vec<Pass>) -> Seated
+fn gather(shared: &Shares, first: Pass, mut others: Vec<Pass>) -> HallSeat
     requires own { (first.seat.table_id ≡ shared.now.table_id)
         × All (λ p. p.seat.table_id ≡ shared.now.table_id) others.items }
     requires words { 0 < shared.now.table_id.words }

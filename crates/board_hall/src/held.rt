@@ -10,7 +10,7 @@ ghost use Rattle.board_hall.specs.Inner.Held.{Recorded, PartRecorded, owed_after
 ghost use Rattle.mark_board.specs.Posting.{GivesBack};
 ghost use Rattle.board_hall.specs.declared.view.Post.{Post};
 
-use crate::rule::Place;
+use crate::rule::HallSeat;
 use crate::table::Core;
 use crate::view::Post;
 use case_core::{Finding, Judged};
@@ -31,7 +31,7 @@ impl Core {
     /// Posts a finding on a board that the seat holds.
     pub(crate) fn post_held<'c>(
         &self,
-        seat: &mut Place,
+        seat: &mut HallSeat,
         board: &mut Board<'c>,
         number: usize,
         finding: Finding<'c>,
@@ -67,7 +67,7 @@ impl Core {
     /// Posts the verdict of the part that the pass owes on the top board, which the seat holds.
     pub(crate) fn post_part_held<'c>(
         &self,
-        seat: &mut Place,
+        seat: &mut HallSeat,
         board: &mut Board<'c>,
         verdict: PartVerdict<'c>,
     ) -> PartPosted<'c>

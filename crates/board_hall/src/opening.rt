@@ -12,7 +12,7 @@ ghost use Rattle.board_hall.specs.Inner.Opening.{IsOpened};
 use crate::hall::Hall;
 use crate::pass::Pass;
 use crate::plays::Deal;
-use crate::rule::{Place as Seated, Terms};
+use crate::rule::{HallSeat, Terms};
 use crate::table::Core;
 use atomic_table::{Refused, Table};
 use case_core::Case;
@@ -86,7 +86,7 @@ fn all_boards(
 
 impl Core {
     /// Cuts a pass off for each one that was asked for.
-    fn deal(&self, alloc: Global, first: Seated) -> Result<Vec<Pass>, AllocError>
+    fn deal(&self, alloc: Global, first: HallSeat) -> Result<Vec<Pass>, AllocError>
         requires own { first.table_id ≡ self.now.table.shared.table_id }
         requires all { first.me ≡ (newcomer (core_of self.now) self.now.passes, []) }
         ensures count { IfOk result (λ v. vec_len v ≡ self.now.passes) }

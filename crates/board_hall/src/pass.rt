@@ -2,13 +2,13 @@
 
 ghost use Rattle.std.specs.Prelude.{◌≡◌, [], None};
 
-use crate::rule::Place;
+use crate::rule::HallSeat;
 
 /// The right to use one hall. It has no lifetime, and is moved to the thread that uses it.
 /// Contracts name what it has posted, what it has seen, and the part whose verdict it owes.
 #[derive(Drop)]
 pub struct Pass {
-    pub(crate) seat: Place,
+    pub(crate) seat: HallSeat,
     pub(crate) owed: Option<u32>,
     ghost rests: { (seat.me.0.held ≡ None) × (seat.me.1 ≡ []) × (seat.me.0.parts ≡ 1) },
     ghost owed_is: { owed ≡ seat.me.0.owes },
@@ -18,7 +18,7 @@ impl Pass {
     ghost use Rattle.board_hall.specs.Halls.{view_of};
 
     /// A pass that has posted nothing.
-    pub(crate) fn resting(seat: Place) -> Pass
+    pub(crate) fn resting(seat: HallSeat) -> Pass
         requires { (seat.me.0.held ≡ None) × (seat.me.0.owes ≡ None) × (seat.me.1 ≡ [])
             × (seat.me.0.parts ≡ 1) }
         ensures { result.seat ≡ seat }

@@ -10,7 +10,7 @@ ghost use Rattle.board_hall.specs.Halls.{core_of};
 ghost use Rattle.board_hall.specs.Inner.Held.{HasGiven};
 
 use crate::plays::{Give, Naming, Note, Try};
-use crate::rule::Place;
+use crate::rule::HallSeat;
 use crate::table::Core;
 use crate::view::Post;
 use crossbeam_utils::Backoff;
@@ -19,7 +19,7 @@ use std::sync::Wait;
 
 impl Core {
     /// Takes the lock of a board, and the board out of its slot.
-    pub(crate) fn take<R: Wait>(&self, rt: &R, seat: &mut Place, board: usize) -> BoardData
+    pub(crate) fn take<R: Wait>(&self, rt: &R, seat: &mut HallSeat, board: usize) -> BoardData
         requires own { seat.old.table_id ≡ self.now.table.shared.table_id }
         requires inside { board < board_count (core_of self.now) }
         requires rests { (seat.old.me.0.held ≡ None) × (seat.old.me.1 ≡ [])
@@ -48,7 +48,7 @@ impl Core {
     }
 
     /// Takes the board out of a slot that the seat holds.
-    fn lift(&self, seat: &mut Place, board: usize) -> BoardData
+    fn lift(&self, seat: &mut HallSeat, board: usize) -> BoardData
         requires own { seat.old.table_id ≡ self.now.table.shared.table_id }
         requires holds { (y : BoardData) × (seat.old.me.1 ≡ (board, Some y) ∷ []) }
         ensures own { (seat.new.table_id ≡ seat.old.table_id) × (seat.new.id ≡ seat.old.id) }
@@ -64,7 +64,7 @@ impl Core {
     /// holds. The pass then owes what is said.
     pub(crate) fn note<N: Naming>(
         &self,
-        seat: &mut Place,
+        seat: &mut HallSeat,
         post: Post,
         weight: u64,
         owes: Option<u32>,
@@ -86,7 +86,7 @@ impl Core {
     }
 
     /// Puts a board back into its slot, and gives the lock back.
-    pub(crate) fn give(&self, seat: &mut Place, board: usize, value: BoardData)
+    pub(crate) fn give(&self, seat: &mut HallSeat, board: usize, value: BoardData)
         requires own { seat.old.table_id ≡ self.now.table.shared.table_id }
         requires inside { board < board_count (core_of self.now) }
         requires holds { (seat.old.me.0.held ≡ Some board) × (seat.old.me.1 ≡ (board, None) ∷ []) }

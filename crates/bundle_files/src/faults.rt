@@ -4,7 +4,7 @@ ghost use Rattle.std.specs.Prelude.{◌≡◌, ◌<◌, ◌^◌, ◌-◌, ◌++�
 ghost use Rattle.std.specs.Prelude.{OnOk, Option, Some};
 ghost use Rattle.case_core.specs.Case.{CaseOf};
 ghost use Rattle.case_core.specs.Sections.{IsCaseOf};
-ghost use Rattle.cube_report.specs.Device.{IsReadFault};
+ghost use Rattle.cube_report.specs.Device.{IsDeviceFault};
 ghost use Rattle.cube_report.specs.Faults.{IsInputFault};
 ghost use Rattle.bundle_files.specs.Files.{AreAdded, IsWithProofs, StaysAllowed, names_from};
 ghost use Rattle.bundle_files.specs.Inner.Faults.{IsSearched, IsFoundIn};
@@ -125,7 +125,7 @@ fn look<D: Store>(
         × IsWithProofs (D.held store.old) folder.now bundle.now whole × IsFoundIn whole fault) }
     ensures ok { OnOk result (D.failures store.new ≡ D.failures store.old) }
     ensures err { IfErr result
-        (λ fault. IsReadFault (D.failures store.old) (D.failures store.new) fault) }
+        (λ fault. IsDeviceFault (D.failures store.old) (D.failures store.new) fault) }
 {
     let mut search = Search {
         labels: LabelScan::new(alloc, case, bundle)?,
@@ -159,7 +159,7 @@ fn look_at<D: Store>(
         × IsSearched search.new.labels search.new.fault whole) }
     ensures ok { OnOk result (D.failures store.new ≡ D.failures store.old) }
     ensures err { IfErr result
-        (λ fault. IsReadFault (D.failures store.old) (D.failures store.new) fault) }
+        (λ fault. IsDeviceFault (D.failures store.old) (D.failures store.new) fault) }
 {
     let mut done = 0;
     while done < count {
@@ -187,7 +187,7 @@ fn look_at_one<D: Store>(
         (name.now ∷ []) text whole × IsSearched search.new.labels search.new.fault whole) }
     ensures ok { OnOk result (D.failures store.new ≡ D.failures store.old) }
     ensures err { IfErr result
-        (λ fault. IsReadFault (D.failures store.old) (D.failures store.new) fault) }
+        (λ fault. IsDeviceFault (D.failures store.old) (D.failures store.new) fault) }
 {
     let path = proof_path(alloc, folder, name)?;
     search.section.clear();

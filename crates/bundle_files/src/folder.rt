@@ -1,7 +1,7 @@
 //! A folder with the proofs of leaves: what it adds to a bundle.
 ghost use Rattle.std.specs.Prelude.{◌≡◌, ◌<◌, ◌^◌, ◌-◌, ◌++◌, [], ◌∷◌, codes, IfOk, IfErr, OnOk};
 ghost use Rattle.std.specs.String.{string_bytes};
-ghost use Rattle.cube_report.specs.Device.{IsReadFault};
+ghost use Rattle.cube_report.specs.Device.{IsDeviceFault};
 ghost use Rattle.bundle_files.specs.Files.{IsWithProofs, AreLeavesOf, AreAdded, names_from};
 ghost use Rattle.bundle_files.specs.Files.{proof_path, StaysAllowed};
 
@@ -39,7 +39,7 @@ pub fn add_proofs<D: Store>(
     // A fault is that of a read that failed, or of memory.
     ensures ok { OnOk result (D.failures store.new ≡ D.failures store.old) }
     ensures err { IfErr result
-        (λ fault. IsReadFault (D.failures store.old) (D.failures store.new) fault) }
+        (λ fault. IsDeviceFault (D.failures store.old) (D.failures store.new) fault) }
 {
     let leaves = leaves_of(alloc, bundle)?;
     add_sections(alloc, store, folder, "", leaves.cubes, bundle)?;
@@ -83,7 +83,7 @@ fn add_sections<D: Store>(
         (names_from kind.now 1 count) bundle.old.items bundle.new.items) }
     ensures ok { OnOk result (D.failures store.new ≡ D.failures store.old) }
     ensures err { IfErr result
-        (λ fault. IsReadFault (D.failures store.old) (D.failures store.new) fault) }
+        (λ fault. IsDeviceFault (D.failures store.old) (D.failures store.new) fault) }
 {
     let mut done = 0;
     while done < count {
@@ -111,7 +111,7 @@ fn add_section<D: Store>(
         (AreAdded (D.held store.old) folder.now (name.now ∷ []) bundle.old.items bundle.new.items) }
     ensures ok { OnOk result (D.failures store.new ≡ D.failures store.old) }
     ensures err { IfErr result
-        (λ fault. IsReadFault (D.failures store.old) (D.failures store.new) fault) }
+        (λ fault. IsDeviceFault (D.failures store.old) (D.failures store.new) fault) }
 {
     let path = proof_path(alloc, folder, name)?;
     let before = bundle.len();

@@ -3,7 +3,7 @@ ghost use Rattle.std.specs.Prelude.{◌≡◌, ◌≢◌, ℕ, List, Some, ◌<�
 ghost use Rattle.std.specs.Prelude.{IfOk, IfErr};
 ghost use Rattle.std.specs.Prelude.{OnOk, OnErr};
 ghost use Rattle.case_core.specs.Leaf.{Leaf};
-ghost use Rattle.cube_report.specs.Device.{IsReadFault};
+ghost use Rattle.cube_report.specs.Device.{IsDeviceFault};
 ghost use Rattle.bundle_files.specs.Files.{Gives, IsFound, StaysAllowed, StaysAllowedBeside};
 ghost use Rattle.bundle_files.specs.Files.{held_if};
 ghost use Rattle.bundle_files.specs.Laws.{held_for};
@@ -45,7 +45,7 @@ pub trait Store {
             (λ there. IsFound (held self.old path.now) bytes.old.items bytes.new.items there) }
         ensures ok { OnOk result (failures self.new ≡ failures self.old) }
         ensures err { IfErr result
-            (λ fault. IsReadFault (failures self.old) (failures self.new) fault) };
+            (λ fault. IsDeviceFault (failures self.old) (failures self.new) fault) };
 
     /// Makes the file at this path anew, with these bytes, which have to be allowed there; no other
     /// file changes. What was allowed at other paths still is, and nothing is known to be allowed
@@ -66,7 +66,7 @@ pub trait Store {
             (λ fault. fault ≢ Fault.Device → held self.new ≡ held self.old) }
         ensures ok { OnOk result (failures self.new ≡ failures self.old) }
         ensures err { IfErr result
-            (λ fault. IsReadFault (failures self.old) (failures self.new) fault) };
+            (λ fault. IsDeviceFault (failures self.old) (failures self.new) fault) };
 
     /// The same for a file that is written when another one may have been: then `Memory` would say
     /// that nothing changed. So a growth that was refused counts as a failed call, too, and each
@@ -152,7 +152,7 @@ impl<F: Opener> FileStore<F> {
             IsFound (held_if (F.knows self.old.opener) (F.files self.old.opener path.now))
             bytes.old.items bytes.new.items there) }
         ensures ok { OnOk result (self.new.failed ≡ self.old.failed) }
-        ensures err { IfErr result (λ fault. IsReadFault self.old.failed self.new.failed fault) }
+        ensures err { IfErr result (λ fault. IsDeviceFault self.old.failed self.new.failed fault) }
     {
         match self.opener.open(path) {
             Ok(file) => match read_to_end(&mut Counted::new(file), bytes) {

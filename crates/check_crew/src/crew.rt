@@ -23,7 +23,7 @@ use std::sync::Wait;
 use std::thread;
 use std::thread::{PromisedHandle, Scope, Threads};
 
-type Handle<'a> = PromisedHandle<Shift, Site<'a>>;
+type Handle<'a, R, G> = PromisedHandle<Shift, Site<'a, R, G>>;
 
 /// The boards of `case` at the cut of `settings` with the findings of all its sections, by as many
 /// workers as `settings` says. The calling thread is worker 0, and each other worker has a thread
@@ -82,13 +82,16 @@ pub(crate) fn examine_all<R: Threads + Wait + Sync, G: Gate + Sync>(
     let order = long_proofs_first(alloc, case)?;
     let (jobs, job_passes) = Jobs::fill(rt, alloc, case, passes.len())?;
     let site = Site {
+        rt,
+        alloc,
         case,
         core,
         jobs: &jobs,
         order: &order,
+        gate,
     };
-    let shifts = run_all(rt, alloc, site, gate, passes, job_passes)?;
-    let (passes, job_passes) = hand_in(alloc, site, shifts)?;
+    let shifts = run_all(site, passes, job_passes)?;
+    let (passes, job_passes) = hand_in(site, shifts)?;
     if !jobs.finish(rt, job_passes) {
         unreachable!()
     }
@@ -97,10 +100,7 @@ pub(crate) fn examine_all<R: Threads + Wait + Sync, G: Gate + Sync>(
 
 /// Runs a worker for each pass, the last pass's in the calling thread.
 fn run_all<R: Threads + Wait + Sync, G: Gate + Sync>(
-    rt: &R,
-    alloc: Global,
-    site: Site<'_>,
-    gate: &G,
+    site: Site<'_, R, G>,
     passes: Vec<Pass>,
     job_passes: Vec<JobPass>,
 ) -> Result<Vec<Shift>, CrewFault>
@@ -114,7 +114,7 @@ fn run_all<R: Threads + Wait + Sync, G: Gate + Sync>(
 {
     thread::scope(
         thread::scope_env(),
-        rt,
+        site.rt,
         move |scope| -> Result<Vec<Shift>, CrewFault>
             requires ready { AreReady site.case.now (shared_of site.core.now) site.jobs.now
                 site.order.now }
@@ -126,7 +126,7 @@ fn run_all<R: Threads + Wait + Sync, G: Gate + Sync>(
             ensures kept { IfOk result (λ shifts. All
                 (IsShiftOf (shared_of site.entry.core.now) site.entry.jobs.now
                 site.entry.order.now) shifts.items) }
-        { start_and_join(scope, rt, alloc, site, gate, passes, job_passes) },
+        { start_and_join(scope, site, passes, job_passes) },
     )
 }
 
@@ -134,10 +134,7 @@ fn run_all<R: Threads + Wait + Sync, G: Gate + Sync>(
 /// started. `Thread` where the start of one was refused, and then it doesn't work itself.
 fn start_and_join<'s, 'e: 's, R: Threads + Wait + Sync, G: Gate + Sync>(
     scope: &'s Scope<'s, &'e ()>,
-    rt: &'e R,
-    alloc: Global,
-    site: Site<'e>,
-    gate: &'e G,
+    site: Site<'e, R, G>,
     mut passes: Vec<Pass>,
     mut job_passes: Vec<JobPass>,
 ) -> Result<Vec<Shift>, CrewFault>
@@ -150,35 +147,32 @@ fn start_and_join<'s, 'e: 's, R: Threads + Wait + Sync, G: Gate + Sync>(
         site.entry.jobs.now site.entry.order.now) shifts.items) }
 {
     let count = passes.len();
-    let mut shifts = Vec::with_capacity(alloc, count)?;
-    let handles = Vec::with_capacity(alloc, count)?;
+    let mut shifts = Vec::with_capacity(site.alloc, count)?;
+    let handles = Vec::with_capacity(site.alloc, count)?;
     let Some(pass) = passes.pop() else {
         unreachable!()
     };
     let Some(job_pass) = job_passes.pop() else {
         unreachable!()
     };
-    let handles = start(scope, rt, alloc, site, gate, passes, job_passes, handles);
+    let handles = start(scope, site, passes, job_passes, handles);
     if handles.len() + 1 < count {
-        drop(join_all(rt, site, handles, shifts));
+        drop(join_all(site, handles, shifts));
         return Err(CrewFault::Thread);
     }
-    shifts.push_reserved(work(rt, alloc, site, gate, 0, pass, job_pass));
-    Ok(join_all(rt, site, handles, shifts))
+    shifts.push_reserved(work(site, 0, pass, job_pass));
+    Ok(join_all(site, handles, shifts))
 }
 
 /// Starts a worker for each pass, from worker 1 on, until the start of one is refused. It asks for
 /// room for their handles.
 fn start<'s, 'e: 's, R: Threads + Wait + Sync, G: Gate + Sync>(
     scope: &'s Scope<'s, &'e ()>,
-    rt: &'e R,
-    alloc: Global,
-    site: Site<'e>,
-    gate: &'e G,
+    site: Site<'e, R, G>,
     passes: Vec<Pass>,
     mut job_passes: Vec<JobPass>,
-    mut handles: Vec<Handle<'e>>,
-) -> Vec<Handle<'e>>
+    mut handles: Vec<Handle<'e, R, G>>,
+) -> Vec<Handle<'e, R, G>>
     requires ready { AreReady site.case.now (shared_of site.core.now) site.jobs.now site.order.now }
     requires count { vec_len passes < 32 }
     requires pairs { vec_len job_passes ≡ vec_len passes }
@@ -202,7 +196,7 @@ fn start<'s, 'e: 's, R: Threads + Wait + Sync, G: Gate + Sync>(
                 requires job_pass { job_pass ≡ new_pass site.jobs.now }
                 ensures { IsShiftOf (shared_of site.entry.core.now) site.entry.jobs.now
                     site.entry.order.now result }
-            { work(rt, alloc, site, gate, worker, pass, job_pass) },
+            { work(site, worker, pass, job_pass) },
         ) else {
             break;
         };
@@ -212,10 +206,9 @@ fn start<'s, 'e: 's, R: Threads + Wait + Sync, G: Gate + Sync>(
 }
 
 /// Joins all threads, and puts what they hand back to `shifts`. It asks for room for it.
-fn join_all<'a, R: Threads>(
-    rt: &R,
-    site: Site<'a>,
-    handles: Vec<Handle<'a>>,
+fn join_all<'a, R: Threads, G>(
+    site: Site<'a, R, G>,
+    handles: Vec<Handle<'a, R, G>>,
     mut shifts: Vec<Shift>,
 ) -> Vec<Shift>
     requires room { vec_len shifts + vec_len handles ≤ vec_capacity shifts }
@@ -227,16 +220,15 @@ fn join_all<'a, R: Threads>(
         site.entry.jobs.now site.entry.order.now) result.items }
 {
     for handle in handles {
-        shifts.push_reserved(handle.join(rt));
+        shifts.push_reserved(handle.join(site.rt));
     }
     shifts
 }
 
 /// The passes of the hall and those of the queue. `AllocError` where a worker met want of memory,
 /// or a growth is refused now.
-fn hand_in(
-    alloc: Global,
-    site: Site<'_>,
+fn hand_in<R, G>(
+    site: Site<'_, R, G>,
     shifts: Vec<Shift>,
 ) -> Result<(Vec<Pass>, Vec<JobPass>), AllocError>
     requires { All (IsShiftOf (shared_of site.core.now) site.jobs.now site.order.now) shifts.items }
@@ -250,8 +242,8 @@ fn hand_in(
     ensures seen { IfOk result (λ passes.
         HaveSeenClaims site.entry.order.now passes.0.items passes.1.items) }
 {
-    let mut passes = Vec::with_capacity(alloc, shifts.len())?;
-    let mut job_passes = Vec::with_capacity(alloc, shifts.len())?;
+    let mut passes = Vec::with_capacity(site.alloc, shifts.len())?;
+    let mut job_passes = Vec::with_capacity(site.alloc, shifts.len())?;
     for shift in shifts {
         if shift.short_of_memory {
             return Err(AllocError);

@@ -28,17 +28,29 @@ pub(crate) struct Shift {
     pub(crate) short_of_memory: bool,
 }
 
-/// What all workers share: the case, the hall, the queue, whose jobs are turns, and for each turn
-/// the place of its section. As a promise it says what each of them hands back.
-#[derive(Clone, Copy)]
-pub(crate) struct Site<'a> {
+/// What all workers share: what they wait by and have memory from, the case, the hall, the queue,
+/// whose jobs are turns, for each turn the place of its section, and the gate. As a promise it says
+/// what each of them hands back.
+pub(crate) struct Site<'a, R, G> {
+    pub(crate) rt: &'a R,
+    pub(crate) alloc: Global,
     pub(crate) case: &'a Case,
     pub(crate) core: &'a Core,
     pub(crate) jobs: &'a Jobs,
     pub(crate) order: &'a [usize],
+    pub(crate) gate: &'a G,
 }
 
-impl<'a> Promise<Shift> for Site<'a> {
+// A derive would ask that `R` and `G` are `Copy`, too.
+impl<'a, R, G> Clone for Site<'a, R, G> {
+    fn clone(&self) -> Result<Self, AllocError> {
+        Ok(*self)
+    }
+}
+
+impl<'a, R, G> Copy for Site<'a, R, G> {}
+
+impl<'a, R, G> Promise<Shift> for Site<'a, R, G> {
     ghost use Rattle.board_hall.specs.Halls.{shared_of};
     ghost use Rattle.check_crew.specs.Inner.Crew.{IsShiftOf};
 
@@ -49,10 +61,7 @@ impl<'a> Promise<Shift> for Site<'a> {
 /// Examines the section at a place, posts what is found, and then the part that is owed, if any.
 /// `AllocError` where a growth was refused, and then nothing is posted.
 fn take_turn<R: Wait, G: Gate>(
-    rt: &R,
-    alloc: Global,
-    site: Site<'_>,
-    gate: &G,
+    site: Site<'_, R, G>,
     worker: u32,
     examiner: &mut Examiner<'_>,
     pass: &mut Pass,
@@ -69,7 +78,14 @@ fn take_turn<R: Wait, G: Gate>(
     ensures stays { Stays (view_of pass.old) (view_of pass.new) }
     ensures seen { OnOk result (HasSeenSection (view_of pass.new) place) }
 {
-    let Site { case, core, .. } = site;
+    let Site {
+        rt,
+        alloc,
+        case,
+        core,
+        gate,
+        ..
+    } = site;
     let target = case.sections()[place].target;
     let announced = target;
     let asked = target;
@@ -157,10 +173,7 @@ pub(crate) fn tell<G: Gate>(
 /// Claims turns, examines their sections by one examiner and posts what is found, until no turn is
 /// left or memory is refused.
 pub(crate) fn work<R: Wait, G: Gate>(
-    rt: &R,
-    alloc: Global,
-    site: Site<'_>,
-    gate: &G,
+    site: Site<'_, R, G>,
     worker: u32,
     mut pass: Pass,
     mut job_pass: JobPass,
@@ -171,23 +184,14 @@ pub(crate) fn work<R: Wait, G: Gate>(
     ensures { IsShiftOf (shared_of site.entry.core.now)
         site.entry.jobs.now site.entry.order.now result }
 {
-    let Ok(mut examiner) = Examiner::over(alloc, site.case) else {
+    let Ok(mut examiner) = Examiner::over(site.alloc, site.case) else {
         return Shift {
             pass,
             job_pass,
             short_of_memory: true,
         };
     };
-    let short_of_memory = take_turns(
-        rt,
-        alloc,
-        site,
-        gate,
-        worker,
-        &mut examiner,
-        &mut pass,
-        &mut job_pass,
-    );
+    let short_of_memory = take_turns(site, worker, &mut examiner, &mut pass, &mut job_pass);
     Shift {
         pass,
         job_pass,
@@ -198,10 +202,7 @@ pub(crate) fn work<R: Wait, G: Gate>(
 /// Claims a turn and examines its section; answers whether one was left. `AllocError` where a
 /// growth was refused.
 fn claim_turn<R: Wait, G: Gate>(
-    rt: &R,
-    alloc: Global,
-    site: Site<'_>,
-    gate: &G,
+    site: Site<'_, R, G>,
     worker: u32,
     examiner: &mut Examiner<'_>,
     pass: &mut Pass,
@@ -221,20 +222,17 @@ fn claim_turn<R: Wait, G: Gate>(
         (All (HasSeenTurn site.entry.order.now (view_of pass.new)) job_pass.new.claims) }
     ensures empty { IfOk result (λ taken. taken ≡ false → job_pass.new.found_empty ≡ true) }
 {
-    let Some(turn) = site.jobs.claim(rt, job_pass) else {
+    let Some(turn) = site.jobs.claim(site.rt, job_pass) else {
         return Ok(false);
     };
     let place = site.order[turn];
-    take_turn(rt, alloc, site, gate, worker, examiner, pass, place)?;
+    take_turn(site, worker, examiner, pass, place)?;
     Ok(true)
 }
 
 /// Claims turns on passes that are lent; answers whether memory was refused.
 fn take_turns<R: Wait, G: Gate>(
-    rt: &R,
-    alloc: Global,
-    site: Site<'_>,
-    gate: &G,
+    site: Site<'_, R, G>,
     worker: u32,
     examiner: &mut Examiner<'_>,
     pass: &mut Pass,
@@ -247,8 +245,8 @@ fn take_turns<R: Wait, G: Gate>(
     ensures { IsShiftOf (shared_of site.entry.core.now) site.entry.jobs.now site.entry.order.now
         (record { pass = pass.new; job_pass = job_pass.new; short_of_memory = result }) }
 {
-    for _ in rt.forever() {
-        match claim_turn(rt, alloc, site, gate, worker, examiner, pass, job_pass) {
+    for _ in site.rt.forever() {
+        match claim_turn(site, worker, examiner, pass, job_pass) {
             Ok(true) => {}
             Ok(false) => return false,
             Err(_) => return true,

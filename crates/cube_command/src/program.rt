@@ -4,7 +4,7 @@ ghost use Rattle.std.specs.Prelude.{◌≡◌, ◌≢◌, ◌⊎◌, ◌<◌, �
 ghost use Rattle.std.specs.Prelude.{option_map, true, false, None, Some, IfOk, IfErr, OnOk, OnErr};
 ghost use Rattle.std.specs.Prelude.{IsErrOf, IfSome};
 ghost use Rattle.std.specs.Io.KnownBytes.{Appends, Keeps};
-ghost use Rattle.cube_report.specs.Device.{AppendsBeginning, IsReadFault};
+ghost use Rattle.cube_report.specs.Device.{AppendsBeginning, IsDeviceFault};
 ghost use Rattle.clap.specs.Words.{kind_of};
 ghost use Rattle.bundle_files.specs.Files.{StaysAllowed};
 ghost use Rattle.bundle_files.specs.Formula.{IsOneAbsent};
@@ -383,7 +383,7 @@ fn write_outcome<D: Store, O: Sink>(
         ⊎ ((O.failures output.old < O.failures output.new)
         × AppendsBeginning (O.contents output.old) (O.contents output.new)
         outcome.now.text.items)) }
-    ensures err { IfErr result (λ fault. IsReadFault
+    ensures err { IfErr result (λ fault. IsDeviceFault
         (D.failures store.old + O.failures output.old)
         (D.failures store.new + O.failures output.new) fault) }
 {
@@ -408,7 +408,7 @@ fn write_picture<D: Store>(store: &mut D, path: Option<&str>, picture: &[u8]) ->
         (λ fault. fault ≢ Fault.Device → D.held store.new ≡ D.held store.old) }
     ensures ok { OnOk result (D.failures store.new ≡ D.failures store.old) }
     ensures err { IfErr result
-        (λ fault. IsReadFault (D.failures store.old) (D.failures store.new) fault) }
+        (λ fault. IsDeviceFault (D.failures store.old) (D.failures store.new) fault) }
 {
     match path {
         Some(path) => store.write(path, picture),

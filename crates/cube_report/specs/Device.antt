@@ -23,6 +23,6 @@ abbrev pub IsReadOf : Option (List ℕ) → List ℕ → List ℕ → Type 0
 IsReadOf left old new = (read : List ℕ) × (new ≡ old ++ read) × IfSome left (λ known. read ≡ known)
 
 -- want of memory without a failed call, or a fault of the device with one
-abbrev pub IsReadFault : ℕ → ℕ → Fault → Type 0
-IsReadFault before after fault =
+abbrev pub IsDeviceFault : ℕ → ℕ → Fault → Type 0
+IsDeviceFault before after fault =
     ((fault ≡ Memory) × (after ≡ before)) ⊎ ((fault ≡ FaultDevice) × (after ≡ before + 1))

@@ -8,7 +8,7 @@ ghost use Rattle.std.specs.Io.KnownBytes.{Keeps, Appends};
 ghost use Rattle.split_tree.specs.SplitTree.{size};
 ghost use Rattle.mark_board.specs.declared.mark.Mark.TheVariants.{Open};
 ghost use Rattle.cube_report.specs.Faults.{IsInputFault};
-ghost use Rattle.cube_report.specs.Device.{AppendsBeginning, IsLeft, IsReadFault, IsReadOf};
+ghost use Rattle.cube_report.specs.Device.{AppendsBeginning, IsDeviceFault, IsLeft, IsReadOf};
 ghost use Rattle.cube_report.specs.Stated.{IsStated, IsWrittenBy};
 ghost use Rattle.case_core.specs.Leaf.{Leaf};
 ghost use Rattle.mark_board.specs.declared.mark.Mark.{Mark};
@@ -382,7 +382,7 @@ fn read_all<R: Source>(alloc: Global, reader: &mut R) -> Result<Vec<u8>, Fault>
         (λ input. IfSome (R.remaining reader.old) (λ left. input.items ≡ left)) }
     ensures ok { OnOk result (R.failures reader.new ≡ R.failures reader.old) }
     ensures err { IfErr result
-        (λ fault. IsReadFault (R.failures reader.old) (R.failures reader.new) fault) }
+        (λ fault. IsDeviceFault (R.failures reader.old) (R.failures reader.new) fault) }
 {
     let mut input = Vec::new(alloc);
     read_to_end(reader, &mut input)?;
@@ -402,7 +402,7 @@ pub fn read_to_end<R: Source>(reader: &mut R, bytes: &mut Vec<u8>) -> Result<(),
     // A fault is that of a read that failed, or of memory.
     ensures ok { OnOk result (R.failures reader.new ≡ R.failures reader.old) }
     ensures err { IfErr result
-        (λ fault. IsReadFault (R.failures reader.old) (R.failures reader.new) fault) }
+        (λ fault. IsDeviceFault (R.failures reader.old) (R.failures reader.new) fault) }
 {
     let mut buffer = [0u8; 65536];
     loop {

@@ -5,7 +5,7 @@ ghost use Rattle.std.specs.Prelude.{if◌then◌else◌, IfOk, IfErr, OnOk, IfSo
 ghost use Rattle.std.specs.Io.KnownBytes.{Keeps, Appends};
 ghost use Rattle.cube_report.specs.Correct.{AllowsReports, IsCorrect, IsFaultOn};
 ghost use Rattle.cube_report.specs.Correct.{IsUnsatisfiable};
-ghost use Rattle.cube_report.specs.Device.{IsLeft, IsReadFault};
+ghost use Rattle.cube_report.specs.Device.{IsDeviceFault, IsLeft};
 ghost use Rattle.cube_report.specs.Faults.{IsInputFault};
 
 use crate::report::outcome_of;
@@ -57,7 +57,7 @@ fn bytes_of<I: Source>(alloc: Global, input: &mut I) -> Result<Vec<u8>, Fault>
     ensures bytes { IfOk result (λ bytes.
         IfSome (I.remaining input.old) (λ known. bytes.items ≡ known)) }
     ensures ok { OnOk result (I.failures input.new ≡ I.failures input.old) }
-    ensures err { IfErr result (IsReadFault (I.failures input.old) (I.failures input.new)) }
+    ensures err { IfErr result (IsDeviceFault (I.failures input.old) (I.failures input.new)) }
 {
     let mut bytes = Vec::new(alloc);
     read_to_end(input, &mut bytes)?;

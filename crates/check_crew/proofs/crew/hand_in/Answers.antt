@@ -9,7 +9,7 @@ use Rattle.check_crew.proofs.SeenFindings.{claims_more}
 use Rattle.check_crew.proofs.crew.hand_in.Goals as goal
 
 pub loop-shift-preserved : goal.loop-shift-preserved
-loop-shift-preserved c =
+loop-shift-preserved g c =
     let was = c.loop-shift.invariant in let next = c.in-Some.ensures.steps in
     let hall = shared_of c.args.site.core.now in let jobs = c.args.site.jobs.now in
     let order = c.args.site.order.now in

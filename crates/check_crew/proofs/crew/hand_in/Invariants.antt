@@ -8,7 +8,7 @@ use Rattle.check_crew.specs.Inner.Crew.{IsShiftOf, HaveSeenClaims}
 use Rattle.check_crew.proofs.crew.hand_in.Given as goal
 
 abbrev pub invariant-loop-shift : goal.invariant-loop-shift
-invariant-loop-shift l = record {
+invariant-loop-shift g l = record {
   passes_count : vec_len l.passes + into_iter_len l.shift-iterator ≡ vec_len l.fn.shifts;
   job_passes_count : vec_len l.job_passes + into_iter_len l.shift-iterator ≡ vec_len l.fn.shifts;
   passes_room : vec_len l.fn.shifts ≤ vec_capacity l.passes;
