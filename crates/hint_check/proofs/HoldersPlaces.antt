@@ -46,108 +46,6 @@ module _ (clauses : List (List Literal)) where
   unfolding begin
   begin-suc a = refl
 
-  -- The first id of those that are left to come in a slot is put there.
-  module _ (starts ids : List ℕ) (left left' : ℕ → ℕ) (slot id : ℕ) (here : slot < length starts)
-      (are : AreLeft clauses left starts)
-      (less : (s : ℕ) → left s ≡ (if nat_eq slot s then 1 else 0) + left' s)
-      (fits : (s : ℕ) → left s ≤ occurrences clauses s)
-      (within : begin clauses (length starts) ≤ length ids) where
-    own : left slot ≡ 1 + left' slot
-    own =
-        less slot
-        ∙ ap (λ n. n + left' slot) (cond-true (nat_eq slot slot) 1 0 (eq-eqb slot slot refl))
-
-    pub some-left : 0 < get_or starts slot 0
-    some-left = omega (arith, are slot here, own)
-
-    pub has-room : get_or starts slot 0 ≤ length ids
-    has-room =
-        omega (
-          arith,
-          are slot here,
-          fits slot,
-          begin-suc slot,
-          begin-le (suc slot) (length starts) (omega (arith, here)),
-          within,
-        )
-
-    abbrev place : ℕ
-    place = get_or starts slot 0 - 1
-
-    place-is : place ≡ begin clauses slot + left' slot
-    place-is = omega (arith, are slot here, own)
-
-    other-left : (s : ℕ) → slot ≢ s → left s ≡ left' s
-    other-left s apart =
-        less s ∙ ap (λ n. n + left' s) (cond-false (nat_eq slot s) 1 0 (ne_eqb slot s apart))
-        ∙ zero-add (left' s)
-
-    apart-places : (s at : ℕ) → s < length starts → slot ≢ s → get_or starts s 0 ≤ at →
-        at < begin clauses (suc s) → at ≢ place
-    apart-places s at below apart from to e =
-        elim (cases_lt s slot) [
-          | inl lower ↦ omega (arith, to, begin-le (suc s) slot (omega (arith, lower)), place-is, e)
-          | inr higher ↦ omega (
-            arith,
-            from,
-            are s below,
-            begin-le (suc slot) s (omega (arith, higher, apart)),
-            begin-suc slot,
-            fits slot,
-            own,
-            place-is,
-            e,
-          )
-        ]
-
-    pub put-left : AreLeft clauses left' (slice_set starts slot place)
-    put-left s below =
-        elim (cases_Bool (nat_eq slot s)) [
-          | inl same ↦ subst
-              (λ n. get_or (slice_set starts slot place) n 0 ≡ begin clauses n + left' n)
-              (eqb-true slot s same)
-              (get_or-set_same starts slot place 0 here ∙ place-is)
-          | inr apart ↦ let ne : slot ≢ s =
-              λ e. (let t : true ≡ false = sym (eq-eqb slot s e) ∙ apart in cc) in
-              get_or-set_other starts slot s place 0 (λ e. ne (sym e))
-              ∙ are s (simp length-set at below)
-              ∙ ap (λ n. begin clauses s + n) (other-left s ne)
-        ]
-
-    pub put-there : IsThere clauses (slice_set starts slot place) (slice_set ids place id) id
-        slot
-    put-there = (
-      place,
-      (let e : get_or (slice_set starts slot place) slot 0
-          ≡ place = get_or-set_same starts slot place 0 here in omega (arith, e)),
-      omega (arith, place-is, own, fits slot, begin-suc slot),
-      get_or-set_same ids place id 0 (omega (arith, has-room, some-left)),
-    )
-
-    -- the ids that are there stay
-    pub put-keeps : (q s : ℕ) → s < length starts → IsThere clauses starts ids q s →
-        IsThere clauses (slice_set starts slot place) (slice_set ids place id) q s
-    put-keeps q s below (at, from, to, is) =
-        elim (cases_Bool (nat_eq slot s)) [
-          | inl same ↦ let e : slot ≡ s = eqb-true slot s same in
-              let from' : get_or starts slot 0 ≤ at =
-              subst (λ n. get_or starts n 0 ≤ at) (sym e) from in
-              let now : get_or (slice_set starts slot place) s 0 ≡ place =
-              subst (λ n. get_or (slice_set starts slot place) n 0 ≡ place) e
-              (get_or-set_same starts slot place 0 here) in (
-                at,
-                omega (arith, now, from'),
-                to,
-                get_or-set_other ids place at id 0 (omega (arith, from', some-left)) ∙ is,
-              )
-          | inr apart ↦ let ne : slot ≢ s =
-              λ e. (let t : true ≡ false = sym (eq-eqb slot s e) ∙ apart in cc) in
-              let now : get_or (slice_set starts slot place) s 0 ≡ get_or starts s 0 =
-              get_or-set_other starts slot s place 0 (λ e. ne (sym e)) in
-              let other : at ≢ place = apart-places s at below ne from to in
-              (at, omega (arith, now, from), to, get_or-set_other ids place at id 0 other ∙ is)
-        ]
-
 -- one literal more is counted
 pub count-more : (lits : List Literal) (i : ℕ) (l : Literal)
     (before counts : List ℕ) (at : ℕ) → i < length lits → l ≡ get_or lits i l
@@ -247,61 +145,140 @@ more-has clause i l m below is holds =
 
 -- The id of a clause is put into the slot of one more of its near literals.
 module _ (clauses : List (List Literal)) (place : ℕ) (clause : List Literal) (i : ℕ)
-    (l : Literal) (at id : ℕ) (starts ids : List ℕ)
+    (l : Literal) (slot id n : ℕ) (starts ids : List ℕ)
     (known : place < length clauses) (clause-is : clause ≡ get_or clauses place clause)
     (below : i < length clause) (is : l ≡ get_or clause i l)
-    (slot : at ≡ literal_number l) (here : at < length starts)
-    (within : begin clauses (length starts) ≤ length ids) where
+    (slot-is : slot ≡ literal_number l) (here : slot < length starts)
+    (long : length starts ≡ n) (within : begin clauses n ≤ length ids) where
   abbrev pub left-from : ℕ → ℕ → ℕ
   left-from k s = hits s (drop k clause) + occurrences (drop (place + 1) clauses) s
 
-  less : (s : ℕ) → left-from i s ≡ (if nat_eq at s then 1 else 0) + left-from (i + 1) s
-  less s = omega (arith, hits-next clause i l at s below is slot)
+  less : (s : ℕ) → left-from i s ≡ (if nat_eq slot s then 1 else 0) + left-from (i + 1) s
+  less s = omega (arith, hits-next clause i l slot s below is slot-is)
 
-  fit : (s : ℕ) → left-from i s ≤ occurrences clauses s
-  fit s = hits-fit clauses place clause i s known clause-is
+  fits : (s : ℕ) → left-from i s ≤ occurrences clauses s
+  fits s = hits-fit clauses place clause i s known clause-is
+
+  own : left-from i slot ≡ 1 + left-from (i + 1) slot
+  own =
+      less slot
+      ∙ ap (λ n. n + left-from (i + 1) slot)
+      (cond-true (nat_eq slot slot) 1 0 (eq-eqb slot slot refl))
+
+  other-left : (s : ℕ) → slot ≢ s → left-from i s ≡ left-from (i + 1) s
+  other-left s apart =
+      less s
+      ∙ ap (λ n. n + left-from (i + 1) s) (cond-false (nat_eq slot s) 1 0 (ne_eqb slot s apart))
+      ∙ zero-add (left-from (i + 1) s)
 
   module _ (are : AreLeft clauses (left-from i) starts) where
     -- the slot has a place left for the id
-    pub clause-room : (0 < get_or starts at 0) × (get_or starts at 0 ≤ length ids)
+    pub clause-room : (0 < get_or starts slot 0) × (get_or starts slot 0 ≤ length ids)
     clause-room = (
-      some-left clauses starts ids (left-from i) (left-from (i + 1)) at id here are less fit
-          within,
-      has-room clauses starts ids (left-from i) (left-from (i + 1)) at id here are less fit
-          within,
+      omega (arith, are slot here, own),
+      omega (
+        arith,
+        are slot here,
+        fits slot,
+        begin-suc clauses slot,
+        begin-le clauses (suc slot) n (omega (arith, here, long)),
+        within,
+      ),
     )
 
+    abbrev at : ℕ
+    at = get_or starts slot 0 - 1
+
     abbrev starts' : List ℕ
-    starts' = slice_set starts at (get_or starts at 0 - 1)
+    starts' = slice_set starts slot at
 
     abbrev ids' : List ℕ
-    ids' = slice_set ids (get_or starts at 0 - 1) id
+    ids' = slice_set ids at id
 
-    pub clause-left : AreLeft clauses (left-from (i + 1)) starts'
-    clause-left =
-        put-left clauses starts ids (left-from i) (left-from (i + 1)) at id here are less fit
-        within
+    at-is : at ≡ begin clauses slot + left-from (i + 1) slot
+    at-is = omega (arith, are slot here, own)
 
-    pub clause-kept : (q s : ℕ) → s < length starts → IsThere clauses starts ids q s →
+    apart-places : (s k : ℕ) → s < length starts → slot ≢ s → get_or starts s 0 ≤ k →
+        k < begin clauses (suc s) → k ≢ at
+    apart-places s k near apart from to e =
+        elim (cases_lt s slot) [
+          | inl lower ↦
+              omega (arith, to, begin-le clauses (suc s) slot (omega (arith, lower)), at-is, e)
+          | inr higher ↦ omega (
+            arith,
+            from,
+            are s near,
+            begin-le clauses (suc slot) s (omega (arith, higher, apart)),
+            begin-suc clauses slot,
+            fits slot,
+            own,
+            at-is,
+            e,
+          )
+        ]
+
+    now-there : IsThere clauses starts' ids' id slot
+    now-there = (
+      at,
+      (let e : get_or starts' slot 0 ≡ at = get_or-set_same starts slot at 0 here in
+          omega (arith, e)),
+      omega (arith, at-is, own, fits slot, begin-suc clauses slot),
+      get_or-set_same ids at id 0 (omega (arith, clause-room.1, clause-room.0)),
+    )
+
+    clause-left : AreLeft clauses (left-from (i + 1)) starts'
+    clause-left s near =
+        elim (cases_Bool (nat_eq slot s)) [
+          | inl same ↦ subst
+              (λ n. get_or starts' n 0 ≡ begin clauses n + left-from (i + 1) n)
+              (eqb-true slot s same) (get_or-set_same starts slot at 0 here ∙ at-is)
+          | inr apart ↦ let ne : slot ≢ s =
+              λ e. (let t : true ≡ false = sym (eq-eqb slot s e) ∙ apart in cc) in
+              get_or-set_other starts slot s at 0 (λ e. ne (sym e))
+              ∙ are s (simp length-set at near)
+              ∙ ap (λ n. begin clauses s + n) (other-left s ne)
+        ]
+
+    -- the ids that are there stay
+    clause-kept : (q s : ℕ) → s < length starts → IsThere clauses starts ids q s →
         IsThere clauses starts' ids' q s
-    clause-kept =
-        put-keeps clauses starts ids (left-from i) (left-from (i + 1)) at id here are less fit
-        within
+    clause-kept q s near (k, from, to, id-is) =
+        elim (cases_Bool (nat_eq slot s)) [
+          | inl same ↦ let e : slot ≡ s = eqb-true slot s same in
+              let from' : get_or starts slot 0 ≤ k =
+              subst (λ n. get_or starts n 0 ≤ k) (sym e) from in
+              let now : get_or starts' s 0 ≡ at =
+              subst (λ n. get_or starts' n 0 ≡ at) e (get_or-set_same starts slot at 0 here) in (
+                k,
+                omega (arith, now, from'),
+                to,
+                get_or-set_other ids at k id 0 (omega (arith, from', clause-room.0)) ∙ id-is,
+              )
+          | inr apart ↦ let ne : slot ≢ s =
+              λ e. (let t : true ≡ false = sym (eq-eqb slot s e) ∙ apart in cc) in
+              let now : get_or starts' s 0 ≡ get_or starts s 0 =
+              get_or-set_other starts slot s at 0 (λ e. ne (sym e)) in
+              let other : k ≢ at = apart-places s k near ne from to in
+              (k, omega (arith, now, from), to, get_or-set_other ids at k id 0 other ∙ id-is)
+        ]
 
-    now-there : IsThere clauses starts' ids' id at
-    now-there =
-        put-there clauses starts ids (left-from i) (left-from (i + 1)) at id here are less fit
-        within
-
-    pub clause-there : ((m : Literal) → has (take i clause) m ≡ true →
-        literal_number m < length starts → IsThere clauses starts ids id (literal_number m))
-        → (m : Literal) → has (take (i + 1) clause) m ≡ true → literal_number m < length starts →
-        IsThere clauses starts' ids' id (literal_number m)
-    clause-there before m holds near = elim (more-has clause i l m below is holds) [
-      | inl this ↦ subst (λ n. IsThere clauses starts' ids' id n) (slot ∙ ap literal_number this)
-          now-there
-      | inr old ↦ clause-kept id (literal_number m) near (before m old near)
-    ]
+    -- so fewer are left, and those that are there stay beside the new one
+    pub clause-step : ((m : Literal) → has (take i clause) m ≡ true →
+        literal_number m < length starts → IsThere clauses starts ids id (literal_number m)) →
+        AreLeft clauses (left-from (i + 1)) starts'
+        × ((m : Literal) → has (take (i + 1) clause) m ≡ true → literal_number m < length starts →
+        IsThere clauses starts' ids' id (literal_number m))
+        × ((q s : ℕ) → s < length starts → IsThere clauses starts ids q s →
+        IsThere clauses starts' ids' q s)
+    clause-step before = (
+      clause-left,
+      λ m holds near. elim (more-has clause i l m below is holds) [
+        | inl this ↦ subst (λ n. IsThere clauses starts' ids' id n)
+            (slot-is ∙ ap literal_number this) now-there
+        | inr old ↦ clause-kept id (literal_number m) near (before m old near)
+      ],
+      clause-kept,
+    )
 
 -- the sums of the counts are where the ids of the numbers begin
 pub begin-sum : (clauses : List (List Literal)) (counts : List ℕ) →

@@ -10,6 +10,4 @@ invariant-loop-place l = record {
   there : (k : ℕ) (m : Literal) → k < l.place → has (get_or l.clauses k []) m ≡ true
       → literal_number m < length l.starts
       → IsThere l.clauses l.starts l.ids (k + 1) (literal_number m);
-  same_lengths : (length l.starts ≡ length l.initial.starts)
-      × (length l.ids ≡ length l.initial.ids);
 }

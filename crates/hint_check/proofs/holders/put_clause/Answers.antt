@@ -17,16 +17,13 @@ room : (c : goal.After-put-arg-then-slot-starts-1) →
     × (get_or c.loop-lit.starts c.number-slot.result 0 ≤ length c.loop-lit.ids)
 room c =
     let clauses = c.args.clauses.now in
-    let same = c.loop-lit.invariant.same_lengths in
-    let within : begin clauses (length c.loop-lit.starts) ≤ length c.loop-lit.ids
-    =
-    subst (λ n. begin clauses n ≤ length c.loop-lit.ids) (sym same.0)
-    (omega (arith, c.requires.within, same.1)) in
     places.clause-room clauses c.args.place c.lits-lits.result.now c.loop-lit.lit-index
-    c.lit-item.result c.number-slot.result (c.args.place + 1) c.loop-lit.starts c.loop-lit.ids c.requires.place
+    c.lit-item.result c.number-slot.result (c.args.place + 1) (length c.args.starts.now)
+    c.loop-lit.starts c.loop-lit.ids c.requires.place
     (subst (λ clause. clause ≡ get_or clauses c.args.place clause) (sym c.lits-lits.ensures)
     c.index-clauses-place.is)
-    c.loop-lit-test.true c.lit-item.is c.number-slot.ensures.value (omega arith) within
+    c.loop-lit-test.true c.lit-item.is c.number-slot.ensures.value (omega arith)
+    c.loop-lit.auto.starts (omega (arith, c.requires.within, c.loop-lit.auto.ids))
     c.loop-lit.invariant.left
 
 pub put-requires-clause-some : goal.put-requires-clause-some
@@ -56,7 +53,6 @@ loop-lit-init c =
           c.requires.left s below ∙ ap (λ n. begin clauses s + n) first;
       there = λ m none near. absurd (false≢true none);
       kept = λ id s below there. there;
-      same_lengths = (refl, refl);
     }
 
 pub loop-lit-preserved : goal.loop-lit-preserved
@@ -64,67 +60,38 @@ loop-lit-preserved c =
     let clauses = c.args.clauses.now in
     let lits = c.lits-lits.result.now in
     let i = c.loop-lit.lit-index in
-    let starts = c.loop-lit.starts in
-    let ids = c.loop-lit.ids in
-    let id : ℕ = c.args.place + 1 in
+    let l = c.lit-item.result in
+    let slot = c.number-slot.ensures.value in
     let before = c.loop-lit.invariant in
-    let same = before.same_lengths in
-    let within : begin clauses (length starts) ≤ length ids
-    =
-    subst (λ n. begin clauses n ≤ length ids) (sym same.0)
-    (omega (arith, c.requires.within, same.1)) in
     let clause-is : lits ≡ get_or clauses c.args.place lits
     =
     subst (λ clause. clause ≡ get_or clauses c.args.place clause) (sym c.lits-lits.ensures)
     c.index-clauses-place.is in
-    let slot = c.number-slot.ensures.value in
     elim c.if-slot-starts.branch [
       | then-slot-starts w ↦
-          let near = w.if-slot-starts.true in
-          let left =
-          places.clause-left clauses c.args.place lits i c.lit-item.result c.number-slot.result id
-          starts ids
-          c.requires.place clause-is c.loop-lit-test.true c.lit-item.is slot near
-          within before.left in
-          let there =
-          places.clause-there clauses c.args.place lits i c.lit-item.result c.number-slot.result id
-          starts ids
-          c.requires.place clause-is c.loop-lit-test.true c.lit-item.is slot near
-          within before.left
-          before.there in
-          let kept =
-          places.clause-kept clauses c.args.place lits i c.lit-item.result c.number-slot.result id
-          starts ids
-          c.requires.place clause-is c.loop-lit-test.true c.lit-item.is slot near
-          within before.left in
-          record {
-            left = rw (w.starts-is, w.put.ensures.starts) left;
-            there = rw (w.starts-is, w.ids-is, w.put.ensures.starts, w.put.ensures.ids) (λ m holds near. there m holds (simp length-set at near));
-            kept = λ q s below is. rw (w.starts-is, w.ids-is, w.put.ensures.starts, w.put.ensures.ids)
-                (kept q s (simp length-set at (rw (w.starts-is, w.put.ensures.starts) at below))
-                (before.kept q s (simp length-set at (rw (w.starts-is, w.put.ensures.starts) at below))
-                is));
-            same_lengths = (ap length w.starts-is ∙ w.put.auto.starts ∙ same.0, ap length w.ids-is ∙ w.put.auto.ids ∙ same.1);
+          let step = places.clause-step clauses c.args.place lits i l c.number-slot.result
+          (c.args.place + 1) (length c.args.starts.now) c.loop-lit.starts c.loop-lit.ids
+          c.requires.place clause-is c.loop-lit-test.true c.lit-item.is slot
+          w.if-slot-starts.true c.loop-lit.auto.starts
+          (omega (arith, c.requires.within, c.loop-lit.auto.ids)) before.left before.there in
+          rw (w.starts-is, w.ids-is, w.put.ensures.starts, w.put.ensures.ids) record {
+            left = step.0;
+            there = λ m holds near. step.1 m holds (simp length-set at near);
+            kept = λ q s near is. step.2 q s (simp length-set at near)
+                (before.kept q s (simp length-set at near) is);
           }
-      | else-slot-starts w ↦ record {
-        left = rw w.starts-is (λ s near. before.left s near
+      | else-slot-starts w ↦ rw (w.starts-is, w.ids-is) record {
+        left = λ s near. before.left s near
             ∙ ap (λ n. begin clauses s + (n + occurrences (drop (c.args.place + 1) clauses) s))
-            (places.hits-far lits i c.lit-item.result c.number-slot.result s
-            c.loop-lit-test.true c.lit-item.is slot (omega (arith, near, w.if-slot-starts.false))));
-        there = rw (w.starts-is, w.ids-is) (λ m holds near.
-            elim (places.more-has lits i c.lit-item.result m c.loop-lit-test.true
-            c.lit-item.is holds) [
-              | inl this ↦ absurd (omega (
-                arith,
-                w.if-slot-starts.false,
-                slot,
-                ap literal_number this,
-                near,
-              ))
+            (places.hits-far lits i l c.number-slot.result s c.loop-lit-test.true c.lit-item.is slot
+            (omega (arith, near, w.if-slot-starts.false)));
+        there = λ m holds near.
+            elim (places.more-has lits i l m c.loop-lit-test.true c.lit-item.is holds) [
+              | inl this ↦
+                  absurd (omega (arith, w.if-slot-starts.false, slot, ap literal_number this, near))
               | inr old ↦ before.there m old near
-            ]);
-        kept = rw (w.starts-is, w.ids-is) before.kept;
-        same_lengths = (ap length w.starts-is ∙ same.0, ap length w.ids-is ∙ same.1);
+            ];
+        kept = before.kept;
       }
     ]
 
@@ -145,9 +112,8 @@ returns c =
       there =
           λ l holds near. c.loop-lit.invariant.there l
           (subst (λ clause. has clause l ≡ true) whole holds)
-          (omega (arith, c.loop-lit.invariant.same_lengths.0, near));
+          (omega (arith, c.loop-lit.auto.starts, near));
       kept =
           λ q s below is.
-          c.loop-lit.invariant.kept q s (omega (arith, c.loop-lit.invariant.same_lengths.0, below))
-          is;
+          c.loop-lit.invariant.kept q s (omega (arith, c.loop-lit.auto.starts, below)) is;
     }

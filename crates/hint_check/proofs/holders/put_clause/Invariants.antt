@@ -15,6 +15,4 @@ invariant-loop-lit l = record {
   kept : (id slot : ℕ) → slot < length l.starts →
       IsThere l.clauses l.initial.starts l.initial.ids id slot
       → IsThere l.clauses l.starts l.ids id slot;
-  same_lengths : (length l.starts ≡ length l.initial.starts)
-      × (length l.ids ≡ length l.initial.ids);
 }
