@@ -1,351 +1,294 @@
 -- The slots of numbers, and what stands in them while ids are put there.
 use Rattle.std.proofs.Common.{zero, suc, ◌+◌, ◌-◌, ◌<◌, ◌≤◌, length, get_or, take, drop, sum, arith}
 use Rattle.std.proofs.Common.{◌≡◌, ◌≢◌, ◌==◌, ◌||◌, Some, ℕ, true, false, nat_eq, List, [], ◌∷◌}
-use Rattle.std.proofs.Common.{◌++◌, refl, sym, ap, ◌∙◌, inl, inr, subst, zero-add, add-one}
-use Rattle.std.specs.Prelude.{if◌then◌else◌, nat_lt, slice_set, slice_range, cond}
+use Rattle.std.proofs.Common.{◌++◌, refl, sym, ap, ◌∙◌, inl, inr, subst, zero-add}
+use Rattle.std.specs.Prelude.{◌⊎◌, if◌then◌else◌, slice_set, slice_range, cond}
 use Rattle.std.specs.Option.{IfSome}
 use Rattle.std.specs.FinMap as fin
 use Rattle.std.specs.Ordering.{nat_cmp, eq_by_cmp}
 use Rattle.std.proofs.lemmas.List.Edits.{length-between, get_or-between}
 use Rattle.std.proofs.lemmas.List.Folds.{list_any_at, list_any_more, list_any-append}
 use Rattle.hint_check.proofs.LiveMaps.{same_key}
-use Rattle.std.specs.List.{list_any, enumerate_from}
+use Rattle.std.specs.List.{Contains, list_any, enumerate_from}
 use Rattle.std.proofs.lemmas.Bool.{cases_Bool, eqb-true, eq-eqb, ne_eqb, cond-true, cond-false}
-use Rattle.std.proofs.lemmas.Bool.{cases_lt, lt-ltb, le-ltb, or_cases, or_left, or_right}
+use Rattle.std.proofs.lemmas.Bool.{cases_lt, or_cases, or_left, or_right}
 use Rattle.std.proofs.lemmas.List.{get_or-set_same, get_or-set_other, take_more, take_at}
 use Rattle.std.proofs.lemmas.List.{length-set, length-take-le, get_or-take, get_or_default}
+use Rattle.std.proofs.lemmas.List.{get_or_past}
 use Rattle.std.proofs.lemmas.List.Sums.{sum_by-take-drop, sum_by-drop_more, sum_by_more}
 use Rattle.cnf_text.specs.Literal.{Literal, literal_number}
 use Rattle.cnf_text.specs.Literal.{same}
 use Rattle.hint_check.specs.Literals.{has, with_literal}
 use Rattle.hint_check.proofs.LiteralsSets.{has-push, same-true}
-use Rattle.hint_check.specs.declared.holders.Slots.{Slots}
-use Rattle.std.specs.List.Sorted.{IsStrictlyIncreasing}
+use Rattle.std.specs.List.Sorted.{IsNonDecreasingBy}
 use Rattle.hint_check.specs.declared.holders.Holders.{Holders}
-use Rattle.hint_check.specs.Inner.Holders.{place_in, slot_of, slot_count, hit, hits, occurrences}
-use Rattle.hint_check.specs.Inner.Holders.{begin, AreLeft, IsThere, IsWhole, ids_of, NamesEach}
+use Rattle.hint_check.specs.Inner.Holders.{hit, hits, occurrences, begin, AreLeft, IsThere}
+use Rattle.hint_check.specs.Inner.Holders.{near_end, far_holder, IsWhole, IsListed, NamesEach}
 
--- the first place of a number is the only one that can be said to be it
-pub place_in-is : (xs : List ℕ) (n i : ℕ) → i < length xs → get_or xs i 0 ≡ n →
-    ((k : ℕ) → k < i → get_or xs k 0 ≢ n) → place_in xs n ≡ i
-place_in-is [] n i below is before = absurd (omega (arith, below))
-place_in-is (x ∷ xs) n zero below is before =
-    cond-true (nat_eq x n) 0 (place_in xs n + 1) (eq-eqb x n is)
-place_in-is (x ∷ xs) n (suc i) below is before =
-    cond-false (nat_eq x n) 0 (place_in xs n + 1) (ne_eqb x n (before 0 (omega arith)))
-    ∙ ap (λ k. k + 1)
-    (place_in-is xs n i (omega (arith, below)) is (λ k lt. before (suc k) (omega (arith, lt))))
-    ∙ add-one i
-
-pub place_in-none : (xs : List ℕ) (n : ℕ) → ((k : ℕ) → k < length xs → get_or xs k 0 ≢ n) →
-    place_in xs n ≡ length xs
-place_in-none [] n none = refl
-place_in-none (x ∷ xs) n none =
-    cond-false (nat_eq x n) 0 (place_in xs n + 1) (ne_eqb x n (none 0 (omega arith)))
-    ∙ ap (λ k. k + 1) (place_in-none xs n (λ k lt. none (suc k) (omega (arith, lt))))
-    ∙ add-one (length xs)
-
-module _ (slots : Slots) (clauses : List (List Literal)) where
-  begin-up : (a k : ℕ) → begin slots clauses a ≤ begin slots clauses (k + a)
+module _ (clauses : List (List Literal)) where
+  begin-up : (a k : ℕ) → begin clauses a ≤ begin clauses (k + a)
   unfolding begin
   begin-up a zero =
-      subst (λ n. begin slots clauses a ≤ begin slots clauses n)
+      subst (λ n. begin clauses a ≤ begin clauses n)
       (let e : a ≡ 0 + a = omega arith in e) (omega arith)
   begin-up a (suc k) =
-      subst (λ n. begin slots clauses a ≤ begin slots clauses n)
+      subst (λ n. begin clauses a ≤ begin clauses n)
       (let e : suc (k + a) ≡ suc k + a = omega arith in e) (omega (arith, begin-up a k))
 
-  -- slots that come later begin later
-  pub begin-le : (a b : ℕ) → a ≤ b → begin slots clauses a ≤ begin slots clauses b
+  -- ids of higher numbers begin later
+  pub begin-le : (a b : ℕ) → a ≤ b → begin clauses a ≤ begin clauses b
   begin-le a b le =
-      subst (λ n. begin slots clauses a ≤ begin slots clauses n)
+      subst (λ n. begin clauses a ≤ begin clauses n)
       (let e : b - a + a ≡ b = omega (arith, le) in e) (begin-up a (b - a))
 
   pub begin-suc : (a : ℕ) →
-      begin slots clauses (suc a) ≡ begin slots clauses a + occurrences slots clauses a
+      begin clauses (suc a) ≡ begin clauses a + occurrences clauses a
   unfolding begin
   begin-suc a = refl
 
-  -- The first id of those that are left to come in a slot is put there.
-  module _ (starts ids : List ℕ) (left left' : ℕ → ℕ) (slot id : ℕ) (here : slot < length starts)
-      (are : AreLeft slots clauses left starts)
-      (less : (s : ℕ) → left s ≡ (if nat_eq slot s then 1 else 0) + left' s)
-      (fits : (s : ℕ) → left s ≤ occurrences slots clauses s)
-      (within : begin slots clauses (length starts) ≤ length ids) where
-    own : left slot ≡ 1 + left' slot
-    own =
-        less slot
-        ∙ ap (λ n. n + left' slot) (cond-true (nat_eq slot slot) 1 0 (eq-eqb slot slot refl))
-
-    pub some-left : 0 < get_or starts slot 0
-    some-left = omega (arith, are slot here, own)
-
-    pub has-room : get_or starts slot 0 ≤ length ids
-    has-room =
-        omega (
-          arith,
-          are slot here,
-          fits slot,
-          begin-suc slot,
-          begin-le (suc slot) (length starts) (omega (arith, here)),
-          within,
-        )
-
-    abbrev place : ℕ
-    place = get_or starts slot 0 - 1
-
-    place-is : place ≡ begin slots clauses slot + left' slot
-    place-is = omega (arith, are slot here, own)
-
-    other-left : (s : ℕ) → slot ≢ s → left s ≡ left' s
-    other-left s apart =
-        less s ∙ ap (λ n. n + left' s) (cond-false (nat_eq slot s) 1 0 (ne_eqb slot s apart))
-        ∙ zero-add (left' s)
-
-    apart-places : (s at : ℕ) → s < length starts → slot ≢ s → get_or starts s 0 ≤ at →
-        at < begin slots clauses (suc s) → at ≢ place
-    apart-places s at below apart from to e =
-        elim (cases_lt s slot) [
-          | inl lower ↦ omega (arith, to, begin-le (suc s) slot (omega (arith, lower)), place-is, e)
-          | inr higher ↦ omega (
-            arith,
-            from,
-            are s below,
-            begin-le (suc slot) s (omega (arith, higher, apart)),
-            begin-suc slot,
-            fits slot,
-            own,
-            place-is,
-            e,
-          )
-        ]
-
-    pub put-left : AreLeft slots clauses left' (slice_set starts slot place)
-    put-left s below =
-        elim (cases_Bool (nat_eq slot s)) [
-          | inl same ↦ subst
-              (λ n. get_or (slice_set starts slot place) n 0 ≡ begin slots clauses n + left' n)
-              (eqb-true slot s same)
-              (get_or-set_same starts slot place 0 here ∙ place-is)
-          | inr apart ↦ let ne : slot ≢ s =
-              λ e. (let t : true ≡ false = sym (eq-eqb slot s e) ∙ apart in cc) in
-              get_or-set_other starts slot s place 0 (λ e. ne (sym e))
-              ∙ are s (simp length-set at below)
-              ∙ ap (λ n. begin slots clauses s + n) (other-left s ne)
-        ]
-
-    pub put-there : IsThere slots clauses (slice_set starts slot place) (slice_set ids place id) id
-        slot
-    put-there = (
-      place,
-      (let e : get_or (slice_set starts slot place) slot 0
-          ≡ place = get_or-set_same starts slot place 0 here in omega (arith, e)),
-      omega (arith, place-is, own, fits slot, begin-suc slot),
-      get_or-set_same ids place id 0 (omega (arith, has-room, some-left)),
-    )
-
-    -- the ids that are there stay
-    pub put-keeps : (q s : ℕ) → s < length starts → IsThere slots clauses starts ids q s →
-        IsThere slots clauses (slice_set starts slot place) (slice_set ids place id) q s
-    put-keeps q s below (at, from, to, is) =
-        elim (cases_Bool (nat_eq slot s)) [
-          | inl same ↦ let e : slot ≡ s = eqb-true slot s same in
-              let from' : get_or starts slot 0 ≤ at =
-              subst (λ n. get_or starts n 0 ≤ at) (sym e) from in
-              let now : get_or (slice_set starts slot place) s 0 ≡ place =
-              subst (λ n. get_or (slice_set starts slot place) n 0 ≡ place) e
-              (get_or-set_same starts slot place 0 here) in (
-                at,
-                omega (arith, now, from'),
-                to,
-                get_or-set_other ids place at id 0 (omega (arith, from', some-left)) ∙ is,
-              )
-          | inr apart ↦ let ne : slot ≢ s =
-              λ e. (let t : true ≡ false = sym (eq-eqb slot s e) ∙ apart in cc) in
-              let now : get_or (slice_set starts slot place) s 0 ≡ get_or starts s 0 =
-              get_or-set_other starts slot s place 0 (λ e. ne (sym e)) in
-              let other : at ≢ place = apart-places s at below ne from to in
-              (at, omega (arith, now, from), to, get_or-set_other ids place at id 0 other ∙ is)
-        ]
-
 -- one literal more is counted
-pub count-more : (slots : Slots) (lits : List Literal) (i : ℕ) (l : Literal)
+pub count-more : (lits : List Literal) (i : ℕ) (l : Literal)
     (before counts : List ℕ) (at : ℕ) → i < length lits → l ≡ get_or lits i l
-    → at ≡ slot_of slots (literal_number l) → at < length counts
-    →
+    → at ≡ literal_number l →
     ((s : ℕ) → s < length counts →
-    get_or counts s 0 ≡ get_or before s 0 + hits slots s (take i lits))
+    get_or counts s 0 ≡ get_or before s 0 + hits s (take i lits))
     → (s : ℕ) → s < length counts →
     get_or (slice_set counts at (get_or counts at 0 + 1)) s 0
-    ≡ get_or before s 0 + hits slots s (take (i + 1) lits)
+    ≡ get_or before s 0 + hits s (take (i + 1) lits)
 unfolding hit
-count-more slots lits i l before counts at below is slot within counted s near =
-    let more : hits slots s (take (i + 1) lits) ≡ hits slots s (take i lits) + hit slots s l
+count-more lits i l before counts at below is slot counted s near =
+    let more : hits s (take (i + 1) lits) ≡ hits s (take i lits) + hit s l
     =
-    sum_by_more (hit slots s) lits i l below
-    ∙ ap (λ m. hits slots s (take i lits) + hit slots s m) (sym is) in
+    sum_by_more (hit s) lits i l below
+    ∙ ap (λ m. hits s (take i lits) + hit s m) (sym is) in
     elim (cases_Bool (nat_eq at s)) [
       | inl same ↦
           let e : at ≡ s = eqb-true at s same in
-          let one : hit slots s l ≡ 1 =
-          cond-true (nat_eq (slot_of slots (literal_number l)) s) 1 0
-          (eq-eqb (slot_of slots (literal_number l)) s (sym slot ∙ e)) in
+          let one : hit s l ≡ 1 =
+          cond-true (nat_eq (literal_number l) s) 1 0
+          (eq-eqb (literal_number l) s (sym slot ∙ e)) in
           let now : get_or (slice_set counts at (get_or counts at 0 + 1)) s 0
           ≡ get_or counts s 0 + 1
           =
           subst (λ n. get_or (slice_set counts at (get_or counts at 0 + 1)) n 0
           ≡ get_or counts n 0 + 1) e
-          (get_or-set_same counts at (get_or counts at 0 + 1) 0 within) in
+          (get_or-set_same counts at (get_or counts at 0 + 1) 0 (omega (arith, e, near))) in
           omega (arith, now, counted s near, more, one)
       | inr apart ↦
           let ne : at ≢ s = λ e. (let t : true ≡ false = sym (eq-eqb at s e) ∙ apart in cc) in
-          let none : hit slots s l ≡ 0 =
-          cond-false (nat_eq (slot_of slots (literal_number l)) s) 1 0
-          (ne_eqb (slot_of slots (literal_number l)) s (λ e. ne (slot ∙ e))) in
+          let none : hit s l ≡ 0 =
+          cond-false (nat_eq (literal_number l) s) 1 0
+          (ne_eqb (literal_number l) s (λ e. ne (slot ∙ e))) in
           let now : get_or (slice_set counts at (get_or counts at 0 + 1)) s 0 ≡ get_or counts s 0 =
           get_or-set_other counts at s (get_or counts at 0 + 1) 0 (λ e. ne (sym e)) in
           omega (arith, now, counted s near, more, none)
     ]
 
 -- one literal fewer is left
-pub hits-next : (slots : Slots) (lits : List Literal) (i : ℕ) (l : Literal) (at s : ℕ) →
-    i < length lits → l ≡ get_or lits i l → at ≡ slot_of slots (literal_number l)
-    → hits slots s (drop i lits) ≡ (if nat_eq at s then 1 else 0) + hits slots s (drop (i + 1) lits)
+pub hits-next : (lits : List Literal) (i : ℕ) (l : Literal) (at s : ℕ) →
+    i < length lits → l ≡ get_or lits i l → at ≡ literal_number l
+    → hits s (drop i lits) ≡ (if nat_eq at s then 1 else 0) + hits s (drop (i + 1) lits)
 unfolding hit
-hits-next slots lits i l at s below is slot =
-    sum_by-drop_more (hit slots s) lits i l below
-    ∙ ap (λ m. hit slots s m + hits slots s (drop (i + 1) lits)) (sym is)
-    ∙ ap (λ n. (if nat_eq n s then 1 else 0) + hits slots s (drop (i + 1) lits)) (sym slot)
+hits-next lits i l at s below is slot =
+    sum_by-drop_more (hit s) lits i l below
+    ∙ ap (λ m. hit s m + hits s (drop (i + 1) lits)) (sym is)
+    ∙ ap (λ n. (if nat_eq n s then 1 else 0) + hits s (drop (i + 1) lits)) (sym slot)
+
+-- a literal of a greater number counts for none that is lower
+pub hits-far : (lits : List Literal) (i : ℕ) (l : Literal) (at s : ℕ) →
+    i < length lits → l ≡ get_or lits i l → at ≡ literal_number l → s < at
+    → hits s (drop i lits) ≡ hits s (drop (i + 1) lits)
+hits-far lits i l at s below is slot far =
+    hits-next lits i l at s below is slot
+    ∙ ap (λ n. n + hits s (drop (i + 1) lits))
+    (cond-false (nat_eq at s) 1 0 (ne_eqb at s (λ e. omega (arith, far, e))))
+    ∙ zero-add (hits s (drop (i + 1) lits))
 
 -- what is left of a clause and of those behind it is part of what all clauses have
-pub hits-fit : (slots : Slots) (clauses : List (List Literal)) (place : ℕ) (clause : List Literal)
+pub hits-fit : (clauses : List (List Literal)) (place : ℕ) (clause : List Literal)
     (i s : ℕ) → place < length clauses → clause ≡ get_or clauses place clause
     →
-    hits slots s (drop i clause) + occurrences slots (drop (place + 1) clauses) s
-    ≤ occurrences slots clauses s
-hits-fit slots clauses place clause i s below is =
-    let here : occurrences slots (drop place clauses) s
-    ≡ hits slots s clause + occurrences slots (drop (place + 1) clauses) s
+    hits s (drop i clause) + occurrences (drop (place + 1) clauses) s
+    ≤ occurrences clauses s
+hits-fit clauses place clause i s below is =
+    let here : occurrences (drop place clauses) s
+    ≡ hits s clause + occurrences (drop (place + 1) clauses) s
     =
-    sum_by-drop_more (hits slots s) clauses place clause below
-    ∙ ap (λ c. hits slots s c + occurrences slots (drop (place + 1) clauses) s) (sym is) in
+    sum_by-drop_more (hits s) clauses place clause below
+    ∙ ap (λ c. hits s c + occurrences (drop (place + 1) clauses) s) (sym is) in
     omega (
       arith,
       here,
-      sum_by-take-drop (hits slots s) clauses place,
-      sum_by-take-drop (hit slots s) clause i,
+      sum_by-take-drop (hits s) clauses place,
+      sum_by-take-drop (hit s) clause i,
     )
-
-place_in-le : (xs : List ℕ) (n : ℕ) → place_in xs n ≤ length xs
-place_in-le [] n = omega arith
-place_in-le (x ∷ xs) n =
-    elim (nat_eq x n) as
-    (λ b. (if b then 0 else place_in xs n + 1) ≤ suc (length xs)) [
-      | true ↦ omega arith
-      | false ↦ omega (arith, place_in-le xs n)
-    ]
-
--- each number has a slot that is there
-pub slot_of-below : (slots : Slots) (n : ℕ) → slot_of slots n < slot_count slots
-unfolding slot_of
-slot_of-below slots n =
-    elim (cases_lt n slots.reach) [
-      | inl near ↦ omega (
-        arith,
-        cond-true (nat_lt n slots.reach) n (slots.reach + place_in slots.far.items n)
-            (lt-ltb n slots.reach near),
-        near,
-      )
-      | inr far ↦ omega (
-        arith,
-        cond-false (nat_lt n slots.reach) n (slots.reach + place_in slots.far.items n)
-            (le-ltb n slots.reach far),
-        place_in-le slots.far.items n,
-      )
-    ]
 
 -- a slice that was lent, and holds other numbers now, is the list
 pub written : (new old : List ℕ) (n : ℕ) → length new ≡ length old → n ≡ length old →
     take n (new ++ drop (length new) old) ≡ new
 written new old n same is = take_at new (drop (length new) old) n (same ∙ sym is)
 
--- The id of a clause is put into the slot of one more of its literals.
-module _ (slots : Slots) (clauses : List (List Literal)) (place : ℕ) (clause : List Literal) (i : ℕ)
-    (l : Literal) (at id : ℕ) (starts ids : List ℕ)
+-- a literal of one more place is the one there, or one of those before
+pub more-has : (clause : List Literal) (i : ℕ) (l m : Literal) → i < length clause →
+    l ≡ get_or clause i l → has (take (i + 1) clause) m ≡ true
+    → (l ≡ m) ⊎ (has (take i clause) m ≡ true)
+unfolding with_literal
+more-has clause i l m below is holds =
+    let more : has (take (i + 1) clause) ≡ with_literal (has (take i clause)) l
+    =
+    ap has (take_more clause i l below ∙ ap (λ x. take i clause ++ x ∷ []) (sym is))
+    ∙ has-push (take i clause) l in
+    elim (or_cases (same l m) (has (take i clause) m) (sym (ap (λ f. f m) more) ∙ holds)) [
+      | inl this ↦ inl (same-true l m this)
+      | inr old ↦ inr old
+    ]
+
+-- The id of a clause is put into the slot of one more of its near literals.
+module _ (clauses : List (List Literal)) (place : ℕ) (clause : List Literal) (i : ℕ)
+    (l : Literal) (slot id n : ℕ) (starts ids : List ℕ)
     (known : place < length clauses) (clause-is : clause ≡ get_or clauses place clause)
     (below : i < length clause) (is : l ≡ get_or clause i l)
-    (slot : at ≡ slot_of slots (literal_number l)) (room : slot_count slots ≤ length starts)
-    (within : begin slots clauses (length starts) ≤ length ids) where
+    (slot-is : slot ≡ literal_number l) (here : slot < length starts)
+    (long : length starts ≡ n) (within : begin clauses n ≤ length ids) where
   abbrev pub left-from : ℕ → ℕ → ℕ
-  left-from k s = hits slots s (drop k clause) + occurrences slots (drop (place + 1) clauses) s
+  left-from k s = hits s (drop k clause) + occurrences (drop (place + 1) clauses) s
 
-  here : at < length starts
-  here = omega (arith, slot, slot_of-below slots (literal_number l), room)
+  less : (s : ℕ) → left-from i s ≡ (if nat_eq slot s then 1 else 0) + left-from (i + 1) s
+  less s = omega (arith, hits-next clause i l slot s below is slot-is)
 
-  less : (s : ℕ) → left-from i s ≡ (if nat_eq at s then 1 else 0) + left-from (i + 1) s
-  less s = omega (arith, hits-next slots clause i l at s below is slot)
+  fits : (s : ℕ) → left-from i s ≤ occurrences clauses s
+  fits s = hits-fit clauses place clause i s known clause-is
 
-  fit : (s : ℕ) → left-from i s ≤ occurrences slots clauses s
-  fit s = hits-fit slots clauses place clause i s known clause-is
+  own : left-from i slot ≡ 1 + left-from (i + 1) slot
+  own =
+      less slot
+      ∙ ap (λ n. n + left-from (i + 1) slot)
+      (cond-true (nat_eq slot slot) 1 0 (eq-eqb slot slot refl))
 
-  module _ (are : AreLeft slots clauses (left-from i) starts) where
+  other-left : (s : ℕ) → slot ≢ s → left-from i s ≡ left-from (i + 1) s
+  other-left s apart =
+      less s
+      ∙ ap (λ n. n + left-from (i + 1) s) (cond-false (nat_eq slot s) 1 0 (ne_eqb slot s apart))
+      ∙ zero-add (left-from (i + 1) s)
+
+  module _ (are : AreLeft clauses (left-from i) starts) where
     -- the slot has a place left for the id
-    pub clause-room : (0 < get_or starts at 0) × (get_or starts at 0 ≤ length ids)
+    pub clause-room : (0 < get_or starts slot 0) × (get_or starts slot 0 ≤ length ids)
     clause-room = (
-      some-left slots clauses starts ids (left-from i) (left-from (i + 1)) at id here are less fit
-          within,
-      has-room slots clauses starts ids (left-from i) (left-from (i + 1)) at id here are less fit
-          within,
+      omega (arith, are slot here, own),
+      omega (
+        arith,
+        are slot here,
+        fits slot,
+        begin-suc clauses slot,
+        begin-le clauses (suc slot) n (omega (arith, here, long)),
+        within,
+      ),
     )
 
+    abbrev at : ℕ
+    at = get_or starts slot 0 - 1
+
     abbrev starts' : List ℕ
-    starts' = slice_set starts at (get_or starts at 0 - 1)
+    starts' = slice_set starts slot at
 
     abbrev ids' : List ℕ
-    ids' = slice_set ids (get_or starts at 0 - 1) id
+    ids' = slice_set ids at id
 
-    pub clause-left : AreLeft slots clauses (left-from (i + 1)) starts'
-    clause-left =
-        put-left slots clauses starts ids (left-from i) (left-from (i + 1)) at id here are less fit
-        within
+    at-is : at ≡ begin clauses slot + left-from (i + 1) slot
+    at-is = omega (arith, are slot here, own)
 
-    pub clause-kept : (q s : ℕ) → s < length starts → IsThere slots clauses starts ids q s →
-        IsThere slots clauses starts' ids' q s
-    clause-kept =
-        put-keeps slots clauses starts ids (left-from i) (left-from (i + 1)) at id here are less fit
-        within
-
-    now-there : IsThere slots clauses starts' ids' id at
-    now-there =
-        put-there slots clauses starts ids (left-from i) (left-from (i + 1)) at id here are less fit
-        within
-
-    pub clause-there : ((m : Literal) → has (take i clause) m ≡ true →
-        IsThere slots clauses starts ids id (slot_of slots (literal_number m)))
-        → (m : Literal) → has (take (i + 1) clause) m ≡ true →
-        IsThere slots clauses starts' ids' id (slot_of slots (literal_number m))
-    unfolding with_literal
-    clause-there before m holds =
-        let more : has (take (i + 1) clause) ≡ with_literal (has (take i clause)) l
-        =
-        ap has (take_more clause i l below ∙ ap (λ x. take i clause ++ x ∷ []) (sym is))
-        ∙ has-push (take i clause) l in
-        elim (or_cases (same l m) (has (take i clause) m) (sym (ap (λ f. f m) more) ∙ holds)) [
-          | inl this ↦ subst (λ n. IsThere slots clauses starts' ids' id n)
-              (slot ∙ ap (λ n. slot_of slots (literal_number n)) (same-true l m this)) now-there
-          | inr old ↦ clause-kept id (slot_of slots (literal_number m))
-              (omega (arith, slot_of-below slots (literal_number m), room)) (before m old)
+    apart-places : (s k : ℕ) → s < length starts → slot ≢ s → get_or starts s 0 ≤ k →
+        k < begin clauses (suc s) → k ≢ at
+    apart-places s k near apart from to e =
+        elim (cases_lt s slot) [
+          | inl lower ↦
+              omega (arith, to, begin-le clauses (suc s) slot (omega (arith, lower)), at-is, e)
+          | inr higher ↦ omega (
+            arith,
+            from,
+            are s near,
+            begin-le clauses (suc slot) s (omega (arith, higher, apart)),
+            begin-suc clauses slot,
+            fits slot,
+            own,
+            at-is,
+            e,
+          )
         ]
 
--- the sums of the counts are where the slots begin
-pub begin-sum : (slots : Slots) (clauses : List (List Literal)) (counts : List ℕ) →
-    ((s : ℕ) → s < length counts → get_or counts s 0 ≡ occurrences slots clauses s)
-    → (k : ℕ) → k ≤ length counts → sum (take k counts) ≡ begin slots clauses k
+    now-there : IsThere clauses starts' ids' id slot
+    now-there = (
+      at,
+      (let e : get_or starts' slot 0 ≡ at = get_or-set_same starts slot at 0 here in
+          omega (arith, e)),
+      omega (arith, at-is, own, fits slot, begin-suc clauses slot),
+      get_or-set_same ids at id 0 (omega (arith, clause-room.1, clause-room.0)),
+    )
+
+    clause-left : AreLeft clauses (left-from (i + 1)) starts'
+    clause-left s near =
+        elim (cases_Bool (nat_eq slot s)) [
+          | inl same ↦ subst
+              (λ n. get_or starts' n 0 ≡ begin clauses n + left-from (i + 1) n)
+              (eqb-true slot s same) (get_or-set_same starts slot at 0 here ∙ at-is)
+          | inr apart ↦ let ne : slot ≢ s =
+              λ e. (let t : true ≡ false = sym (eq-eqb slot s e) ∙ apart in cc) in
+              get_or-set_other starts slot s at 0 (λ e. ne (sym e))
+              ∙ are s (simp length-set at near)
+              ∙ ap (λ n. begin clauses s + n) (other-left s ne)
+        ]
+
+    -- the ids that are there stay
+    clause-kept : (q s : ℕ) → s < length starts → IsThere clauses starts ids q s →
+        IsThere clauses starts' ids' q s
+    clause-kept q s near (k, from, to, id-is) =
+        elim (cases_Bool (nat_eq slot s)) [
+          | inl same ↦ let e : slot ≡ s = eqb-true slot s same in
+              let from' : get_or starts slot 0 ≤ k =
+              subst (λ n. get_or starts n 0 ≤ k) (sym e) from in
+              let now : get_or starts' s 0 ≡ at =
+              subst (λ n. get_or starts' n 0 ≡ at) e (get_or-set_same starts slot at 0 here) in (
+                k,
+                omega (arith, now, from'),
+                to,
+                get_or-set_other ids at k id 0 (omega (arith, from', clause-room.0)) ∙ id-is,
+              )
+          | inr apart ↦ let ne : slot ≢ s =
+              λ e. (let t : true ≡ false = sym (eq-eqb slot s e) ∙ apart in cc) in
+              let now : get_or starts' s 0 ≡ get_or starts s 0 =
+              get_or-set_other starts slot s at 0 (λ e. ne (sym e)) in
+              let other : k ≢ at = apart-places s k near ne from to in
+              (k, omega (arith, now, from), to, get_or-set_other ids at k id 0 other ∙ id-is)
+        ]
+
+    -- so fewer are left, and those that are there stay beside the new one
+    pub clause-step : ((m : Literal) → has (take i clause) m ≡ true →
+        literal_number m < length starts → IsThere clauses starts ids id (literal_number m)) →
+        AreLeft clauses (left-from (i + 1)) starts'
+        × ((m : Literal) → has (take (i + 1) clause) m ≡ true → literal_number m < length starts →
+        IsThere clauses starts' ids' id (literal_number m))
+        × ((q s : ℕ) → s < length starts → IsThere clauses starts ids q s →
+        IsThere clauses starts' ids' q s)
+    clause-step before = (
+      clause-left,
+      λ m holds near. elim (more-has clause i l m below is holds) [
+        | inl this ↦ subst (λ n. IsThere clauses starts' ids' id n)
+            (slot-is ∙ ap literal_number this) now-there
+        | inr old ↦ clause-kept id (literal_number m) near (before m old near)
+      ],
+      clause-kept,
+    )
+
+-- the sums of the counts are where the ids of the numbers begin
+pub begin-sum : (clauses : List (List Literal)) (counts : List ℕ) →
+    ((s : ℕ) → s < length counts → get_or counts s 0 ≡ occurrences clauses s)
+    → (k : ℕ) → k ≤ length counts → sum (take k counts) ≡ begin clauses k
 unfolding begin
-begin-sum slots clauses counts counted zero within = refl
-begin-sum slots clauses counts counted (suc k) within =
+begin-sum clauses counts counted zero within = refl
+begin-sum clauses counts counted (suc k) within =
     let e : suc k ≡ k + 1 = omega arith in
-    let before = begin-sum slots clauses counts counted k (omega (arith, within)) in
+    let before = begin-sum clauses counts counted k (omega (arith, within)) in
     let more : sum (take (k + 1) counts) ≡ sum (take k counts) + get_or counts k 0 =
     sum_by_more (λ x. x) counts k 0 (omega (arith, within)) in
     ap (λ n. sum (take n counts)) e ∙ omega (arith, more, before, counted k (omega (arith, within)))
@@ -362,27 +305,24 @@ part-names ids from to place id above below within is =
     ∙ ap (λ k. get_or ids k 0) (let e : from + (place - from) ≡ place = omega (arith, above) in e)
     ∙ is))
 
--- ids that name the clause in each place name each entry
-pub names-from : (n : ℕ) (clauses : List (List Literal)) (l : Literal) (ids : List ℕ)
+-- what is true of each clause that holds a literal, by its place, is true by its id
+pub names-from : (n : ℕ) (clauses : List (List Literal)) (l : Literal) (Named : ℕ → Type 0)
     →
-    ((k : ℕ) → k < length clauses → has (get_or clauses k []) l ≡ true →
-    list_any (λ named. named == n + k) ids ≡ true)
+    ((k : ℕ) → k < length clauses → has (get_or clauses k []) l ≡ true → Named (n + k))
     → (q : ℕ) →
-    IfSome (fin.find nat_cmp q (enumerate_from n clauses))
-    (λ clause. has clause l ≡ true → list_any (λ named. named == q) ids ≡ true)
-names-from n [] l ids named q = tt
-names-from n (clause ∷ clauses) l ids named q =
+    IfSome (fin.find nat_cmp q (enumerate_from n clauses)) (λ clause. has clause l ≡ true → Named q)
+names-from n [] l Named named q = tt
+names-from n (clause ∷ clauses) l Named named q =
     elim (eq_by_cmp nat_cmp q n) as
     (λ b. eq_by_cmp nat_cmp q n ≡ b →
     IfSome (cond b (Some clause) (fin.find nat_cmp q (enumerate_from (n + 1) clauses)))
-    (λ clause. has clause l ≡ true → list_any (λ named. named == q) ids ≡ true)) [
+    (λ clause. has clause l ≡ true → Named q)) [
       | true ↦ λ here holds.
-          subst (λ k. list_any (λ named. named == k) ids ≡ true)
-          (let e : n + 0 ≡ q = omega (arith, same_key q n here) in e) (named 0 (omega arith) holds)
-      | false ↦ λ apart. names-from (n + 1) clauses l ids
+          subst Named (let e : n + 0 ≡ q = omega (arith, same_key q n here) in e)
+          (named 0 (omega arith) holds)
+      | false ↦ λ apart. names-from (n + 1) clauses l Named
           (λ k below holds.
-          subst (λ j. list_any (λ named. named == j) ids ≡ true)
-          (let e : n + suc k ≡ n + 1 + k = omega arith in e)
+          subst Named (let e : n + suc k ≡ n + 1 + k = omega arith in e)
           (named (suc k) (omega (arith, below)) holds)) q
     ] refl
 
@@ -424,71 +364,52 @@ named-again named more place below some is before q holds =
           ∙ new))
     ]
 
--- Where all ids are put, each slot's begin where they should.
-module _ (h : Holders) (clauses : List (List Literal)) (starts ids : List ℕ)
-    (starts-are : h.starts.items ≡ starts) (ids-are : h.ids.items ≡ ids)
-    (count : length starts ≡ slot_count h.slots + 1)
-    (begins : (s : ℕ) → s < length starts → get_or starts s 0 ≡ begin h.slots clauses s)
-    (room : begin h.slots clauses (length starts) ≤ length ids) where
-  start-is : (s : ℕ) → s < length starts → get_or h.starts.items s 0 ≡ begin h.slots clauses s
-  start-is s below = ap (λ xs. get_or xs s 0) starts-are ∙ begins s below
+-- Where all ids are put, those of each near number begin where they should.
+module _ (h : Holders) (clauses : List (List Literal))
+    (begins : (s : ℕ) → s < length h.starts.items → get_or h.starts.items s 0 ≡ begin clauses s)
+    (room : begin clauses (length h.starts.items) ≡ length h.ids.items) where
+  end-is : (s : ℕ) → s < length h.starts.items → near_end h s ≡ begin clauses (suc s)
+  end-is s below =
+      let e : s + 1 ≡ suc s = omega arith in
+      elim (cases_lt (s + 1) (length h.starts.items)) [
+        | inl more ↦
+            get_or_default h.starts.items (s + 1) (length h.ids.items) 0 more
+            ∙ begins (s + 1) more ∙ ap (begin clauses) e
+        | inr last ↦
+            get_or_past h.starts.items (s + 1) (length h.ids.items) last
+            ∙ sym room ∙ ap (begin clauses) (omega (arith, below, last))
+      ]
 
-  next-is : (s : ℕ) → s < slot_count h.slots →
-      get_or h.starts.items (s + 1) 0 ≡ begin h.slots clauses (suc s)
-  next-is s below =
-      start-is (s + 1) (omega (arith, count, below))
-      ∙ ap (begin h.slots clauses) (let e : s + 1 ≡ suc s = omega arith in e)
-
-  next-within : (s : ℕ) → s < slot_count h.slots →
-      get_or h.starts.items (s + 1) 0 ≤ length h.ids.items
-  next-within s below =
+  end-within : (s : ℕ) → s < length h.starts.items → near_end h s ≤ length h.ids.items
+  end-within s below =
       omega (
         arith,
-        next-is s below,
-        begin-le h.slots clauses (suc s) (length starts) (omega (arith, count, below)),
+        end-is s below,
+        begin-le clauses (suc s) (length h.starts.items) (omega (arith, below)),
         room,
-        ap length ids-are,
       )
 
-  pub whole-from : IsStrictlyIncreasing h.slots.far.items → IsWhole h
+  pub whole-from : IsNonDecreasingBy (λ holder. holder.number) h.far.items → IsWhole h
   whole-from rises = record {
+    order = λ s below. omega (arith, end-is s below, begins s below, begin-suc clauses s);
+    within = end-within;
     rises = rises;
-    starts = ap length starts-are ∙ count;
-    order =
-        λ s below. omega (
-          arith,
-          next-is s below,
-          start-is s (omega (arith, count, below)),
-          begin-suc h.slots clauses s,
-        );
-    within = next-within;
   }
 
   pub names-all : ((place : ℕ) (l : Literal) → place < length clauses →
-      has (get_or clauses place []) l ≡ true
-      → IsThere h.slots clauses starts ids (place + 1) (slot_of h.slots (literal_number l))) →
+      has (get_or clauses place []) l ≡ true → literal_number l < length h.starts.items
+      → IsThere clauses h.starts.items h.ids.items (place + 1) (literal_number l)) →
+      ((place : ℕ) (l : Literal) → place < length clauses →
+      has (get_or clauses place []) l ≡ true → length h.starts.items ≤ literal_number l
+      → Contains h.far.items (far_holder (literal_number l) (place + 1))) →
       NamesEach h (enumerate_from 1 clauses)
   unfolding NamesEach
-  names-all there l = names-from 1 clauses l (ids_of h l) (λ k below holds.
-      let slot = slot_of h.slots (literal_number l) in
-      let lies = there k l below holds in
-      let fits = slot_of-below h.slots (literal_number l) in
-      let from : get_or h.starts.items slot 0 ≤ lies.0 =
-      omega (arith, ap (λ xs. get_or xs slot 0) starts-are, lies.1) in
-      let to : lies.0 < get_or h.starts.items (slot + 1) 0 =
-      omega (arith, next-is slot fits, lies.2) in
-      part-names h.ids.items (get_or h.starts.items slot 0) (get_or h.starts.items (slot + 1) 0)
-      lies.0 (1 + k) from to (next-within slot fits)
-      (ap (λ xs. get_or xs lies.0 0) ids-are ∙ lies.3 ∙ let e : k + 1 ≡ 1 + k = omega arith in e))
-
--- the last end is how many ids there are
-pub last-end : (slots : Slots) (clauses : List (List Literal)) (ends : List ℕ) (n last : ℕ) →
-    length ends ≡ slot_count slots + 1
-    → ((s : ℕ) → s < length ends → get_or ends s 0 ≡ begin slots clauses (suc s)) →
-    n ≡ length ends → last ≡ get_or ends (n - 1) last
-    → begin slots clauses (length ends) ≡ last
-last-end slots clauses ends n last count are long is =
-    let within : n - 1 < length ends = omega (arith, count, long) in
-    sym (is ∙ get_or_default ends (n - 1) last 0 within ∙ are (n - 1) within
-    ∙ ap (begin slots clauses)
-    (let e : suc (n - 1) ≡ length ends = omega (arith, count, long) in e))
+  names-all near far l = names-from 1 clauses l (IsListed h l) (λ k below holds.
+      let n = literal_number l in
+      let e : k + 1 ≡ 1 + k = omega arith in
+      subst (IsListed h l) e (
+        λ is. (let lies = near k l below holds is in
+            part-names h.ids.items (get_or h.starts.items n 0) (near_end h n) lies.0 (k + 1)
+            lies.1 (omega (arith, end-is n is, lies.2)) (end-within n is) lies.3),
+        far k l below holds,
+      ))

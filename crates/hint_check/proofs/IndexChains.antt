@@ -9,7 +9,7 @@ use Rattle.std.proofs.lemmas.Bool.{cond-true, cond-false, or_left, or_right}
 use Rattle.std.proofs.lemmas.List.{take_more, take_all, take-append-le, get_or_append_left}
 use Rattle.std.proofs.lemmas.List.{get_or_push, length_push}
 use Rattle.std.proofs.lemmas.List.{append-nil, append_assoc}
-use Rattle.hint_check.specs.Inner.Resets.{is_named}
+use Rattle.hint_check.specs.Inner.Stamps.{is_named}
 use Rattle.hint_check.specs.declared.index.Link.{Link}
 use Rattle.hint_check.specs.Inner.Index.{Links, no_link, ids_at, once, IsLast, LeadBack}
 use Rattle.hint_check.specs.Inner.Index.{NotesLast, Adds, numbers_of}

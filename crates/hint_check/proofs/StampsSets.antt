@@ -14,7 +14,7 @@ use Rattle.std.proofs.lemmas.List.Folds.{list_any-append}
 use Rattle.cnf_text.specs.Literal.{Literal, literal_number, same}
 use Rattle.hint_check.specs.Literals.{Literals, has, with_literal}
 use Rattle.hint_check.specs.Addition.{no_literals}
-use Rattle.hint_check.specs.Inner.Resets.{is_named}
+use Rattle.hint_check.specs.Inner.Stamps.{is_named}
 use Rattle.hint_check.specs.Inner.Stamps.{Marks, stamp_at, mapped_at, NoneAbove, Forgets}
 use Rattle.hint_check.specs.Inner.Stamps.{Shows}
 use Rattle.hint_check.specs.Inner.Assignment.{Stamped, set_of, kept_of}

@@ -404,8 +404,8 @@ module _ (blocks more : List Block) (first : ℕ) (slots slots' : List Slot)
     (slots_end : SlotsEndBy slots (length blocks)) (spans_end : SpansEndBy far (length blocks))
   where
     both-grown : (q : ℕ)
-        → option_or (near_at (blocks ++ more) first slots q) (far_at (blocks ++ more) far q) ≡ fin.get
-        (clauses_in blocks first slots far) q
+        → option_or (near_at (blocks ++ more) first slots q) (far_at (blocks ++ more) far q)
+        ≡ fin.get (clauses_in blocks first slots far) q
     both-grown q =
         ap (λ o. option_or o (far_at (blocks ++ more) far q))
         (near-grown blocks more first slots slots_end q)
@@ -454,8 +454,8 @@ module _ (blocks more : List Block) (first : ℕ) (slots slots' : List Slot)
           ∙ ap (cond (nat_eq id q) (Some (clause_of more))) (both-grown q)
           ∙ ap (λ b. cond b (Some (clause_of more)) (fin.get (clauses_in blocks first slots far) q))
           (same_test_back id q)
-          ∙ sym (fin.get-insert nat_cmp_total (clauses_in blocks first slots far) id (clause_of more)
-          q))
+          ∙ sym (fin.get-insert nat_cmp_total (clauses_in blocks first slots far) id
+          (clause_of more) q))
 
       -- the clause of a near id; one that it has in the map is behind it
       pub table-insert-near : (slot : Slot) → slot.start ≡ length blocks →
@@ -480,7 +480,8 @@ module _ (blocks more : List Block) (first : ℕ) (slots slots' : List Slot)
           span.end ≡ length blocks + length more
           → SetsFrom first slots slots' id no_slot
           →
-          ((q : ℕ) → lookup (nat_eq q) far' ≡ cond (nat_eq id q) (Some span) (lookup (nat_eq q) far))
+          ((q : ℕ) →
+          lookup (nat_eq q) far' ≡ cond (nat_eq id q) (Some span) (lookup (nat_eq q) far))
           →
           clauses_in (blocks ++ more) first slots' far'
           ≡ fin.insert (clauses_in blocks first slots far) id (clause_of more)

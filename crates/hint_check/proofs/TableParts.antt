@@ -12,7 +12,7 @@ use Rattle.hint_check.specs.declared.block.Block.{Block}
 use Rattle.hint_check.specs.declared.slots.Slot.{Slot}
 use Rattle.hint_check.specs.declared.far.Span.{Span}
 use Rattle.hint_check.specs.Inner.Blocks.{clause_of}
-use Rattle.hint_check.specs.Inner.Resets.{is_named}
+use Rattle.hint_check.specs.Inner.Stamps.{is_named}
 use Rattle.hint_check.specs.Inner.Table.{no_slot, slot_at, clauses_in, Tabled, tabled, front_alone}
 use Rattle.hint_check.specs.Inner.Table.{with_clause, without_clause, SlotsEndBy, SpansEndBy}
 use Rattle.hint_check.specs.Inner.Table.{SetsSlot, KeepsFront, IsTable}
@@ -69,13 +69,14 @@ module _ (blocks more : List Block) (slots slots' : List Slot) (far far' : List 
           (table-insert-near blocks more 0 slots slots' far far' slots_end spans_end id slot starts
           ends (omega arith) (SetsFrom-all slots slots' id slot sets) is) front_same
           (table-insert-near blocks more first (drop first slots) (drop first slots') far far'
-          (SlotsEndBy-drop first slots (length blocks) slots_end) spans_end id slot starts ends behind
-          (SetsFrom-behind first slots slots' id slot sets) is)
+          (SlotsEndBy-drop first slots (length blocks) slots_end) spans_end id slot starts ends
+          behind (SetsFrom-behind first slots slots' id slot sets) is)
 
       -- the clause of any other
       pub tabled-far : (span : Span) → span.start ≡ length blocks →
           span.end ≡ length blocks + length more → SetsSlot slots slots' id no_slot →
-          ((q : ℕ) → lookup (nat_eq q) far' ≡ cond (nat_eq id q) (Some span) (lookup (nat_eq q) far))
+          ((q : ℕ) →
+          lookup (nat_eq q) far' ≡ cond (nat_eq id q) (Some span) (lookup (nat_eq q) far))
           →
           tabled (blocks ++ more) slots' far' front
           ≡ with_clause (tabled blocks slots far front) id (clause_of more)

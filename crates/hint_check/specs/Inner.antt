@@ -7,7 +7,6 @@ pub mod Stamps
 pub mod Assignment
 pub mod Blocks
 pub mod Index
-pub mod Resets
 pub mod Table
 pub mod Far
 pub mod Grouped

@@ -1,14 +1,14 @@
 //! For each literal the ids of a formula's clauses that hold it.
 ghost use Rattle.std.specs.Prelude.{◌≡◌, ℕ, List, suc, ◌^◌, ◌+◌, ◌-◌, ◌<◌, ◌≤◌, ◌==◌, ◌++◌, []};
 ghost use Rattle.std.specs.Prelude.{length, take, drop, sum, true, slice_index, slice_index_or};
-ghost use Rattle.std.specs.Prelude.{slice_set, IfOk, OnOk};
+ghost use Rattle.std.specs.Prelude.{slice_set, map, IfOk, OnOk};
 ghost use Rattle.std.specs.Bool.{OnTrue};
-ghost use Rattle.std.specs.List.{enumerate_from, list_any};
-ghost use Rattle.std.specs.List.Sorted.{IsStrictlyIncreasing};
+ghost use Rattle.std.specs.List.{Contains, enumerate_from, list_any};
+ghost use Rattle.std.specs.List.Sorted.{IsNonDecreasingBy};
 ghost use Rattle.cnf_text.specs.Literal.{Literal, literal_number};
 ghost use Rattle.hint_check.specs.Literals.{has};
-ghost use Rattle.hint_check.specs.Inner.Holders.{place_in, slot_of, slot_count, hits, occurrences};
-ghost use Rattle.hint_check.specs.Inner.Holders.{begin, AreLeft, IsThere, IsWhole, ids_of};
+ghost use Rattle.hint_check.specs.Inner.Holders.{hits, occurrences, begin, AreLeft, IsThere};
+ghost use Rattle.hint_check.specs.Inner.Holders.{near_ids, far_holder, IsWhole, IsListed};
 ghost use Rattle.hint_check.specs.Inner.Holders.{NamesEach};
 
 use cnf_text::literal::Lit;
@@ -52,50 +52,22 @@ const REACH: u32 = 65536;
 /// All numbers of a formula are near where there are at most so many for each literal of it.
 const NUMBERS_PER_LITERAL: usize = 2;
 
-/// A slot for each literal's number.
-#[derive(Drop)]
-struct Slots {
-    /// A number below this is near: it is its own slot.
-    reach: u32,
-    /// The formula's other numbers, in order: they have the slots behind the near ones. One more
-    /// slot is that of all numbers that the formula doesn't have.
-    far: Vec<u32>,
+/// A clause that holds a far literal.
+#[derive(Clone, Copy, PartialEq, Eq, PartialOrd, Ord)]
+struct FarHolder {
+    number: u32,
+    id: u32,
 }
 
-impl Slots {
-    /// The slot of a literal's number.
-    #[inline(always)]
-    fn slot(&self, number: u32) -> usize
-        requires { IsStrictlyIncreasing self.now.far.items }
-        ensures value { result ≡ slot_of self.now number }
-        ensures bound { result < slot_count self.now }
-    {
-        if number < self.reach {
-            return number as usize;
-        }
-        self.reach as usize + far_place(&self.far, number)
-    }
-}
-
-/// The place of a number, or the list's length where it isn't there.
-fn far_place(far: &[u32], number: u32) -> usize
-    requires { IsStrictlyIncreasing far.now }
-    ensures value { result ≡ place_in far.now number }
-    ensures bound { result ≤ length far.now }
-{
-    match far.binary_search(&number) {
-        Ok(place) => place,
-        Err(_) => far.len(),
-    }
-}
-
-/// For each literal the ids of the clauses that hold it, in one list, slot by slot.
+/// For each literal the ids of the clauses that hold it. Numbers below the length of `starts` are
+/// near.
 #[derive(Drop)]
 pub struct Holders {
-    slots: Slots,
-    /// Where the ids of each slot begin. They end where those of the next one begin.
+    /// Where the ids of each near number begin. They end where those of the next one begin.
     starts: Vec<u32>,
     ids: Vec<u32>,
+    /// The holders of far literals, in order.
+    far: Vec<FarHolder>,
 }
 
 impl Holders {
@@ -103,13 +75,29 @@ impl Holders {
     pub fn list(&self, lit: Lit, ids: &mut Vec<u64>) -> Result<(), AllocError>
         requires { IsWhole self.now }
         ensures { OnOk result ((more : List ℕ) × (ids.new.items ≡ ids.old.items ++ more)
-            × ((id : ℕ) → list_any (λ named. named == id) (ids_of self.now lit) ≡ true
+            × ((id : ℕ) → IsListed self.now lit id
             → list_any (λ named. named == id) more ≡ true)) }
     {
-        let slot = self.slots.slot(lit.number());
-        let from = self.starts[slot] as usize;
-        let to = self.starts[slot + 1] as usize;
-        push_ids(&self.ids[from..to], ids)
+        let number = lit.number();
+        if (number as usize) < self.starts.len() {
+            push_ids(self.near(number as usize), ids)
+        } else {
+            push_far_ids(far_run(&self.far, number), ids)
+        }
+    }
+
+    /// The ids of a near number.
+    fn near(&self, number: usize) -> &[u32]
+        requires whole { IsWhole self.now }
+        requires near { number < length self.now.starts.items }
+        ensures { result.now ≡ near_ids self.now number }
+    {
+        let from = self.starts[number] as usize;
+        let to = match self.starts.get(number + 1) {
+            Some(to) => *to as usize,
+            None => self.ids.len(),
+        };
+        &self.ids[from..to]
     }
 }
 
@@ -137,6 +125,26 @@ fn is_repeated(named: &[u32], place: usize) -> bool
     place > 0 && named[place - 1] == named[place]
 }
 
+/// The part of a list in order that has this number.
+fn far_run(far: &[FarHolder], number: u32) -> &[FarHolder]
+    requires { IsNonDecreasingBy (λ holder. holder.number) far.now }
+    ensures { (id : ℕ) → Contains far.now (far_holder number id)
+        → Contains result.now (far_holder number id) }
+{
+    let rest = &far[far.partition_point(|holder| holder.number < number)..];
+    &rest[..rest.partition_point(|holder| holder.number <= number)]
+}
+
+/// Puts the ids of these holders behind those of a list.
+fn push_far_ids(run: &[FarHolder], ids: &mut Vec<u64>) -> Result<(), AllocError>
+    ensures { OnOk result (ids.new.items ≡ ids.old.items ++ map (λ holder. holder.id) run.now) }
+{
+    for holder in run {
+        ids.push(u64::from(holder.id))?;
+    }
+    Ok(())
+}
+
 /// How far the near numbers reach: over all, unless these are many more than the literals.
 fn reach_for(clauses: &[Indexed]) -> u32 {
     let mut literals: usize = 0;
@@ -162,76 +170,84 @@ fn numbers_of(lits: &[Lit]) -> u32 {
     numbers
 }
 
-/// The far numbers of the clauses, in order.
-fn far_numbers(alloc: Global, clauses: &[Indexed], reach: u32) -> Result<Vec<u32>, AllocError>
-    ensures { IfOk result (λ far. IsStrictlyIncreasing far.items) }
+/// The holders of far literals, in order and each once.
+fn far_of(alloc: Global, reach: u32, clauses: &[Indexed]) -> Result<Vec<FarHolder>, AllocError>
+    requires { length clauses.now < 2 ^ 32 }
+    ensures rises { IfOk result (λ far. IsNonDecreasingBy (λ holder. holder.number) far.items) }
+    ensures there { IfOk result (λ far. (place : ℕ) (l : Literal) → place < length clauses.now
+        → has (slice_index_or clauses.now place []) l ≡ true → reach ≤ literal_number l
+        → Contains far.items (far_holder (literal_number l) (place + 1))) }
 {
-    let mut far: Vec<u32> = Vec::new(alloc);
-    for clause in clauses {
-        push_far(clause.lits(), reach, &mut far)?;
+    let mut far: Vec<FarHolder> = Vec::new(alloc);
+    for place in 0..clauses.len() {
+        push_far(clauses[place].lits(), place as u32 + 1, reach, &mut far)?;
     }
     far.sort_unstable();
     far.dedup();
     Ok(far)
 }
 
-/// Puts the numbers of literals that aren't near behind those of a list.
-fn push_far(lits: &[Lit], reach: u32, far: &mut Vec<u32>) -> Result<(), AllocError> {
+/// Puts a clause with each far literal of it behind the holders of a list.
+fn push_far(lits: &[Lit], id: u32, reach: u32, far: &mut Vec<FarHolder>) -> Result<(), AllocError>
+    ensures kept { OnOk result ((holder : FarHolder) → Contains far.old.items holder
+        → Contains far.new.items holder) }
+    ensures there { OnOk result ((l : Literal) → has lits.now l ≡ true → reach ≤ literal_number l
+        → Contains far.new.items (far_holder (literal_number l) id)) }
+{
     for lit in lits {
         let number = lit.number();
         if number >= reach {
-            far.push(number)?;
+            far.push(FarHolder { number, id })?;
         }
     }
     Ok(())
 }
 
-/// Counts one more in this place. An error is that four bytes don't count so far.
+/// Counts one more in this place, if there is such. An error is that four bytes don't count so far.
 #[inline(always)]
 fn count_one(counts: &mut [u32], place: usize) -> Result<(), AllocError>
-    requires { place < length counts.old }
     ensures { OnOk result
         (counts.new ≡ slice_set counts.old place (slice_index counts.old place + 1)) }
 {
-    let Some(count) = counts[place].checked_add(1) else {
-        return Err(AllocError);
-    };
-    counts[place] = count;
-    Ok(())
-}
-
-/// Counts a clause's literals in their slots.
-fn count_clause(slots: &Slots, lits: &[Lit], counts: &mut [u32]) -> Result<(), AllocError>
-    requires rises { IsStrictlyIncreasing slots.now.far.items }
-    requires room { slot_count slots.now ≤ length counts.old }
-    ensures { OnOk result ((slot : ℕ) → slot < length counts.old → slice_index counts.new slot
-        ≡ slice_index counts.old slot + hits slots.now slot lits.now) }
-{
-    for lit in lits {
-        count_one(counts, slots.slot(lit.number()))?;
+    if place < counts.len() {
+        let Some(count) = counts[place].checked_add(1) else {
+            return Err(AllocError);
+        };
+        counts[place] = count;
     }
     Ok(())
 }
 
-/// For each slot, and for one more, how often its literals come in the clauses.
-fn counts_of(alloc: Global, slots: &Slots, clauses: &[Indexed]) -> Result<Vec<u32>, AllocError>
-    requires { IsStrictlyIncreasing slots.now.far.items }
-    ensures { IfOk result (λ counts. (length counts.items ≡ slot_count slots.now + 1)
-        × ((slot : ℕ) → slot < length counts.items
-        → slice_index counts.items slot ≡ occurrences slots.now clauses.now slot)) }
+/// Counts a clause's literals, those with a near number.
+fn count_clause(lits: &[Lit], counts: &mut [u32]) -> Result<(), AllocError>
+    ensures { OnOk result ((slot : ℕ) → slot < length counts.old → slice_index counts.new slot
+        ≡ slice_index counts.old slot + hits slot lits.now) }
 {
-    let count = slots.reach as usize + slots.far.len() + 2;
-    let mut counts = vec![in alloc; 0u32; count]?;
+    for lit in lits {
+        count_one(counts, lit.number() as usize)?;
+    }
+    Ok(())
+}
+
+/// For each near number how often it comes in the clauses.
+fn counts_of(alloc: Global, reach: u32, clauses: &[Indexed]) -> Result<Vec<u32>, AllocError>
+    ensures { IfOk result (λ counts. (length counts.items ≡ reach)
+        × ((slot : ℕ) → slot < reach
+        → slice_index counts.items slot ≡ occurrences clauses.now slot)) }
+{
+    let mut counts = vec![in alloc; 0u32; reach as usize]?;
     for clause in clauses {
-        count_clause(slots, clause.lits(), &mut counts)?;
+        count_clause(clause.lits(), &mut counts)?;
     }
     Ok(counts)
 }
 
-/// Adds to each count those before it. An error is that four bytes don't count so far.
-fn sum_up(counts: &mut [u32]) -> Result<(), AllocError>
-    ensures { OnOk result ((place : ℕ) → place < length counts.old
+/// Adds to each count those before it, and gives the sum of all. An error is that four bytes don't
+/// count so far.
+fn sum_up(counts: &mut [u32]) -> Result<u32, AllocError>
+    ensures sums { OnOk result ((place : ℕ) → place < length counts.old
         → slice_index counts.new place ≡ sum (take (place + 1) counts.old)) }
+    ensures total { IfOk result (λ total. total ≡ sum counts.old) }
 {
     let mut total: u32 = 0;
     for count in counts.iter_mut() {
@@ -241,19 +257,19 @@ fn sum_up(counts: &mut [u32]) -> Result<(), AllocError>
         total = sum;
         *count = sum;
     }
-    Ok(())
+    Ok(total)
 }
 
-/// Where the ids of each slot end, and of one more.
-fn ends_of(alloc: Global, slots: &Slots, clauses: &[Indexed]) -> Result<Vec<u32>, AllocError>
-    requires { IsStrictlyIncreasing slots.now.far.items }
-    ensures { IfOk result (λ ends. (length ends.items ≡ slot_count slots.now + 1)
-        × ((slot : ℕ) → slot < length ends.items
-        → slice_index ends.items slot ≡ begin slots.now clauses.now (suc slot))) }
+/// Where the ids of each near number end, and how many these are.
+fn ends_of(alloc: Global, reach: u32, clauses: &[Indexed]) -> Result<(Vec<u32>, u32), AllocError>
+    ensures ends { IfOk result (λ ends. (length ends.0.items ≡ reach)
+        × ((slot : ℕ) → slot < reach
+        → slice_index ends.0.items slot ≡ begin clauses.now (suc slot))) }
+    ensures count { IfOk result (λ ends. ends.1 ≡ begin clauses.now reach) }
 {
-    let mut ends = counts_of(alloc, slots, clauses)?;
-    sum_up(&mut ends)?;
-    Ok(ends)
+    let mut ends = counts_of(alloc, reach, clauses)?;
+    let count = sum_up(&mut ends)?;
+    Ok((ends, count))
 }
 
 /// Puts an id before those that are there of its slot.
@@ -270,50 +286,46 @@ fn put(starts: &mut [u32], ids: &mut [u32], slot: usize, id: u32)
 }
 
 /// Puts the id of the clause in this place before those that are there, in the slot of each of its
-/// literals.
-fn put_clause(slots: &Slots, clauses: &[Indexed], place: usize, starts: &mut [u32], ids: &mut [u32])
-    requires rises { IsStrictlyIncreasing slots.now.far.items }
+/// near literals.
+fn put_clause(clauses: &[Indexed], place: usize, starts: &mut [u32], ids: &mut [u32])
     requires place { place < length clauses.now }
     requires few { length clauses.now < 2 ^ 32 }
-    requires room { slot_count slots.now ≤ length starts.old }
-    requires left { AreLeft slots.now clauses.now
-        (occurrences slots.now (drop place clauses.now)) starts.old }
-    requires within { begin slots.now clauses.now (length starts.old) ≤ length ids.old }
-    ensures left { AreLeft slots.now clauses.now
-        (occurrences slots.now (drop (place + 1) clauses.now)) starts.new }
+    requires left { AreLeft clauses.now (occurrences (drop place clauses.now)) starts.old }
+    requires within { begin clauses.now (length starts.old) ≤ length ids.old }
+    ensures left { AreLeft clauses.now (occurrences (drop (place + 1) clauses.now)) starts.new }
     ensures there { (l : Literal) → has (slice_index_or clauses.now place []) l ≡ true
-        → IsThere slots.now clauses.now starts.new ids.new (place + 1)
-        (slot_of slots.now (literal_number l)) }
+        → literal_number l < length starts.old
+        → IsThere clauses.now starts.new ids.new (place + 1) (literal_number l) }
     ensures kept { (id slot : ℕ) → slot < length starts.old
-        → IsThere slots.now clauses.now starts.old ids.old id slot
-        → IsThere slots.now clauses.now starts.new ids.new id slot }
+        → IsThere clauses.now starts.old ids.old id slot
+        → IsThere clauses.now starts.new ids.new id slot }
 {
     let id = place as u32 + 1;
     let lits = clauses[place].lits();
     for lit in lits {
-        let slot = slots.slot(lit.number());
-        put(starts, ids, slot, id);
+        let slot = lit.number() as usize;
+        if slot < starts.len() {
+            put(starts, ids, slot, id);
+        }
     }
 }
 
-/// Puts the ids of all clauses into the slots of their literals, where each slot has the place in
-/// which its ids end.
-fn put_all(slots: &Slots, clauses: &[Indexed], starts: &mut [u32], ids: &mut [u32])
-    requires rises { IsStrictlyIncreasing slots.now.far.items }
+/// Puts the ids of all clauses into the slots of their near literals, where each slot has the place
+/// in which its ids end.
+fn put_all(clauses: &[Indexed], starts: &mut [u32], ids: &mut [u32])
     requires few { length clauses.now < 2 ^ 32 }
-    requires room { slot_count slots.now ≤ length starts.old }
     requires ends { (slot : ℕ) → slot < length starts.old
-        → slice_index starts.old slot ≡ begin slots.now clauses.now (suc slot) }
-    requires within { begin slots.now clauses.now (length starts.old) ≤ length ids.old }
+        → slice_index starts.old slot ≡ begin clauses.now (suc slot) }
+    requires within { begin clauses.now (length starts.old) ≤ length ids.old }
     ensures begins { (slot : ℕ) → slot < length starts.old
-        → slice_index starts.new slot ≡ begin slots.now clauses.now slot }
+        → slice_index starts.new slot ≡ begin clauses.now slot }
     ensures there { (place : ℕ) (l : Literal) → place < length clauses.now
         → has (slice_index_or clauses.now place []) l ≡ true
-        → IsThere slots.now clauses.now starts.new ids.new (place + 1)
-        (slot_of slots.now (literal_number l)) }
+        → literal_number l < length starts.old
+        → IsThere clauses.now starts.new ids.new (place + 1) (literal_number l) }
 {
     for place in 0..clauses.len() {
-        put_clause(slots, clauses, place, starts, ids);
+        put_clause(clauses, place, starts, ids);
     }
 }
 
@@ -326,11 +338,9 @@ pub fn holders_of(alloc: Global, clauses: &[Indexed]) -> Result<Holders, AllocEr
         return Err(AllocError);
     }
     let reach = reach_for(clauses);
-    let far = far_numbers(alloc, clauses, reach)?;
-    let slots = Slots { reach, far };
-    let mut starts = ends_of(alloc, &slots, clauses)?;
-    let count = starts[starts.len() - 1] as usize;
-    let mut ids = vec![in alloc; 0u32; count]?;
-    put_all(&slots, clauses, &mut starts, &mut ids);
-    Ok(Holders { slots, starts, ids })
+    let (mut starts, count) = ends_of(alloc, reach, clauses)?;
+    let mut ids = vec![in alloc; 0u32; count as usize]?;
+    put_all(clauses, &mut starts, &mut ids);
+    let far = far_of(alloc, reach, clauses)?;
+    Ok(Holders { starts, ids, far })
 }

@@ -3,7 +3,7 @@ ghost use Rattle.std.specs.Prelude.{◌≡◌, ℕ, ◌<◌, ◌≤◌, ◌+◌,
 ghost use Rattle.std.specs.Prelude.{None, Some, IfSome, IfOk, OnOk, OnErr, if◌then◌else◌};
 ghost use Rattle.std.specs.Map.{lookup};
 ghost use Rattle.hint_check.specs.Inner.Blocks.{Within};
-ghost use Rattle.hint_check.specs.Inner.Resets.{is_named};
+ghost use Rattle.hint_check.specs.Inner.Stamps.{is_named};
 ghost use Rattle.hint_check.specs.Inner.Table.{no_slot, slot_at, far_at, slot_clause, span_clause};
 ghost use Rattle.hint_check.specs.Inner.Table.{SlotsEndBy, SpansEndBy, SetsSlot};
 

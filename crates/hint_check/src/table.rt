@@ -4,7 +4,7 @@ ghost use Rattle.std.specs.Prelude.{◌≡◌, ℕ, ◌≤◌, ◌<◌, ◌+◌,
 ghost use Rattle.std.specs.Prelude.{IfSome, IfOk, OnOk};
 ghost use Rattle.hint_check.specs.Inner.Blocks.{Within};
 ghost use Rattle.hint_check.specs.Inner.Index.{Lists, indexed_part};
-ghost use Rattle.hint_check.specs.Inner.Resets.{is_named};
+ghost use Rattle.hint_check.specs.Inner.Stamps.{is_named};
 ghost use Rattle.hint_check.specs.Inner.Table.{SlotsEndBy, SpansEndBy, near_entries, far_entries};
 ghost use Rattle.hint_check.specs.Inner.Table.{ListsAll};
 

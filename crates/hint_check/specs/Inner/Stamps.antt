@@ -2,11 +2,11 @@
 use Rattle.std.specs.Prelude.{◌≡◌, ℕ, ◌<◌, ◌≤◌, ◌==◌, nat_eq, nat_lt, is_some, if◌then◌else◌, Bool}
 use Rattle.std.specs.Prelude.{◌&&◌}
 use Rattle.std.specs.Prelude.{true, List, length, slice_index}
+use Rattle.std.specs.List.{list_any}
 use Rattle.std.specs.Map.{lookup}
 use Rattle.std.specs.Option.{unwrap_or}
 use Rattle.cnf_text.specs.Literal.{Literal, literal_number}
 use Rattle.hint_check.specs.Literals.{Literals}
-use Rattle.hint_check.specs.Inner.Resets.{is_named}
 use Rattle.hint_check.specs.declared.assignment.AtHand.{AtHand}
 
 -- the stamp of a number in a map, and 0 where it has no entry
@@ -34,6 +34,10 @@ HasRoom marks number =
 -- no stamp is above this one
 unfoldable pub NoneAbove : Marks → ℕ → Type 0
 NoneAbove marks stamp = (number : ℕ) → stamp_at marks number ≤ stamp
+
+-- whether a place is among these
+abbrev pub is_named : List ℕ → ℕ → Bool
+is_named places place = list_any (λ named. nat_eq named place) places
 
 -- the stamps of these numbers are gone, and the others are as before
 abbrev pub Forgets : List ℕ → Marks → Marks → Type 0

@@ -12,7 +12,7 @@ use Rattle.cnf_text.specs.Literal.{Literal, literal_code}
 use Rattle.hint_check.specs.Live.{Live}
 use Rattle.hint_check.specs.Inner.Blocks.{clause_of, Within}
 use Rattle.hint_check.specs.Inner.Index.{Links, Awaits}
-use Rattle.hint_check.specs.Inner.Resets.{is_named}
+use Rattle.hint_check.specs.Inner.Stamps.{is_named}
 use Rattle.hint_check.specs.declared.block.Block.{Block}
 use Rattle.hint_check.specs.declared.slots.Slot.{Slot}
 use Rattle.hint_check.specs.declared.far.Span.{Span}

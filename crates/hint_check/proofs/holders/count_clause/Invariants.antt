@@ -7,4 +7,4 @@ invariant-loop-lit l =
     (slot : ℕ) → slot < length l.counts
     →
     get_or l.counts slot 0
-    ≡ get_or l.initial.counts slot 0 + hits l.slots slot (take l.lit-index l.lits)
+    ≡ get_or l.initial.counts slot 0 + hits slot (take l.lit-index l.lits)

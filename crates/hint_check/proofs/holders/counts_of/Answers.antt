@@ -17,7 +17,6 @@ loop-clause-init c =
 
 pub loop-clause-preserved : goal.loop-clause-preserved
 loop-clause-preserved c =
-    let slots = c.args.slots.now in
     let clauses = c.args.clauses.now in
     let i = c.loop-clause.clause-index in
     let old = c.loop-clause.counts in
@@ -29,15 +28,15 @@ loop-clause-preserved c =
       room = ap length is ∙ same ∙ c.loop-clause.invariant.room;
       counted = λ s below.
           let near : s < length old.items = omega (arith, ap length is, same, below) in
-          let more : occurrences slots (take (i + 1) clauses) s
-          ≡ occurrences slots (take i clauses) s + hits slots s c.lits.result.now
-          = sum_by_more (hits slots s) clauses i c.clause-item.result c.loop-clause-test.true
-          ∙ ap (λ clause. occurrences slots (take i clauses) s + hits slots s clause)
+          let more : occurrences (take (i + 1) clauses) s
+          ≡ occurrences (take i clauses) s + hits s c.lits.result.now
+          = sum_by_more (hits s) clauses i c.clause-item.result c.loop-clause-test.true
+          ∙ ap (λ clause. occurrences (take i clauses) s + hits s clause)
           (sym c.clause-item.is ∙ sym c.lits.ensures) in
           let counted : get_or new s 0
-          ≡ get_or c.deref_mut.result.now s 0 + hits slots s c.lits.result.now
+          ≡ get_or c.deref_mut.result.now s 0 + hits s c.lits.result.now
           = c.in_ok-count_clause.ensures s (omega (arith, near, ap length lent)) in
-          let before : get_or c.deref_mut.result.now s 0 ≡ occurrences slots (take i clauses) s
+          let before : get_or c.deref_mut.result.now s 0 ≡ occurrences (take i clauses) s
           = ap (λ xs. get_or xs s 0) lent ∙ c.loop-clause.invariant.counted s near in
           ap (λ xs. get_or xs s 0) is ∙ omega (arith, counted, before, more);
     }
@@ -45,7 +44,8 @@ loop-clause-preserved c =
 pub returns : goal.returns
 returns c = (
   c.loop-clause.invariant.room,
-  λ s below. c.loop-clause.invariant.counted s below
-      ∙ ap (λ clauses. occurrences c.args.slots.now clauses s)
+  λ s below.
+      c.loop-clause.invariant.counted s (omega (arith, c.loop-clause.invariant.room, below))
+      ∙ ap (λ clauses. occurrences clauses s)
       (take_all c.loop-clause.clause-index c.args.clauses.now c.loop-clause-test.false),
 )

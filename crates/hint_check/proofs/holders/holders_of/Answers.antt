@@ -1,53 +1,80 @@
-use Rattle.std.proofs.Common.{◌≡◌, ◌∙◌, ap, arith, length}
-use Rattle.hint_check.proofs.HoldersPlaces.{written, last-end, whole-from, names-all}
+use Rattle.std.proofs.Common.{◌≡◌, ◌<◌, ◌∙◌, ap, arith, length, get_or, ℕ}
+use Rattle.std.specs.Vec.{with_items}
+use Rattle.hint_check.specs.declared.holders.Holders.{Holders}
+use Rattle.hint_check.specs.Inner.Holders.{begin}
+use Rattle.hint_check.proofs.HoldersPlaces.{written, whole-from, names-all}
 use Rattle.hint_check.proofs.holders.holders_of.Goals as goal
 
 pub put_all-requires-clause-ends : goal.put_all-requires-clause-ends
-put_all-requires-clause-ends c = rw c.deref_mut.ensures.value c.in_ok-starts.ensures.1
+put_all-requires-clause-ends c =
+    let ends = c.in_ok-starts.ensures.ends in
+    rw c.deref_mut.ensures.value (λ s below. ends.1 s (omega (arith, ends.0, below)))
 
 pub put_all-requires-clause-within : goal.put_all-requires-clause-within
 put_all-requires-clause-within c =
-    let starts = c.in_ok-starts.starts in
-    let last =
-    last-end _ c.args.clauses.now starts.items c.len.result c.index.result.now
-    c.in_ok-starts.ensures.0 c.in_ok-starts.ensures.1 (omega arith) c.index.ensures in
     rw c.deref_mut.ensures.value
-    (omega (arith, last, c.in_ok-ids.ensures.len, ap length c.deref_mut-2.ensures.value))
+    (omega (
+      arith,
+      ap (begin c.args.clauses.now) c.in_ok-starts.ensures.ends.0,
+      c.in_ok-starts.ensures.count,
+      c.in_ok-ids.ensures.len,
+      ap length c.deref_mut-2.ensures.value,
+    ))
+
+-- what is made
+abbrev made : goal.In_ok-far → Holders
+made c = record {
+  starts = with_items c.in_ok-starts.starts c.put_all.new.starts;
+  ids = with_items c.in_ok-ids.ids c.put_all.new.ids;
+  far = c.in_ok-far.far;
+}
+
+starts-are : (c : goal.In_ok-far) → (made c).starts.items ≡ c.put_all.new.starts
+starts-are c =
+    let starts = c.in_ok-starts.starts in
+    written c.put_all.new.starts starts.items starts.len
+    (c.put_all.auto.starts ∙ ap length c.deref_mut.ensures.value) (omega arith)
+
+ids-are : (c : goal.In_ok-far) → (made c).ids.items ≡ c.put_all.new.ids
+ids-are c =
+    let ids = c.in_ok-ids.ids in
+    written c.put_all.new.ids ids.items ids.len
+    (c.put_all.auto.ids ∙ ap length c.deref_mut-2.ensures.value) (omega arith)
+
+begins : (c : goal.In_ok-far) (s : ℕ) → s < length (made c).starts.items →
+    get_or (made c).starts.items s 0 ≡ begin c.args.clauses.now s
+begins c s below =
+    ap (λ xs. get_or xs s 0) (starts-are c)
+    ∙ c.put_all.ensures.begins s
+    (omega (arith, ap length (starts-are c), c.put_all.auto.starts, below))
+
+many : (c : goal.In_ok-far) → length (made c).starts.items ≡ c.reach_for-reach.result
+many c =
+    ap length (starts-are c) ∙ c.put_all.auto.starts ∙ ap length c.deref_mut.ensures.value
+    ∙ c.in_ok-starts.ensures.ends.0
+
+room : (c : goal.In_ok-far) →
+    begin c.args.clauses.now (length (made c).starts.items) ≡ length (made c).ids.items
+room c =
+    omega (
+      arith,
+      ap (begin c.args.clauses.now) (many c),
+      c.in_ok-starts.ensures.count,
+      c.in_ok-ids.ensures.len,
+      ap length c.deref_mut-2.ensures.value,
+      c.put_all.auto.ids,
+      ap length (ids-are c),
+    )
 
 pub returns-clause-whole : goal.returns-clause-whole
 returns-clause-whole c =
-    let clauses = c.args.clauses.now in
-    let starts = c.in_ok-starts.starts in
-    let ids = c.in_ok-ids.ids in
-    let same : length c.put_all.new.starts ≡ length starts.items =
-    c.put_all.auto.starts ∙ ap length c.deref_mut.ensures.value in
-    let same-ids : length c.put_all.new.ids ≡ length ids.items =
-    c.put_all.auto.ids ∙ ap length c.deref_mut-2.ensures.value in
-    let last =
-    last-end _ clauses starts.items c.len.result c.index.result.now c.in_ok-starts.ensures.0
-    c.in_ok-starts.ensures.1 (omega arith) c.index.ensures in
-    whole-from _ clauses c.put_all.new.starts c.put_all.new.ids
-    (written c.put_all.new.starts starts.items starts.len same (omega arith))
-    (written c.put_all.new.ids ids.items ids.len same-ids (omega arith))
-    (same ∙ c.in_ok-starts.ensures.0)
-    (λ s below. c.put_all.ensures.begins s (omega (arith, c.put_all.auto.starts, below)))
-    (rw same (omega (arith, last, c.in_ok-ids.ensures.len, same-ids))) c.in_ok-far.ensures
+    whole-from (made c) c.args.clauses.now (begins c) (room c) c.in_ok-far.ensures.rises
 
 pub returns-clause-names : goal.returns-clause-names
 returns-clause-names c =
-    let clauses = c.args.clauses.now in
-    let starts = c.in_ok-starts.starts in
-    let ids = c.in_ok-ids.ids in
-    let same : length c.put_all.new.starts ≡ length starts.items =
-    c.put_all.auto.starts ∙ ap length c.deref_mut.ensures.value in
-    let same-ids : length c.put_all.new.ids ≡ length ids.items =
-    c.put_all.auto.ids ∙ ap length c.deref_mut-2.ensures.value in
-    let last =
-    last-end _ clauses starts.items c.len.result c.index.result.now c.in_ok-starts.ensures.0
-    c.in_ok-starts.ensures.1 (omega arith) c.index.ensures in
-    names-all _ clauses c.put_all.new.starts c.put_all.new.ids
-    (written c.put_all.new.starts starts.items starts.len same (omega arith))
-    (written c.put_all.new.ids ids.items ids.len same-ids (omega arith))
-    (same ∙ c.in_ok-starts.ensures.0)
-    (λ s below. c.put_all.ensures.begins s (omega (arith, c.put_all.auto.starts, below)))
-    (rw same (omega (arith, last, c.in_ok-ids.ensures.len, same-ids))) c.put_all.ensures.there
+    names-all (made c) c.args.clauses.now (begins c) (room c)
+    (λ place l below holds near. rw (starts-are c, ids-are c)
+    (c.put_all.ensures.there place l below holds
+    (omega (arith, ap length (starts-are c), c.put_all.auto.starts, near))))
+    (λ place l below holds far. c.in_ok-far.ensures.there place l below holds
+    (omega (arith, many c, far)))

@@ -1,56 +1,56 @@
-use Rattle.std.proofs.Common.{◌≡◌, ◌+◌, ◌≤◌, ◌∙◌, ap, sym, subst, arith, length, get_or, drop, []}
-use Rattle.std.proofs.Common.{true, refl, inl, inr}
+use Rattle.std.proofs.Common.{◌≡◌, ◌+◌, ◌≤◌, ◌<◌, ◌∙◌, ap, sym, subst, arith, length, get_or, drop}
+use Rattle.std.proofs.Common.{[], true, refl, inl, inr}
 use Rattle.std.proofs.lemmas.Bool.{cases_lt}
 use Rattle.std.proofs.lemmas.List.{drop_all}
 use Rattle.cnf_text.specs.Literal.{literal_number}
 use Rattle.hint_check.specs.Literals.{has}
-use Rattle.hint_check.specs.Inner.Holders.{slot_of, begin, occurrences, IsThere}
-use Rattle.hint_check.proofs.HoldersPlaces.{begin-suc, slot_of-below}
+use Rattle.hint_check.specs.Inner.Holders.{begin, occurrences, IsThere}
+use Rattle.hint_check.proofs.HoldersPlaces.{begin-suc}
 use Rattle.hint_check.proofs.holders.put_all.Goals as goal
 
 pub loop-place-init : goal.loop-place-init
 loop-place-init c = record {
-  left = λ s below. c.requires.ends s below ∙ begin-suc c.args.slots.now c.args.clauses.now s;
+  left = λ s below. c.requires.ends s below ∙ begin-suc c.args.clauses.now s;
   there = λ k m none. absurd (omega (arith, none));
-  same_lengths = (refl, refl);
 }
 
 pub put_clause-requires-clause-within : goal.put_clause-requires-clause-within
 put_clause-requires-clause-within c =
-    let same = c.loop-place.invariant.same_lengths in
-    subst (λ n. begin c.args.slots.now c.args.clauses.now n ≤ length c.loop-place.ids) (sym same.0)
-    (omega (arith, c.requires.within, same.1))
+    omega (
+      arith,
+      ap (begin c.args.clauses.now) c.loop-place.auto.starts,
+      c.requires.within,
+      c.loop-place.auto.ids,
+    )
 
 pub loop-place-preserved : goal.loop-place-preserved
-loop-place-preserved c =
-    let slots = c.args.slots.now in
-    let same = c.loop-place.invariant.same_lengths in
-    record {
-      left = c.put_clause.ensures.left;
-      there = λ k m below holds. elim (cases_lt k c.loop-place.place) [
-        | inl before ↦ c.put_clause.ensures.kept (k + 1) (slot_of slots (literal_number m))
-            (omega (arith, slot_of-below slots (literal_number m), c.requires.room, same.0))
-            (c.loop-place.invariant.there k m before holds)
+loop-place-preserved c = record {
+  left = c.put_clause.ensures.left;
+  there = λ k m below holds near.
+      let near : literal_number m < length c.loop-place.starts
+      = omega (arith, near, c.put_clause.auto.starts) in
+      elim (cases_lt k c.loop-place.place) [
+        | inl before ↦ c.put_clause.ensures.kept (k + 1) (literal_number m) near
+            (c.loop-place.invariant.there k m before holds near)
         | inr here ↦
             let e : c.loop-place.place ≡ k = omega (arith, here, below) in
-            subst (λ j. IsThere slots c.args.clauses.now c.put_clause.new.starts
-            c.put_clause.new.ids (j + 1) (slot_of slots (literal_number m))) e
+            subst (λ j. IsThere c.args.clauses.now c.put_clause.new.starts
+            c.put_clause.new.ids (j + 1) (literal_number m)) e
             (c.put_clause.ensures.there m
-            (subst (λ j. has (get_or c.args.clauses.now j []) m ≡ true) (sym e) holds))
+            (subst (λ j. has (get_or c.args.clauses.now j []) m ≡ true) (sym e) holds) near)
       ];
-      same_lengths = (c.put_clause.auto.starts ∙ same.0, c.put_clause.auto.ids ∙ same.1);
-    }
+}
 
 pub returns : goal.returns
 returns c =
-    let slots = c.args.slots.now in
     let clauses = c.args.clauses.now in
-    let same = c.loop-place.invariant.same_lengths in
     record {
       begins = λ s below.
-          let none : occurrences slots (drop c.loop-place.place clauses) s ≡ 0
-          = ap (λ cs. occurrences slots cs s) (drop_all c.loop-place.place clauses (omega arith)) in
-          let left = c.loop-place.invariant.left s (omega (arith, same.0, below)) in
+          let none : occurrences (drop c.loop-place.place clauses) s ≡ 0
+          = ap (λ cs. occurrences cs s) (drop_all c.loop-place.place clauses (omega arith)) in
+          let left = c.loop-place.invariant.left s (omega (arith, c.loop-place.auto.starts, below)) in
           omega (arith, left, none);
-      there = λ k m below holds. c.loop-place.invariant.there k m (omega (arith, below)) holds;
+      there = λ k m below holds near.
+          c.loop-place.invariant.there k m (omega (arith, below)) holds
+          (omega (arith, c.loop-place.auto.starts, near));
     }

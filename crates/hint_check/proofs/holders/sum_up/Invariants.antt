@@ -8,5 +8,4 @@ invariant-loop-count l = record {
       get_or l.counts place 0 ≡ sum (take (place + 1) l.initial.counts);
   later : (place : ℕ) → l.count-index ≤ place →
       get_or l.counts place 0 ≡ get_or l.initial.counts place 0;
-  same_length : length l.counts ≡ length l.initial.counts;
 }

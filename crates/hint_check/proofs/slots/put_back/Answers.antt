@@ -2,7 +2,7 @@ use Rattle.std.proofs.Common.{take, get_or, nat_eq, refl, sym, ap, ◌∙◌, ar
 use Rattle.std.specs.Prelude.{if◌then◌else◌}
 use Rattle.std.proofs.lemmas.List.{take_all}
 use Rattle.std.proofs.lemmas.List.Folds.{list_any_more}
-use Rattle.hint_check.specs.Inner.Resets.{is_named}
+use Rattle.hint_check.specs.Inner.Stamps.{is_named}
 use Rattle.hint_check.specs.Inner.Table.{slot_at}
 use Rattle.hint_check.proofs.TableParts.{put_more}
 use Rattle.hint_check.proofs.slots.put_back.Goals as goal

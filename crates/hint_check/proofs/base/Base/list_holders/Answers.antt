@@ -6,7 +6,7 @@ use Rattle.std.specs.Cow.{cow_value}
 use Rattle.hint_check.specs.Literals.{has}
 use Rattle.hint_check.specs.Inner.Index.{NamesEntries, AddsHolders, indexed_part}
 use Rattle.hint_check.proofs.IndexIds.{parts-named}
-use Rattle.hint_check.specs.Inner.Holders.{ids_of, NamesEach}
+use Rattle.hint_check.specs.Inner.Holders.{IsListed, NamesEach}
 use Rattle.hint_check.proofs.LiveParts.{OnOk-weaker, IfSome-weaker}
 use Rattle.hint_check.proofs.base.Base.list_holders.Goals as goal
 
@@ -20,7 +20,7 @@ returns c =
     let clauses = cow_value inside.formula in
     OnOk-weaker c.list.result
     ((more : List ℕ) × (found ≡ ids ++ more)
-    × ((id : ℕ) → list_any (λ named. named == id) (ids_of inside.holders lit) ≡ true →
+    × ((id : ℕ) → IsListed inside.holders lit id →
     list_any (λ named. named == id) more ≡ true))
     (AddsHolders (enumerate_from 1 c.args.self.now) lit ids found)
     (λ is. (

@@ -2,7 +2,7 @@ use Rattle.std.proofs.Common.{◌≡◌, ℕ, List, length, take, sym, ap, ◌�
 use Rattle.std.specs.Prelude.{if◌then◌else◌}
 use Rattle.std.proofs.lemmas.List.{length-take-le}
 use Rattle.hint_check.specs.declared.slots.Slot.{Slot}
-use Rattle.hint_check.specs.Inner.Resets.{is_named}
+use Rattle.hint_check.specs.Inner.Stamps.{is_named}
 use Rattle.hint_check.specs.Inner.Table.{slot_at, tabled, front_alone, IsTable}
 use Rattle.hint_check.proofs.TableParts.{KeepsFront-back, IsTable-front, tabled-front}
 use Rattle.hint_check.proofs.table.Table.start_over.Goals as goal
