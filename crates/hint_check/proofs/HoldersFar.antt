@@ -23,8 +23,8 @@ module _ (far : List FarHolder) (number id start count : ℕ) where
   rest = take (length far - start) (drop start far)
 
   pub in-run : start ≤ length far → count ≤ length rest →
-      IsPartitionPoint (λ h. ltb h.number number ≡ true) (λ h. ltb h.number number ≡ false) far start
-      →
+      IsPartitionPoint (λ h. ltb h.number number ≡ true) (λ h. ltb h.number number ≡ false) far
+      start →
       IsPartitionPoint (λ h. leb h.number number ≡ true) (λ h. leb h.number number ≡ false) rest
       count
       → Contains far (far_holder number id) → Contains (take count rest) (far_holder number id)

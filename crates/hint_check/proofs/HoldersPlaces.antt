@@ -12,7 +12,7 @@ use Rattle.hint_check.proofs.LiveMaps.{same_key}
 use Rattle.std.specs.List.{Contains, list_any, enumerate_from}
 use Rattle.std.proofs.lemmas.Bool.{cases_Bool, eqb-true, eq-eqb, ne_eqb, cond-true, cond-false}
 use Rattle.std.proofs.lemmas.Bool.{cases_lt, or_cases, or_left, or_right}
-use Rattle.std.proofs.lemmas.List.{get_or-set_same, get_or-set_other, take_more, take_at}
+use Rattle.std.proofs.lemmas.List.{get_or-set_same, get_or-set_other, take_more}
 use Rattle.std.proofs.lemmas.List.{length-set, length-take-le, get_or-take, get_or_default}
 use Rattle.std.proofs.lemmas.List.{get_or_past}
 use Rattle.std.proofs.lemmas.List.Sums.{sum_by-take-drop, sum_by-drop_more, sum_by_more}
@@ -122,11 +122,6 @@ hits-fit clauses place clause i s below is =
       sum_by-take-drop (hits s) clauses place,
       sum_by-take-drop (hit s) clause i,
     )
-
--- a slice that was lent, and holds other numbers now, is the list
-pub written : (new old : List ℕ) (n : ℕ) → length new ≡ length old → n ≡ length old →
-    take n (new ++ drop (length new) old) ≡ new
-written new old n same is = take_at new (drop (length new) old) n (same ∙ sym is)
 
 -- a literal of one more place is the one there, or one of those before
 pub more-has : (clause : List Literal) (i : ℕ) (l m : Literal) → i < length clause →

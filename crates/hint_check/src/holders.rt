@@ -179,8 +179,8 @@ fn far_of(alloc: Global, reach: u32, clauses: &[Indexed]) -> Result<Vec<FarHolde
         → Contains far.items (far_holder (literal_number l) (place + 1))) }
 {
     let mut far: Vec<FarHolder> = Vec::new(alloc);
-    for place in 0..clauses.len() {
-        push_far(clauses[place].lits(), place as u32 + 1, reach, &mut far)?;
+    for (place, clause) in clauses.iter().enumerate() {
+        push_far(clause.lits(), place as u32 + 1, reach, &mut far)?;
     }
     far.sort_unstable();
     far.dedup();

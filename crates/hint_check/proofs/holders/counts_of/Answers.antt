@@ -1,19 +1,8 @@
 use Rattle.std.proofs.Common.{◌≡◌, ◌+◌, ◌<◌, ◌∙◌, ap, sym, arith, length, get_or, take}
-use Rattle.std.proofs.lemmas.List.{take_all, get_or-replicate}
 use Rattle.std.proofs.lemmas.List.Sums.{sum_by_more}
 use Rattle.hint_check.specs.Inner.Holders.{hits, occurrences}
-use Rattle.hint_check.proofs.HoldersPlaces.{written}
+use Rattle.std.proofs.lemmas.List.{with_items_is}
 use Rattle.hint_check.proofs.holders.counts_of.Goals as goal
-
-pub loop-clause-init : goal.loop-clause-init
-loop-clause-init c =
-    let zeros = c.in_ok-counts.ensures.items_if_clones_equal (λ y e. e) in
-    record {
-      room = omega (arith, c.in_ok-counts.ensures.len);
-      counted =
-          λ s below. ap (λ xs. get_or xs s 0) zeros
-          ∙ get_or-replicate _ s 0 0 (omega (arith, c.in_ok-counts.ensures.len, below));
-    }
 
 pub loop-clause-preserved : goal.loop-clause-preserved
 loop-clause-preserved c =
@@ -22,8 +11,8 @@ loop-clause-preserved c =
     let old = c.loop-clause.counts in
     let new = c.count_clause.new.counts in
     let lent = c.deref_mut.ensures.value in
-    let same : length new ≡ length old.items = c.count_clause.auto.counts ∙ ap length lent in
-    let is = written new old.items old.len same (omega arith) in
+    let same = c.count_clause.auto.counts ∙ ap length lent in
+    let is = with_items_is old new (omega (arith, same)) in
     record {
       room = ap length is ∙ same ∙ c.loop-clause.invariant.room;
       counted = λ s below.
@@ -40,12 +29,3 @@ loop-clause-preserved c =
           = ap (λ xs. get_or xs s 0) lent ∙ c.loop-clause.invariant.counted s near in
           ap (λ xs. get_or xs s 0) is ∙ omega (arith, counted, before, more);
     }
-
-pub returns : goal.returns
-returns c = (
-  c.loop-clause.invariant.room,
-  λ s below.
-      c.loop-clause.invariant.counted s (omega (arith, c.loop-clause.invariant.room, below))
-      ∙ ap (λ clauses. occurrences clauses s)
-      (take_all c.loop-clause.clause-index c.args.clauses.now c.loop-clause-test.false),
-)

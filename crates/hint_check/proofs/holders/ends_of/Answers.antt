@@ -1,7 +1,7 @@
 use Rattle.std.proofs.Common.{◌≡◌, ◌+◌, ◌<◌, ◌∙◌, ap, sym, arith, length, get_or, sum, take, suc}
-use Rattle.std.proofs.lemmas.List.{take_all}
+use Rattle.std.proofs.lemmas.List.{take_all, with_items_is}
 use Rattle.hint_check.specs.Inner.Holders.{begin}
-use Rattle.hint_check.proofs.HoldersPlaces.{written, begin-sum}
+use Rattle.hint_check.proofs.HoldersPlaces.{begin-sum}
 use Rattle.hint_check.proofs.holders.ends_of.Goals as goal
 
 pub returns-clause-ends : goal.returns-clause-ends
@@ -9,8 +9,8 @@ returns-clause-ends c =
     let counts = c.in_ok-ends.ends in
     let sums = c.sum_up.new.counts in
     let lent = c.deref_mut.ensures.value in
-    let same : length sums ≡ length counts.items = c.sum_up.auto.counts ∙ ap length lent in
-    let is = written sums counts.items counts.len same (omega arith) in (
+    let same = c.sum_up.auto.counts ∙ ap length lent in
+    let is = with_items_is counts sums (omega (arith, same)) in (
       ap length is ∙ same ∙ c.in_ok-ends.ensures.0,
       λ s below.
           let near : s < length counts.items = omega (arith, c.in_ok-ends.ensures.0, below) in

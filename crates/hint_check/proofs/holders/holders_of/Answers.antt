@@ -1,25 +1,10 @@
 use Rattle.std.proofs.Common.{◌≡◌, ◌<◌, ◌∙◌, ap, arith, length, get_or, ℕ}
 use Rattle.std.specs.Vec.{with_items}
+use Rattle.std.proofs.lemmas.List.{with_items_is}
 use Rattle.hint_check.specs.declared.holders.Holders.{Holders}
 use Rattle.hint_check.specs.Inner.Holders.{begin}
-use Rattle.hint_check.proofs.HoldersPlaces.{written, whole-from, names-all}
+use Rattle.hint_check.proofs.HoldersPlaces.{whole-from, names-all}
 use Rattle.hint_check.proofs.holders.holders_of.Goals as goal
-
-pub put_all-requires-clause-ends : goal.put_all-requires-clause-ends
-put_all-requires-clause-ends c =
-    let ends = c.in_ok-starts.ensures.ends in
-    rw c.deref_mut.ensures.value (λ s below. ends.1 s (omega (arith, ends.0, below)))
-
-pub put_all-requires-clause-within : goal.put_all-requires-clause-within
-put_all-requires-clause-within c =
-    rw c.deref_mut.ensures.value
-    (omega (
-      arith,
-      ap (begin c.args.clauses.now) c.in_ok-starts.ensures.ends.0,
-      c.in_ok-starts.ensures.count,
-      c.in_ok-ids.ensures.len,
-      ap length c.deref_mut-2.ensures.value,
-    ))
 
 -- what is made
 abbrev made : goal.In_ok-far → Holders
@@ -31,15 +16,13 @@ made c = record {
 
 starts-are : (c : goal.In_ok-far) → (made c).starts.items ≡ c.put_all.new.starts
 starts-are c =
-    let starts = c.in_ok-starts.starts in
-    written c.put_all.new.starts starts.items starts.len
-    (c.put_all.auto.starts ∙ ap length c.deref_mut.ensures.value) (omega arith)
+    with_items_is c.in_ok-starts.starts c.put_all.new.starts
+    (omega (arith, c.put_all.auto.starts, ap length c.deref_mut.ensures.value))
 
 ids-are : (c : goal.In_ok-far) → (made c).ids.items ≡ c.put_all.new.ids
 ids-are c =
-    let ids = c.in_ok-ids.ids in
-    written c.put_all.new.ids ids.items ids.len
-    (c.put_all.auto.ids ∙ ap length c.deref_mut-2.ensures.value) (omega arith)
+    with_items_is c.in_ok-ids.ids c.put_all.new.ids
+    (omega (arith, c.put_all.auto.ids, ap length c.deref_mut-2.ensures.value))
 
 begins : (c : goal.In_ok-far) (s : ℕ) → s < length (made c).starts.items →
     get_or (made c).starts.items s 0 ≡ begin c.args.clauses.now s

@@ -1,6 +1,4 @@
-use Rattle.std.proofs.Common.{◌≡◌, ◌==◌, ◌++◌, ◌∷◌, [], ◌∙◌, ap, sym, subst, true, append_assoc}
-use Rattle.std.proofs.lemmas.List.{take_all}
-use Rattle.std.specs.List.{list_any}
+use Rattle.std.proofs.Common.{◌++◌, ◌∷◌, [], ◌∙◌, ap, append_assoc}
 use Rattle.hint_check.proofs.HoldersPlaces.{named-push, named-again}
 use Rattle.hint_check.proofs.holders.push_ids.Goals as goal
 use Rattle.hint_check.proofs.holders.push_ids.Goals.{then-not-is_repeated+in_ok-push}
@@ -28,13 +26,3 @@ loop-place-preserved c =
             w.if-not-is_repeated.ensures.1 before.2,
       )
     ]
-
-pub returns : goal.returns
-returns c =
-    let before = c.loop-place.invariant in (
-      before.0,
-      before.1,
-      λ id holds. before.2 id
-          (subst (λ xs. list_any (λ n. n == id) xs ≡ true)
-          (sym (take_all c.loop-place.place c.args.named.now c.loop-place-test.false)) holds),
-    )

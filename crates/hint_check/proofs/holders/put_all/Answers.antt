@@ -1,10 +1,9 @@
-use Rattle.std.proofs.Common.{◌≡◌, ◌+◌, ◌≤◌, ◌<◌, ◌∙◌, ap, sym, subst, arith, length, get_or, drop}
-use Rattle.std.proofs.Common.{[], true, refl, inl, inr}
+use Rattle.std.proofs.Common.{◌≡◌, ◌+◌, ◌<◌, ◌∙◌, sym, subst, arith, length, get_or}
+use Rattle.std.proofs.Common.{[], true, inl, inr}
 use Rattle.std.proofs.lemmas.Bool.{cases_lt}
-use Rattle.std.proofs.lemmas.List.{drop_all}
 use Rattle.cnf_text.specs.Literal.{literal_number}
 use Rattle.hint_check.specs.Literals.{has}
-use Rattle.hint_check.specs.Inner.Holders.{begin, occurrences, IsThere}
+use Rattle.hint_check.specs.Inner.Holders.{IsThere}
 use Rattle.hint_check.proofs.HoldersPlaces.{begin-suc}
 use Rattle.hint_check.proofs.holders.put_all.Goals as goal
 
@@ -13,15 +12,6 @@ loop-place-init c = record {
   left = λ s below. c.requires.ends s below ∙ begin-suc c.args.clauses.now s;
   there = λ k m none. absurd (omega (arith, none));
 }
-
-pub put_clause-requires-clause-within : goal.put_clause-requires-clause-within
-put_clause-requires-clause-within c =
-    omega (
-      arith,
-      ap (begin c.args.clauses.now) c.loop-place.auto.starts,
-      c.requires.within,
-      c.loop-place.auto.ids,
-    )
 
 pub loop-place-preserved : goal.loop-place-preserved
 loop-place-preserved c = record {
@@ -40,17 +30,3 @@ loop-place-preserved c = record {
             (subst (λ j. has (get_or c.args.clauses.now j []) m ≡ true) (sym e) holds) near)
       ];
 }
-
-pub returns : goal.returns
-returns c =
-    let clauses = c.args.clauses.now in
-    record {
-      begins = λ s below.
-          let none : occurrences (drop c.loop-place.place clauses) s ≡ 0
-          = ap (λ cs. occurrences cs s) (drop_all c.loop-place.place clauses (omega arith)) in
-          let left = c.loop-place.invariant.left s (omega (arith, c.loop-place.auto.starts, below)) in
-          omega (arith, left, none);
-      there = λ k m below holds near.
-          c.loop-place.invariant.there k m (omega (arith, below)) holds
-          (omega (arith, c.loop-place.auto.starts, near));
-    }

@@ -1,6 +1,6 @@
 use Rattle.std.proofs.Common.{◌≡◌, ◌+◌, ◌<◌, ◌≤◌, ◌∙◌, ap, sym, subst, arith, length, get_or, take}
 use Rattle.std.proofs.Common.{drop}
-use Rattle.std.proofs.Common.{[], true, refl, ℕ, inl, inr}
+use Rattle.std.proofs.Common.{[], true, inl, inr}
 use Rattle.std.proofs.lemmas.Bool.{false≢true}
 use Rattle.std.proofs.lemmas.List.{take_all, drop_all, length-set, get_or_default}
 use Rattle.std.proofs.lemmas.List.Sums.{sum_by-drop_more}

@@ -1,4 +1,4 @@
-use Rattle.std.proofs.Common.{◌≡◌, ℕ, ◌+◌, ◌<◌, ◌≤◌, take, length, get_or, sum}
+use Rattle.std.proofs.Common.{◌≡◌, ℕ, ◌+◌, ◌<◌, ◌≤◌, take, get_or, sum}
 use Rattle.hint_check.proofs.holders.sum_up.Given as goal
 
 abbrev pub invariant-loop-count : goal.invariant-loop-count
