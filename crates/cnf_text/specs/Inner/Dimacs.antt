@@ -19,7 +19,7 @@ abbrev pub HasProblem : List (List Token) → Option code.Problem → List Token
 HasProblem lines said tokens =
     MatchOption said (after_problem lines ≡ None)
     (λ told. (problem : Problem) × (told ≡ told_problem problem)
-        × (after_problem lines ≡ Some (problem, tokens)))
+    × (after_problem lines ≡ Some (problem, tokens)))
 
 abbrev pub open_of : Bool → Open
 open_of true = InClause
