@@ -14,7 +14,8 @@ ghost use Rattle.cnf_text.specs.Dimacs.{clause_symbols, greatest_of, HasClauses}
 ghost use Rattle.cnf_text.specs.Dimacs.{IsClausesFault, IsDimacs, IsDimacsFault, KeepsLimits};
 ghost use Rattle.cnf_text.specs.Dimacs.{told_problem};
 ghost use Rattle.cnf_text.specs.Inner.Icnf.{Means};
-ghost use Rattle.cnf_text.specs.Inner.Dimacs.{HasProblem, HasScanned, Scans, BreaksScan, IsMiscount};
+ghost use Rattle.cnf_text.specs.Inner.Dimacs.{HasProblem, HasScanned, Scans, BreaksScan};
+ghost use Rattle.cnf_text.specs.Inner.Dimacs.{IsMiscount};
 
 use crate::icnf::{Broken, MAX_CLAUSES, MAX_LITERALS, TextFault, Word, number_word};
 use crate::literal::Lit;

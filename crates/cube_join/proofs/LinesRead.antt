@@ -26,7 +26,8 @@ cube_front k m r = simp append_assoc refl
 cube_read : (k : ℕ) (a b : Mark) (r s : List ℕ) → cube_line k a ++ r ≡ cube_line k b ++ s →
     (status_fields a ≡ status_fields b) × (r ≡ s)
 cube_read k a b r s e =
-    status_read a b r s (append_cancel_left (codes "a" ++ number_field k) (status_fields a ++ 10 ∷ r)
+    status_read a b r s (append_cancel_left (codes "a" ++ number_field k)
+    (status_fields a ++ 10 ∷ r)
     (status_fields b ++ 10 ∷ s) (sym (cube_front k a r) ∙ (e ∙ cube_front k b s)))
 
 missing_front : (j : ℕ) (path : List Literal) (m : Mark) (r : List ℕ) →

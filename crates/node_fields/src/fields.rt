@@ -2,8 +2,8 @@
 
 ghost use Rattle.std.specs.Prelude.{◌≡◌, ◌++◌, OnOk};
 ghost use Rattle.std.specs.List.{flat_map};
-ghost use Rattle.node_fields.specs.Fields.{number_field, literal_field, reason_field, status_fields};
-ghost use Rattle.node_fields.specs.Fields.{answer_line};
+ghost use Rattle.node_fields.specs.Fields.{number_field, literal_field, reason_field};
+ghost use Rattle.node_fields.specs.Fields.{status_fields, answer_line};
 
 use case_core::{Lit, Reason};
 use itoa::Buffer;
