@@ -8,6 +8,9 @@ use Rattle.std.specs.FinMap as fin
 use Rattle.std.specs.Ordering.{nat_cmp, eq_by_cmp}
 use Rattle.hint_check.proofs.LiveMaps.{same_key}
 use Rattle.hint_check.proofs.LiveParts.{find-lookup, IfSome-weaker}
+use Rattle.hint_check.specs.declared.holders.Holders.{Holders}
+use Rattle.hint_check.specs.Inner.Holders.{IsListed, NamesEach}
+use Rattle.hint_check.specs.Inner.Live.{IsIndexOf}
 use Rattle.std.specs.List.{list_any, enumerate_from}
 use Rattle.std.specs.Map.{lookup}
 use Rattle.std.proofs.lemmas.Bool.{false≢true, or_cases, or_left, or_right, and_parts, and_from}
@@ -16,7 +19,7 @@ use Rattle.cnf_text.specs.Literal.{Literal, literal_number, same}
 use Rattle.hint_check.specs.Literals.{has, is_tautology, with_literal}
 use Rattle.hint_check.specs.Inner.Index.{Links, once, ids_at, Adds, is_listed, Lists, Indexes}
 use Rattle.hint_check.specs.Inner.Index.{MayList, NamesEntries, still_has, Awaits}
-use Rattle.hint_check.specs.Inner.Index.{indexed_part, shows}
+use Rattle.hint_check.specs.Inner.Index.{AddsHolders, indexed_part, shows}
 use Rattle.hint_check.proofs.LiteralsSets.{same-true, has-push}
 
 none_listed : (b : Bool) → false ≡ true → b ≡ true
@@ -284,3 +287,19 @@ parts-named n (clause ∷ clauses) q P =
       | true ↦ λ h. h
       | false ↦ parts-named (n + 1) clauses q P
     ]
+
+-- what an index of these clauses lists names each of them that shows the literal
+pub index-adds : (holders : Holders) (clauses : List (List Literal)) (lit : Literal)
+    (before after : List ℕ) → IsIndexOf holders clauses →
+    ((more : List ℕ) × (after ≡ before ++ more)
+    × ((id : ℕ) → IsListed holders lit id → list_any (λ named. named == id) more ≡ true)) →
+    AddsHolders (enumerate_from 1 clauses) lit before after
+unfolding AddsHolders NamesEntries NamesEach
+index-adds holders clauses lit before after is listed = (
+  listed.0,
+  listed.1,
+  λ q. parts-named 1 clauses q
+      (λ part. has part lit ≡ true → list_any (λ named. named == q) listed.0 ≡ true)
+      (IfSome-weaker (fin.find nat_cmp q (enumerate_from 1 (map indexed_part clauses)))
+      (is.names lit q) (λ clause names holds. listed.2 q (names holds))),
+)

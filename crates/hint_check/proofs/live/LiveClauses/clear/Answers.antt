@@ -15,4 +15,5 @@ invariant_of-self c =
           (AreParts-front inside.table.front fin.empty),
       subst (λ index. IfSome index (λ rows. Indexes rows (fin.entries c.start_over.new.self.own)))
           (sym c.give_up.ensures) tt,
+      c.self.invariant.3,
     )
