@@ -27,6 +27,8 @@ use Rattle.mark_board.specs.Posting.{marks_after, MarksRoot, posted_answer, part
 use Rattle.mark_board.specs.Posting.{IsPostedOn}
 use Rattle.mark_board.specs.Board.{BoardOf, board_tree, board_node, tree_on, worth_on, HasTargets}
 use Rattle.mark_board.specs.Board.{IsRow, IsRowOn, IsTargetRow}
+use Rattle.mark_board.specs.declared.stored.BoardData.{BoardData}
+use Rattle.mark_board.specs.BoardData.{stored_board}
 use Rattle.mark_board.specs.Marking.{marked, open_weight, is_refuted, mark_at, refuted_by}
 use Rattle.case_core.specs.Formula.{IsRefuted}
 use Rattle.mark_board.specs.Findings.{mark_as}
@@ -37,7 +39,7 @@ use Rattle.board_hall.specs.declared.view.Post.{Post}
 use Rattle.board_hall.specs.Posts.{parts_in, board_count, place_if, place_of, tree_at, node_of}
 use Rattle.board_hall.specs.Posts.{is_at, mark_by, mark_in, open_by, root_by, covered, owed_if}
 use Rattle.board_hall.specs.Posts.{IsFindingPost, IsPartPost}
-use Rattle.board_hall.specs.Hall.{IsBoardOf, posting, MayPost, in_part, on_top}
+use Rattle.board_hall.specs.Hall.{IsBoard, IsBoardOf, posting, MayPost, in_part, on_top}
 use Rattle.board_hall.specs.Inner.Plays.{Hand}
 use Rattle.board_hall.specs.Clauses.{IsHome}
 use Rattle.board_hall.specs.Inner.Held.{MakesRoot, Recorded, PartRecorded, owed_after}
@@ -530,3 +532,21 @@ pub row_on : (k : CutCase) (b : ℕ) (posts : List Post) (board : BoardOf) →
 row_on k b posts board is node row home =
     subst (λ (p : CaseOf × (ℕ × Place)). IsRow p.1.0 p.0.tree p.1.1 node row)
     (λ i. (sym is.is_at.case_is i, (sym is.is_at.cut_is i, sym is.is_at.place_is i))) home.is_row
+
+-- and findings of it are posted there
+pub targets_on : (k : CutCase) (b : ℕ) (posts : List Post) (board : BoardOf) →
+    IsBoardOf k b posts board → (node row : ℕ) → IsHome k node b row → IsTargetRow board node row
+targets_on k b posts board is node row home = record {
+  is_row = row_on k b posts board is node row home;
+  has_targets =
+      subst (λ (p : CaseOf × (ℕ × Place)). HasTargets p.1.0 p.0.tree p.1.1 row)
+      (λ i. (sym is.is_at.case_is i, (sym is.is_at.cut_is i, sym is.is_at.place_is i)))
+      home.has_targets;
+}
+
+-- the board that is made of what was taken
+pub bound_board : (k : CutCase) (case : CaseOf) (b : ℕ) (posts : List Post) (taken : BoardData)
+    (board : BoardOf) → case ≡ k.case → board ≡ stored_board case taken → IsBoard k b posts taken →
+    IsBoardOf k b posts board
+bound_board k case b posts taken board same bound is =
+    subst (IsBoardOf k b posts) (sym (bound ∙ ap (λ z. stored_board z taken) same)) is.is_board

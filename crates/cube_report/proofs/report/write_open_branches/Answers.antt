@@ -1,23 +1,10 @@
-use Rattle.std.proofs.Common.{◌≡◌, ℕ, ◌∙◌, sym}
-use Rattle.split_tree.specs.Leaves.{IsTargetAt}
+use Rattle.std.proofs.Common.{◌≡◌}
 use Rattle.mark_board.specs.Marking.{open_branches, refuted_by}
 use Rattle.cube_report.proofs.ReportLines.{branch_stands, open_turn, all_open}
 use Rattle.cube_report.proofs.report.write_open_branches.Goals as goal
 
-pub node_of_target-only-requires : goal.node_of_target-only-requires
-node_of_target-only-requires g c =
-    let tree : c.tree-tree.result.now ≡ (g.M.MarkedTree.splits c.args.told.now) =
-    c.tree-tree.ensures in
-    rw tree (branch_stands (g.M.MarkedTree.splits c.args.told.now) c.in_ok-targets.targets.items
-    (open_branches (refuted_by (g.M.MarkedTree.marks c.args.told.now)) 0
-    (g.M.MarkedTree.splits c.args.told.now))
-    c.loop-target.target-index
-    c.target-item.result c.in_ok-targets.ensures
-    (rw c.deref-target-items.ensures.value at c.loop-target-test.true)
-    (rw c.deref-target-items.ensures.value at c.target-item.is))
-
-pub path_of-requires : goal.path_of-requires
-path_of-requires g c =
+pub node_of_target-requires : goal.node_of_target-requires
+node_of_target-requires g c =
     let tree : c.tree-tree.result.now ≡ (g.M.MarkedTree.splits c.args.told.now) =
     c.tree-tree.ensures in
     rw tree (branch_stands (g.M.MarkedTree.splits c.args.told.now) c.in_ok-targets.targets.items
@@ -32,18 +19,16 @@ pub loop-target-preserved : goal.loop-target-preserved
 loop-target-preserved g c =
     let tree : c.tree-tree.result.now ≡ (g.M.MarkedTree.splits c.args.told.now) =
     c.tree-tree.ensures in
-    let only : (i : ℕ) → IsTargetAt (g.M.MarkedTree.splits c.args.told.now) i c.target-item.result →
-    i ≡ c.node_of_target-only.result = rw tree at c.node_of_target-only.ensures.only in
     open_turn (g.M.MarkedTree.splits c.args.told.now) c.in_ok-targets.targets.items
     (open_branches (refuted_by (g.M.MarkedTree.marks c.args.told.now)) 0
     (g.M.MarkedTree.splits c.args.told.now))
     c.args.text.now.items c.loop-target.text.items
     c.write_open.new.text.items c.loop-target.target-index c.target-item.result
-    c.in_ok-path.path.items c.in_ok-targets.ensures
+    c.in_ok-path.path.items c.node_of_target.result c.in_ok-targets.ensures
     (rw c.deref-target-items.ensures.value at c.loop-target-test.true)
     (rw c.deref-target-items.ensures.value at c.target-item.is) c.loop-target.invariant
-    (rw c.deref.ensures.value at c.in_ok-write_open.ensures) (rw tree at c.in_ok-path.ensures)
-    (λ i j a b. only i a ∙ sym (only j b))
+    (rw c.deref.ensures.value at c.in_ok-write_open.ensures)
+    (rw tree at c.node_of_target.ensures.only) (rw tree at c.in_ok-path.ensures)
 
 pub returns : goal.returns
 returns g c =
