@@ -28,7 +28,8 @@ mark_of-mark-requires g c =
     let known : List Post = c.take.new.seat.me.0.known in let node : ℕ = c.node_of_target.result in
     let is : IsBoardOf k n known c.bind-board.result =
     bound_board k c.args.case.now n known c.take.result c.bind-board.result c.requires.of
-    c.bind-board.ensures (subst (λ z. IsBoard z n known c.take.result) c.requires.own.1 e.board) in (
+    c.bind-board.ensures
+    (subst (λ z. IsBoard z n known c.take.result) c.requires.own.1 e.board) in (
       node,
       subst (λ (t : SplitTree). IsTargetAt t node c.args.target)
           (c.tree.ensures.tree ∙ ap (λ z. z.tree) (c.requires.of ∙ sym is.is_at.case_is))
