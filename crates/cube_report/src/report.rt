@@ -1,9 +1,8 @@
 //! The text of a report.
 
-ghost use Rattle.std.specs.Prelude.{◌≡◌, ◌++◌, length, OnOk, IfOk};
-ghost use Rattle.split_tree.specs.SplitTree.{subtrees, total, path_at};
-ghost use Rattle.split_tree.specs.Leaves.{cube_count, missing_nodes, IsTargetAt, HasTarget};
-ghost use Rattle.split_tree.specs.declared.node.Target.TheVariants.{Node};
+ghost use Rattle.std.specs.Prelude.{◌≡◌, ◌<◌, ◌++◌, length, OnOk, IfOk};
+ghost use Rattle.split_tree.specs.SplitTree.{size, subtrees, total, path_at};
+ghost use Rattle.split_tree.specs.Leaves.{cube_count, missing_nodes, HasTarget};
 ghost use Rattle.mark_board.specs.Marking.{open_branches, refuted_by, mark_at};
 ghost use Rattle.node_fields.specs.Fields.{answer_line};
 ghost use Rattle.cube_report.specs.Report.{total_line, cube_line, missing_line, node_line};

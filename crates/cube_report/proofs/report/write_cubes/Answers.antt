@@ -1,4 +1,4 @@
-use Rattle.std.proofs.Common.{◌≡◌, ◌+◌, arith}
+use Rattle.std.proofs.Common.{◌+◌, arith}
 use Rattle.split_tree.specs.Leaves.{HasLeaf}
 use Rattle.split_tree.specs.declared.node.Leaf.TheVariants.{Cube}
 use Rattle.cube_report.proofs.ReportLines.{cube_turn}
