@@ -7,8 +7,6 @@ use Rattle.case_core.specs.Case.{CaseOf}
 use Rattle.split_tree.specs.SplitTree.{SplitTree, size, subtrees, subtree_at, labels, branch}
 use Rattle.split_tree.specs.SplitTree.{path_at, IsSplit}
 use Rattle.split_tree.specs.Navigation.{HasBelow}
-use Rattle.split_tree.specs.Leaves.{IsTargetAt}
-use Rattle.split_tree.specs.declared.node.Target.{Target}
 use Rattle.split_tree.specs.declared.top.Top as split
 use Rattle.split_tree.specs.Parts.{top}
 use Rattle.split_tree.proofs.NodesCoding.{some_node, subtree-root}
@@ -25,7 +23,7 @@ use Rattle.mark_board.specs.declared.stored.Region.TheVariants as region
 use Rattle.mark_board.specs.declared.stored.BoardData.{BoardData}
 use Rattle.mark_board.specs.Marking.{marked, AreRefuted, refuted_by}
 use Rattle.mark_board.specs.TopPlaces.{part_root, part_count, part_place, top_node, IsPlaceOf}
-use Rattle.mark_board.specs.Inner.Top.{IsOwnPlace, HasOwnPlace}
+use Rattle.mark_board.specs.Inner.Top.{IsOwnPlace}
 use Rattle.mark_board.specs.Rows.{AreRowsKept}
 use Rattle.mark_board.specs.Posting.{marks_after}
 use Rattle.mark_board.specs.Board.{BoardOf, IsPlace, IsRow, IsRowOn, TakesNode, tree_on, node_on}
@@ -37,16 +35,6 @@ use Rattle.mark_board.proofs.MarkingSound.{refuted_is, after_post}
 use Rattle.mark_board.proofs.TopPlacesNodes.{path_of_top, node_within}
 use Rattle.mark_board.proofs.TopPlacesParts.{part_within}
 use Rattle.mark_board.proofs.TopPlacesApart.{place_once}
-
--- the row of a target's node is that of the node that is found for it
-pub target_row : (board : BoardOf) (tree : SplitTree) (target : Target) (found : ℕ) →
-    tree ≡ board.case.tree →
-    ((node : ℕ) → IsTargetAt tree node target → node ≡ found) → (node row : ℕ) →
-    IsTargetAt board.case.tree node target → IsRowOn board node row →
-    IsRowOn board found row
-target_row board tree target found e only node row here at =
-    let same : (i : ℕ) → IsTargetAt board.case.tree i target → i ≡ found = rw e at only in
-    rw (same node here) at at
 
 -- ---- what is stored of a board, told of the board
 
@@ -169,30 +157,6 @@ part_not_own cut tree part place l e s =
     let q : place ≡ r.0 = sym e ∙ (r.2 ∙ zero-add r.0) in
     let k : IsSplit (subtree_at (top cut tree) r.0) = rw q at s in
     rw r.3 at k
-
--- the top board takes each node with a place of its own
-pub own_takes : (board : BoardOf) (above : split.Top) (node : ℕ) → IsTopOn board above →
-    HasOwnPlace board.cut board.case.tree node → TakesNode board node
-own_takes board above node on own = rw on.place_is (
-  own.0,
-  record {
-    is_row = record { within = own.1.within; here = own.1.here };
-    has_targets = own.1.inner;
-  },
-)
-
--- each node that the top board takes has a place of its own
-pub takes_own : (board : BoardOf) (above : split.Top) (node : ℕ) → IsTopOn board above →
-    TakesNode board node → HasOwnPlace board.cut board.case.tree node
-takes_own board above node on takes =
-    let at = rw on.place_is at takes in (
-      at.0,
-      record {
-        within = at.1.is_row.within;
-        here = at.1.is_row.here;
-        inner = at.1.has_targets;
-      },
-    )
 
 -- the place that was found for a node is its row
 pub top_row : (board : BoardOf) (above : split.Top) (node row place : ℕ) → IsTopOn board above →

@@ -3,22 +3,12 @@ use Rattle.std.proofs.Common.{◌≡◌, ◌≢◌, ℕ, zero, suc, ◌<◌, ◌
 use Rattle.std.proofs.Common.{get_or, set, replicate, true, false, refl, sym, ap, ◌∙◌}
 use Rattle.std.proofs.Common.{inl, inr}
 use Rattle.std.proofs.lemmas.Bool.{cases_eq}
-use Rattle.case_core.specs.Formula.{IsRefuted}
-use Rattle.split_tree.specs.SplitTree.{path_at}
-use Rattle.split_tree.specs.Leaves.{IsTargetAt}
-use Rattle.split_tree.specs.declared.node.Target.{Target}
-use Rattle.case_core.specs.Judged.{Judged}
-use Rattle.case_core.specs.Judged.TheVariants.{Refuted as judged_refuted}
-use Rattle.case_core.specs.Judged.TheVariants.{Rejected as judged_rejected}
-use Rattle.case_core.specs.Case.{CaseOf}
-use Rattle.case_core.specs.Finding.{IsSound}
 use Rattle.mark_board.specs.declared.mark.Mark.{Mark}
 use Rattle.mark_board.specs.declared.mark.Mark.TheVariants.{Open, Refuted, Rejected}
 use Rattle.mark_board.specs.declared.rows.Answer.{Answer}
 use Rattle.mark_board.specs.declared.rows.Answer.TheVariants.{Marked, RootMarked, Already}
 use Rattle.mark_board.specs.Marking.{is_refuted, mark_at}
 use Rattle.mark_board.specs.Posting.{marks_after}
-use Rattle.mark_board.specs.Findings.{mark_as}
 
 -- a list after a write has at its place the new item or the old one
 set_either : (marks : List Mark) (i : ℕ) (x d : Mark) →
@@ -73,14 +63,3 @@ module _ (means : ℕ → Type 0) (rows : ℕ) where
   -- nothing is refuted at first
   pub at_first : (count : ℕ) → OfRefuted (replicate count Open)
   at_first count row l m = absurd (none_refuted count row m)
-
-judged_is : (judged : Judged) → mark_as judged ≡ Refuted → judged ≡ judged_refuted
-judged_is judged_refuted h = refl
-judged_is (judged_rejected step reason) h = cc
-
--- a finding that refutes
-pub finding_sound : (case : CaseOf) (target : Target) (judged : Judged) (node : ℕ) →
-    IsSound case target judged → IsTargetAt case.tree node target →
-    mark_as judged ≡ Refuted → IsRefuted case.formula (path_at case.tree node)
-finding_sound case target judged node s here h =
-    s (judged_is judged h) (path_at case.tree node) (node, here, refl)
