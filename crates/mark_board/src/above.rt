@@ -2,10 +2,9 @@
 
 ghost use Rattle.std.specs.Prelude.{◌≡◌, ◌<◌, ◌↔◌, IsTrue};
 ghost use Rattle.split_tree.specs.SplitTree.{size};
-ghost use Rattle.split_tree.specs.Parts.{top};
 ghost use Rattle.mark_board.specs.BoardData.{IsAbove};
 ghost use Rattle.mark_board.specs.TopPlaces.{part_count, part_place, IsPlaceOf};
-ghost use Rattle.mark_board.specs.Inner.Top.{HasOwnPlace, IsPartAt};
+ghost use Rattle.mark_board.specs.Inner.Top.{HasOwnPlace, IsPartOf};
 
 use crate::board::Board;
 use case_core::{Leaf, NodeId};
@@ -47,14 +46,15 @@ impl<'c> Board<'c> {
         place
     }
 
-    /// The number of the part at a place, or `None` for an inner node above the cut.
-    pub(crate) fn part_at(&self, above: &Top, place: usize) -> Option<u32>
+    /// The number of the part in which a node lies, or `None` for an inner node above the cut.
+    pub(crate) fn part_of(&self, above: &Top, node: NodeId) -> Option<u32>
         requires above { IsAbove self.now.cut self.now.case.tree above.now }
-        requires place { place < size (top self.now.cut self.now.case.tree) }
-        ensures { IsPartAt self.now.cut self.now.case.tree place result }
+        requires node { node < size self.now.case.tree }
+        ensures { IsPartOf self.now.cut self.now.case.tree node result }
     {
         // The proof takes from this call that the tree has fewer than 2 to the power 32 nodes.
         let _few = above.tree.size();
+        let place = self.place_above(above, node);
         match above.tree.leaf_at(NodeId::new(place as u32)) {
             None => None,
             Some(Leaf::Missing(number)) => Some(number - 1),
@@ -70,7 +70,7 @@ impl<'c> Board<'c> {
         if node.number() >= self.case().tree().size() {
             return false;
         }
-        match self.part_at(above, self.place_above(above, node)) {
+        match self.part_of(above, node) {
             None => true,
             Some(_) => false,
         }

@@ -348,7 +348,7 @@ impl<'c> Board<'c> {
     {
         match &self.stored.region {
             Region::Part { .. } => unreachable!(),
-            Region::Top(above) => match self.part_at(above, self.place_above(above, node)) {
+            Region::Top(above) => match self.part_of(above, node) {
                 Some(part) => Place::Part(part),
                 None => Place::Top,
             },

@@ -2,7 +2,7 @@
 use Rattle.std.specs.Prelude.{ℕ, ◌<◌, ◌≡◌, Option, None, Some}
 use Rattle.split_tree.specs.SplitTree.{SplitTree, size, subtree_at, IsSplit}
 use Rattle.split_tree.specs.Parts.{top}
-use Rattle.mark_board.specs.TopPlaces.{top_node, part_count, part_place}
+use Rattle.mark_board.specs.TopPlaces.{top_node, part_count, part_place, IsPlaceOf}
 
 -- an inner node above the cut stands at this place of the top board
 pub record IsOwnPlace (cut : ℕ) (tree : SplitTree) (node place : ℕ) : Type 0 where
@@ -18,3 +18,8 @@ abbrev pub IsPartAt : ℕ → SplitTree → ℕ → Option ℕ → Type 0
 IsPartAt cut tree place None = IsSplit (subtree_at (top cut tree) place)
 IsPartAt cut tree place (Some part) =
     (part < part_count cut tree) × (part_place cut tree part ≡ place)
+
+-- the part in which a node lies, or that it is an inner node above the cut
+abbrev pub IsPartOf : ℕ → SplitTree → ℕ → Option ℕ → Type 0
+IsPartOf cut tree node part =
+    (place : ℕ) × IsPlaceOf cut tree node place × IsPartAt cut tree place part

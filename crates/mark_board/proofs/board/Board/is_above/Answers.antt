@@ -10,11 +10,12 @@ returns-in-Some c =
     let board = c.args.self.now in (
       λ t. let k : false ≡ true = t in absurd (cc),
       λ own.
+          let is = c.in-Some.ensures in
           let same =
-          place_once board.cut board.case.tree c.args.node own.0 c.place_above.result
-          (own_place board.cut board.case.tree c.args.node own.0 own.1) c.place_above.ensures in
-          absurd (part_not_own board.cut board.case.tree c.in-Some.field-0 c.place_above.result
-          c.in-Some.ensures.0 c.in-Some.ensures.1 (rw same at own.1.inner)),
+          place_once board.cut board.case.tree c.args.node own.0 is.0
+          (own_place board.cut board.case.tree c.args.node own.0 own.1) is.1 in
+          absurd (part_not_own board.cut board.case.tree c.in-Some.field-0 is.0 is.2.0 is.2.1
+          (rw same at own.1.inner)),
     )
 
 pub returns-then-number-size : goal.returns-then-number-size
