@@ -337,40 +337,31 @@ IsTable-front blocks slots far front emptied ends less within few same long none
 
 -- ---- a table made of a front
 
-module _ (all : List Block) (places : List Slot) (blocks : List Block) (slots : List Slot)
-    (far : List (ℕ × Span)) (front : Ahead) (same_blocks : blocks ≡ all)
-    (same_slots : slots ≡ places)
-    (same_front : front.slots.items ≡ places) (none : far ≡ []) where
-  pub tabled-copy : tabled blocks slots far front.slots.items ≡ front_alone
-      (clauses_in all 0 places [])
-  tabled-copy =
+module _ (blocks : List Block) (slots : List Slot) (far : List (ℕ × Span)) (front : Ahead)
+    (same : front.slots.items ≡ slots) (none : far ≡ []) where
+  pub tabled-front-alone : tabled blocks slots far front.slots.items ≡ front_alone
+      (clauses_in blocks 0 slots [])
+  tabled-front-alone =
       same_parts (tabled blocks slots far front.slots.items)
-      (front_alone (clauses_in all 0 places []))
-      (ap (λ bs. clauses_in bs 0 slots far) same_blocks
-      ∙ ap (λ ss. clauses_in all 0 ss far) same_slots ∙ ap (clauses_in all 0 places) none)
-      (ap (λ bs. clauses_in bs 0 front.slots.items []) same_blocks
-      ∙ ap (λ ss. clauses_in all 0 ss []) same_front)
+      (front_alone (clauses_in blocks 0 slots []))
+      (ap (clauses_in blocks 0 slots) none) (ap (λ ss. clauses_in blocks 0 ss []) same)
       (table-none blocks (length front.slots.items) (drop (length front.slots.items) slots) far
       (drop-none (length front.slots.items) slots
-      (let e = ap length same_slots ∙ sym (ap length same_front) in omega (arith, e))) none)
+      (let e = ap length same in omega (arith, e))) none)
 
-  pub IsTable-copy : (reach : ℕ) (emptied : List ℕ) → front.blocks ≡ length all →
-      front.reach ≡ reach → SlotsEndBy places (length all) → Within all reach →
+  pub IsTable-new : (reach : ℕ) (emptied : List ℕ) → front.blocks ≡ length blocks →
+      front.reach ≡ reach → SlotsEndBy slots (length blocks) → Within blocks reach →
       length slots < 2 ^ 64 → IsTable blocks reach slots far front emptied
-  IsTable-copy reach emptied count low ends within few =
-      let long = ap length same_blocks in record {
-        ends = subst (λ ss. SlotsEndBy ss (length blocks)) (sym same_slots)
-            (subst (SlotsEndBy places) (sym long) ends);
-        spans = SpansEndBy-none far (length blocks) none;
-        few = few;
-        within = subst (λ bs. Within bs reach) (sym same_blocks) within;
-        front_ends = subst (λ ss. SlotsEndBy ss front.blocks) (sym same_front)
-            (subst (SlotsEndBy places) (sym count) ends);
-        front_blocks = omega (arith, count, long);
-        front_within = Within-take front.blocks blocks front.reach
-            (subst (λ r. Within blocks r) (sym low)
-            (subst (λ bs. Within bs reach) (sym same_blocks) within));
-        front_slots = let e = ap length same_slots ∙ sym (ap length same_front) in omega (arith, e);
-        kept = KeepsFront-all slots front.slots.items emptied
-            (λ i. ap (λ ss. slot_at ss i) (same_slots ∙ sym same_front));
-      }
+  IsTable-new reach emptied count low ends within few = record {
+    ends = ends;
+    spans = SpansEndBy-none far (length blocks) none;
+    few = few;
+    within = within;
+    front_ends = subst (λ ss. SlotsEndBy ss front.blocks) (sym same)
+        (subst (SlotsEndBy slots) (sym count) ends);
+    front_blocks = omega (arith, count);
+    front_within = Within-take front.blocks blocks front.reach
+        (subst (λ r. Within blocks r) (sym low) within);
+    front_slots = let e = ap length same in omega (arith, e);
+    kept = KeepsFront-all slots front.slots.items emptied (λ i. ap (λ ss. slot_at ss i) (sym same));
+  }

@@ -72,11 +72,16 @@ impl Front {
     }
 
     /// Its blocks, the greatest number of a falsifier or more, and its slots.
-    pub fn parts(&self) -> (&[Block], u32, &[Slot])
-        ensures clauses { clauses_in result.0.now 0 result.2.now [] ≡ self.now }
-        ensures ends { SlotsEndBy result.2.now (length result.0.now) }
-        ensures within { Within result.0.now result.1 }
+    pub fn into_parts(self) -> (Vec<Block>, u32, Vec<Slot>)
+        ensures clauses { clauses_in result.0.items 0 result.2.items [] ≡ self }
+        ensures ends { SlotsEndBy result.2.items (length result.0.items) }
+        ensures within { Within result.0.items result.1 }
     {
-        (&self.blocks, self.reach, &self.slots)
+        let Front {
+            blocks,
+            reach,
+            slots,
+        } = self;
+        (blocks, reach, slots)
     }
 }

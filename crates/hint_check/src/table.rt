@@ -83,23 +83,24 @@ impl Table {
     ghost use Rattle.hint_check.specs.Inner.Table.{front_alone, with_clause, without_clause};
 
     /// The clauses of a front, and no others. An error is a refused growth.
-    pub fn over(alloc: Global, front: &Front) -> Result<Table, AllocError>
-        ensures { IfOk result (λ table. table ≡ front_alone front.now) }
+    pub fn over(alloc: Global, front: Front) -> Result<Table, AllocError>
+        ensures { IfOk result (λ table. table ≡ front_alone front) }
     {
-        let (front_blocks, reach, front_slots) = front.parts();
+        let (blocks, reach, slots) = front.into_parts();
         let ahead = Ahead {
-            slots: copy_of(alloc, front_slots)?,
-            blocks: front_blocks.len(),
+            slots: copy_of(alloc, &slots)?,
+            blocks: blocks.len(),
             reach,
         };
+        let inserted = slots.len() as u64;
         Ok(Table {
-            blocks: blocks_of(alloc, front_blocks)?,
+            blocks,
             reach,
-            slots: copy_of(alloc, front_slots)?,
+            slots,
             far: Far::new(alloc),
             front: ahead,
             emptied: Vec::new(alloc),
-            inserted: front_slots.len() as u64,
+            inserted,
             held: 0,
         })
     }
@@ -257,14 +258,6 @@ fn copy_of(alloc: Global, slots: &[Slot]) -> Result<Vec<Slot>, AllocError>
 {
     let mut copy = Vec::new(alloc);
     copy.extend_from_slice(slots)?;
-    Ok(copy)
-}
-
-fn blocks_of(alloc: Global, blocks: &[Block]) -> Result<Vec<Block>, AllocError>
-    ensures { IfOk result (λ copy. copy.items ≡ blocks.now) }
-{
-    let mut copy = Vec::new(alloc);
-    copy.extend_from_slice(blocks)?;
     Ok(copy)
 }
 
