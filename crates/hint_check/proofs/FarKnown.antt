@@ -20,7 +20,7 @@ use Rattle.hint_check.specs.Inner.Table.{SpansEndBy}
 -- ---- what one entry tells
 
 -- of an id an entry tells only if it is that id's
-pub span-none : (one : Known) (id : ℕ) → (tells one ≡ true → id ≡ one.id → ⊥) →
+span-none : (one : Known) (id : ℕ) → (tells one ≡ true → id ≡ one.id → ⊥) →
     known_span one id ≡ None
 span-none one id not =
     elim (cases_Bool (nat_eq id one.id)) [
@@ -32,7 +32,7 @@ span-none one id not =
       | inr apart ↦ ap (λ b. if b && tells one then Some one.span else None) apart
     ]
 
-pub span-nothing : (id : ℕ) → known_span nothing id ≡ None
+span-nothing : (id : ℕ) → known_span nothing id ≡ None
 span-nothing id =
     elim (nat_eq id 0) as (λ b. (if b && nat_le 1 0 then Some nothing.span else None) ≡ None) [
       | true ↦ refl
@@ -212,7 +212,7 @@ pub made-new : (before made : List Known) (n m : ℕ) → before ≡ [] →
 made-new before made n m none is =
     is ∙ ap (λ ks. ks ++ replicate m nothing) (take_none n before none)
 
-pub placed-append : (a b : List Known) → placed (a ++ b) ≡ placed a ++ placed b
+placed-append : (a b : List Known) → placed (a ++ b) ≡ placed a ++ placed b
 placed-append [] b = refl
 placed-append (one ∷ a) b =
     elim (tells one) as (λ t.
@@ -287,7 +287,7 @@ InPlace-twice known shift one i long own stands =
           (InPlace-push known shift nothing silent stands))
     ]
 
-pub placed-twice : (known : List Known) (even : Bool) (one : Known) →
+placed-twice : (known : List Known) (even : Bool) (one : Known) →
     placed (twice known even one) ≡ placed known ++ placed (one ∷ [])
 placed-twice known true one =
     placed-append (known ++ one ∷ []) (nothing ∷ [])

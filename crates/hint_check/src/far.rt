@@ -40,9 +40,8 @@ const LAST_BITS: u32 = 40;
 /// A multiplier that spreads ids with any stride over the places: 2^64 by the golden ratio.
 const SPREAD: u64 = 11_400_714_819_323_198_485;
 
-/// The spans of far ids. An id stands in its place, in a list with places for many, and only an id
-/// whose place another has taken stands in a sorted map. To a contract they are the entries of
-/// both.
+/// The spans of far ids. An id stands in its place, in a list with places for many, and only one
+/// whose place was another's stands in a sorted map. To a contract they are the entries of both.
 #[derive(Drop)]
 pub struct Far {
     alloc: Global,
@@ -85,7 +84,7 @@ impl Far {
         }
     }
 
-    /// Whether no id came to be there yet.
+    /// Whether there is no id, nor a place for one.
     #[inline(always)]
     pub fn is_empty(&self) -> bool
         ensures { result ≡ true → self.now ≡ [] }
