@@ -675,6 +675,23 @@ pub ListsAll-end : (before after : Links) (entries : List (ℕ × List Literal))
 unfolding ListsAll
 ListsAll-end before after entries h = h
 
+far-append : (blocks : List Block) (a b : List (ℕ × Span)) →
+    far_entries blocks (a ++ b) ≡ far_entries blocks a ++ far_entries blocks b
+far-append blocks [] b = refl
+far-append blocks (e ∷ a) b =
+    ap (λ es. (e.0, span_clause blocks e.1) ∷ es) (far-append blocks a b)
+
+-- some far ids were listed, and then the others
+pub ListsAll-both : (start middle rows : Links) (blocks : List Block) (a b : List (ℕ × Span)) →
+    ListsAll start middle (far_entries blocks a) → ListsAll middle rows (far_entries blocks b) →
+    ListsAll start rows (far_entries blocks (a ++ b))
+unfolding ListsAll
+ListsAll-both start middle rows blocks a b first second rest all h =
+    second rest all (first (far_entries blocks b ++ rest) all
+    (subst (λ es. Awaits start es all)
+    (ap (λ es. es ++ rest) (far-append blocks a b)
+    ∙ append_assoc (far_entries blocks a) (far_entries blocks b) rest) h))
+
 -- the slot at a place, and those behind it
 near-drop : (blocks : List Block) (id : ℕ) (slots : List Slot) (i : ℕ) → i < length slots
     →

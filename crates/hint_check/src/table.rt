@@ -3,13 +3,14 @@
 ghost use Rattle.std.specs.Prelude.{◌≡◌, ℕ, ◌≤◌, ◌<◌, ◌+◌, ◌^◌, length, drop, true};
 ghost use Rattle.std.specs.Prelude.{IfSome, IfOk, OnOk};
 ghost use Rattle.hint_check.specs.Inner.Blocks.{Within};
+ghost use Rattle.hint_check.specs.Inner.Far.{placed};
 ghost use Rattle.hint_check.specs.Inner.Index.{Lists, indexed_part};
 ghost use Rattle.hint_check.specs.Inner.Stamps.{is_named};
 ghost use Rattle.hint_check.specs.Inner.Table.{SlotsEndBy, SpansEndBy, near_entries, far_entries};
 ghost use Rattle.hint_check.specs.Inner.Table.{ListsAll};
 
 use crate::block::{Block, Run, push_clause};
-use crate::far::{Far, Span, put_far, take_far};
+use crate::far::{Far, Known, Span, put_far, take_far};
 use crate::front::Front;
 use crate::index::Index;
 use crate::scratch::ClauseScratch;
@@ -175,11 +176,14 @@ impl Table {
         Ok(())
     }
 
-    /// What it costs to make an index of the clauses that aren't the front's: a turn for each slot,
-    /// and a link for each literal that the clauses have, or some more.
+    /// What it costs to make an index of the clauses that aren't the front's: a turn for each slot
+    /// and each place of a far id, and a link for each literal that the clauses have, or some more.
     pub(crate) fn index_cost(&self) -> usize {
         let links = self.held.saturating_mul(4);
-        links.saturating_add(self.slots.len().saturating_sub(self.front.slots.len()))
+        let slots = self.slots.len().saturating_sub(self.front.slots.len());
+        links
+            .saturating_add(slots)
+            .saturating_add(self.far.places())
     }
 
     /// Lists the id of each clause that isn't the front's, and is no tautology, for its literals,
@@ -197,7 +201,7 @@ impl Table {
             behind,
             first as u64,
         )?;
-        list_far(index, scratch, &self.blocks, self.reach, self.far.map())?;
+        list_far(index, scratch, &self.blocks, self.reach, &self.far)?;
         Ok(())
     }
 }
@@ -347,14 +351,53 @@ fn list_far(
     scratch: &mut ClauseScratch,
     blocks: &[Block],
     reach: u32,
-    far: &BTreeMap<u64, Span>,
+    far: &Far,
 ) -> Result<(), AllocError>
-    requires ends { SpansEndBy far.now.entries (length blocks.now) }
+    requires ends { SpansEndBy far.now (length blocks.now) }
+    requires within { Within blocks.now reach }
+    ensures { OnOk result (ListsAll index.old index.new (far_entries blocks.now far.now)) }
+{
+    let (known, map) = far.parts();
+    list_known(index, scratch, blocks, reach, known)?;
+    list_spans(index, scratch, blocks, reach, map)
+}
+
+/// Lists the far ids that stand in their places.
+fn list_known(
+    index: &mut Index,
+    scratch: &mut ClauseScratch,
+    blocks: &[Block],
+    reach: u32,
+    known: &[Known],
+) -> Result<(), AllocError>
+    requires ends { SpansEndBy (placed known.now) (length blocks.now) }
     requires within { Within blocks.now reach }
     ensures { OnOk result
-        (ListsAll index.old index.new (far_entries blocks.now far.now.entries)) }
+        (ListsAll index.old index.new (far_entries blocks.now (placed known.now))) }
 {
-    for (id, span) in far {
+    for one in known {
+        if one.span.start <= one.span.end {
+            let clause = span_clause(blocks, reach, one.span);
+            list_clause(index, scratch, &clause, one.id)?;
+        }
+    }
+    Ok(())
+}
+
+/// Lists the far ids that stand in the map.
+fn list_spans(
+    index: &mut Index,
+    scratch: &mut ClauseScratch,
+    blocks: &[Block],
+    reach: u32,
+    map: &BTreeMap<u64, Span>,
+) -> Result<(), AllocError>
+    requires ends { SpansEndBy map.now.entries (length blocks.now) }
+    requires within { Within blocks.now reach }
+    ensures { OnOk result
+        (ListsAll index.old index.new (far_entries blocks.now map.now.entries)) }
+{
+    for (id, span) in map {
         list_clause(index, scratch, &span_clause(blocks, reach, *span), *id)?;
     }
     Ok(())

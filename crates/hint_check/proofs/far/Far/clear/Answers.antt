@@ -1,10 +1,10 @@
 use Rattle.std.proofs.Common.{arith}
-use Rattle.hint_check.proofs.FarKnown.{Knows-none, empty-none}
+use Rattle.hint_check.proofs.FarSpans.{nobody}
 use Rattle.hint_check.proofs.far.Far.clear.Goals as goal
 
 pub invariant_of-self : goal.invariant_of-self
 invariant_of-self c = (
   omega arith,
-  Knows-none c.clear-2.new.self.items 63 c.clear.new.self.entries
-      (λ i. empty-none c.clear-2.new.self.items i c.clear-2.ensures.items),
+  nobody c.clear-2.new.self.items 63 c.clear.new.self.entries
+      c.clear-2.ensures.items,
 )

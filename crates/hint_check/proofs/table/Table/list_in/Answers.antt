@@ -1,7 +1,6 @@
-use Rattle.std.proofs.Common.{◌≡◌, ℕ, List, length, drop, subst, sym, ap, ◌∙◌, arith}
+use Rattle.std.proofs.Common.{◌≡◌, length, drop, subst, sym, ap, ◌∙◌, arith}
 use Rattle.std.specs.FinMap as fin
 use Rattle.hint_check.specs.Inner.Index.{Indexes}
-use Rattle.hint_check.specs.declared.far.Span.{Span}
 use Rattle.hint_check.specs.Inner.Table.{near_entries, far_entries, ListsAll, SlotsEndBy}
 use Rattle.hint_check.proofs.TableEntries.{table-Indexes, SlotsEndBy-drop}
 use Rattle.hint_check.proofs.table.Table.list_in.Goals as goal
@@ -35,8 +34,7 @@ returns c =
     (near_entries bs c.len-first.result c.slots_from-behind.result.now)) c.deref-2.ensures.value
     c.in_ok-list_near.ensures)) in
     let beyond : ListsAll middle rows (far_entries blocks far) =
-    subst (λ (es : List (ℕ × Span)). ListsAll middle rows (far_entries blocks es)) c.map.ensures
-    (subst (λ bs. ListsAll middle rows (far_entries bs c.map.result.now.entries))
-    c.deref-3.ensures.value c.in_ok-list_far.ensures) in
+    subst (λ bs. ListsAll middle rows (far_entries bs far))
+    c.deref-3.ensures.value c.in_ok-list_far.ensures in
     subst (λ t. Indexes rows (fin.entries t.own)) c.self.view_is
     (table-Indexes start middle rows blocks count (drop count slots) far near beyond)
