@@ -154,8 +154,17 @@ fn end_at_other(found: Examined, order: &[Leaf], next: &AtomicU64) {
     }
 }
 
-/// Takes the next turn, which the workers count in `next`, and examines its leaf; `None` where none
-/// is left. Where the run has to be made with all proofs in one bundle, nobody takes another one.
+/// Takes the next turn, which the workers count in `next`, and answers its leaf; `None` where none
+/// is left.
+fn next_leaf(case: &Case, order: &[Leaf], next: &AtomicU64) -> Option<Leaf>
+    ensures { IfSome result (λ leaf. HasTarget case.now.tree (Target.Leaf leaf)) }
+{
+    let turn = next.fetch_add(1, Ordering::SeqCst);
+    leaf_at(case, order, turn)
+}
+
+/// Examines a leaf whose turn was taken. Where the run has to be made with all proofs in one
+/// bundle, nobody takes another one.
 fn take_leaf<R: Wait, G: Gate, P: LeafProofs>(
     rt: &R,
     alloc: Global,
@@ -169,10 +178,12 @@ fn take_leaf<R: Wait, G: Gate, P: LeafProofs>(
     examiner: &mut Examiner<'_>,
     bytes: &mut Vec<u8>,
     pass: &mut Pass,
-) -> Result<Option<ExaminedLeaf>, ReadFault>
+    leaf: Leaf,
+) -> Result<ExaminedLeaf, ReadFault>
     requires case { case.now ≡ (core_of core.now).case }
     requires elsewhere { (core_of core.now).elsewhere ≡ true }
     requires examiner { examiner.old ≡ case.now }
+    requires leaf { HasTarget case.now.tree (Target.Leaf leaf) }
     requires own { IsPassOf (shared_of core.now) pass.old }
     requires free { (view_of pass.old).owes ≡ None }
     requires count { P.failures proofs.old < 2 ^ 64 - 1 }
@@ -181,25 +192,22 @@ fn take_leaf<R: Wait, G: Gate, P: LeafProofs>(
     ensures own { IsPassOf (shared_of core.now) pass.new }
     ensures owes { (view_of pass.new).owes ≡ None }
     ensures stays { Stays (view_of pass.old) (view_of pass.new) }
-    ensures examined { IfOk result (λ some. IfSome some (λ one.
-        IsExamined (P.held proofs.old one.leaf) (view_of pass.new) one.leaf one.examined)) }
+    ensures examined { IfOk result (λ one.
+        IsExamined (P.held proofs.old one.leaf) (view_of pass.new) one.leaf one.examined) }
     ensures ok { OnOk result (P.failures proofs.new ≡ P.failures proofs.old) }
     ensures err { IfErr result
         (λ fault. IsReadFault (P.failures proofs.old) (P.failures proofs.new) fault) }
 {
-    let turn = next.fetch_add(1, Ordering::SeqCst);
-    let Some(leaf) = leaf_at(case, order, turn) else {
-        return Ok(None);
-    };
     let asked = leaf;
     let examined = examine_leaf(
         rt, alloc, case, core, gate, worker, proofs, examiner, bytes, pass, asked,
     )?;
     end_at_other(examined, order, next);
-    Ok(Some(ExaminedLeaf { leaf, examined }))
+    Ok(ExaminedLeaf { leaf, examined })
 }
 
-/// Takes turns until none is left or a fault comes, by an examiner and over bytes that are lent.
+/// Examines a leaf whose turn was taken, and then those of further turns, until none is left or a
+/// fault comes, by an examiner that is lent. One proof is in memory at a time.
 fn take_leaves<R: Wait, G: Gate, P: LeafProofs>(
     rt: &R,
     alloc: Global,
@@ -211,13 +219,14 @@ fn take_leaves<R: Wait, G: Gate, P: LeafProofs>(
     next: &AtomicU64,
     proofs: &mut P,
     examiner: &mut Examiner<'_>,
-    bytes: &mut Vec<u8>,
     pass: &mut Pass,
     examined: &mut Vec<ExaminedLeaf>,
+    first: Leaf,
 ) -> Result<(), ReadFault>
     requires case { case.now ≡ (core_of core.now).case }
     requires elsewhere { (core_of core.now).elsewhere ≡ true }
     requires examiner { examiner.old ≡ case.now }
+    requires first { HasTarget case.now.tree (Target.Leaf first) }
     requires own { IsPassOf (shared_of core.now) pass.old }
     requires free { (view_of pass.old).owes ≡ None }
     requires count { P.failures proofs.old < 2 ^ 64 - 1 }
@@ -232,19 +241,25 @@ fn take_leaves<R: Wait, G: Gate, P: LeafProofs>(
     ensures err { IfErr result
         (λ fault. IsReadFault (P.failures proofs.old) (P.failures proofs.new) fault) }
 {
+    let mut bytes = Vec::new(alloc);
+    let mut leaf = first;
     for _ in rt.forever() {
-        let Some(one) = take_leaf(
-            rt, alloc, case, core, gate, worker, order, next, proofs, examiner, bytes, pass,
-        )?
-        else {
+        let one = take_leaf(
+            rt, alloc, case, core, gate, worker, order, next, proofs, examiner, &mut bytes, pass,
+            leaf,
+        )?;
+        examined.push(one)?;
+        let Some(following) = next_leaf(case, order, next) else {
             return Ok(());
         };
-        examined.push(one)?;
+        leaf = following;
     }
     unreachable!()
 }
 
-/// Takes turns until none is left or a fault comes, by an examiner and over bytes of its own.
+/// Takes turns until none is left or a fault comes, by an examiner of its own. That holds the
+/// formula once more, so it is made when a first turn has been taken: a worker that finds none
+/// costs nothing.
 fn examine_leaves<R: Wait, G: Gate, P: LeafProofs>(
     rt: &R,
     alloc: Global,
@@ -273,8 +288,10 @@ fn examine_leaves<R: Wait, G: Gate, P: LeafProofs>(
     ensures err { IfErr result
         (λ fault. IsReadFault (P.failures proofs.old) (P.failures proofs.new) fault) }
 {
+    let Some(first) = next_leaf(case, order, next) else {
+        return Ok(());
+    };
     let mut examiner = Examiner::over(alloc, case)?;
-    let mut bytes = Vec::new(alloc);
     take_leaves(
         rt,
         alloc,
@@ -286,9 +303,9 @@ fn examine_leaves<R: Wait, G: Gate, P: LeafProofs>(
         next,
         proofs,
         &mut examiner,
-        &mut bytes,
         pass,
         examined,
+        first,
     )
 }
 

@@ -184,18 +184,39 @@ pub(crate) fn work<R: Wait, G: Gate>(
     ensures { IsShiftOf (shared_of site.entry.core.now)
         site.entry.jobs.now site.entry.order.now result }
 {
-    let Ok(mut examiner) = Examiner::over(site.alloc, site.case) else {
-        return Shift {
-            pass,
-            job_pass,
-            short_of_memory: true,
-        };
-    };
-    let short_of_memory = take_turns(site, worker, &mut examiner, &mut pass, &mut job_pass);
+    let short_of_memory = take_all(site, worker, &mut pass, &mut job_pass);
     Shift {
         pass,
         job_pass,
         short_of_memory,
+    }
+}
+
+/// Claims turns as `work` does, on passes that are lent; answers whether memory was refused. The
+/// examiner, which holds the formula once more, is made when a first turn has been claimed: a
+/// worker that finds none costs nothing.
+fn take_all<R: Wait, G: Gate>(
+    site: Site<'_, R, G>,
+    worker: u32,
+    pass: &mut Pass,
+    job_pass: &mut JobPass,
+) -> bool
+    requires ready { AreReady site.case.now (shared_of site.core.now) site.jobs.now site.order.now }
+    requires pass { IsNewPass (shared_of site.core.now) pass.old }
+    requires job_pass { job_pass.old ≡ new_pass site.jobs.now }
+    ensures { IsShiftOf (shared_of site.entry.core.now) site.entry.jobs.now site.entry.order.now
+        (record { pass = pass.new; job_pass = job_pass.new; short_of_memory = result }) }
+{
+    let Some(turn) = site.jobs.claim(site.rt, job_pass) else {
+        return false;
+    };
+    let Ok(mut examiner) = Examiner::over(site.alloc, site.case) else {
+        return true;
+    };
+    let place = site.order[turn];
+    match take_turn(site, worker, &mut examiner, pass, place) {
+        Ok(()) => take_turns(site, worker, &mut examiner, pass, job_pass),
+        Err(_) => true,
     }
 }
 
@@ -230,7 +251,8 @@ fn claim_turn<R: Wait, G: Gate>(
     Ok(true)
 }
 
-/// Claims turns on passes that are lent; answers whether memory was refused.
+/// Claims turns until none is left, by an examiner and on passes that are lent; answers whether
+/// memory was refused.
 fn take_turns<R: Wait, G: Gate>(
     site: Site<'_, R, G>,
     worker: u32,
@@ -240,8 +262,10 @@ fn take_turns<R: Wait, G: Gate>(
 ) -> bool
     requires ready { AreReady site.case.now (shared_of site.core.now) site.jobs.now site.order.now }
     requires examiner { examiner.old ≡ site.case.now }
-    requires pass { IsNewPass (shared_of site.core.now) pass.old }
-    requires job_pass { job_pass.old ≡ new_pass site.jobs.now }
+    requires own { IsPassOf (shared_of site.core.now) pass.old }
+    requires free { (view_of pass.old).owes ≡ None }
+    requires jobs { queue.IsPassOf site.jobs.now job_pass.old }
+    requires seen { All (HasSeenTurn site.order.now (view_of pass.old)) job_pass.old.claims }
     ensures { IsShiftOf (shared_of site.entry.core.now) site.entry.jobs.now site.entry.order.now
         (record { pass = pass.new; job_pass = job_pass.new; short_of_memory = result }) }
 {
