@@ -1,6 +1,6 @@
 -- What a worker has seen after it posted the finding of a leaf's proof.
-use Rattle.std.proofs.Common.{◌≡◌, ℕ, true, List, [], ◌∷◌, ◌++◌, Option, None, Some, Bool, refl, sym}
-use Rattle.std.proofs.Common.{ap, All, ◌∙◌, subst, is_some, unwrap_or, append_assoc, append-nil}
+use Rattle.std.proofs.Common.{◌≡◌, ℕ, true, List, [], ◌∷◌, ◌++◌, Option, None, Some, Bool, refl}
+use Rattle.std.proofs.Common.{sym, ap, All, ◌∙◌, subst, is_some, unwrap_or, append_assoc, append-nil}
 use Rattle.std.specs.Prelude.{IfSome}
 use Rattle.std.proofs.lemmas.List.Elements.{All-push, All-weaker}
 use Rattle.case_core.specs.Leaf.{Leaf}

@@ -58,6 +58,16 @@ impl<'a, R, G> Promise<Shift> for Site<'a, R, G> {
         IsShiftOf (shared_of site.core.now) site.jobs.now site.order.now shift };
 }
 
+/// A proof that was judged: whose it is, at which node that target stands, how many bytes the proof
+/// has, and what is said of it.
+#[derive(Clone, Copy)]
+pub(crate) struct JudgedProof {
+    pub(crate) target: Target,
+    pub(crate) node: NodeId,
+    pub(crate) length: usize,
+    pub(crate) judged: Judged,
+}
+
 /// Examines the section at a place, posts what is found, and then the part that is owed, if any.
 /// `AllocError` where a growth was refused, and then nothing is posted.
 fn take_turn<R: Wait, G: Gate>(
@@ -93,11 +103,14 @@ fn take_turn<R: Wait, G: Gate>(
     let Some(finding) = examiner.examine(alloc, asked)? else {
         unreachable!()
     };
-    let node = finding.node();
-    let judged = finding.judged();
-    let length = case.proof_at(place).len();
+    let proof = JudgedProof {
+        target,
+        node: finding.node(),
+        length: case.proof_at(place).len(),
+        judged: finding.judged(),
+    };
     let _ = post(rt, case, core, pass, finding);
-    tell(case, core, gate, worker, pass, target, node, length, judged);
+    tell(case, core, gate, worker, pass, proof);
     Ok(())
 }
 
@@ -141,28 +154,25 @@ pub(crate) fn tell<G: Gate>(
     gate: &G,
     worker: u32,
     pass: &mut Pass,
-    target: Target,
-    node: NodeId,
-    length: usize,
-    judged: Judged,
+    proof: JudgedProof,
 )
     requires case { case.now ≡ (core_of core.now).case }
-    requires here { IsTargetAt case.now.tree node target }
-    requires is { IsFinding case.now target judged }
+    requires here { IsTargetAt case.now.tree proof.node proof.target }
+    requires is { IsFinding case.now proof.target proof.judged }
     requires own { IsPassOf (shared_of core.now) pass.old }
-    requires seen { HasSeenMark (view_of pass.old) node judged }
+    requires seen { HasSeenMark (view_of pass.old) proof.node proof.judged }
     ensures own { IsPassOf (shared_of core.now) pass.new }
     ensures stays { Stays (view_of pass.old) (view_of pass.new) }
     ensures nothing { PostsNothing (view_of pass.old) (view_of pass.new) }
 {
-    let board = core.place_of(case, node);
+    let board = core.place_of(case, proof.node);
     let weight = core.open_weight(pass, board);
     let found = Found {
         case,
-        target,
-        node,
-        length,
-        judged,
+        target: proof.target,
+        node: proof.node,
+        length: proof.length,
+        judged: proof.judged,
         place: board,
         weight,
         pass,

@@ -7,11 +7,11 @@ use Rattle.check_crew.proofs.leaves.take_leaves.Given as goal
 
 abbrev pub invariant-loop : goal.invariant-loop
 invariant-loop g l = record {
-  examiner : l.examiner ≡ l.case;
-  leaf : HasTarget l.case.tree (Named l.leaf);
+  examiner : l.examiner ≡ l.site.case.now;
+  leaf : HasTarget l.site.case.now.tree (Named l.leaf);
   held : g.P.LeafProofs.held l.proofs ≡ g.P.LeafProofs.held l.initial.proofs;
   count : g.P.LeafProofs.failures l.proofs ≡ g.P.LeafProofs.failures l.initial.proofs;
-  pass : IsPassOf (shared_of l.core) l.pass;
+  pass : IsPassOf (shared_of l.site.core.now) l.pass;
   owes : (view_of l.pass).owes ≡ None;
   examined : All (λ one. IsExamined (g.P.LeafProofs.held l.initial.proofs one.leaf) (view_of l.pass)
       one.leaf one.examined) l.examined.items;
