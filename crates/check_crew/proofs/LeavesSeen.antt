@@ -1,8 +1,8 @@
 -- What a worker has seen after it posted the finding of a leaf's proof.
-use Rattle.std.proofs.Common.{◌≡◌, ℕ, true, List, [], ◌++◌, Option, None, Some, Bool, refl, sym, ap}
-use Rattle.std.proofs.Common.{All, ◌∙◌, subst, is_some, unwrap_or, append_assoc, append-nil}
+use Rattle.std.proofs.Common.{◌≡◌, ℕ, true, List, [], ◌∷◌, ◌++◌, Option, None, Some, Bool, refl}
+use Rattle.std.proofs.Common.{sym, ap, All, ◌∙◌, subst, is_some, unwrap_or, append_assoc, append-nil}
 use Rattle.std.specs.Prelude.{IfSome}
-use Rattle.std.proofs.lemmas.List.Elements.{All-weaker}
+use Rattle.std.proofs.lemmas.List.Elements.{All-push, All-weaker}
 use Rattle.case_core.specs.Leaf.{Leaf}
 use Rattle.case_core.specs.Leaves.{IsTargetAt}
 use Rattle.case_core.specs.Target.{Target}
@@ -116,3 +116,13 @@ all_examined_stay known before after list stays =
     All-weaker (λ one. IsExamined (known one.leaf) before one.leaf one.examined)
     (λ one. IsExamined (known one.leaf) after one.leaf one.examined)
     (λ one. examined_stays (known one.leaf) before after one.leaf one.examined stays) list
+
+-- and of one leaf more
+pub examined_more : (known : Known) (before after : View) (list : List ExaminedLeaf)
+    (next : ExaminedLeaf) → Stays before after
+    → All (λ one. IsExamined (known one.leaf) before one.leaf one.examined) list
+    → IsExamined (known next.leaf) after next.leaf next.examined
+    → All (λ one. IsExamined (known one.leaf) after one.leaf one.examined) (list ++ next ∷ [])
+examined_more known before after list next stays were is =
+    All-push (λ one. IsExamined (known one.leaf) after one.leaf one.examined) list next
+    (all_examined_stay known before after list stays were) is

@@ -17,10 +17,10 @@ use crate::fault::CrewFault;
 use crate::gate::Gate;
 use crate::leaf_order::{LeafOrder, leaves_in_order};
 use crate::leaf_proofs::{LeafProofs, ReadFault};
-use crate::leaves::{ExaminedLeaf, LeafJob, LeafShift, work_leaves};
+use crate::leaves::{ExaminedLeaf, LeafJob, LeafShift, LeafSite, work_leaves};
 use crate::settings::Settings;
 use board_hall::{Core, Hall, Pass};
-use case_core::{Case, Leaf};
+use case_core::Case;
 use mark_board::Boards;
 use std::alloc::{AllocError, Global};
 use std::sync::Wait;
@@ -110,16 +110,17 @@ fn run_leaves<'c, R: Threads + Wait + Sync, G: Gate + Sync, P: LeafProofs + Send
         order,
     } = open_hall(alloc, case, settings, proofs)?;
     gate.start(alloc, case, settings.cut(), order.elsewhere)?;
-    let run = run_both(
+    let next = AtomicU64::new(0);
+    let site = LeafSite {
         rt,
         alloc,
         case,
-        hall.core(),
+        core: hall.core(),
         gate,
-        &order.leaves,
-        passes,
-        jobs,
-    );
+        order: &order.leaves,
+        next: &next,
+    };
+    let run = run_both(site, passes, jobs);
     gate.end();
     let (passes, shifts) = run?;
     Ok(LeafRun {
@@ -221,27 +222,22 @@ fn deal<P: LeafProofs + Drop>(
 
 /// Has workers examine the sections of the case, and then its leaves.
 fn run_both<R: Threads + Wait + Sync, G: Gate + Sync, P: LeafProofs + Send + Drop>(
-    rt: &R,
-    alloc: Global,
-    case: &Case,
-    core: &Core,
-    gate: &G,
-    order: &[Leaf],
+    site: LeafSite<'_, R, G>,
     passes: Vec<Pass>,
     jobs: Vec<LeafJob<P>>,
 ) -> Result<(Vec<Pass>, Vec<LeafShift<P>>), CrewFault>
-    requires case { case.now ≡ (core_of core.now).case }
-    requires elsewhere { (core_of core.now).elsewhere ≡ true }
+    requires case { site.case.now ≡ (core_of site.core.now).case }
+    requires elsewhere { (core_of site.core.now).elsewhere ≡ true }
     requires count { (0 < vec_len passes) × (vec_len passes ≤ 32) }
-    requires passes { All (IsNewPass (shared_of core.now)) passes.items }
-    requires new { All (λ job. IsNewPass (shared_of core.now) job.pass) jobs.items }
+    requires passes { All (IsNewPass (shared_of site.core.now)) passes.items }
+    requires new { All (λ job. IsNewPass (shared_of site.core.now) job.pass) jobs.items }
     requires fresh { All (λ job. P.failures job.proofs ≡ 0) jobs.items }
     ensures count { IfOk result (λ run. (vec_len run.0 ≡ vec_len passes)
         × (vec_len run.1 ≡ vec_len jobs)) }
-    ensures own { IfOk result (λ run. All (IsPassOf (shared_of core.now)) run.0.items) }
+    ensures own { IfOk result (λ run. All (IsPassOf (shared_of site.entry.core.now)) run.0.items) }
     ensures free { IfOk result (λ run. All (λ pass. (view_of pass).owes ≡ None) run.0.items) }
-    ensures seen { IfOk result (λ run. HaveSeenSections case.now run.0.items) }
-    ensures shifts { IfOk result (λ run. All (λ shift. IsLeafShiftOf (shared_of core.now)
+    ensures seen { IfOk result (λ run. HaveSeenSections site.entry.case.now run.0.items) }
+    ensures shifts { IfOk result (λ run. All (λ shift. IsLeafShiftOf (shared_of site.entry.core.now)
         (P.held shift.proofs) (P.failures shift.proofs) shift.pass shift.examined.items
         shift.fault) run.1.items) }
     ensures held { (known : Known)
@@ -249,49 +245,42 @@ fn run_both<R: Threads + Wait + Sync, G: Gate + Sync, P: LeafProofs + Send + Dro
         → IfOk result (λ run. All (λ shift. (leaf : Leaf) → P.held shift.proofs leaf ≡ known leaf)
         run.1.items) }
 {
-    let passes = examine_all(rt, alloc, case, core, gate, passes)?;
-    let shifts = examine_elsewhere(rt, alloc, case, core, gate, order, jobs)?;
+    let passes = examine_all(site.rt, site.alloc, site.case, site.core, site.gate, passes)?;
+    let shifts = examine_elsewhere(site, jobs)?;
     Ok((passes, shifts))
 }
 
 /// Has a worker for each job, which take the leaves of the order in turn. Where a thread can't be
 /// started, another worker's thread does its part behind its own.
 fn examine_elsewhere<R: Threads + Wait + Sync, G: Gate + Sync, P: LeafProofs + Send + Drop>(
-    rt: &R,
-    alloc: Global,
-    case: &Case,
-    core: &Core,
-    gate: &G,
-    order: &[Leaf],
+    site: LeafSite<'_, R, G>,
     jobs: Vec<LeafJob<P>>,
 ) -> Result<Vec<LeafShift<P>>, AllocError>
-    requires case { case.now ≡ (core_of core.now).case }
-    requires elsewhere { (core_of core.now).elsewhere ≡ true }
-    requires new { All (λ job. IsNewPass (shared_of core.now) job.pass) jobs.items }
+    requires case { site.case.now ≡ (core_of site.core.now).case }
+    requires elsewhere { (core_of site.core.now).elsewhere ≡ true }
+    requires new { All (λ job. IsNewPass (shared_of site.core.now) job.pass) jobs.items }
     requires fresh { All (λ job. P.failures job.proofs ≡ 0) jobs.items }
     ensures count { IfOk result (λ shifts. vec_len shifts ≡ vec_len jobs) }
-    ensures shifts { IfOk result (λ shifts. All (λ shift. IsLeafShiftOf (shared_of core.now)
-        (P.held shift.proofs) (P.failures shift.proofs) shift.pass shift.examined.items
-        shift.fault) shifts.items) }
+    ensures shifts { IfOk result (λ shifts. All (λ shift. IsLeafShiftOf
+        (shared_of site.entry.core.now) (P.held shift.proofs) (P.failures shift.proofs) shift.pass
+        shift.examined.items shift.fault) shifts.items) }
     ensures held { (known : Known)
         → All (λ job. (leaf : Leaf) → P.held job.proofs leaf ≡ known leaf) jobs.items
         → IfOk result (λ shifts. All (λ shift. (leaf : Leaf) → P.held shift.proofs leaf
         ≡ known leaf) shifts.items) }
 {
-    let counter = AtomicU64::new(0);
-    let next = &counter;
     thread::map_vec(
-        rt,
+        site.rt,
         jobs,
         &move |job: LeafJob<P>| -> LeafShift<P>
-            requires case { case.now ≡ (core_of core.now).case }
-            requires elsewhere { (core_of core.now).elsewhere ≡ true }
-            requires new { IsNewPass (shared_of core.now) job.pass }
+            requires case { site.case.now ≡ (core_of site.core.now).case }
+            requires elsewhere { (core_of site.core.now).elsewhere ≡ true }
+            requires new { IsNewPass (shared_of site.core.now) job.pass }
             requires fresh { P.failures job.proofs ≡ 0 }
             ensures held { P.held result.proofs ≡ P.held job.proofs }
-            ensures shift { IsLeafShiftOf (shared_of core.entry.now) (P.held result.proofs)
+            ensures shift { IsLeafShiftOf (shared_of site.entry.core.now) (P.held result.proofs)
                 (P.failures result.proofs) result.pass result.examined.items result.fault }
-        { work_leaves(rt, alloc, case, core, gate, order, next, job) },
+        { work_leaves(site, job) },
     )
 }
 

@@ -14,10 +14,10 @@ ghost use Rattle.check_crew.specs.Inner.Apart.{IsLeafShiftOf};
 
 use crate::gate::Gate;
 use crate::leaf_proofs::{LeafProofs, ReadFault};
-use crate::worker::{post, tell};
+use crate::worker::{JudgedProof, post, tell};
 use board_hall::{Core, Pass};
 use case_core::{Case, Examiner, Judged, Leaf, Target, has_label_line};
-use std::alloc::Global;
+use std::alloc::{AllocError, Global};
 use std::sync::Wait;
 use std::sync::atomic::{AtomicU64, Ordering};
 
@@ -39,6 +39,27 @@ pub(crate) struct ExaminedLeaf {
     pub(crate) leaf: Leaf,
     pub(crate) examined: Examined,
 }
+
+/// What all workers over leaves share: what they wait by and have memory from, the case, the hall,
+/// the gate, the leaves in the order of their turns, and how many turns have been taken.
+pub(crate) struct LeafSite<'a, R, G> {
+    pub(crate) rt: &'a R,
+    pub(crate) alloc: Global,
+    pub(crate) case: &'a Case,
+    pub(crate) core: &'a Core,
+    pub(crate) gate: &'a G,
+    pub(crate) order: &'a [Leaf],
+    pub(crate) next: &'a AtomicU64,
+}
+
+// A derive would ask that `R` and `G` are `Copy`, too.
+impl<'a, R, G> Clone for LeafSite<'a, R, G> {
+    fn clone(&self) -> Result<Self, AllocError> {
+        Ok(*self)
+    }
+}
+
+impl<'a, R, G> Copy for LeafSite<'a, R, G> {}
 
 /// What a worker over leaves begins with: its number, its pass, and what it reads proofs by.
 #[derive(Drop)]
@@ -72,11 +93,7 @@ fn is_for_one_bundle(case: &Case, leaf: Leaf, proof: &[u8]) -> bool
 /// if any; the gate is called beside it where there is a proof. The bytes are dropped by the next
 /// call.
 fn examine_leaf<R: Wait, G: Gate, P: LeafProofs>(
-    rt: &R,
-    alloc: Global,
-    case: &Case,
-    core: &Core,
-    gate: &G,
+    site: LeafSite<'_, R, G>,
     worker: u32,
     proofs: &mut P,
     examiner: &mut Examiner<'_>,
@@ -84,16 +101,16 @@ fn examine_leaf<R: Wait, G: Gate, P: LeafProofs>(
     pass: &mut Pass,
     leaf: Leaf,
 ) -> Result<Examined, ReadFault>
-    requires case { case.now ≡ (core_of core.now).case }
-    requires elsewhere { (core_of core.now).elsewhere ≡ true }
-    requires examiner { examiner.old ≡ case.now }
-    requires leaf { HasTarget case.now.tree (Target.Leaf leaf) }
-    requires own { IsPassOf (shared_of core.now) pass.old }
+    requires case { site.case.now ≡ (core_of site.core.now).case }
+    requires elsewhere { (core_of site.core.now).elsewhere ≡ true }
+    requires examiner { examiner.old ≡ site.case.now }
+    requires leaf { HasTarget site.case.now.tree (Target.Leaf leaf) }
+    requires own { IsPassOf (shared_of site.core.now) pass.old }
     requires free { (view_of pass.old).owes ≡ None }
     requires count { P.failures proofs.old < 2 ^ 64 - 1 }
     ensures held { P.held proofs.new ≡ P.held proofs.old }
     ensures same { examiner.new ≡ examiner.old }
-    ensures own { IsPassOf (shared_of core.now) pass.new }
+    ensures own { IsPassOf (shared_of site.entry.core.now) pass.new }
     ensures owes { (view_of pass.new).owes ≡ None }
     ensures stays { Stays (view_of pass.old) (view_of pass.new) }
     ensures examined { IfOk result
@@ -102,6 +119,14 @@ fn examine_leaf<R: Wait, G: Gate, P: LeafProofs>(
     ensures err { IfErr result
         (λ fault. IsReadFault (P.failures proofs.old) (P.failures proofs.new) fault) }
 {
+    let LeafSite {
+        rt,
+        alloc,
+        case,
+        core,
+        gate,
+        ..
+    } = site;
     let asked = leaf;
     let placed = leaf;
     let announced = leaf;
@@ -115,22 +140,17 @@ fn examine_leaf<R: Wait, G: Gate, P: LeafProofs>(
     }
     gate.before(worker, Target::Leaf(announced));
     let finding = examiner.examine_text(alloc, leaf, bytes)?;
-    let node = finding.node();
     let judged = finding.judged();
+    let proof = JudgedProof {
+        target: Target::Leaf(told),
+        node: finding.node(),
+        length: bytes.len(),
+        judged,
+    };
     if !post(rt, case, core, pass, finding) {
         return Ok(Examined::Other);
     }
-    tell(
-        case,
-        core,
-        gate,
-        worker,
-        pass,
-        Target::Leaf(told),
-        node,
-        bytes.len(),
-        judged,
-    );
+    tell(case, core, gate, worker, pass, proof);
     Ok(Examined::Found(judged))
 }
 
@@ -147,84 +167,78 @@ fn leaf_at(case: &Case, order: &[Leaf], turn: u64) -> Option<Leaf>
     }
 }
 
+/// Takes the next turn, which the workers count, and answers its leaf; `None` where none is left.
+fn next_leaf<R, G>(site: LeafSite<'_, R, G>) -> Option<Leaf>
+    ensures { IfSome result (λ leaf. HasTarget site.entry.case.now.tree (Target.Leaf leaf)) }
+{
+    let turn = site.next.fetch_add(1, Ordering::SeqCst);
+    leaf_at(site.case, site.order, turn)
+}
+
 /// Lets nobody take another turn where the run has to be made with all proofs in one bundle.
-fn end_at_other(found: Examined, order: &[Leaf], next: &AtomicU64) {
+fn end_at_other<R, G>(site: LeafSite<'_, R, G>, found: Examined) {
     if let Examined::Other = found {
-        next.store(order.len() as u64, Ordering::SeqCst);
+        site.next.store(site.order.len() as u64, Ordering::SeqCst);
     }
 }
 
-/// Takes the next turn, which the workers count in `next`, and examines its leaf; `None` where none
-/// is left. Where the run has to be made with all proofs in one bundle, nobody takes another one.
+/// Examines a leaf whose turn was taken. Where the run has to be made with all proofs in one
+/// bundle, nobody takes another one.
 fn take_leaf<R: Wait, G: Gate, P: LeafProofs>(
-    rt: &R,
-    alloc: Global,
-    case: &Case,
-    core: &Core,
-    gate: &G,
+    site: LeafSite<'_, R, G>,
     worker: u32,
-    order: &[Leaf],
-    next: &AtomicU64,
     proofs: &mut P,
     examiner: &mut Examiner<'_>,
     bytes: &mut Vec<u8>,
     pass: &mut Pass,
-) -> Result<Option<ExaminedLeaf>, ReadFault>
-    requires case { case.now ≡ (core_of core.now).case }
-    requires elsewhere { (core_of core.now).elsewhere ≡ true }
-    requires examiner { examiner.old ≡ case.now }
-    requires own { IsPassOf (shared_of core.now) pass.old }
+    leaf: Leaf,
+) -> Result<ExaminedLeaf, ReadFault>
+    requires case { site.case.now ≡ (core_of site.core.now).case }
+    requires elsewhere { (core_of site.core.now).elsewhere ≡ true }
+    requires examiner { examiner.old ≡ site.case.now }
+    requires leaf { HasTarget site.case.now.tree (Target.Leaf leaf) }
+    requires own { IsPassOf (shared_of site.core.now) pass.old }
     requires free { (view_of pass.old).owes ≡ None }
     requires count { P.failures proofs.old < 2 ^ 64 - 1 }
     ensures held { P.held proofs.new ≡ P.held proofs.old }
     ensures same { examiner.new ≡ examiner.old }
-    ensures own { IsPassOf (shared_of core.now) pass.new }
+    ensures own { IsPassOf (shared_of site.entry.core.now) pass.new }
     ensures owes { (view_of pass.new).owes ≡ None }
     ensures stays { Stays (view_of pass.old) (view_of pass.new) }
-    ensures examined { IfOk result (λ some. IfSome some (λ one.
-        IsExamined (P.held proofs.old one.leaf) (view_of pass.new) one.leaf one.examined)) }
+    ensures examined { IfOk result (λ one.
+        IsExamined (P.held proofs.old one.leaf) (view_of pass.new) one.leaf one.examined) }
     ensures ok { OnOk result (P.failures proofs.new ≡ P.failures proofs.old) }
     ensures err { IfErr result
         (λ fault. IsReadFault (P.failures proofs.old) (P.failures proofs.new) fault) }
 {
-    let turn = next.fetch_add(1, Ordering::SeqCst);
-    let Some(leaf) = leaf_at(case, order, turn) else {
-        return Ok(None);
-    };
     let asked = leaf;
-    let examined = examine_leaf(
-        rt, alloc, case, core, gate, worker, proofs, examiner, bytes, pass, asked,
-    )?;
-    end_at_other(examined, order, next);
-    Ok(Some(ExaminedLeaf { leaf, examined }))
+    let examined = examine_leaf(site, worker, proofs, examiner, bytes, pass, asked)?;
+    end_at_other(site, examined);
+    Ok(ExaminedLeaf { leaf, examined })
 }
 
-/// Takes turns until none is left or a fault comes, by an examiner and over bytes that are lent.
+/// Examines a leaf whose turn was taken, and then those of further turns, until none is left or a
+/// fault comes, by an examiner that is lent. One proof is in memory at a time.
 fn take_leaves<R: Wait, G: Gate, P: LeafProofs>(
-    rt: &R,
-    alloc: Global,
-    case: &Case,
-    core: &Core,
-    gate: &G,
+    site: LeafSite<'_, R, G>,
     worker: u32,
-    order: &[Leaf],
-    next: &AtomicU64,
     proofs: &mut P,
     examiner: &mut Examiner<'_>,
-    bytes: &mut Vec<u8>,
     pass: &mut Pass,
     examined: &mut Vec<ExaminedLeaf>,
+    first: Leaf,
 ) -> Result<(), ReadFault>
-    requires case { case.now ≡ (core_of core.now).case }
-    requires elsewhere { (core_of core.now).elsewhere ≡ true }
-    requires examiner { examiner.old ≡ case.now }
-    requires own { IsPassOf (shared_of core.now) pass.old }
+    requires case { site.case.now ≡ (core_of site.core.now).case }
+    requires elsewhere { (core_of site.core.now).elsewhere ≡ true }
+    requires examiner { examiner.old ≡ site.case.now }
+    requires first { HasTarget site.case.now.tree (Target.Leaf first) }
+    requires own { IsPassOf (shared_of site.core.now) pass.old }
     requires free { (view_of pass.old).owes ≡ None }
     requires count { P.failures proofs.old < 2 ^ 64 - 1 }
     requires none { examined.old.items ≡ [] }
     ensures held { P.held proofs.new ≡ P.held proofs.old }
     ensures same { examiner.new ≡ examiner.old }
-    ensures own { IsPassOf (shared_of core.now) pass.new }
+    ensures own { IsPassOf (shared_of site.entry.core.now) pass.new }
     ensures owes { (view_of pass.new).owes ≡ None }
     ensures examined { OnOk result (All (λ one. IsExamined (P.held proofs.old one.leaf)
         (view_of pass.new) one.leaf one.examined) examined.new.items) }
@@ -232,40 +246,37 @@ fn take_leaves<R: Wait, G: Gate, P: LeafProofs>(
     ensures err { IfErr result
         (λ fault. IsReadFault (P.failures proofs.old) (P.failures proofs.new) fault) }
 {
-    for _ in rt.forever() {
-        let Some(one) = take_leaf(
-            rt, alloc, case, core, gate, worker, order, next, proofs, examiner, bytes, pass,
-        )?
-        else {
+    let mut bytes = Vec::new(site.alloc);
+    let mut leaf = first;
+    for _ in site.rt.forever() {
+        let one = take_leaf(site, worker, proofs, examiner, &mut bytes, pass, leaf)?;
+        examined.push(one)?;
+        let Some(following) = next_leaf(site) else {
             return Ok(());
         };
-        examined.push(one)?;
+        leaf = following;
     }
     unreachable!()
 }
 
-/// Takes turns until none is left or a fault comes, by an examiner and over bytes of its own.
+/// Takes turns until none is left or a fault comes, by an examiner of its own. That holds the
+/// formula once more, so it is made when a first turn has been taken: a worker that finds none
+/// costs nothing.
 fn examine_leaves<R: Wait, G: Gate, P: LeafProofs>(
-    rt: &R,
-    alloc: Global,
-    case: &Case,
-    core: &Core,
-    gate: &G,
+    site: LeafSite<'_, R, G>,
     worker: u32,
-    order: &[Leaf],
-    next: &AtomicU64,
     proofs: &mut P,
     pass: &mut Pass,
     examined: &mut Vec<ExaminedLeaf>,
 ) -> Result<(), ReadFault>
-    requires case { case.now ≡ (core_of core.now).case }
-    requires elsewhere { (core_of core.now).elsewhere ≡ true }
-    requires own { IsPassOf (shared_of core.now) pass.old }
+    requires case { site.case.now ≡ (core_of site.core.now).case }
+    requires elsewhere { (core_of site.core.now).elsewhere ≡ true }
+    requires own { IsPassOf (shared_of site.core.now) pass.old }
     requires free { (view_of pass.old).owes ≡ None }
     requires count { P.failures proofs.old < 2 ^ 64 - 1 }
     requires none { examined.old.items ≡ [] }
     ensures held { P.held proofs.new ≡ P.held proofs.old }
-    ensures own { IsPassOf (shared_of core.now) pass.new }
+    ensures own { IsPassOf (shared_of site.entry.core.now) pass.new }
     ensures owes { (view_of pass.new).owes ≡ None }
     ensures examined { OnOk result (All (λ one. IsExamined (P.held proofs.old one.leaf)
         (view_of pass.new) one.leaf one.examined) examined.new.items) }
@@ -273,42 +284,24 @@ fn examine_leaves<R: Wait, G: Gate, P: LeafProofs>(
     ensures err { IfErr result
         (λ fault. IsReadFault (P.failures proofs.old) (P.failures proofs.new) fault) }
 {
-    let mut examiner = Examiner::over(alloc, case)?;
-    let mut bytes = Vec::new(alloc);
-    take_leaves(
-        rt,
-        alloc,
-        case,
-        core,
-        gate,
-        worker,
-        order,
-        next,
-        proofs,
-        &mut examiner,
-        &mut bytes,
-        pass,
-        examined,
-    )
+    let Some(first) = next_leaf(site) else {
+        return Ok(());
+    };
+    let mut examiner = Examiner::over(site.alloc, site.case)?;
+    take_leaves(site, worker, proofs, &mut examiner, pass, examined, first)
 }
 
 /// Does a worker's part of the leaves.
 pub(crate) fn work_leaves<R: Wait, G: Gate, P: LeafProofs>(
-    rt: &R,
-    alloc: Global,
-    case: &Case,
-    core: &Core,
-    gate: &G,
-    order: &[Leaf],
-    next: &AtomicU64,
+    site: LeafSite<'_, R, G>,
     job: LeafJob<P>,
 ) -> LeafShift<P>
-    requires case { case.now ≡ (core_of core.now).case }
-    requires elsewhere { (core_of core.now).elsewhere ≡ true }
-    requires new { IsNewPass (shared_of core.now) job.pass }
+    requires case { site.case.now ≡ (core_of site.core.now).case }
+    requires elsewhere { (core_of site.core.now).elsewhere ≡ true }
+    requires new { IsNewPass (shared_of site.core.now) job.pass }
     requires fresh { P.failures job.proofs ≡ 0 }
     ensures held { P.held result.proofs ≡ P.held job.proofs }
-    ensures shift { IsLeafShiftOf (shared_of core.now) (P.held result.proofs)
+    ensures shift { IsLeafShiftOf (shared_of site.entry.core.now) (P.held result.proofs)
         (P.failures result.proofs) result.pass result.examined.items result.fault }
 {
     let LeafJob {
@@ -316,20 +309,8 @@ pub(crate) fn work_leaves<R: Wait, G: Gate, P: LeafProofs>(
         mut pass,
         mut proofs,
     } = job;
-    let mut examined = Vec::new(alloc);
-    let fault = match examine_leaves(
-        rt,
-        alloc,
-        case,
-        core,
-        gate,
-        worker,
-        order,
-        next,
-        &mut proofs,
-        &mut pass,
-        &mut examined,
-    ) {
+    let mut examined = Vec::new(site.alloc);
+    let fault = match examine_leaves(site, worker, &mut proofs, &mut pass, &mut examined) {
         Ok(()) => None,
         Err(fault) => Some(fault),
     };

@@ -58,6 +58,16 @@ impl<'a, R, G> Promise<Shift> for Site<'a, R, G> {
         IsShiftOf (shared_of site.core.now) site.jobs.now site.order.now shift };
 }
 
+/// A proof that was judged: whose it is, at which node that target stands, how many bytes the proof
+/// has, and what is said of it.
+#[derive(Clone, Copy)]
+pub(crate) struct JudgedProof {
+    pub(crate) target: Target,
+    pub(crate) node: NodeId,
+    pub(crate) length: usize,
+    pub(crate) judged: Judged,
+}
+
 /// Examines the section at a place, posts what is found, and then the part that is owed, if any.
 /// `AllocError` where a growth was refused, and then nothing is posted.
 fn take_turn<R: Wait, G: Gate>(
@@ -93,11 +103,14 @@ fn take_turn<R: Wait, G: Gate>(
     let Some(finding) = examiner.examine(alloc, asked)? else {
         unreachable!()
     };
-    let node = finding.node();
-    let judged = finding.judged();
-    let length = case.proof_at(place).len();
+    let proof = JudgedProof {
+        target,
+        node: finding.node(),
+        length: case.proof_at(place).len(),
+        judged: finding.judged(),
+    };
     let _ = post(rt, case, core, pass, finding);
-    tell(case, core, gate, worker, pass, target, node, length, judged);
+    tell(case, core, gate, worker, pass, proof);
     Ok(())
 }
 
@@ -141,28 +154,25 @@ pub(crate) fn tell<G: Gate>(
     gate: &G,
     worker: u32,
     pass: &mut Pass,
-    target: Target,
-    node: NodeId,
-    length: usize,
-    judged: Judged,
+    proof: JudgedProof,
 )
     requires case { case.now ≡ (core_of core.now).case }
-    requires here { IsTargetAt case.now.tree node target }
-    requires is { IsFinding case.now target judged }
+    requires here { IsTargetAt case.now.tree proof.node proof.target }
+    requires is { IsFinding case.now proof.target proof.judged }
     requires own { IsPassOf (shared_of core.now) pass.old }
-    requires seen { HasSeenMark (view_of pass.old) node judged }
+    requires seen { HasSeenMark (view_of pass.old) proof.node proof.judged }
     ensures own { IsPassOf (shared_of core.now) pass.new }
     ensures stays { Stays (view_of pass.old) (view_of pass.new) }
     ensures nothing { PostsNothing (view_of pass.old) (view_of pass.new) }
 {
-    let board = core.place_of(case, node);
+    let board = core.place_of(case, proof.node);
     let weight = core.open_weight(pass, board);
     let found = Found {
         case,
-        target,
-        node,
-        length,
-        judged,
+        target: proof.target,
+        node: proof.node,
+        length: proof.length,
+        judged: proof.judged,
         place: board,
         weight,
         pass,
@@ -184,18 +194,39 @@ pub(crate) fn work<R: Wait, G: Gate>(
     ensures { IsShiftOf (shared_of site.entry.core.now)
         site.entry.jobs.now site.entry.order.now result }
 {
-    let Ok(mut examiner) = Examiner::over(site.alloc, site.case) else {
-        return Shift {
-            pass,
-            job_pass,
-            short_of_memory: true,
-        };
-    };
-    let short_of_memory = take_turns(site, worker, &mut examiner, &mut pass, &mut job_pass);
+    let short_of_memory = take_all(site, worker, &mut pass, &mut job_pass);
     Shift {
         pass,
         job_pass,
         short_of_memory,
+    }
+}
+
+/// Claims turns as `work` does, on passes that are lent; answers whether memory was refused. The
+/// examiner, which holds the formula once more, is made when a first turn has been claimed: a
+/// worker that finds none costs nothing.
+fn take_all<R: Wait, G: Gate>(
+    site: Site<'_, R, G>,
+    worker: u32,
+    pass: &mut Pass,
+    job_pass: &mut JobPass,
+) -> bool
+    requires ready { AreReady site.case.now (shared_of site.core.now) site.jobs.now site.order.now }
+    requires pass { IsNewPass (shared_of site.core.now) pass.old }
+    requires job_pass { job_pass.old ≡ new_pass site.jobs.now }
+    ensures { IsShiftOf (shared_of site.entry.core.now) site.entry.jobs.now site.entry.order.now
+        (record { pass = pass.new; job_pass = job_pass.new; short_of_memory = result }) }
+{
+    let Some(turn) = site.jobs.claim(site.rt, job_pass) else {
+        return false;
+    };
+    let Ok(mut examiner) = Examiner::over(site.alloc, site.case) else {
+        return true;
+    };
+    let place = site.order[turn];
+    match take_turn(site, worker, &mut examiner, pass, place) {
+        Ok(()) => take_turns(site, worker, &mut examiner, pass, job_pass),
+        Err(_) => true,
     }
 }
 
@@ -230,7 +261,8 @@ fn claim_turn<R: Wait, G: Gate>(
     Ok(true)
 }
 
-/// Claims turns on passes that are lent; answers whether memory was refused.
+/// Claims turns until none is left, by an examiner and on passes that are lent; answers whether
+/// memory was refused.
 fn take_turns<R: Wait, G: Gate>(
     site: Site<'_, R, G>,
     worker: u32,
@@ -240,8 +272,10 @@ fn take_turns<R: Wait, G: Gate>(
 ) -> bool
     requires ready { AreReady site.case.now (shared_of site.core.now) site.jobs.now site.order.now }
     requires examiner { examiner.old ≡ site.case.now }
-    requires pass { IsNewPass (shared_of site.core.now) pass.old }
-    requires job_pass { job_pass.old ≡ new_pass site.jobs.now }
+    requires own { IsPassOf (shared_of site.core.now) pass.old }
+    requires free { (view_of pass.old).owes ≡ None }
+    requires jobs { queue.IsPassOf site.jobs.now job_pass.old }
+    requires seen { All (HasSeenTurn site.order.now (view_of pass.old)) job_pass.old.claims }
     ensures { IsShiftOf (shared_of site.entry.core.now) site.entry.jobs.now site.entry.order.now
         (record { pass = pass.new; job_pass = job_pass.new; short_of_memory = result }) }
 {

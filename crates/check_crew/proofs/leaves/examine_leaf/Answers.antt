@@ -20,12 +20,12 @@ post-requires-clause-section g c = λ alone. absurd (cc (c.requires.elsewhere, a
 pub tell-requires-clause-here : goal.tell-requires-clause-here
 tell-requires-clause-here g c =
     let found = rw c.requires.examiner at c.in_ok-finding.ensures.found in
-    rw (found.0, found.1) at c.node-node.ensures.here
+    rw (found.0, found.1) at c.node.ensures.here
 
 pub tell-requires-clause-seen : goal.tell-requires-clause-seen
 tell-requires-clause-seen g c =
     let new : c.post.result ≡ true = search rules in
-    rw (c.node-node.ensures.value, c.judged-judged.ensures.value) (c.post.ensures.new new)
+    rw (c.node.ensures.value, c.judged-judged.ensures.value) (c.post.ensures.new new)
 
 pub tell-requires-clause-is : goal.tell-requires-clause-is
 tell-requires-clause-is g c =
@@ -34,24 +34,24 @@ tell-requires-clause-is g c =
 
 pub returns-clause-examined : goal.returns-clause-examined
 returns-clause-examined g c =
-    let k : CutCase = core_of c.args.core.now in
+    let k : CutCase = core_of c.args.site.core.now in
     let leaf : Target = Named c.args.leaf in
     let finding = c.in_ok-finding.finding in
     let found = rw c.requires.examiner at c.in_ok-finding.ensures.found in
     let bytes : List ℕ = c.read.new.bytes.items in
     let judged : Judged = c.judged-judged.result in
     let there : c.in_ok-read.field-0 ≡ true = search rules in
-    let free : proof_for c.args.case.now.sections leaf ≡ None =
+    let free : proof_for c.args.site.case.now.sections leaf ≡ None =
     c.is_for_one_bundle.ensures.free c.if-is_for_one_bundle.false in
     let new : c.post.result ≡ true = search rules in
     let plain : labels_of bytes ≡ [] =
     subst (λ (t : List ℕ). labels_of t ≡ []) c.deref.ensures.value
     (c.is_for_one_bundle.ensures.plain c.if-is_for_one_bundle.false) in
-    let by_text : IsFoundBy c.args.case.now leaf bytes judged =
-    subst (λ (j : Judged). IsFoundBy c.args.case.now leaf bytes j)
+    let by_text : IsFoundBy c.args.site.case.now leaf bytes judged =
+    subst (λ (j : Judged). IsFoundBy c.args.site.case.now leaf bytes j)
     (sym c.judged-judged.ensures.value)
-    (subst (λ (t : List ℕ). IsFoundBy c.args.case.now leaf t finding.judged) c.deref-2.ensures.value
-    found.2) in
+    (subst (λ (t : List ℕ). IsFoundBy c.args.site.case.now leaf t finding.judged)
+    c.deref-2.ensures.value found.2) in
     let here : IsTargetAt k.case.tree finding.node leaf =
     subst (λ (t : Target). IsTargetAt k.case.tree finding.node t) found.1
     (subst (λ (z : CaseOf). IsTargetAt z.tree finding.node (target_of finding.leaf finding.node))
@@ -62,7 +62,7 @@ returns-clause-examined g c =
     let seen : HasSeenAs (view_of c.tell.new.pass) leaf judged =
     as_stays (view_of c.post.new.pass) (view_of c.tell.new.pass) leaf judged c.tell.ensures.stays
     (seen_as k (view_of c.post.new.pass) finding.node leaf judged c.post.ensures.own.1 here mark) in
-    found_at _ k c.args.case.now (view_of c.tell.new.pass) c.args.leaf judged
+    found_at _ k c.args.site.case.now (view_of c.tell.new.pass) c.args.leaf judged
     bytes c.tell.ensures.own.1 c.requires.case
     (read_there _ bytes c.in_ok-read.field-0 c.in_ok-read.ensures.found there) plain free by_text
     seen

@@ -28,17 +28,17 @@ post-requires-clause-section g c =
 pub tell-requires-clause-here : goal.tell-requires-clause-here
 tell-requires-clause-here g c =
     let found = rw (c.in-Some.is, c.requires.examiner) at c.in_ok-finding.ensures.found in
-    rw (found.1, found.2) at c.node-node.ensures.here
+    rw (found.1, found.2) at c.node.ensures.here
 
 pub tell-requires-clause-is : goal.tell-requires-clause-is
 tell-requires-clause-is g c =
     let found = rw (c.in-Some.is, c.requires.examiner) at c.in_ok-finding.ensures.found in
-    rw (found.1, found.2) at c.judged-judged.ensures.is
+    rw (found.1, found.2) at c.judged.ensures.is
 
 pub tell-requires-clause-seen : goal.tell-requires-clause-seen
 tell-requires-clause-seen g c =
     let found = rw (c.in-Some.is, c.requires.examiner) at c.in_ok-finding.ensures.found in
-    rw (c.node-node.ensures.value, c.judged-judged.ensures.value)
+    rw (c.node.ensures.value, c.judged.ensures.value)
     (c.post.ensures.section (rw found.2 found.0))
 
 pub returns-clause-seen : goal.returns-clause-seen
