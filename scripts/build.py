@@ -35,7 +35,7 @@ ROOT = pathlib.Path(__file__).resolve().parent.parent
 SHARED = ROOT / "crates" / "cubeboard" / "out"
 FAILED, INTERRUPTED = 70, 130
 # What a first call has taken, as scripts/first_call.py measured it.
-FIRST_CALL = "13 minutes and 2,071 processor seconds on 4 cores"
+FIRST_CALL = "17 minutes and 3,050 processor seconds on 4 cores"
 # What one job of a proof may take, in bytes.
 MEMORY_OF_A_JOB = 2_000_000_000
 MOST_JOBS = 4
