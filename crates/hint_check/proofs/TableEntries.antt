@@ -423,7 +423,8 @@ module _ (blocks more : List Block) (first : ℕ) (slots slots' : List Slot)
     put_last false v x y = refl
 
     -- nothing changes where only literals and empty slots are added
-    pub table-same : ((i : ℕ) → slot_at slots' i ≡ slot_at slots i) → far' ≡ far
+    pub table-same : ((i : ℕ) → slot_at slots' i ≡ slot_at slots i)
+        → ((q : ℕ) → lookup (nat_eq q) far' ≡ lookup (nat_eq q) far)
         → clauses_in (blocks ++ more) first slots' far' ≡ clauses_in blocks first slots far
     table-same same is =
         fin.same_map nat_cmp_total fin.nat_cmp-IsAntisymmetric
@@ -432,8 +433,8 @@ module _ (blocks more : List Block) (first : ℕ) (slots slots' : List Slot)
         table-get (blocks ++ more) first slots' far' q
         ∙ ap (λ o. option_or o (far_at (blocks ++ more) far' q))
         (near-same (blocks ++ more) first slots slots' same q)
-        ∙ ap (λ es. option_or (near_at (blocks ++ more) first slots q)
-        (far_at (blocks ++ more) es q)) is
+        ∙ ap (λ o. option_or (near_at (blocks ++ more) first slots q)
+        (option_map (span_clause (blocks ++ more)) o)) (is q)
         ∙ both-grown q)
 
     module _ (id : ℕ) where

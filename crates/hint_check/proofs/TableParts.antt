@@ -44,10 +44,12 @@ module _ (blocks more : List Block) (slots slots' : List Slot) (far far' : List 
 
     front_same : clauses_in (blocks ++ more) 0 front [] ≡ clauses_in blocks 0 front []
     unfolding SpansEndBy
-    front_same = table-same blocks more 0 front front [] [] front_ends tt (λ i. refl) refl
+    front_same =
+        table-same blocks more 0 front front [] [] front_ends tt (λ i. refl) (λ q. refl)
 
     -- nothing changes where only blocks and empty slots are added
-    pub tabled-same : ((i : ℕ) → slot_at slots' i ≡ slot_at slots i) → far' ≡ far →
+    pub tabled-same : ((i : ℕ) → slot_at slots' i ≡ slot_at slots i) →
+        ((q : ℕ) → lookup (nat_eq q) far' ≡ lookup (nat_eq q) far) →
         tabled (blocks ++ more) slots' far' front ≡ tabled blocks slots far front
     tabled-same same is =
         same_parts (tabled (blocks ++ more) slots' far' front) (tabled blocks slots far front)
@@ -132,7 +134,7 @@ tabled-front blocks count slots far front ends less same long none =
     ap (λ bs. clauses_in bs 0 front []) (sym whole)
     ∙ table-same taken (drop count blocks) 0 front front [] []
     (taken_ends blocks count front ends less)
-    tt (λ i. refl) refl in
+    tt (λ i. refl) (λ q. refl) in
     same_parts (tabled taken slots far front) (front_alone (clauses_in blocks 0 front []))
     (ap (clauses_in taken 0 slots) none ∙ table-slots taken 0 front slots [] same ∙ sym all)
     (sym all)

@@ -1,10 +1,9 @@
 //! Where the blocks of far ids' clauses stand.
-ghost use Rattle.std.specs.Prelude.{◌≡◌, ℕ, ◌+◌, ◌%◌, ◌<◌, ◌≤◌, nat_eq, cond, length, true, false};
-ghost use Rattle.std.specs.Prelude.{None, Some, IfSome, IfOk, OnOk, OnErr, if◌then◌else◌};
-ghost use Rattle.std.specs.Prelude.{slice_index_or};
+ghost use Rattle.std.specs.Prelude.{◌≡◌, ℕ, ◌+◌, ◌*◌, ◌<◌, ◌≤◌, nat_eq, cond, length, true, false};
+ghost use Rattle.std.specs.Prelude.{None, Some, IfSome, IfOk, OnOk, OnErr, slice_index_or};
 ghost use Rattle.std.specs.Map.{lookup};
-ghost use Rattle.hint_check.specs.Inner.Far.{nothing, tells, place_of, known_span, known_at, placed};
-ghost use Rattle.hint_check.specs.Inner.Far.{InPlace};
+ghost use Rattle.hint_check.specs.Inner.Far.{tells, known_span, place_of, placed, nothing};
+ghost use Rattle.hint_check.specs.Inner.Far.{InPlace, MayStand};
 ghost use Rattle.hint_check.specs.Inner.Table.{SpansEndBy};
 
 use std::alloc::{AllocError, Global};
@@ -25,31 +24,38 @@ pub struct Known {
     pub span: Span,
 }
 
-/// What stands in a place that no id has taken.
+/// What stands in a seat that no id has taken.
 const NOTHING: Known = Known {
     id: 0,
     span: Span { start: 1, end: 0 },
 };
 
-/// The first places are 2 to the power of this many.
+/// A place is so many seats next to one another, with an entry in each.
+const SEATS: usize = 4;
+
+/// The first seats are 2 to the power of this many.
 const FIRST_BITS: u32 = 10;
 
-/// Places are made until they are 2 to the power of this many, which no memory holds.
+/// The shift where there are no seats: one more than that of the first.
+const NO_SEATS: u32 = 65 - FIRST_BITS;
+
+/// Seats are made until they are 2 to the power of this many, which no memory holds.
 const LAST_BITS: u32 = 40;
 
 /// A multiplier that spreads ids with any stride over the places: 2^64 by the golden ratio.
 const SPREAD: u64 = 11_400_714_819_323_198_485;
 
-/// The spans of far ids. An id stands in its place, in a list with places for many, and only one
-/// whose place was another's stands in a sorted map. To a contract they are the entries of both.
+/// The spans of far ids. An id stands in one of the seats of its place, in a list with places for
+/// many, and only one that found all of them taken stands in a sorted map. To a contract they are
+/// the entries of both.
 #[derive(Drop)]
 pub struct Far {
     alloc: Global,
     map: BTreeMap<u64, Span>,
     known: Vec<Known>,
-    /// No more places are taken.
+    /// No more seats are taken.
     taken: usize,
-    /// Sixty-four less the logarithm of the number of places.
+    /// Sixty-four less the logarithm of the number of seats, if there are any.
     shift: u32,
 }
 
@@ -63,13 +69,14 @@ impl Model for Far {
     ghost view = { λ far. placed far.known.items ++ far.map.entries };
 
     ghost invariant = { λ far. (far.shift < 64) × (InPlace far.known.items far.shift
-        × Apart far.known.items far.shift far.map.entries) };
+        × Apart (placed far.known.items) far.map.entries) };
 }
 
 impl Far {
-    ghost use Rattle.std.specs.Prelude.{◌≡◌, ◌++◌, nat_eq, true, []};
+    ghost use Rattle.std.specs.Prelude.{◌≡◌, ◌++◌, ℕ, nat_eq, true, []};
     ghost use Rattle.std.specs.Map.{lookup};
     ghost use Rattle.hint_check.specs.Inner.Far.{placed};
+    ghost use Rattle.hint_check.specs.Inner.Table.{SpansEndBy};
 
     /// No id is there. It takes no memory yet.
     pub fn new(alloc: Global) -> Far
@@ -80,7 +87,7 @@ impl Far {
             map: BTreeMap::new(alloc),
             known: Vec::new(alloc),
             taken: 0,
-            shift: 63,
+            shift: NO_SEATS,
         }
     }
 
@@ -92,14 +99,14 @@ impl Far {
         self.known.is_empty() && self.map.is_empty()
     }
 
-    /// All of them: what stands in the places, and those in the map.
+    /// All of them: what stands in the seats, and those in the map.
     pub fn parts(&self) -> (&[Known], &BTreeMap<u64, Span>)
         ensures { placed result.0.now ++ result.1.now.entries ≡ self.now }
     {
         (&self.known, &self.map)
     }
 
-    /// How many places there are.
+    /// How many seats there are.
     pub fn places(&self) -> usize {
         self.known.len()
     }
@@ -109,8 +116,8 @@ impl Far {
     pub fn span_of(&self, id: u64) -> Option<Span>
         ensures { result ≡ lookup (nat_eq id) self.now }
     {
-        match known_at(&self.known, self.shift, id) {
-            Some(span) => Some(span),
+        match seat_of(&self.known, self.shift, id) {
+            Some(seat) => Some(self.known[seat].span),
             None => found(&self.map, id),
         }
     }
@@ -122,13 +129,14 @@ impl Far {
         self.map.clear();
         self.known.clear();
         self.taken = 0;
-        self.shift = 63;
+        self.shift = NO_SEATS;
     }
 
-    /// Makes places where half of them may be taken.
+    /// Makes places where half of the seats may be taken.
     #[inline(always)]
     fn make_places(&mut self) -> Result<(), AllocError>
-        ensures { self.new ≡ self.old }
+        ensures same { (q : ℕ) → lookup (nat_eq q) self.new ≡ lookup (nat_eq q) self.old }
+        ensures ends { (count : ℕ) → SpansEndBy self.old count → SpansEndBy self.new count }
     {
         if self.taken < self.known.len() / 2 {
             return Ok(());
@@ -138,20 +146,8 @@ impl Far {
 
     /// Makes the first places, or twice as many as there are.
     fn make_more(&mut self) -> Result<(), AllocError>
-        ensures { self.new ≡ self.old }
-    {
-        if !self.known.is_empty() {
-            return self.double();
-        }
-        self.known.resize(1 << FIRST_BITS, NOTHING)?;
-        self.shift = 64 - FIRST_BITS;
-        Ok(())
-    }
-
-    /// Makes twice as many places. Ids that have different places get different ones, so that each
-    /// finds its own free.
-    fn double(&mut self) -> Result<(), AllocError>
-        ensures { self.new ≡ self.old }
+        ensures same { (q : ℕ) → lookup (nat_eq q) self.new ≡ lookup (nat_eq q) self.old }
+        ensures ends { (count : ℕ) → SpansEndBy self.old count → SpansEndBy self.new count }
     {
         if self.shift <= 64 - LAST_BITS {
             return Ok(());
@@ -163,36 +159,82 @@ impl Far {
     }
 }
 
-/// The place of an id.
+/// The first seat of an id's place.
 #[inline(always)]
-fn place_of(shift: u32, id: u64) -> usize
+fn first_seat(shift: u32, id: u64) -> usize
     requires { shift < 64 }
-    ensures { result ≡ place_of shift id }
+    ensures { result ≡ place_of shift id * 4 }
 {
-    (id.wrapping_mul(SPREAD) >> shift) as usize
+    (id.wrapping_mul(SPREAD) >> shift) as usize / SEATS * SEATS
 }
 
-/// What is known of an id by what stands in its place.
+/// Whether an entry tells anything.
 #[inline(always)]
-fn known_span(known: Known, id: u64) -> Option<Span>
-    ensures { result ≡ known_span known id }
+fn is_told(one: Known) -> bool
+    ensures { result ≡ tells one }
 {
-    if id == known.id && known.span.start <= known.span.end {
-        Some(known.span)
-    } else {
-        None
+    one.span.start <= one.span.end
+}
+
+/// The seat where an id stands.
+#[inline(always)]
+fn seat_of(known: &[Known], shift: u32, id: u64) -> Option<usize>
+    requires shift { shift < 64 }
+    requires in_place { InPlace known.now shift }
+    ensures own { IfSome result (λ seat. MayStand known.now shift id seat
+        × (known_span (slice_index_or known.now seat nothing) id
+        ≡ Some (slice_index_or known.now seat nothing).span)) }
+    ensures none { result ≡ None
+        → (i : ℕ) → known_span (slice_index_or known.now i nothing) id ≡ None }
+{
+    let first = first_seat(shift, id);
+    let end = first.saturating_add(SEATS);
+    if known.len() < end {
+        return None;
     }
+    for seat in first..end {
+        if known[seat].id == id && is_told(known[seat]) {
+            return Some(seat);
+        }
+    }
+    None
 }
 
-/// What is known of an id.
+/// A seat in an id's place where nothing stands.
 #[inline(always)]
-fn known_at(known: &[Known], shift: u32, id: u64) -> Option<Span>
+fn free_seat(known: &[Known], shift: u32, id: u64) -> Option<usize>
     requires { shift < 64 }
-    ensures { result ≡ known_at known.now shift id }
+    ensures { IfSome result (λ seat. (seat < length known.now)
+        × (((place_of shift id * 4 ≤ seat) × (seat < place_of shift id * 4 + 4))
+        × (tells (slice_index_or known.now seat nothing) ≡ false))) }
 {
-    match known.get(place_of(shift, id)) {
-        Some(one) => known_span(*one, id),
-        None => None,
+    let first = first_seat(shift, id);
+    let end = first.saturating_add(SEATS);
+    if known.len() < end {
+        return None;
+    }
+    for seat in first..end {
+        if !is_told(known[seat]) {
+            return Some(seat);
+        }
+    }
+    None
+}
+
+/// A seat that an entry may take: its id's own, or else one where nothing stands.
+#[inline(always)]
+fn seat_for(known: &[Known], shift: u32, one: Known) -> Option<usize>
+    requires shift { shift < 64 }
+    requires in_place { InPlace known.now shift }
+    ensures { IfSome result (λ seat.
+        (tells one ≡ true) × MayStand known.now shift one.id seat) }
+{
+    if !is_told(one) {
+        return None;
+    }
+    match seat_of(known, shift, one.id) {
+        Some(seat) => Some(seat),
+        None => free_seat(known, shift, one.id),
     }
 }
 
@@ -209,64 +251,44 @@ fn found(map: &BTreeMap<u64, Span>, id: u64) -> Option<Span>
     }
 }
 
-/// Whether an entry tells of no other id than this one.
+/// Puts an entry in a seat of its id's place, if it may take one, and answers what stood there.
 #[inline(always)]
-fn is_free(there: Known, id: u64) -> bool
-    ensures { result ≡ true → tells there ≡ true → there.id ≡ id }
-{
-    there.id == id || there.span.end < there.span.start
-}
-
-/// Whether an entry may be put in its id's place, in which no other stands.
-#[inline(always)]
-fn may_stand(known: &[Known], shift: u32, one: Known) -> bool
-    requires { shift < 64 }
-    ensures place { result ≡ true → place_of shift one.id < length known.now }
-    ensures tells { result ≡ true → tells one ≡ true }
-    ensures free { result ≡ true
-        → tells (slice_index_or known.now (place_of shift one.id) nothing) ≡ true
-        → (slice_index_or known.now (place_of shift one.id) nothing).id ≡ one.id }
-{
-    match known.get(place_of(shift, one.id)) {
-        Some(there) => one.span.start <= one.span.end && is_free(*there, one.id),
-        None => false,
-    }
-}
-
-/// Puts an entry in its id's place, and answers what stood there.
-#[inline(always)]
-fn stand(known: &mut Vec<Known>, shift: u32, one: Known) -> Known
+fn stand(known: &mut Vec<Known>, shift: u32, one: Known) -> Option<Known>
     requires shift { shift < 64 }
-    requires place { place_of shift one.id < length known.old.items }
-    requires tells { tells one ≡ true }
-    requires free { tells (slice_index_or known.old.items (place_of shift one.id) nothing) ≡ true
-        → (slice_index_or known.old.items (place_of shift one.id) nothing).id ≡ one.id }
-    ensures put { (q : ℕ) → known_at known.new.items shift q
-        ≡ cond (nat_eq one.id q) (Some one.span) (known_at known.old.items shift q) }
-    ensures in_place { InPlace known.old.items shift → InPlace known.new.items shift }
+    requires in_place { InPlace known.old.items shift }
+    ensures put { IfSome result (λ there. (q : ℕ) → lookup (nat_eq q) (placed known.new.items)
+        ≡ cond (nat_eq one.id q) (Some one.span) (lookup (nat_eq q) (placed known.old.items))) }
+    ensures none { result ≡ None → known.new.items ≡ known.old.items }
+    ensures in_place { InPlace known.new.items shift }
     ensures ends { (count : ℕ) → SpansEndBy (placed known.old.items) count
         → one.span.end ≤ count → SpansEndBy (placed known.new.items) count }
 {
-    let place = place_of(shift, one.id);
-    let there = known[place];
-    known[place] = one;
-    there
+    match seat_for(known, shift, one) {
+        Some(seat) => {
+            let there = known[seat];
+            known[seat] = one;
+            Some(there)
+        }
+        None => None,
+    }
 }
 
-/// Takes an id out of its place, and answers what was known of it.
+/// Takes an id out of its seat, and answers what was known of it.
 #[inline(always)]
 fn leave(known: &mut Vec<Known>, shift: u32, id: u64) -> Option<Span>
-    requires { shift < 64 }
-    ensures known { result ≡ known_at known.old.items shift id }
-    ensures left { (q : ℕ) → known_at known.new.items shift q
-        ≡ cond (nat_eq id q) None (known_at known.old.items shift q) }
-    ensures in_place { InPlace known.old.items shift → InPlace known.new.items shift }
+    requires shift { shift < 64 }
+    requires in_place { InPlace known.old.items shift }
+    ensures known { result ≡ lookup (nat_eq id) (placed known.old.items) }
+    ensures left { (q : ℕ) → lookup (nat_eq q) (placed known.new.items)
+        ≡ cond (nat_eq id q) None (lookup (nat_eq q) (placed known.old.items)) }
+    ensures in_place { InPlace known.new.items shift }
     ensures ends { (count : ℕ) → SpansEndBy (placed known.old.items) count
         → SpansEndBy (placed known.new.items) count }
 {
-    match known_at(known, shift, id) {
-        Some(span) => {
-            known[place_of(shift, id)] = NOTHING;
+    match seat_of(known, shift, id) {
+        Some(seat) => {
+            let span = known[seat].span;
+            known[seat] = NOTHING;
             Some(span)
         }
         None => None,
@@ -287,34 +309,26 @@ fn remove(map: &mut BTreeMap<u64, Span>, id: u64) -> Option<Span>
     map.remove(&id)
 }
 
-/// The two places of an entry, where there are twice as many: it stands in one of them.
-#[inline(always)]
-fn halves(one: Known, shift: u32) -> (Known, Known)
-    requires { shift < 64 }
-    ensures { result ≡ (if nat_eq (place_of shift one.id % 2) 0
-        then (one, nothing) else (nothing, one)) }
-{
-    if place_of(shift, one.id) % 2 == 0 {
-        (one, NOTHING)
-    } else {
-        (NOTHING, one)
-    }
-}
-
-/// Twice as many places, for this shift, where the same ids stand in the same order.
+/// The first places, or twice as many as these, for this shift, where the same ids stand. Each
+/// entry has the seat of its new place that it has in its old one, and no other comes there.
 fn doubled(alloc: Global, known: &[Known], shift: u32) -> Result<Vec<Known>, AllocError>
-    requires { shift < 64 }
-    ensures same { IfOk result (λ places. placed places.items ≡ placed known.now) }
-    ensures in_place { IfOk result (λ places. InPlace known.now (shift + 1)
-        → InPlace places.items shift) }
+    requires shift { shift < 64 }
+    requires in_place { InPlace known.now (shift + 1) }
+    ensures in_place { IfOk result (λ seats. InPlace seats.items shift) }
+    ensures same { IfOk result (λ seats. (q : ℕ) → lookup (nat_eq q) (placed seats.items)
+        ≡ lookup (nat_eq q) (placed known.now)) }
+    ensures ends { IfOk result (λ seats. (count : ℕ) → SpansEndBy (placed known.now) count
+        → SpansEndBy (placed seats.items) count) }
 {
-    let mut places = Vec::with_capacity(alloc, known.len().saturating_mul(2))?;
-    for one in known {
-        let (lower, upper) = halves(*one, shift);
-        places.push(lower)?;
-        places.push(upper)?;
+    let count = (known.len() * 2).max(1 << FIRST_BITS);
+    let mut seats = vec![in alloc; NOTHING; count]?;
+    for (seat, one) in known.iter().enumerate() {
+        if is_told(*one) {
+            let place = first_seat(shift, one.id);
+            seats[place + seat % SEATS] = *one;
+        }
     }
-    Ok(places)
+    Ok(seats)
 }
 
 /// How many blocks stand where a span says.
@@ -330,9 +344,9 @@ fn spans_len(span: Option<Span>) -> usize {
     }
 }
 
-/// How many places are taken at most, after an entry was put where this one stood.
+/// How many seats are taken at most, after an entry was put where this one stood.
 fn taken_after(taken: usize, there: Known) -> usize {
-    if there.span.start <= there.span.end {
+    if is_told(there) {
         taken
     } else {
         taken.saturating_add(1)
@@ -345,19 +359,24 @@ pub fn put_far(far: &mut Far, id: u64, span: Span) -> Result<usize, AllocError>
         ≡ cond (nat_eq id q) (Some span) (lookup (nat_eq q) far.old)) }
     ensures ends { OnOk result ((count : ℕ) → SpansEndBy far.old count
         → span.start ≤ span.end → span.end ≤ count → SpansEndBy far.new count) }
-    ensures same { OnErr result (far.new ≡ far.old) }
+    ensures same { OnErr result ((q : ℕ) → lookup (nat_eq q) far.new
+        ≡ lookup (nat_eq q) far.old) }
+    ensures kept { OnErr result ((count : ℕ) → SpansEndBy far.old count
+        → SpansEndBy far.new count) }
 {
     far.make_places()?;
-    let one = Known { id, span };
-    if may_stand(&far.known, far.shift, one) {
-        let there = stand(&mut far.known, far.shift, one);
-        let removed = remove(&mut far.map, id);
-        far.taken = taken_after(far.taken, there);
-        return Ok(span_len(there.span).saturating_add(spans_len(removed)));
+    match stand(&mut far.known, far.shift, Known { id, span }) {
+        Some(there) => {
+            let removed = remove(&mut far.map, id);
+            far.taken = taken_after(far.taken, there);
+            Ok(span_len(there.span).saturating_add(spans_len(removed)))
+        }
+        None => {
+            let replaced = far.map.insert(id, span)?;
+            let left = leave(&mut far.known, far.shift, id);
+            Ok(spans_len(replaced).saturating_add(spans_len(left)))
+        }
     }
-    let replaced = far.map.insert(id, span)?;
-    let left = leave(&mut far.known, far.shift, id);
-    Ok(spans_len(replaced).saturating_add(spans_len(left)))
 }
 
 /// Takes an id out of the far ones, and answers how many blocks it had.

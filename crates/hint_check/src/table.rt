@@ -177,7 +177,7 @@ impl Table {
     }
 
     /// What it costs to make an index of the clauses that aren't the front's: a turn for each slot
-    /// and each place of a far id, and a link for each literal that the clauses have, or some more.
+    /// and each seat of a far id, and a link for each literal that the clauses have, or some more.
     pub(crate) fn index_cost(&self) -> usize {
         let links = self.held.saturating_mul(4);
         let slots = self.slots.len().saturating_sub(self.front.slots.len());
@@ -362,7 +362,7 @@ fn list_far(
     list_spans(index, scratch, blocks, reach, map)
 }
 
-/// Lists the far ids that stand in their places.
+/// Lists the far ids that stand in seats.
 fn list_known(
     index: &mut Index,
     scratch: &mut ClauseScratch,

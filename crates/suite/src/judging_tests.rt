@@ -6,7 +6,7 @@ use crate::{nine, plain};
 use cnf_text::literal::Lit;
 use fixtures::bundles::FOUR;
 use hint_check::{Base, Checker, Judge, Judged, Reason};
-use std::alloc::Global;
+use std::alloc::{AllocError, Global};
 use std::process::Abort;
 
 /// A proof: the path, the text, and the number of the step that isn't good or isn't there with what
@@ -423,6 +423,43 @@ const TWICE_FOUR: &[Proof] = &[
     ),
 ];
 
+/// Steps over the four clauses that put five far ids in one place, which takes four, and name each.
+/// The second is deleted, and two others of the same place are put in.
+const ONE_PLACE: &str = concat!(
+    "1000000 1 10 0 1 2 0\n1000233 1 11 0 1 2 0\n1000610 1 12 0 1 2 0\n",
+    "1000843 1 13 0 1 2 0\n1000987 1 14 0 1 2 0\n",
+    "5 1 10 0 1000000 0\n6 1 11 0 1000233 0\n7 1 12 0 1000610 0\n",
+    "8 1 13 0 1000843 0\n9 1 14 0 1000987 0\n",
+    "9 d 1000233 0\n1001220 1 15 0 1 2 0\n1001597 1 16 0 1 2 0\n",
+);
+
+/// How many far ids are put in next, so that there are more places.
+const OTHERS: u64 = 700;
+
+/// Steps that name each of the first ids, put two of them in anew, and name them again.
+const TWO_PLACES: &str = concat!(
+    "10 1 10 0 1000000 0\n11 1 12 0 1000610 0\n12 1 13 0 1000843 0\n",
+    "13 1 14 0 1000987 0\n14 1 15 0 1001220 0\n15 1 16 0 1001597 0\n",
+    "15 d 1000987 1001597 0\n1000987 1 17 0 1 2 0\n1001597 1 18 0 1 2 0\n",
+    "16 1 10 0 1000000 0\n17 1 12 0 1000610 0\n18 1 15 0 1001220 0\n",
+    "19 1 17 0 1000987 0\n20 1 18 0 1001597 0\n",
+);
+
+/// What follows these steps: a refutation, or a hint that is no id any more.
+const PLACE_ENDS: &[(&str, Option<(u64, Reason)>)] = &[
+    ("21 1 0 1 2 0\n22 0 21 3 4 0\n", None),
+    ("21 1 11 0 1000233 0\n", Some((728, Reason::Hint))),
+    (
+        "20 d 1000843 0\n21 1 13 0 1000843 0\n",
+        Some((729, Reason::Hint)),
+    ),
+    (
+        "20 d 1001597 0\n21 1 18 0 1001597 0\n",
+        Some((729, Reason::Hint)),
+    ),
+    ("21 1 14 0 1000987 0\n", Some((728, Reason::Candidate))),
+];
+
 /// A proof that deletes clauses of the formula, and one that needs them, over the four clauses.
 const DELETED_AND_NEEDED: &[Proof] = &[
     (&[1], "5 d 1 2 0\n6 0 5 3 4 0\n", None),
@@ -668,4 +705,34 @@ fn owning_base_stays(rt: HostRuntime) {
         first_wrong_owned(&rt, rt.alloc(), EMPTY_ALONE, REFUTED_ALONE),
         None
     );
+}
+
+/// Those steps and this end.
+fn far_text(alloc: Global, end: &str) -> Result<Vec<u8>, AllocError> {
+    let mut text = Vec::new(alloc);
+    text.extend_from_slice(ONE_PLACE.as_bytes())?;
+    for id in 2_000_000..2_000_000 + OTHERS {
+        text.extend_from_slice(format!(in alloc; "{id} 1 -1 0 0\n")?.as_bytes())?;
+    }
+    text.extend_from_slice(TWO_PLACES.as_bytes())?;
+    text.extend_from_slice(end.as_bytes())?;
+    Ok(text)
+}
+
+#[test]
+fn far_ids_of_one_place(rt: HostRuntime) {
+    let alloc = rt.alloc();
+    let formula = formula(&rt, alloc, FOUR);
+    let base = Base::new(alloc, &formula).expect(&rt, "memory");
+    for (end, fault) in PLACE_ENDS {
+        let text = far_text(alloc, end).expect(&rt, "memory");
+        assert_eq!(rt;
+            judged_over(&rt, alloc, &base, &[], &text),
+            expected(*fault)
+        );
+        assert_eq!(rt;
+            plain::judge(&rt, alloc, &formula, &[], &text),
+            expected(*fault)
+        );
+    }
 }

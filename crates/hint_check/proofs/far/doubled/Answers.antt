@@ -1,41 +1,61 @@
-use Rattle.std.proofs.Common.{◌≡◌, ◌+◌, ◌++◌, [], ◌∷◌, List, length, get_or, refl, sym, ap, ◌∙◌}
-use Rattle.std.proofs.Common.{subst, arith}
+use Rattle.std.proofs.Common.{◌+◌, ◌%◌, get_or, slice_set, sym, ap}
+use Rattle.std.proofs.Common.{◌∙◌, subst, arith}
+use Rattle.std.specs.Prelude.{nat_eq}
+use Rattle.std.specs.Option.{option_or}
+use Rattle.std.specs.Map.{lookup}
+use Rattle.std.proofs.lemmas.List.{get_or_default, drop_all}
 use Rattle.hint_check.specs.declared.far.Known.{Known}
-use Rattle.hint_check.specs.Inner.Far.{placed, InPlace}
-use Rattle.hint_check.proofs.FarKnown.{InPlace-new, InPlace-own, InPlace-twice, placed-step, twice}
-use Rattle.hint_check.proofs.FarKnown.{length-twice, even_place}
+use Rattle.hint_check.specs.Inner.Far.{nothing, placed}
+use Rattle.hint_check.proofs.FarKnown.{or-none}
+use Rattle.hint_check.proofs.FarDoubled.{Moved, Moved-none, Moved-silent, Moved-told, may}
 use Rattle.hint_check.proofs.far.doubled.Goals as goal
+use Rattle.hint_check.proofs.far.doubled.Goals.{then-is_told, else-is_told}
 
-pub loop-one-init : goal.loop-one-init
-loop-one-init c =
-    let none = c.in_ok-places.ensures.items in
-    record {
-      same = ap (λ ks. placed ks ++ placed c.args.known.now) none;
-      long = ap length none;
-      in_place = λ stands. subst (λ ks. InPlace ks c.args.shift) (sym none)
-          (InPlace-new 0 c.args.shift);
-    }
+abbrev none : Known
+none = record { id = 0; span = record { start = 0; end = 0 } }
 
-pub loop-one-preserved : goal.loop-one-preserved
-loop-one-preserved c =
+pub loop-seat-init : goal.loop-seat-init
+loop-seat-init c =
+    let whole = c.requires.in_place.whole in
+    let most = c.max-count.ensures in
+    Moved-none c.args.known.now c.in_ok-seats.seats.items c.args.shift c.max-count.result
+    (omega (arith, most)) (omega (arith, whole, most))
+    (c.in_ok-seats.ensures.items_if_clones_equal (λ y same. same))
+
+pub index_mut-requires : goal.index_mut-requires
+index_mut-requires c =
     let known = c.args.known.now in
-    let shift = c.args.shift in
-    let i = c.loop-one.one-index in
-    let places = c.loop-one.places.items in
-    let made = c.push-in-loop-one.new.self.items in
-    let none : Known = record { id = 0; span = record { start = 0; end = 0 } } in
+    let i = c.loop-seat.seat in
+    let seats = c.loop-seat.seats in
+    let low = c.loop-seat-test.true in
+    let there = may known seats.items c.args.shift i (get_or known i none) c.requires.in_place low
+    (get_or_default known i nothing none low) c.loop-seat.invariant (sym c.if-is_told.ensures) in
+    let room = there.room in
+    omega (arith, room, c.first_seat-place.ensures, seats.ok.0)
+
+pub loop-seat-preserved : goal.loop-seat-preserved
+loop-seat-preserved c =
+    let known = c.args.known.now in
+    let i = c.loop-seat.seat in
+    let seats = c.loop-seat.seats.items in
     let one = get_or known i none in
-    let even = even_place shift one in
-    let low = c.loop-one-test.true in
-    let long = c.loop-one.invariant.long in
-    let put : made ≡ twice places even one =
-    c.in_ok-push-2.ensures.items
-    ∙ ap (λ (ks : List Known). ks ++ c.halves.result.1 ∷ []) c.in_ok-push.ensures.items
-    ∙ ap (λ (p : Known × Known). (places ++ p.0 ∷ []) ++ p.1 ∷ []) c.halves.ensures in
-    record {
-      same = placed-step known places made even i one none low refl put c.loop-one.invariant.same;
-      long = let more = ap length put ∙ length-twice places even one in omega (arith, more, long);
-      in_place = λ stands. subst (λ ks. InPlace ks shift) (sym put)
-          (InPlace-twice places shift one i long (InPlace-own known (shift + 1) i none low stands)
-          (c.loop-one.invariant.in_place stands));
-    }
+    let low = c.loop-seat-test.true in
+    let is = get_or_default known i nothing none low in
+    elim c.if-is_told.branch [
+      | then-is_told w ↦
+          subst (λ ks. Moved known ks c.args.shift (i + 1)) (sym (ap (λ v. v.items) w.seats-is
+          ∙ ap (λ p. slice_set seats (p + i % 4) one) w.first_seat-place.ensures))
+          (Moved-told known seats c.args.shift i one c.requires.in_place low is
+          c.loop-seat.invariant (sym w.if-is_told.ensures))
+      | else-is_told w ↦
+          subst (λ ks. Moved known ks c.args.shift (i + 1)) (sym (ap (λ v. v.items) w.seats-is))
+          (Moved-silent known seats c.args.shift i one c.requires.in_place low is
+          c.loop-seat.invariant (sym w.if-is_told.ensures))
+    ]
+
+pub returns-clause-same : goal.returns-clause-same
+returns-clause-same c q =
+    let found = lookup (nat_eq q) (placed c.loop-seat.seats.items) in
+    sym (ap (λ ks. option_or found (lookup (nat_eq q) (placed ks)))
+    (drop_all c.loop-seat.seat c.args.known.now c.loop-seat-test.false) ∙ or-none found)
+    ∙ c.loop-seat.invariant.same q

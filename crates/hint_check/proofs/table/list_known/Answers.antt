@@ -9,7 +9,7 @@ use Rattle.hint_check.specs.Inner.Far.{placed}
 use Rattle.hint_check.specs.Inner.Index.{Lists, Awaits, indexed_part}
 use Rattle.hint_check.specs.Inner.Table.{far_entries, span_clause, SpansEndBy}
 use Rattle.hint_check.proofs.IndexIds.{Awaits-next}
-use Rattle.hint_check.proofs.FarKnown.{ends-first, next-placed}
+use Rattle.hint_check.proofs.FarKnown.{ends-split, next-placed}
 use Rattle.hint_check.proofs.TableEntries.{ListsAll-end}
 use Rattle.hint_check.proofs.table.list_known.Goals as goal
 use Rattle.hint_check.proofs.table.list_known.Goals.{then-one+in_ok-list_clause, else-one}
@@ -25,7 +25,7 @@ span_clause-clause-requires-clause-ends c =
     let count = length c.args.blocks.now in
     let ordered = c.if-one.true in (
       ordered,
-      (ends-first one (placed (drop (i + 1) known)) count
+      (ends-split one (placed (drop (i + 1) known)) count
           (next-placed (λ es. SpansEndBy es count) known i none c.loop-one-test.true
           c.loop-one.invariant.ends)).0 (le-leb one.span.start one.span.end ordered),
     )
@@ -41,7 +41,7 @@ loop-one-preserved c =
     let before = c.loop-one.index in
     let behind = placed (drop (i + 1) known) in
     record {
-      ends = (ends-first one behind count
+      ends = (ends-split one behind count
           (next-placed (λ es. SpansEndBy es count) known i none low
           c.loop-one.invariant.ends)).1;
       listed = λ rest all h.

@@ -1,9 +1,9 @@
-use Rattle.std.proofs.Common.{◌≡◌, ◌+◌, ◌≤◌, length, refl, sym, ap, ◌∙◌, subst, arith}
+use Rattle.std.proofs.Common.{◌≡◌, ◌+◌, ◌≤◌, length, refl, sym, ap, ◌∙◌, arith}
 use Rattle.std.proofs.lemmas.List.{length-append}
 use Rattle.hint_check.specs.declared.slots.Slot.{Slot}
 use Rattle.hint_check.specs.declared.far.Span.{Span}
 use Rattle.hint_check.specs.Inner.Blocks.{clause_of}
-use Rattle.hint_check.specs.Inner.Table.{no_slot, tabled, with_clause, SpansEndBy}
+use Rattle.hint_check.specs.Inner.Table.{no_slot, tabled, with_clause}
 use Rattle.hint_check.proofs.LiveParts.{OnErr-always}
 use Rattle.hint_check.proofs.TableEntries.{SlotsEndBy-same, SlotsEndBy-set, SlotsEndBy-more}
 use Rattle.hint_check.proofs.TableParts.{tabled-same, tabled-near, tabled-far, IsTable-named}
@@ -47,7 +47,7 @@ returns-in_err-push_clause-clause-err c =
     ∙ tabled-same blocks g.0 slots slots far far front c.self.invariant.ends
     c.self.invariant.spans
     (SlotsEndBy-more front inside.front.blocks (length blocks) c.self.invariant.front_blocks
-    c.self.invariant.front_ends) (λ i. refl) refl
+    c.self.invariant.front_ends) (λ i. refl) (λ q. refl)
     ∙ c.self.view_is)
 
 pub invariant_of-self-in_err-replaced-in-Some : goal.invariant_of-self-in_err-replaced-in-Some
@@ -85,7 +85,7 @@ returns-in_err-replaced-in-Some-clause-err c =
     ∙ tabled-same blocks g.0 slots made far far front c.self.invariant.ends
     c.self.invariant.spans
     (SlotsEndBy-more front inside.front.blocks (length blocks) c.self.invariant.front_blocks
-    c.self.invariant.front_ends) c.in_err-replaced-in-Some.ensures.same refl
+    c.self.invariant.front_ends) c.in_err-replaced-in-Some.ensures.same (λ q. refl)
     ∙ c.self.view_is)
 
 pub invariant_of-self-in-Some : goal.invariant_of-self-in-Some
@@ -153,7 +153,7 @@ invariant_of-self-in_err-replaced-in-None c =
     c.note.new.emptied.items c.self.invariant g.1
     (c.in_ok-push_clause.ensures.within c.self.invariant.within)
     (SlotsEndBy-same slots slots (length blocks) (length g.0) c.self.invariant.ends (λ i. refl))
-    (subst (λ far. SpansEndBy far (length blocks')) (sym c.in_err-replaced-in-None.ensures.same)
+    (c.in_err-replaced-in-None.ensures.kept (length blocks')
     (SpansEndBy-grown blocks blocks' g.0 inside.far g.1 c.self.invariant.spans))
     c.self.invariant.few (omega arith)
     (KeepsFront-same slots slots inside.front.slots.items inside.emptied.items
