@@ -1,7 +1,7 @@
 -- A text that is cut at its first label line.
 use Rattle.std.proofs.Common.{◌≡◌, ℕ, suc, ◌-◌, ◌+◌, true, false, List, [], ◌∷◌, ◌++◌, length, take}
 use Rattle.std.proofs.Common.{drop, refl, sym, ◌∙◌, ap, arith, append_assoc, append-nil}
-use Rattle.std.proofs.Common.{length-append, Option, Bor, MatchOption, None, Some}
+use Rattle.std.proofs.Common.{length-append, Option, Bor, MatchOption, None, Some, inl, inr, subst}
 use Rattle.std.specs.Prelude.{count_by}
 use Rattle.std.proofs.Math.Seq.{take-append_seam, drop-append-add}
 use Rattle.std.proofs.lemmas.List.Splits.{length-slice_split}
@@ -9,12 +9,14 @@ use Rattle.std.proofs.lemmas.List.Sums.{sum_by-append}
 use Rattle.cnf_text.specs.Tokens.{is_line_end}
 use Rattle.case_core.specs.Bundle.{lines_of, is_label, line_onto, text_before, labelled}
 use Rattle.case_core.specs.Case.{part_in}
-use Rattle.case_core.specs.Inner.Bundle.{EndsWith, HasNoLabel, FirstLabel}
+use Rattle.case_core.specs.Inner.Bundle.{EndsWith, HasNoLabel, FirstLabel, EndsAtLine}
+use Rattle.case_core.specs.Inner.Bundle.{IsCutAtLine}
 
 -- What is cut off the front so far: nothing but lines that are no label lines.
 pub record CutOff (text rest : List ℕ) : Type 0 where
   pub done : List ℕ
   pub parts : text ≡ done ++ rest
+  pub at_line : EndsAtLine done
   pub front : text_before (lines_of text) ≡ done ++ text_before (lines_of rest)
   pub skipped : ℕ
   pub counted : skipped + length (lines_of rest) ≡ length (lines_of text)
@@ -30,6 +32,7 @@ nothing_cut text =
     record {
       done = [];
       parts = refl;
+      at_line = inl refl;
       front = refl;
       skipped = 0;
       counted = omega arith;
@@ -70,6 +73,7 @@ pub one_line_more : (text rest line next : List ℕ) → CutOff text rest →
 one_line_more text rest line next cut split whole other = record {
   done = cut.done ++ (line ++ 10 ∷ []);
   parts = cut.parts ∙ ap (λ r. cut.done ++ r) whole ∙ sym (joined cut.done line next);
+  at_line = inr (cut.done ++ line, sym (append_assoc cut.done line (10 ∷ [])));
   front =
       cut.front ∙ ap (λ r. cut.done ++ r) (skipped rest next line split other)
       ∙ sym (joined cut.done line (text_before (lines_of next)));
@@ -146,6 +150,16 @@ front_of text end before ends counted =
     ap length ends.parts ∙ length-append ends.front end in
     let place : before ≡ length ends.front = omega arith in
     rw place (ap (take (length ends.front)) ends.parts ∙ take-append_seam ends.front end)
+
+-- what was cut off ends where a line begins
+pub cut_at_line : (text rest : List ℕ) (before : ℕ) → CutOff text rest →
+    before ≡ length text - length rest → IsCutAtLine text (take before text) rest
+cut_at_line text rest before cut counted =
+    let front : take before text ≡ cut.done =
+    front_of text rest before (record { front = cut.done; parts = cut.parts }) counted in record {
+      parts = cut.parts ∙ ap (λ r. r ++ rest) (sym front);
+      at_line = subst (λ (f : List ℕ). EndsAtLine f) (sym front) cut.at_line;
+    }
 
 -- what stands below the first line of a text's end, as a part of the text
 pub part_below : (text end line section : List ℕ) (start : ℕ) → EndsWith text end

@@ -111,11 +111,11 @@ one_target tree node (Node k) (Node j) x y = ap Node (sym x.0 ∙ y.0)
 
 -- ---- the first section of a target
 
-proof_here : (s : SectionOf) (sections : List SectionOf) (target : Target) →
+pub proof_here : (s : SectionOf) (sections : List SectionOf) (target : Target) →
     same_target s.target target ≡ true → proof_for (s ∷ sections) target ≡ Some s.proof
 proof_here s sections target h = rw h refl
 
-proof_past : (s : SectionOf) (sections : List SectionOf) (target : Target) →
+pub proof_past : (s : SectionOf) (sections : List SectionOf) (target : Target) →
     same_target s.target target ≡ false →
     proof_for (s ∷ sections) target ≡ proof_for sections target
 proof_past s sections target h = rw h refl
@@ -211,7 +211,7 @@ sections_more tree sections s are has none i l =
           )
     ]
 
-by_place : (sections : List SectionOf) (p : ℕ) →
+pub by_place : (sections : List SectionOf) (p : ℕ) →
     section_by sections (suc p) ≡ Some (section_at sections p).proof
 by_place sections p =
     let some : suc p ≡ 0 → ⊥ = λ z. absurd (omega arith) in
@@ -262,6 +262,47 @@ found_more tree sections places s node t none within here only target at is =
           ∙ t.found target at is ∙ sym (place_kept sections s (get_or places at 0) (t.within at)))
     ]
 
+-- a place in the table before the last section's is that of a section with the target
+placed_before : (sections : List SectionOf) (s : SectionOf) (target : Target) (place : ℕ) →
+    place ≤ length sections → place ≢ 0 → (section_at sections (place - 1)).target ≡ target →
+    (section_at (sections ++ s ∷ []) (place - 1)).target ≡ target
+placed_before sections s target place l some is =
+    let less : place - 1 < length sections = omega arith in
+    ap (λ (x : SectionOf). x.target) (at_left sections s (place - 1) less) ∙ is
+
+placed_last : (sections : List SectionOf) (s : SectionOf) (place : ℕ) →
+    place ≡ suc (length sections) →
+    (section_at (sections ++ s ∷ []) (place - 1)).target ≡ s.target
+placed_last sections s place e =
+    let at : place - 1 ≡ length sections = omega arith in
+    ap (λ (n : ℕ). (section_at (sections ++ s ∷ []) n).target) at
+    ∙ ap (λ (x : SectionOf). x.target) (at_last sections s)
+
+placed_more : (tree : SplitTree) (sections : List SectionOf) (places : List ℕ) (s : SectionOf)
+    (node : ℕ) → AreTabled tree sections places → node < length places →
+    IsTargetAt tree node s.target
+    → (target : Target) (at : ℕ) → IsTargetAt tree at target →
+    get_or (set places node (suc (length sections))) at 0 ≢ 0
+    → (section_at (sections ++ s ∷ [])
+    (get_or (set places node (suc (length sections))) at 0 - 1)).target ≡ target
+placed_more tree sections places s node t within here target at is some =
+    elim (cases_eq at node) [
+      | inl e ↦
+          let same : target ≡ s.target =
+          one_target tree node target s.target (subst (λ (n : ℕ). IsTargetAt tree n target) e is)
+          here in
+          placed_last sections s (get_or (set places node (suc (length sections))) at 0)
+          (ap (λ (n : ℕ). get_or (set places node (suc (length sections))) n 0) e
+          ∙ get_or-set_same places node (suc (length sections)) 0 within)
+          ∙ sym same
+      | inr other ↦
+          let same : get_or (set places node (suc (length sections))) at 0 ≡ get_or places at 0 =
+          get_or-set_other places node at (suc (length sections)) 0 other in
+          subst (λ (p : ℕ). (section_at (sections ++ s ∷ []) (p - 1)).target ≡ target) (sym same)
+          (placed_before sections s target (get_or places at 0) (t.within at)
+          (λ z. some (same ∙ z)) (t.placed target at is (λ z. some (same ∙ z))))
+    ]
+
 within_more : (places : List ℕ) (node n at : ℕ) → node < length places → get_or places at 0 ≤ n →
     get_or (set places node (suc n)) at 0 ≤ n + 1
 within_more places node n at within l = elim (cases_eq at node) [
@@ -304,6 +345,7 @@ kept_more tree sections places s node k free within here only =
             λ at. rw long
             (within_more places node (length sections) at inside (k.tabled.within at));
         found = found_more tree sections places s node k.tabled none inside here only;
+        placed = placed_more tree sections places s node k.tabled inside here;
       };
       counted =
           long ∙ ap (λ n. n + 1) k.counted
@@ -327,6 +369,7 @@ nothing_kept tree n e = record {
     long = length-replicate n 0 ∙ e;
     within = λ at. rw (zeros n at) (omega arith);
     found = λ target at is. rw (zeros n at) refl;
+    placed = λ target at is some. absurd (some (zeros n at));
   };
   counted = no_places n;
 }

@@ -13,6 +13,9 @@ pub mod BundleMore
 mod ScanLabels
 mod ScanTaken
 mod ScanWhole
+mod OutlineLines
+mod OutlineSteps
+mod OutlineCase
 pub use Rattle.cnf_text.proofs.DimacsFormula
 pub use Rattle.cnf_text.proofs.DimacsLine
 pub use Rattle.cnf_text.proofs.DimacsUnique

@@ -30,14 +30,14 @@ alike_back [] (y ∷ other) alike = absurd alike
 alike_back (x ∷ one) [] alike = absurd alike
 alike_back (x ∷ one) (y ∷ other) alike = (sym alike.0, alike_back one other alike.1)
 
-alike_long : (one other : List SectionOf) → AreAlike one other → length other ≡ length one
+pub alike_long : (one other : List SectionOf) → AreAlike one other → length other ≡ length one
 alike_long [] [] alike = refl
 alike_long [] (y ∷ other) alike = absurd alike
 alike_long (x ∷ one) [] alike = absurd alike
 alike_long (x ∷ one) (y ∷ other) alike =
     let below : length other ≡ length one = alike_long one other alike.1 in omega arith
 
-alike_at : (one other : List SectionOf) → AreAlike one other → (i : ℕ) →
+pub alike_at : (one other : List SectionOf) → AreAlike one other → (i : ℕ) →
     (section_at one i).target ≡ (section_at other i).target
 alike_at [] [] alike i = refl
 alike_at [] (y ∷ other) alike i = absurd alike
@@ -45,7 +45,7 @@ alike_at (x ∷ one) [] alike i = absurd alike
 alike_at (x ∷ one) (y ∷ other) alike zero = alike.0
 alike_at (x ∷ one) (y ∷ other) alike (suc i) = alike_at one other alike.1 i
 
-alike_apart : (tree : SplitTree) (one other : List SectionOf) → AreAlike one other →
+pub alike_apart : (tree : SplitTree) (one other : List SectionOf) → AreAlike one other →
     AreSections tree one → AreSections tree other
 alike_apart tree one other alike are i l =
     let long : length other ≡ length one = alike_long one other alike in
@@ -59,7 +59,7 @@ alike_apart tree one other alike are i l =
           (alike_at one other alike j) ((are i less).1 j h),
     )
 
-alike_free : (one other : List SectionOf) (target : Target) → AreAlike one other →
+pub alike_free : (one other : List SectionOf) (target : Target) → AreAlike one other →
     proof_for one target ≡ None → proof_for other target ≡ None
 alike_free one other target alike free =
     none_from other target

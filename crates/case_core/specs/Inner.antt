@@ -5,3 +5,4 @@ pub mod Label
 pub mod Bundle
 pub mod Sections
 pub mod Scan
+pub mod Outline

@@ -8,6 +8,7 @@ pub mod Faults
 pub mod Sections
 pub mod Laws
 pub mod Scan
+pub mod Outline
 pub mod Inner
 pub use Rattle.cnf_text.specs.Dimacs
 pub use Rattle.cnf_text.specs.Formula

@@ -9,7 +9,7 @@ ghost use Rattle.case_core.specs.Bundle.{lines_of, is_label, text_before, labels
 ghost use Rattle.case_core.specs.Bundle.{BeginsWithLabel, icnf_text};
 ghost use Rattle.case_core.specs.Inner.Bundle.{HasNoLabel, HasNoLetter, AfterPlainLines};
 ghost use Rattle.case_core.specs.Inner.Bundle.{FirstLabel, EndsWith, OneLabel};
-ghost use Rattle.case_core.specs.Inner.Bundle.{NextLabel};
+ghost use Rattle.case_core.specs.Inner.Bundle.{NextLabel, IsCutAtLine};
 ghost use Rattle.case_core.specs.Case.{section_in, part_in, CaseOf};
 ghost use Rattle.case_core.specs.Inner.Case.{IsCaseKept};
 ghost use Rattle.case_core.specs.Inner.Label.{IsLimited};
@@ -53,10 +53,12 @@ fn line_of_letter(text: &[u8]) -> Option<&[u8]>
 }
 
 /// The text before the first label line, and the text from that line on, if there is one.
-fn cut(text: &[u8]) -> (&[u8], Option<&[u8]>)
+pub(crate) fn cut(text: &[u8]) -> (&[u8], Option<&[u8]>)
     ensures front { result.0.now ≡ text_before (lines_of text.now) }
     ensures begins { take (length result.0.now) text.now ≡ result.0.now }
     ensures label { MatchOption result.1 (HasNoLabel text.now) (λ at. FirstLabel text.now at.now) }
+    ensures whole { MatchOption result.1 (result.0.now ≡ text.now)
+        (λ at. IsCutAtLine text.now result.0.now at.now) }
 {
     let mut rest = text;
     'lines: loop {
@@ -296,14 +298,14 @@ fn read_case(alloc: Global, bundle: Vec<u8>) -> Result<Case, CaseFault>
 
 /// What a bundle is read into: its clauses, the tree of its cubes and its sections.
 #[derive(Drop)]
-struct Parts {
-    formula: Formula,
-    tree: Tree,
-    sections: Sections,
+pub(crate) struct Parts {
+    pub(crate) formula: Formula,
+    pub(crate) tree: Tree,
+    pub(crate) sections: Sections,
 }
 
 /// The parts of a bundle's case, or its fault.
-fn read_parts(alloc: Global, bundle: &[u8]) -> Result<Parts, CaseFault>
+pub(crate) fn read_parts(alloc: Global, bundle: &[u8]) -> Result<Parts, CaseFault>
     ensures ok { IfOk result (λ parts. IsCaseOf bundle.now (record {
       formula = parts.formula;
       tree = parts.tree;

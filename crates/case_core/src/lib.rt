@@ -9,6 +9,7 @@ mod fault;
 mod finding;
 mod label;
 mod laws;
+mod outline;
 mod scan;
 mod sections;
 
@@ -23,5 +24,6 @@ pub use fault::CaseFault;
 pub use finding::Finding;
 pub use hint_check::{Judged, Reason};
 pub use laws::{case_or_a_fault, no_fault_beside_a_case, one_case, one_fault};
+pub use outline::{Outline, OutlinedCase, Place};
 pub use scan::LabelScan;
 pub use split_tree::{Leaf, NodeId, Target, Tree};

@@ -20,6 +20,8 @@ mod lrat_text_tests;
 #[cfg(test)]
 mod map_tests;
 #[cfg(test)]
+mod outline_tests;
+#[cfg(test)]
 mod plain;
 #[cfg(test)]
 mod random_tests;

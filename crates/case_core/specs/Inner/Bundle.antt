@@ -27,6 +27,11 @@ pub record AfterPlainLines (text end : List ℕ) : Type 0 where
   pub plain : HasNoLetter front
   pub at_line : EndsAtLine front
 
+-- a text in two parts, the second of which begins where a line does
+pub record IsCutAtLine (text front end : List ℕ) : Type 0 where
+  pub parts : text ≡ front ++ end
+  pub at_line : EndsAtLine front
+
 -- the end of a text from its first label line on
 pub record FirstLabel (text end : List ℕ) : Type 0 where
   pub ends : EndsWith text end

@@ -1,6 +1,6 @@
 use Rattle.std.proofs.Common.{refl}
 use Rattle.case_core.proofs.BundleCuts.{nothing_cut, one_line_more, last_line_front}
-use Rattle.case_core.proofs.BundleCuts.{last_line_labels, front_found, label_found}
+use Rattle.case_core.proofs.BundleCuts.{last_line_labels, front_found, label_found, cut_at_line}
 use Rattle.case_core.proofs.BundleLetters.{plain_cut, plain_rest}
 use Rattle.case_core.proofs.bundle.cut.Goals as goal
 
@@ -46,3 +46,7 @@ returns-in_default-below-clause-label c =
     last_line_labels _ _ _ (plain_cut _ _ _ c.lines.invariant c.in-Some.ensures.found)
     (rw c.in_default-below.is at c.split_line.ensures.split)
     (rw c.is_label.ensures at c.if-is_label.false)
+
+pub returns-then-is_label-clause-whole : goal.returns-then-is_label-clause-whole
+returns-then-is_label-clause-whole c =
+    cut_at_line _ _ _ (plain_cut _ _ _ c.lines.invariant c.in-Some.ensures.found) refl

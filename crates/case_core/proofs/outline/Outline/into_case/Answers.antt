@@ -1,0 +1,61 @@
+use Rattle.std.proofs.Common.{◌≡◌, sym, ap, subst, List, ℕ, map}
+use Rattle.split_tree.specs.SplitTree.{SplitTree}
+use Rattle.case_core.specs.declared.case.Section.{Section}
+use Rattle.case_core.specs.declared.outline.Place.{Place}
+use Rattle.case_core.specs.Bundle.{icnf_text}
+use Rattle.case_core.specs.Case.{CaseOf, section_in}
+use Rattle.case_core.specs.Sections.{IsCaseOf}
+use Rattle.case_core.specs.Inner.Outline.{AreMoved, IsOutlinedKept}
+use Rattle.case_core.specs.Outline.{OutlineOf, IsOutlineOf, IsOutlinedCase}
+use Rattle.case_core.proofs.OutlineCase.{moved_kept, outlined_case, head_case}
+use Rattle.case_core.proofs.outline.Outline.into_case.Goals as goal
+
+-- the sections that were moved are those of the text that was read
+were_moved : (sections read : List Section) (places own : List Place) (news : List Section) →
+    read ≡ sections → own ≡ places → AreMoved read own news → AreMoved sections places news
+were_moved sections read places own news one other are =
+    subst (λ (s : List Section). AreMoved s places news) one
+    (subst (λ (p : List Place). AreMoved read p news) other are)
+
+pub invariant_of-result : goal.invariant_of-result
+invariant_of-result c =
+    let sections : List Section = c.in-Ok.parts.sections.sections.items in
+    subst (λ (tree : SplitTree). IsOutlinedKept tree c.in-Some.sections.items
+    c.in-Ok.parts.sections.places.items)
+    (sym (ap (λ (case : CaseOf). case.tree) c.in_ok-case.ensures.case))
+    (moved_kept c.in-Ok.parts.tree c.deref.result.now sections c.self.inside.places.items
+    c.in-Some.sections.items c.in-Ok.parts.sections.places.items
+    (were_moved sections c.deref-2.result.now c.self.inside.places.items c.deref-3.result.now
+    c.in-Some.sections.items c.deref-2.ensures.value c.deref-3.ensures.value
+    (rw c.in-Some.is at c.in_ok-sections.ensures)) c.in-Ok.ensures.kept)
+
+pub returns-clause-case : goal.returns-clause-case
+returns-clause-case c =
+    let sections : List Section = c.in-Ok.parts.sections.sections.items in
+    let outline : OutlineOf = record {
+      text = c.self.inside.text.items;
+      places = c.self.inside.places.items;
+      length = c.self.inside.length;
+    } in
+    subst (λ (o : OutlineOf). (text : List ℕ) → IsOutlineOf o text → IsOutlinedCase text
+    (record { case = c.in_ok-case.case; sections = c.in-Some.sections.items })) c.self.view_is
+    (outlined_case outline c.in-Ok.parts.formula c.in-Ok.parts.tree sections
+    c.in-Some.sections.items c.in_ok-case.case
+    (subst (λ (text : List ℕ). IsCaseOf text (record {
+      formula = c.in-Ok.parts.formula;
+      tree = c.in-Ok.parts.tree;
+      sections = map (section_in text) sections;
+    })) c.deref.ensures.value c.in-Ok.ensures.ok)
+    (were_moved sections c.deref-2.result.now c.self.inside.places.items c.deref-3.result.now
+    c.in-Some.sections.items c.deref-2.ensures.value c.deref-3.ensures.value
+    (rw c.in-Some.is at c.in_ok-sections.ensures)) c.in_ok-case.ensures.case)
+
+pub returns-clause-head : goal.returns-clause-head
+returns-clause-head c = (
+  icnf_text c.deref.result.now,
+  head_case c.deref.result.now (record {
+    formula = c.in-Ok.parts.formula;
+    tree = c.in-Ok.parts.tree;
+    sections = map (section_in c.deref.result.now) c.in-Ok.parts.sections.sections.items;
+  }) c.in_ok-case.case c.in-Ok.ensures.ok c.in_ok-case.ensures.case,
+)
