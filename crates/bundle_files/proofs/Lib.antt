@@ -8,4 +8,7 @@ mod FilesOpened
 mod FilesPaths
 mod FilesApart
 mod JudgingRuns
+mod BlocksLines
 mod FaultsSearch
+mod PartsRead
+mod SectionsJudged

@@ -2,6 +2,8 @@
 //! of leaves.
 #![tactic(auto)]
 
+mod blocks;
+mod by_section;
 mod faults;
 mod folder;
 mod formula;
@@ -9,9 +11,12 @@ mod judge;
 mod laws;
 mod opener;
 mod reader;
+mod sections;
 mod source;
 mod store;
 
+pub use by_section::judge_by_section;
+pub use case_core::{Outline, OutlinedCase, Place};
 pub use check_crew::{LeafProofs, ReadFault};
 pub use folder::add_proofs;
 pub use formula::{ReadBundle, read_from};
@@ -19,5 +24,6 @@ pub use judge::judge_given;
 pub use laws::{proofs_judged_apart, proofs_keep_formula};
 pub use opener::{Opener, SystemFiles};
 pub use reader::FolderReader;
+pub use sections::SectionReader;
 pub use source::read_given;
 pub use store::{FileStore, Store};

@@ -1,19 +1,24 @@
 //! What can be read and written by its path.
 ghost use Rattle.std.specs.Prelude.{◌≡◌, ◌≢◌, ℕ, List, Some, ◌<◌, ◌+◌, ◌^◌, ◌-◌, Option, None};
-ghost use Rattle.std.specs.Prelude.{IfOk, IfErr};
+ghost use Rattle.std.specs.Prelude.{IfOk, IfErr, IfSome, length};
 ghost use Rattle.std.specs.Prelude.{OnOk, OnErr};
 ghost use Rattle.case_core.specs.Leaf.{Leaf};
 ghost use Rattle.cube_report.specs.Device.{IsDeviceFault};
 ghost use Rattle.bundle_files.specs.Files.{Gives, IsFound, StaysAllowed, StaysAllowedBeside};
 ghost use Rattle.bundle_files.specs.Files.{held_if};
 ghost use Rattle.bundle_files.specs.Laws.{held_for};
+ghost use Rattle.bundle_files.specs.Parts.{IsOutlined, IsPart, held_in};
 
+use crate::blocks::{fill, outline_of};
 use crate::opener::Opener;
 use crate::reader::FolderReader;
+use crate::sections::SectionReader;
+use case_core::{Outline, OutlinedCase};
 use check_crew::LeafProofs;
 use cube_report::{Counted, Fault, read_to_end, write_all};
 use std::alloc::{AllocError, Global};
 use std::io::ErrorKind;
+use std::sync::Arc;
 
 /// What can be read by its path, FILE and a folder's proofs alike, and what is written by its path.
 /// The proofs' paths, the order of the leaves and the label lines are made above it, so they stand
@@ -89,6 +94,48 @@ pub trait Store {
         ensures held { IfOk result (λ reader. (leaf : Leaf) →
             Self.Reader.held reader leaf ≡ held_for (held self.now) folder.now leaf) }
         ensures none { IfOk result (λ reader. Self.Reader.failures reader ≡ 0) };
+
+    /// How long the file at this path is, where that can be told without reading it. No clause ties
+    /// the length to the file's bytes.
+    fn length(&self, path: &str) -> Option<u64>;
+
+    /// What a worker reads the proofs of a case by that are parts of one file.
+    type Sections: LeafProofs + Send + Drop;
+
+    /// The outline of the file at this path; `None` where there is none. The file is read once, a
+    /// block at a time.
+    ///
+    /// `Device` where a file is there and can't be opened or read, `Memory` where a growth was
+    /// refused. The count of failed calls, which has to be below its greatest value, rises by one
+    /// exactly with `Device`.
+    fn outline(&mut self, alloc: Global, path: &str) -> Result<Option<Outline>, Fault>
+        requires { failures self.old < 2 ^ 64 - 1 }
+        ensures held { held self.new ≡ held self.old }
+        ensures allowed { StaysAllowed (allows self.old) (allows self.new) }
+        ensures outline { IfOk result
+            (λ some. IfSome some (λ outline. IsOutlined (held self.old path.now) outline)) }
+        ensures ok { OnOk result (failures self.new ≡ failures self.old) }
+        ensures err { IfErr result
+            (λ fault. IsDeviceFault (failures self.old) (failures self.new) fault) };
+
+    /// A reader of the proofs of a case that are parts of the file at this path, for one worker, with
+    /// no failed read yet.
+    fn sections(
+        &self,
+        alloc: Global,
+        path: &str,
+        outlined: &Arc<OutlinedCase>,
+    ) -> Result<Self::Sections, AllocError>
+        ensures held { IfOk result (λ reader. (leaf : Leaf) → Self.Sections.held reader leaf
+            ≡ held_in (held self.now path.now) outlined.now.value.sections leaf) }
+        ensures none { IfOk result (λ reader. Self.Sections.failures reader ≡ 0) };
+
+    /// Takes such a reader back: its failed reads count as failed calls of the store's.
+    fn settle_sections(&mut self, sections: Self::Sections)
+        requires { failures self.old + Self.Sections.failures sections < 2 ^ 64 }
+        ensures held { held self.new ≡ held self.old }
+        ensures allowed { StaysAllowed (allows self.old) (allows self.new) }
+        ensures failures { failures self.new ≡ failures self.old + Self.Sections.failures sections };
 
     /// Takes a reader back: its failed reads count as failed calls of the store's.
     fn settle(&mut self, reader: Self::Reader)
@@ -168,6 +215,63 @@ impl<F: Opener> FileStore<F> {
         }
     }
 
+    /// The outline of the file at this path, as `Store::outline` owes it.
+    fn outline_file(&mut self, alloc: Global, path: &str) -> Result<Option<Outline>, Fault>
+        requires { self.old.failed < 2 ^ 64 - 1 }
+        ensures knows { F.knows self.new.opener ≡ F.knows self.old.opener }
+        ensures files { F.files self.new.opener ≡ F.files self.old.opener }
+        ensures outline { IfOk result (λ some. IfSome some (λ outline.
+            IsOutlined (held_if (F.knows self.old.opener) (F.files self.old.opener path.now))
+            outline)) }
+        ensures ok { OnOk result (self.new.failed ≡ self.old.failed) }
+        ensures err { IfErr result (λ fault. IsDeviceFault self.old.failed self.new.failed fault) }
+    {
+        let opened = self.opener.open(path);
+        match opened {
+            Ok(file) => match outline_of(alloc, &mut Counted::new(file)) {
+                Ok(outline) => Ok(Some(outline)),
+                Err(Fault::Memory) => Err(Fault::Memory),
+                Err(_) => Err(self.broken()),
+            },
+            Err(error) => match error.kind() {
+                ErrorKind::NotFound => Ok(None),
+                ErrorKind::OutOfMemory => Err(Fault::Memory),
+                _ => Err(self.broken()),
+            },
+        }
+    }
+
+    /// Fills `bytes` with the file at this path, from a place on.
+    ///
+    /// `Device` where the file can't be opened or read so far, `Memory` where memory was refused.
+    pub(crate) fn read_part(
+        &mut self,
+        path: &str,
+        start: usize,
+        bytes: &mut [u8],
+    ) -> Result<(), Fault>
+        requires { self.old.failed < 2 ^ 64 - 1 }
+        ensures knows { F.knows self.new.opener ≡ F.knows self.old.opener }
+        ensures files { F.files self.new.opener ≡ F.files self.old.opener }
+        ensures length { length bytes.new ≡ length bytes.old }
+        ensures part { OnOk result
+            (IsPart (held_if (F.knows self.old.opener) (F.files self.old.opener path.now)) start
+            (length bytes.old) bytes.new) }
+        ensures ok { OnOk result (self.new.failed ≡ self.old.failed) }
+        ensures err { IfErr result (λ fault. IsDeviceFault self.old.failed self.new.failed fault) }
+    {
+        match self.opener.open_at(path, start as u64) {
+            Ok(file) => match fill(&mut Counted::new(file), bytes) {
+                Ok(()) => Ok(()),
+                Err(_) => Err(self.broken()),
+            },
+            Err(error) => match error.kind() {
+                ErrorKind::OutOfMemory => Err(Fault::Memory),
+                _ => Err(self.broken()),
+            },
+        }
+    }
+
     /// How long the file at this path is, where that can be told.
     pub(crate) fn file_length(&self, path: &str) -> Option<u64> {
         self.opener.length(path)
@@ -176,6 +280,8 @@ impl<F: Opener> FileStore<F> {
 
 impl<F: Opener + Send + Drop> Store for FileStore<F> {
     type Reader = FolderReader<F>;
+
+    type Sections = SectionReader<F>;
 
     ghost held = { λ s path. held_if (F.knows s.opener) (F.files s.opener path) };
 
@@ -217,6 +323,30 @@ impl<F: Opener + Send + Drop> Store for FileStore<F> {
         let opener = self.opener.another(alloc)?;
         let folder = String::from_str(alloc, folder)?;
         Ok(FolderReader::new(alloc, opener, folder))
+    }
+
+    fn length(&self, path: &str) -> Option<u64> {
+        self.file_length(path)
+    }
+
+    fn outline(&mut self, alloc: Global, path: &str) -> Result<Option<Outline>, Fault> {
+        self.outline_file(alloc, path)
+    }
+
+    fn sections(
+        &self,
+        alloc: Global,
+        path: &str,
+        outlined: &Arc<OutlinedCase>,
+    ) -> Result<SectionReader<F>, AllocError> {
+        let opener = self.opener.another(alloc)?;
+        let path = String::from_str(alloc, path)?;
+        let outlined = Arc::try_clone(outlined)?;
+        Ok(SectionReader::new(opener, path, outlined))
+    }
+
+    fn settle_sections(&mut self, sections: SectionReader<F>) {
+        self.failed += sections.failed();
     }
 
     fn settle(&mut self, reader: FolderReader<F>) {

@@ -2,12 +2,12 @@
 
 ghost use Rattle.std.specs.Prelude.{◌≡◌, ◌≢◌, ◌⊎◌, ◌<◌, ◌+◌, ◌^◌, ◌-◌, List, ℕ, length, map};
 ghost use Rattle.std.specs.Prelude.{option_map, true, false, None, Some, IfOk, IfErr, OnOk, OnErr};
-ghost use Rattle.std.specs.Prelude.{IsErrOf, IfSome};
+ghost use Rattle.std.specs.Prelude.{IsErrOf, IfSome, [], Option};
 ghost use Rattle.std.specs.Io.KnownBytes.{Appends, Keeps};
 ghost use Rattle.cube_report.specs.Device.{AppendsBeginning, IsDeviceFault};
 ghost use Rattle.clap.specs.Words.{kind_of};
 ghost use Rattle.bundle_files.specs.Files.{StaysAllowed};
-ghost use Rattle.bundle_files.specs.Formula.{IsOneAbsent};
+ghost use Rattle.bundle_files.specs.Formula.{IsOneAbsent, IsUnreadFrom};
 ghost use Rattle.bundle_files.specs.Judging.{IsOutcomeOf, IsRefusedOf, IsJudgingFault};
 ghost use Rattle.bundle_files.specs.Sections.{IsCaseOf};
 ghost use Rattle.cube_report.specs.Faults.{IsInputFault};
@@ -19,6 +19,7 @@ ghost use Rattle.cube_command.specs.Program.{IsStatus, IsMade, IsReported, IsRef
 ghost use Rattle.cube_command.specs.Program.{IsLineWritten, fault_line, AllowsFaults};
 ghost use Rattle.cube_command.specs.Program.{AllowsPicturesFor, AllowsRecordsFor};
 ghost use Rattle.cube_command.specs.Program.{AllowsReportsFor};
+ghost use Rattle.cube_command.specs.Inner.Recorded.{IsRecordedFor};
 ghost use Rattle.cube_command.specs.Inner.Words.{asked_in};
 
 use crate::asked::{Telling, asked_in, fault_in};
@@ -29,7 +30,7 @@ use crate::record::{begin_record, end_record};
 use crate::telling::{tell_fault, tell_run};
 use crate::watched::Watched;
 use crate::words::{Request, request_of};
-use bundle_files::{ReadBundle, Store, judge_given, read_from};
+use bundle_files::{ReadBundle, Store, judge_by_section, judge_given, read_from};
 use clap::Error as WordsError;
 use clap::error::ErrorKind as WordsFault;
 use cube_report::{Fault, Gate, Outcome, Sink, Source, write_all};
@@ -280,18 +281,7 @@ where
         ⊎ (gates.now.logged ≢ None) }
 {
     gates.begins_log()?;
-    let wants_case = request.proofs.is_some();
-    let read = read_from(
-        rt.alloc(),
-        store,
-        input,
-        request.formula,
-        request.file,
-        wants_case,
-    )?;
-    telling.tell_read(rt.alloc(), &read.bundle, bundle)?;
-    let draws = request.map.is_some();
-    let made = judge_recorded(rt, store, read, request, gates, draws)?;
+    let made = judge_request(rt, store, request, input, gates, telling, bundle)?;
     telling.tell_report(rt.alloc(), bundle, &made.outcome.text);
     write_outcome(store, output, request, &made.outcome, &made.bytes)?;
     Ok(made.outcome.refuted)
@@ -302,6 +292,135 @@ where
 struct Recorded {
     outcome: Outcome,
     bytes: Vec<u8>,
+}
+
+/// What the request's bundle is said to be, and the record of it where a file for that is asked for.
+/// Where nothing else is asked for than what a report says, and the bundle is a file's, its proofs
+/// are read one by one; else all of it is read first, and kept for what is told of it.
+fn judge_request<R, D, I, G, X>(
+    rt: &R,
+    store: &mut D,
+    request: &Request<'_>,
+    input: &mut I,
+    gate: &G,
+    telling: &Telling<'_, X>,
+    bundle: &mut Vec<u8>,
+) -> Result<Recorded, Fault>
+where
+    R: AllocGlobal + Threads + Wait + Sync,
+    D: Store,
+    I: Source,
+    G: Gate + Sync,
+    X: Explain,
+    requires store { D.failures store.old < 2 ^ 64 - 1 }
+    requires input { I.failures input.old < 2 ^ 64 - 1 }
+    ensures held { D.held store.new ≡ D.held store.old }
+    ensures allowed { StaysAllowed (D.allows store.old) (D.allows store.new) }
+    ensures made { IfOk result (λ made. IsRecordedFor (D.held store.old) (asked_in request.now)
+        (I.remaining input.old) made.outcome.text.items made.outcome.map.items
+        made.outcome.refuted made.bytes.items) }
+    ensures fault { IfErr result (λ fault. IsInputFault fault → IsRefused (D.held store.old)
+        (asked_in request.now) (I.remaining input.old) fault) }
+    ensures ok { OnOk result ((D.failures store.new ≡ D.failures store.old)
+        × (I.failures input.new ≡ I.failures input.old)) }
+    ensures err { IfErr result (IsUnreadFrom (D.held store.old) (sources_of (asked_in request.now))
+        (D.failures store.old + I.failures input.old)
+        (D.failures store.new + I.failures input.new)) }
+{
+    if let Some(outcome) = judge_file(rt, store, request, gate)? {
+        let bytes = Vec::new(rt.alloc());
+        return Ok(Recorded { outcome, bytes });
+    }
+    judge_read(rt, store, request, input, gate, telling, bundle)
+}
+
+/// What is said of the bundle of a file whose proofs are read one by one; `None` where it has to be
+/// read whole.
+fn judge_file<R, D, G>(
+    rt: &R,
+    store: &mut D,
+    request: &Request<'_>,
+    gate: &G,
+) -> Result<Option<Outcome>, Fault>
+where
+    R: AllocGlobal + Threads + Wait + Sync,
+    D: Store,
+    G: Gate + Sync,
+    requires count { D.failures store.old < 2 ^ 64 - 1 }
+    ensures held { D.held store.new ≡ D.held store.old }
+    ensures allowed { StaysAllowed (D.allows store.old) (D.allows store.new) }
+    ensures outcome { IfOk result (λ some. IfSome some (λ outcome. (input : Option (List ℕ))
+        → IsRecordedFor (D.held store.old) (asked_in request.now) input outcome.text.items
+        outcome.map.items outcome.refuted [])) }
+    ensures fault { IfErr result (λ fault. ¬ IsInputFault fault) }
+    ensures ok { OnOk result (D.failures store.new ≡ D.failures store.old) }
+    ensures err { IfErr result (IsJudgingFault (D.failures store.old) (D.failures store.new)) }
+{
+    let Some(path) = file_alone(request) else {
+        return Ok(None);
+    };
+    let draws = request.map.is_some();
+    judge_by_section(rt, store, path, request.settings, gate, draws)
+}
+
+/// The file with the bundle, where no other is read, and nothing is asked for that the text of the
+/// bundle is kept for.
+fn file_alone<'a>(request: &Request<'a>) -> Option<&'a str>
+    ensures { IfSome result (λ path.
+        ((asked_in request.now).file ≡ Some path.now)
+        × ((asked_in request.now).formula ≡ None)
+        × ((asked_in request.now).folder ≡ None)
+        × ((asked_in request.now).out ≡ None)) }
+{
+    let is_alone = request.formula.is_none()
+        && request.proofs.is_none()
+        && request.out.is_none()
+        && !request.explain;
+    if is_alone { request.file } else { None }
+}
+
+/// What is said of the request's bundle, all of which is read first.
+fn judge_read<R, D, I, G, X>(
+    rt: &R,
+    store: &mut D,
+    request: &Request<'_>,
+    input: &mut I,
+    gate: &G,
+    telling: &Telling<'_, X>,
+    bundle: &mut Vec<u8>,
+) -> Result<Recorded, Fault>
+where
+    R: AllocGlobal + Threads + Wait + Sync,
+    D: Store,
+    I: Source,
+    G: Gate + Sync,
+    X: Explain,
+    requires store { D.failures store.old < 2 ^ 64 - 1 }
+    requires input { I.failures input.old < 2 ^ 64 - 1 }
+    ensures held { D.held store.new ≡ D.held store.old }
+    ensures allowed { StaysAllowed (D.allows store.old) (D.allows store.new) }
+    ensures made { IfOk result (λ made. IsRecordedFor (D.held store.old) (asked_in request.now)
+        (I.remaining input.old) made.outcome.text.items made.outcome.map.items
+        made.outcome.refuted made.bytes.items) }
+    ensures fault { IfErr result (λ fault. IsInputFault fault → IsRefused (D.held store.old)
+        (asked_in request.now) (I.remaining input.old) fault) }
+    ensures ok { OnOk result ((D.failures store.new ≡ D.failures store.old)
+        × (I.failures input.new ≡ I.failures input.old)) }
+    ensures err { IfErr result (IsUnreadFrom (D.held store.old) (sources_of (asked_in request.now))
+        (D.failures store.old + I.failures input.old)
+        (D.failures store.new + I.failures input.new)) }
+{
+    let wants_case = request.proofs.is_some();
+    let read = read_from(
+        rt.alloc(),
+        store,
+        input,
+        request.formula,
+        request.file,
+        wants_case,
+    )?;
+    telling.tell_read(rt.alloc(), &read.bundle, bundle)?;
+    judge_recorded(rt, store, read, request, gate, request.map.is_some())
 }
 
 /// Judges what was read, and makes the record where a file for it is asked for.

@@ -87,6 +87,11 @@ impl<'a, F: Opener, M: Meter> Opener for MeteredFiles<'a, F, M> {
         Ok(Metered::new(file, self.meter))
     }
 
+    fn open_at(&mut self, path: &str, place: u64) -> io::Result<Metered<'a, F::Opened, M>> {
+        let file = self.files.open_at(path, place)?;
+        Ok(Metered::new(file, self.meter))
+    }
+
     fn create(&mut self, path: &str) -> io::Result<F::Made> {
         self.files.create(path)
     }

@@ -1,6 +1,9 @@
 //! Files in memory that count the calls on them, and fail at one of them.
 ghost use Rattle.std.specs.Prelude.{Some, None, true, ◌≡◌, ℕ, List, map, option_map, IfOk};
 ghost use Rattle.std.specs.String.{string_bytes};
+ghost use Rattle.std.specs.Prelude.{IfErr};
+ghost use Rattle.std.specs.IoError.{error_kind};
+ghost use Rattle.bundle_files.specs.Files.{IsOpenedAt};
 ghost use Rattle.devices.specs.Shelf.{bytes_at, lies_at};
 
 use bundle_files::Opener;
@@ -121,6 +124,7 @@ pub struct Shelf<'t> {
     desk: Arc<Desk>,
     fails_at: u64,
     fault: Fault,
+    tells_lengths: bool,
 }
 
 impl<'t> Shelf<'t> {
@@ -153,7 +157,21 @@ impl<'t> Shelf<'t> {
             desk: Arc::new(alloc, Desk::new(alloc)?)?,
             fails_at,
             fault,
+            tells_lengths: false,
         })
+    }
+
+    /// The same files, whose lengths are told.
+    pub fn with_lengths(self) -> Shelf<'t>
+        ensures files { result.files.now ≡ self.entry.files.now }
+        ensures made { result.made ≡ self.entry.made }
+        ensures at { result.fails_at ≡ self.entry.fails_at }
+        ensures fault { result.fault ≡ self.entry.fault }
+    {
+        Shelf {
+            tells_lengths: true,
+            ..self
+        }
     }
 
     /// Each path that it and the openers made from it were asked for, in the order of the calls,
@@ -182,6 +200,40 @@ impl<'t> Shelf<'t> {
         }
     }
 
+    /// The file at this path, which is read from a place on; the call is noted and counted.
+    fn pages_of(&mut self, path: &str, place: usize) -> io::Result<Pages<'t>>
+        ensures files { self.new.files.now ≡ self.old.files.now }
+        ensures made { self.new.made ≡ self.old.made }
+        ensures opened { IfOk result (λ pages. IsOpenedAt
+            (lies_at (option_map (λ made. (string_bytes made.path, made.bytes.items)) self.old.made)
+            (map (λ file. (file.0.now, file.1.now)) self.old.files.now) path.now)
+            place (Some pages.left.now)) }
+        ensures absent { IfErr result (λ error. error_kind error ≡ ErrorKind.NotFound
+            → lies_at (option_map (λ made. (string_bytes made.path, made.bytes.items))
+            self.old.made) (map (λ file. (file.0.now, file.1.now)) self.old.files.now) path.now
+            ≡ None) }
+    {
+        let has_room = self.desk.note(String::from_str(self.alloc, path)?);
+        let is_broken = self.fails();
+        if !has_room || is_broken && self.fault == Fault::Memory {
+            return Err(io::Error::from(ErrorKind::OutOfMemory));
+        }
+        if let Some(made) = &self.made
+            && made.path.as_str() == path
+        {
+            return Err(io::Error::from(ErrorKind::PermissionDenied));
+        }
+        match bytes_at(self.files, path) {
+            Some(bytes) => Ok(Pages {
+                left: &bytes[place.min(bytes.len())..],
+                is_broken,
+                is_begun: false,
+            }),
+            None if is_broken => Err(io::Error::from(ErrorKind::PermissionDenied)),
+            None => Err(io::Error::from(ErrorKind::NotFound)),
+        }
+    }
+
     /// Counts a call, and answers whether it is the one that fails.
     fn fails(&self) -> bool {
         let before = self.desk.calls.fetch_add(1, Ordering::SeqCst);
@@ -203,25 +255,11 @@ impl<'t> Opener for Shelf<'t> {
     ghost makes = { λ s path. option_map (λ made. string_bytes made.path) s.made ≡ Some path };
 
     fn open(&mut self, path: &str) -> io::Result<Pages<'t>> {
-        let has_room = self.desk.note(String::from_str(self.alloc, path)?);
-        let is_broken = self.fails();
-        if !has_room || is_broken && self.fault == Fault::Memory {
-            return Err(io::Error::from(ErrorKind::OutOfMemory));
-        }
-        if let Some(made) = &self.made
-            && made.path.as_str() == path
-        {
-            return Err(io::Error::from(ErrorKind::PermissionDenied));
-        }
-        match bytes_at(self.files, path) {
-            Some(left) => Ok(Pages {
-                left,
-                is_broken,
-                is_begun: false,
-            }),
-            None if is_broken => Err(io::Error::from(ErrorKind::PermissionDenied)),
-            None => Err(io::Error::from(ErrorKind::NotFound)),
-        }
+        self.pages_of(path, 0)
+    }
+
+    fn open_at(&mut self, path: &str, place: u64) -> io::Result<Pages<'t>> {
+        self.pages_of(path, place as usize)
     }
 
     fn create(&mut self, path: &str) -> io::Result<Vec<u8>> {
@@ -261,10 +299,17 @@ impl<'t> Opener for Shelf<'t> {
             desk: Arc::try_clone(&self.desk)?,
             fails_at: self.fails_at,
             fault: self.fault,
+            tells_lengths: self.tells_lengths,
         })
     }
 
-    fn length(&self, _path: &str) -> Option<u64> {
-        None
+    fn length(&self, path: &str) -> Option<u64> {
+        if !self.tells_lengths {
+            return None;
+        }
+        match bytes_at(self.files, path) {
+            Some(bytes) => Some(bytes.len() as u64),
+            None => None,
+        }
     }
 }

@@ -21,12 +21,12 @@ const PROOF: &[u8] = b"5 1 0 1 2 0\n6 0 5 3 4 0\n";
 
 const HEADER: &[u8] = b"cubeboard: F1 header\n";
 
-const MEMORY: &[u8] = b"cubeboard: F6 memory\n";
+pub(crate) const MEMORY: &[u8] = b"cubeboard: F6 memory\n";
 
-const DEVICE: &[u8] = b"cubeboard: F13 device\n";
+pub(crate) const DEVICE: &[u8] = b"cubeboard: F13 device\n";
 
 /// The four clauses, and the cubes `1 2` and `-1 2`: the branches `1 -2` and `-1 -2` are missing.
-const MIXED: &[u8] = b"p inccnf\n1 2 0\n1 -2 0\n-1 2 0\n-1 -2 0\na 1 2 0\na -1 2 0\n";
+pub(crate) const MIXED: &[u8] = b"p inccnf\n1 2 0\n1 -2 0\n-1 2 0\n-1 -2 0\na 1 2 0\na -1 2 0\n";
 
 /// The bundle `MIXED` and a proof for each of its leaves, and files whose names are nearly those of
 /// proofs.
@@ -55,19 +55,19 @@ const WITHOUT_M1: &[File<'static>] = &[
 const PROOF_PATHS: &[u8] = b"D/1.lrat\nD/2.lrat\nD/m1.lrat\nD/m2.lrat\n";
 
 /// The report on `MIXED` with all proofs.
-const ALL_REPORT: &[u8] = b"t 2 2 1152921504606846976\na 1 refuted\na 2 refuted\n\
+pub(crate) const ALL_REPORT: &[u8] = b"t 2 2 1152921504606846976\na 1 refuted\na 2 refuted\n\
 m 1 1 -2 0 refuted\nm 2 -1 -2 0 refuted\nw 0\ns REFUTED\n";
 
 /// The report on `MIXED` with the proofs of `WITHOUT_M1`.
-const WITHOUT_M1_REPORT: &[u8] = b"t 2 2 1152921504606846976\na 1 refuted\na 2 refuted\n\
+pub(crate) const WITHOUT_M1_REPORT: &[u8] = b"t 2 2 1152921504606846976\na 1 refuted\na 2 refuted\n\
 m 1 1 -2 0 open\nm 2 -1 -2 0 refuted\no 1 -2 0\nw 288230376151711744\ns OPEN\n";
 
 /// The report on `MIXED` alone.
-const BARE_REPORT: &[u8] = b"t 2 2 1152921504606846976\na 1 open\na 2 open\n\
+pub(crate) const BARE_REPORT: &[u8] = b"t 2 2 1152921504606846976\na 1 open\na 2 open\n\
 m 1 1 -2 0 open\nm 2 -1 -2 0 open\no 0\nw 1152921504606846976\ns OPEN\n";
 
 /// Bundles with a fault, and the lines that tell them.
-const FAULTS: &[(&[u8], &[u8])] = &[
+pub(crate) const FAULTS: &[(&[u8], &[u8])] = &[
     (b"p cnf 2 4\n", HEADER),
     (b"", HEADER),
     (b"p inccnf\n1 x 0\n", b"cubeboard: F2 token, line 2\n"),
@@ -103,7 +103,7 @@ const FAULTS: &[(&[u8], &[u8])] = &[
 ];
 
 /// How a call of the program ends: its status, its report and its line of errors.
-type Ending<'t> = (u8, &'t [u8], &'t [u8]);
+pub(crate) type Ending<'t> = (u8, &'t [u8], &'t [u8]);
 
 /// The status of the program on these words and this input, with these files, and what it writes as
 /// a report and as errors.
@@ -387,7 +387,7 @@ fn a_section_in_the_file_of_another_leaf(rt: HostRuntime) -> Result<(), Fail> {
 
 /// The program on these words, with these files and an input that refutes, ends so after it has
 /// asked for these paths, and reads no input.
-fn leaves_input<R: AllocGlobal + Abort + Threads + Wait + Sync>(
+pub(crate) fn leaves_input<R: AllocGlobal + Abort + Threads + Wait + Sync>(
     rt: &R,
     mut store: FileStore<Shelf<'_>>,
     words: &[&str],

@@ -5,3 +5,5 @@
 mod command_gate_tests;
 #[cfg(test)]
 mod command_tests;
+#[cfg(test)]
+mod section_tests;

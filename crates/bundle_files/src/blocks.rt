@@ -1,0 +1,81 @@
+//! A file that is read block by block, or a part of it.
+ghost use Rattle.std.specs.Prelude.{◌≡◌, ◌<◌, ◌^◌, ◌-◌, ◌++◌, List, ℕ, IfOk, IfErr, IfSome, OnOk, length};
+ghost use Rattle.std.specs.Io.KnownBytes.{Consumes};
+ghost use Rattle.cube_report.specs.Device.{IsDeviceFault};
+ghost use Rattle.case_core.specs.Outline.{IsOutlineOf, AreWholeLines};
+ghost use Rattle.bundle_files.specs.Inner.Blocks.{IsHandedOver};
+
+use case_core::Outline;
+use cube_report::{Fault, Source};
+use memchr::memrchr;
+use std::alloc::Global;
+
+/// The outline of what a source gives up to its end. A block of whole lines at a time is in memory.
+///
+/// `Device` where a read failed, `Memory` where a growth was refused.
+pub(crate) fn outline_of<S: Source>(alloc: Global, source: &mut S) -> Result<Outline, Fault>
+    requires { S.failures source.old < 2 ^ 64 - 1 }
+    ensures outline { IfOk result (λ outline.
+        IfSome (S.remaining source.old) (λ text. IsOutlineOf outline text)) }
+    ensures ok { OnOk result (S.failures source.new ≡ S.failures source.old) }
+    ensures err { IfErr result
+        (λ fault. IsDeviceFault (S.failures source.old) (S.failures source.new) fault) }
+{
+    let mut outline = Outline::new(alloc);
+    let mut begun = Vec::new(alloc);
+    let mut total = 0u64;
+    let mut buffer = [0u8; 65536];
+    loop {
+        let Ok(count) = source.read(&mut buffer) else {
+            return Err(Fault::Device);
+        };
+        if count == 0 {
+            outline.add(&begun)?;
+            return Ok(outline);
+        }
+        let Some(more) = total.checked_add(count as u64) else {
+            return Err(Fault::Memory);
+        };
+        total = more;
+        hand_over(&mut outline, &mut begun, &buffer[..count])?;
+    }
+}
+
+/// Hands over the whole lines of what was read, and keeps the line that is begun.
+fn hand_over(outline: &mut Outline, begun: &mut Vec<u8>, read: &[u8]) -> Result<(), Fault>
+    ensures ok { OnOk result ((text : List ℕ) → AreWholeLines text → IsOutlineOf outline.old text
+        → IsHandedOver outline.new begun.new.items (text ++ (begun.old.items ++ read.now))) }
+    ensures memory { IfErr result (λ fault. fault ≡ Fault.Memory) }
+{
+    let Some(end) = memrchr(b'\n', read) else {
+        begun.extend_from_slice(read)?;
+        return Ok(());
+    };
+    begun.extend_from_slice(&read[..end + 1])?;
+    outline.add(begun)?;
+    begun.clear();
+    begun.extend_from_slice(&read[end + 1..])?;
+    Ok(())
+}
+
+/// Fills a buffer with what a source gives.
+///
+/// `Device` where a read failed, or the source came to its end before.
+pub(crate) fn fill<S: Source>(source: &mut S, buffer: &mut [u8]) -> Result<(), Fault>
+    requires { S.failures source.old < 2 ^ 64 - 1 }
+    ensures length { length buffer.new ≡ length buffer.old }
+    ensures filled { OnOk result
+        (Consumes (S.remaining source.old) (S.remaining source.new) buffer.new) }
+{
+    let mut done = 0;
+    while done < buffer.len() {
+        let Ok(count) = source.read(&mut buffer[done..]) else {
+            return Err(Fault::Device);
+        };
+        if count == 0 {
+            return Err(Fault::Device);
+        }
+        done += count;
+    }
+    Ok(())
+}

@@ -1,0 +1,72 @@
+//! What a worker reads the proofs by that are parts of one file.
+ghost use Rattle.std.specs.Prelude.{◌≡◌};
+
+use crate::opener::Opener;
+use crate::store::FileStore;
+use case_core::{Leaf, OutlinedCase};
+use check_crew::{LeafProofs, ReadFault};
+use cube_report::Fault;
+use std::sync::Arc;
+
+/// A reader of the proofs of a case that are parts of the file at a path, over an opener of its
+/// own: what it reads for a leaf are the bytes at the place of the leaf's section.
+#[derive(Drop)]
+pub struct SectionReader<F> {
+    files: FileStore<F>,
+    path: String,
+    outlined: Arc<OutlinedCase>,
+}
+
+impl<F> SectionReader<F> {
+    /// A reader of this case's proofs in the file at this path by this opener, with no failed read
+    /// yet.
+    pub(crate) fn new(opener: F, path: String, outlined: Arc<OutlinedCase>) -> SectionReader<F>
+        ensures opener { result.files.opener ≡ opener }
+        ensures none { result.files.failed ≡ 0 }
+        ensures path { result.path ≡ path }
+        ensures case { result.outlined ≡ outlined }
+    {
+        SectionReader {
+            files: FileStore::new(opener),
+            path,
+            outlined,
+        }
+    }
+
+    /// How many of its reads have failed so far.
+    pub(crate) fn failed(&self) -> u64
+        ensures { result ≡ self.now.files.failed }
+    {
+        self.files.failed()
+    }
+}
+
+impl<F: Opener + Drop> LeafProofs for SectionReader<F> {
+    ghost use Rattle.std.specs.String.{string_bytes};
+    ghost use Rattle.bundle_files.specs.Files.{held_if};
+    ghost use Rattle.bundle_files.specs.Parts.{held_in};
+
+    ghost held = { λ s leaf. held_in
+        (held_if (F.knows s.files.opener) (F.files s.files.opener (string_bytes s.path)))
+        s.outlined.value.sections leaf };
+
+    ghost failures = { λ s. s.files.failed };
+
+    fn read(&mut self, leaf: Leaf, bytes: &mut Vec<u8>) -> Result<bool, ReadFault> {
+        let Some(place) = self.outlined.place_of(leaf) else {
+            bytes.clear();
+            return Ok(false);
+        };
+        bytes.resize(place.length, 0)?;
+        match self.files.read_part(self.path.as_str(), place.start, bytes) {
+            Ok(()) => Ok(true),
+            Err(Fault::Memory) => Err(ReadFault::Memory),
+            Err(_) => Err(ReadFault::Device),
+        }
+    }
+
+    fn length(&self, leaf: Leaf) -> Option<u64> {
+        let place = self.outlined.place_of(leaf)?;
+        Some(place.length as u64)
+    }
+}

@@ -1,0 +1,17 @@
+-- What is said of the bundle that is asked for, before it is written.
+use Rattle.std.specs.Prelude.{◌≡◌, ℕ, Bool, List, Option, Some, is_some}
+use Rattle.bundle_files.specs.Files.{Held}
+use Rattle.cube_report.specs.Correct.{IsOutcome}
+use Rattle.cube_command.specs.Program.{IsBundleFor}
+use Rattle.cube_command.specs.Record.{record_text}
+use Rattle.cube_command.specs.Words.{Asked}
+
+-- report, picture and answer are what a run on the bundle that is asked for promises, and where a
+-- record is asked for, this is the one of the bundle that was read and of the report
+pub record IsRecordedFor (held : Held) (asked : Asked) (input : Option (List ℕ))
+    (report map : List ℕ) (answer : Bool) (made : List ℕ) : Type 0 where
+  pub read : List ℕ
+  pub whole : List ℕ
+  pub bundle : IsBundleFor held asked input read whole
+  pub outcome : IsOutcome whole (is_some asked.picture) report map answer
+  pub recorded : (path : List ℕ) → asked.out ≡ Some path → made ≡ record_text read report

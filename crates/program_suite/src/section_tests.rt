@@ -1,0 +1,147 @@
+//! Bundles in a file whose proofs are read one by one, each at its place. The expected reports are
+//! written by hand from the formats.
+
+use crate::command_tests::{
+    ALL_REPORT, BARE_REPORT, DEVICE, Ending, FAULTS, MEMORY, MIXED, WITHOUT_M1_REPORT, leaves_input,
+};
+use cube_command::FileStore;
+use cube_report::Fault;
+use devices::Shelf;
+use std::alloc::Global;
+use std::process::Abort;
+use std::sync::Wait;
+use std::test::Fail;
+use std::thread::Threads;
+
+/// Proofs of all leaves of `MIXED`, the last one first.
+const ALL: &[u8] =
+    b"l m2\n7 0 5 6 1 0\nl m1\n7 0 5 6 3 0\nc a line\nl 2\n7 0 5 6 2 0\n\tl \t1\n7 0 5 6 4 0\n";
+
+/// The same without the last line end.
+const ALL_WITHOUT_END: &[u8] =
+    b"l m2\n7 0 5 6 1 0\nl m1\n7 0 5 6 3 0\nl 2\n7 0 5 6 2 0\nl 1\n7 0 5 6 4 0";
+
+/// Proofs of all leaves of `MIXED` but its first missing one.
+const NO_M1: &[u8] = b"l 2\n7 0 5 6 2 0\nl 1\n7 0 5 6 4 0\nl m2\n7 0 5 6 1 0\n";
+
+/// A label line behind which nothing follows, not even a line end.
+const BARE_LABEL: &[u8] = b"l 2\n7 0 5 6 2 0\nl 1";
+
+/// The report on `MIXED` with the sections of `BARE_LABEL`: the proof of cube 1 is empty.
+const BARE_LABEL_REPORT: &[u8] = b"t 2 2 1152921504606846976\na 1 rejected 1 end\na 2 refuted\n\
+m 1 1 -2 0 open\nm 2 -1 -2 0 open\no 1 0\no -1 -2 0\nw 864691128455135232\ns OPEN\n";
+
+/// A proof of an inner node.
+const INNER: &[u8] = b"l n 1 0\n6 0 5 3 4 0\n";
+
+/// The report on `MIXED` with it.
+const INNER_REPORT: &[u8] = b"t 2 2 1152921504606846976\na 1 open\na 2 open\n\
+m 1 1 -2 0 open\nm 2 -1 -2 0 open\nn 1 0 refuted\no -1 0\nw 576460752303423488\ns OPEN\n";
+
+/// The program on `MIXED` with these sections, as a file whose length is told, ends so after it has
+/// opened the file so often.
+fn ends_after<R: AllocGlobal + Abort + Threads + Wait + Sync>(
+    rt: &R,
+    words: &[&str],
+    sections: &[u8],
+    ending: Ending<'_>,
+    opened: usize,
+) -> Result<(), Fail> {
+    let mut bundle = Vec::new(rt.alloc());
+    bundle.extend_from_slice(MIXED)?;
+    bundle.extend_from_slice(sections)?;
+    let files = [("FILE", bundle.as_slice())];
+    let store = FileStore::new(Shelf::new(rt.alloc(), &files)?.with_lengths());
+    leaves_input(rt, store, words, ending, &paths(rt.alloc(), opened)?)
+}
+
+/// The path of the file, so often.
+fn paths(alloc: Global, opened: usize) -> Result<Vec<u8>, Fail> {
+    let mut paths = Vec::new(alloc);
+    for _ in 0..opened {
+        paths.extend_from_slice(b"FILE\n")?;
+    }
+    Ok(paths)
+}
+
+// The file is opened for the label lines, and then for each proof.
+#[test]
+fn each_proof_at_its_place(rt: HostRuntime) -> Result<(), Fail> {
+    for words in [
+        ["--workers=1", "FILE"].as_slice(),
+        &["FILE", "--workers", "1", "--cut", "2"],
+    ] {
+        ends_after(&rt, words, ALL, (0, ALL_REPORT, b""), 5)?;
+        ends_after(&rt, words, ALL_WITHOUT_END, (0, ALL_REPORT, b""), 5)?;
+        ends_after(&rt, words, NO_M1, (1, WITHOUT_M1_REPORT, b""), 4)?;
+        ends_after(&rt, words, BARE_LABEL, (1, BARE_LABEL_REPORT, b""), 3)?;
+        ends_after(&rt, words, b"", (1, BARE_REPORT, b""), 1)?;
+    }
+    Ok(())
+}
+
+// A bundle with a proof of an inner node is read whole.
+#[test]
+fn a_proof_of_an_inner_node(rt: HostRuntime) -> Result<(), Fail> {
+    ends_after(&rt, &["FILE"], INNER, (1, INNER_REPORT, b""), 2)
+}
+
+// So is one with a fault, which is told.
+#[test]
+fn faults(rt: HostRuntime) -> Result<(), Fail> {
+    for (bundle, line) in FAULTS {
+        if bundle.is_empty() {
+            continue;
+        }
+        let files = [("FILE", *bundle)];
+        let store = FileStore::new(Shelf::new(rt.alloc(), &files)?.with_lengths());
+        leaves_input(
+            &rt,
+            store,
+            &["FILE"],
+            (3, b"", *line),
+            &paths(rt.alloc(), 2)?,
+        )?;
+    }
+    Ok(())
+}
+
+// Where the bundle's text is needed, all is read at once.
+#[test]
+fn all_at_once(rt: HostRuntime) -> Result<(), Fail> {
+    ends_after(&rt, &["FILE", "--explain"], ALL, (0, ALL_REPORT, b""), 1)
+}
+
+// A file with no length is read at once, as a pipe has to be; so is one that isn't there.
+#[test]
+fn no_length(rt: HostRuntime) -> Result<(), Fail> {
+    let files = [("FILE", MIXED)];
+    let store = FileStore::new(Shelf::new(rt.alloc(), &files)?);
+    leaves_input(&rt, store, &["FILE"], (1, BARE_REPORT, b""), b"FILE\n")?;
+    let store = FileStore::new(Shelf::new(rt.alloc(), &files)?.with_lengths());
+    leaves_input(&rt, store, &["OTHER"], (5, b"", DEVICE), b"OTHER\n")
+}
+
+// Each call fails in turn, and no other follows it.
+#[test]
+fn a_call_fails(rt: HostRuntime) -> Result<(), Fail> {
+    let mut bundle = Vec::new(rt.alloc());
+    bundle.extend_from_slice(MIXED)?;
+    bundle.extend_from_slice(ALL)?;
+    let files = [("FILE", bundle.as_slice())];
+    for at in 1..=5 {
+        for (fault, status, line) in [(Fault::Device, 5, DEVICE), (Fault::Memory, 4, MEMORY)] {
+            let shelf = Shelf::failing(rt.alloc(), &files, at as u64, fault)?;
+            let store = FileStore::new(shelf.with_lengths());
+            let words = ["FILE", "--workers", "1"];
+            leaves_input(
+                &rt,
+                store,
+                &words,
+                (status, b"", line),
+                &paths(rt.alloc(), at)?,
+            )?;
+        }
+    }
+    Ok(())
+}
