@@ -1,9 +1,9 @@
 #!/bin/bash
 # large_folder.sh PROGRAM [GIGABYTES=2] [PROOFS=4096]
-# Runs PROGRAM with four workers on a folder of so many proofs, a power of two, that are so many gigabytes in all, and says how much memory
-# it took. The status is 1 where that is more than 32 MB, a thousand bytes for each leaf and one proof for each worker, or where the report isn't
-# that all leaves are refuted.
-# The folder is made in TMPDIR (/tmp), where there has to be room for it, and removed afterwards.
+# Runs PROGRAM with four workers on a folder of so many proofs, a power of two, that are so many gigabytes in all, and then on one bundle
+# of the same proofs in a file, and says how much memory each took. The status is 1 where that is more than 32 MB, a thousand bytes for each
+# leaf and one proof for each worker, or where a report isn't that all leaves are refuted.
+# What is made is in TMPDIR (/tmp), where there has to be room for twice the proofs, and removed afterwards.
 set -eu
 program=$(realpath "${1:?a program}")
 gigabytes=${2:-2}
@@ -12,8 +12,8 @@ cd "$(dirname "$0")"
 
 within() { awk -v a="$1" -v b="$2" 'BEGIN {exit !(a <= b)}'; } # whether a number is at most another
 room=$(df --output=avail -B1 "${TMPDIR:-/tmp}" | tail -n 1)
-if ! within "$gigabytes" "$(awk -v room="$room" 'BEGIN {print room / 1.2e9}')"; then
-    echo "large_folder.sh: no room for $gigabytes GB in ${TMPDIR:-/tmp}" >&2
+if ! within "$gigabytes" "$(awk -v room="$room" 'BEGIN {print room / 2.4e9}')"; then
+    echo "large_folder.sh: no room for twice $gigabytes GB in ${TMPDIR:-/tmp}" >&2
     exit 1
 fi
 if [ ! -x bin/measure ]; then
@@ -25,22 +25,38 @@ trap 'rm -rf "$folder"' EXIT
 
 python3 tools/large_folder.py "$folder" "$gigabytes" "$proofs"
 bytes=$(find "$folder/proofs" -name '*.lrat' -printf '%s\n' | awk '{n += $1} END {printf "%.0f", n}')
-told=$(bin/measure "$folder/out" "$program" --workers 4 --proofs "$folder/proofs" "$folder/case.icnf")
-read -r wall processor kilobytes status <<< "$told"
-awk -v bytes="$bytes" -v proofs="$proofs" -v wall="$wall" -v processor="$processor" -v kilobytes="$kilobytes" 'BEGIN {
-    printf "%d proofs, %.3f GB: %.2f s, %.2f s of processor time, %.1f MB at most in memory\n",
-        proofs, bytes / 1e9, wall / 1e9, processor / 1e6, kilobytes * 1024 / 1e6
-}'
-failed=0
-if [ "$status" -ne 0 ] || ! cmp -s "$folder/report" "$folder/out"; then
-    echo "the report isn't that all leaves are refuted (status $status)"
-    failed=1
-fi
 limit=$(awk -v bytes="$bytes" -v proofs="$proofs" 'BEGIN {printf "%.0f", 32 + proofs / 1000 + 4 * bytes / proofs / 1e6}')
-if within "$(awk -v kilobytes="$kilobytes" 'BEGIN {print kilobytes * 1024 / 1e6}')" "$limit"; then
-    echo "within $limit MB"
-else
-    echo "more than $limit MB"
-    failed=1
-fi
+failed=0
+
+# A run on these words, which is named so.
+measure() {
+    name=$1
+    shift
+    told=$(bin/measure "$folder/out" "$program" --workers 4 "$@")
+    read -r wall processor kilobytes status <<< "$told"
+    awk -v name="$name" -v bytes="$bytes" -v proofs="$proofs" -v wall="$wall" -v processor="$processor" -v kilobytes="$kilobytes" 'BEGIN {
+        printf "%s of %d proofs, %.3f GB: %.2f s, %.2f s of processor time, %.1f MB at most in memory\n",
+            name, proofs, bytes / 1e9, wall / 1e9, processor / 1e6, kilobytes * 1024 / 1e6
+    }'
+    if [ "$status" -ne 0 ] || ! cmp -s "$folder/report" "$folder/out"; then
+        echo "the report isn't that all leaves are refuted (status $status)"
+        failed=1
+    fi
+    if within "$(awk -v kilobytes="$kilobytes" 'BEGIN {print kilobytes * 1024 / 1e6}')" "$limit"; then
+        echo "within $limit MB"
+    else
+        echo "more than $limit MB"
+        failed=1
+    fi
+}
+
+measure "a folder" --proofs "$folder/proofs" "$folder/case.icnf"
+{
+    cat "$folder/case.icnf"
+    for number in $(seq "$proofs"); do
+        echo "l $number"
+        cat "$folder/proofs/$number.lrat"
+    done
+} > "$folder/bundle.icnf"
+measure "a file" "$folder/bundle.icnf"
 exit "$failed"

@@ -316,7 +316,7 @@ def parts_of(definition):
     """The head of a definition, and then each of its equations, constructors or fields."""
     parts = []
     for line in definition.lines:
-        if not parts or re.match(r"  \S" if is_type(definition) else r"(?!unfolding )[^\s}]", line):
+        if not parts or re.match(r"  [^\s}]" if is_type(definition) else r"(?!unfolding )[^\s}]", line):
             parts.append("")
         parts[-1] += without(line, STRING) + "\n"
     return parts
