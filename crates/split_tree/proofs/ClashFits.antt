@@ -119,8 +119,8 @@ merge_one v number [] cubes s a t f = absurd s
 merge_one v number (l ∷ left) cubes s a t f =
     merge_sign v number l l.positive left cubes s a refl t f
 
-pub merge_fit : (v : ℕ) (cubes : List Numbered) → AllByRecursion (λ d. SplitsOn v d.literals) cubes →
-    AreFit (going true cubes) → AreFit (going false cubes) → AreFit cubes
+pub merge_fit : (v : ℕ) (cubes : List Numbered) → AllByRecursion (λ d. SplitsOn v d.literals) cubes
+    → AreFit (going true cubes) → AreFit (going false cubes) → AreFit cubes
 merge_fit v [] s t f = tt
 merge_fit v (c ∷ cubes) s t f =
     let m = merge_one v c.number c.literals cubes s.0 s.1 t f in

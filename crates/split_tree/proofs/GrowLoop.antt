@@ -2,7 +2,7 @@
 -- the last one first.
 use Rattle.std.proofs.Common.{◌≡◌, ◌≢◌, ℕ, ◌+◌, ◌*◌, ◌<◌, List, [], ◌∷◌, ◌++◌, length, Bool, true}
 use Rattle.std.proofs.Common.{false, refl, sym, ap, ◌∙◌, inl, inr, arith, append_assoc, append-nil}
-use Rattle.std.proofs.Common.{Vec, Some}
+use Rattle.std.proofs.Common.{Some}
 use Rattle.std.specs.List.{AllByRecursion}
 use Rattle.std.specs.Bool.{beq}
 use Rattle.std.proofs.lemmas.List.{map-append}
@@ -15,8 +15,8 @@ use Rattle.split_tree.specs.Clash.{relation_of}
 use Rattle.split_tree.specs.SplitTree.{SplitTree, missing, cube, split, Numbered, SplitsOn}
 use Rattle.split_tree.specs.SplitTree.{going_with, going, IsTreeOf}
 use Rattle.split_tree.specs.Inner.Nodes.{preorder}
-use Rattle.split_tree.specs.Inner.Grow.{AreFit, cubes_ahead, IsShapeAt, waiting}
-use Rattle.split_tree.specs.declared.grow.Ahead.{Ahead}
+use Rattle.split_tree.specs.Inner.Grow.{AreFit, group_ahead, IsShapeAt, waiting}
+use Rattle.split_tree.specs.declared.group.Group.{Group}
 use Rattle.split_tree.proofs.SplitTreeUnique.{literals_of, going_literals, some_length}
 
 -- each list has its tree
@@ -196,8 +196,8 @@ pub all_push : {X : Type 0} (P : X → Type 0) (xs : List X) (x : X) → AllByRe
 all_push P [] x h k = (k, tt)
 all_push P (y ∷ xs) x h k = (h.0, all_push P xs x h.1 k)
 
-pub all_pop : {X : Type 0} (P : X → Type 0) (xs : List X) (x : X) → AllByRecursion P (xs ++ x ∷ []) →
-    AllByRecursion P xs × P x
+pub all_pop : {X : Type 0} (P : X → Type 0) (xs : List X) (x : X) → AllByRecursion P (xs ++ x ∷ [])
+    → AllByRecursion P xs × P x
 all_pop P [] x h = (tt, h.0)
 all_pop P (y ∷ xs) x h = let r = all_pop P xs x h.1 in ((h.0, r.0), r.1)
 
@@ -275,9 +275,7 @@ lighter_split ws c v h =
     omega arith
 
 -- one more list waits
-pub waiting_push : {Z : Type 0} (new old : List (Vec Ahead Z)) (v : Vec Ahead Z) →
-    new ≡ old ++ v ∷ [] →
-    waiting new ≡ waiting old ++ cubes_ahead v.items ∷ []
-waiting_push {Z} new old v e =
-    ap (λ (vs : List (Vec Ahead Z)). waiting vs) e
-    ∙ map-append (λ (w : Vec Ahead Z). cubes_ahead w.items) old (v ∷ [])
+pub waiting_push : (new old : List Group) (g : Group) → new ≡ old ++ g ∷ [] →
+    waiting new ≡ waiting old ++ group_ahead g ∷ []
+waiting_push new old g e =
+    ap (λ (gs : List Group). waiting gs) e ∙ map-append group_ahead old (g ∷ [])

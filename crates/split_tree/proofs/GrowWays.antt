@@ -8,7 +8,7 @@ use Rattle.std.specs.Bool.{beq}
 use Rattle.std.proofs.lemmas.List.{drop_more}
 use Rattle.std.proofs.lemmas.Bool.{cases_eq, ne_eqb}
 use Rattle.split_tree.specs.declared.clash.Relation.TheVariants.{Fit}
-use Rattle.split_tree.specs.declared.grow.Ahead.{Ahead}
+use Rattle.split_tree.specs.declared.group.Ahead.{Ahead}
 use Rattle.cnf_text.specs.Literal.{Literal}
 use Rattle.split_tree.specs.Clash.{relation_of, cube_lists}
 use Rattle.split_tree.specs.SplitTree.{Numbered, numbered, SplitsOn, going_with, going}
@@ -70,27 +70,31 @@ ended_clash (c ∷ d ∷ cubes) f h e l a =
     let k : c.literals.now ≡ [] = cc in
     ended_unfit d.literals.now (rw k at a.0.0)
 
-split_ahead : (c : Ahead) (literals : List Literal) (l : Literal) (cubes : List Numbered) →
-    c.literals.now ≡ literals →
-    Some l ≡ slice_get literals 0 →
-    AllByRecursion (λ d. relation_of c.literals.now d.literals ≡ Fit) cubes →
-    SplitsOn l.variable c.literals.now × AllByRecursion (λ d. SplitsOn l.variable d.literals) cubes
-split_ahead c [] l cubes i h a = cc
-split_ahead c (m ∷ literals) l cubes i h a =
+split_ahead : (own literals : List Literal) (l : Literal) (cubes : List Numbered) →
+    own ≡ literals → Some l ≡ slice_get literals 0 →
+    AllByRecursion (λ d. relation_of own d.literals ≡ Fit) cubes →
+    SplitsOn l.variable own × AllByRecursion (λ d. SplitsOn l.variable d.literals) cubes
+split_ahead own [] l cubes i h a = cc
+split_ahead own (m ∷ literals) l cubes i h a =
     let j : l ≡ m = cc in
     rw (j, i) (refl, all_fit_split m literals cubes (rw i at a))
 
 -- where cubes fit and the first goes on with a literal, all of them split on its variable
-pub all_split : (cubes : List Ahead) (f : Ahead) (l : Literal) → Some f ≡ slice_get cubes 0 →
-    Some l ≡ slice_get f.literals.now 0 →
-    AreFit (cubes_ahead cubes) →
-    AllByRecursion (λ c. SplitsOn l.variable c.literals) (cubes_ahead cubes)
+pub all_split : (cubes : List Numbered) (f : Numbered) (l : Literal) →
+    Some f ≡ slice_get cubes 0 → Some l ≡ slice_get f.literals 0 → AreFit cubes →
+    AllByRecursion (λ c. SplitsOn l.variable c.literals) cubes
 all_split [] f l h e a = cc
 all_split (c ∷ cubes) f l h e a =
     let i : f ≡ c = cc in
-    let k : Some l ≡ slice_get c.literals.now 0 = rw i at e in
-    let s = split_ahead c c.literals.now l (cubes_ahead cubes) refl k a.0 in
-    (s.0, s.1)
+    let k : Some l ≡ slice_get c.literals 0 = rw i at e in
+    split_ahead c.literals c.literals l cubes refl k a.0
+
+-- the first cube, as what lies ahead of it
+pub first_ahead : (cubes : List Ahead) (f : Ahead) → Some f ≡ slice_get cubes 0 →
+    Some (record { number = f.number; literals = f.literals.now })
+    ≡ slice_get (cubes_ahead cubes) 0
+first_ahead [] f h = cc
+first_ahead (c ∷ cubes) f h = let i : f ≡ c = cc in rw i refl
 
 -- ---- which cubes go which way
 

@@ -1,6 +1,7 @@
 pub mod SplitTreeUnique
 mod ClashRelations
 pub mod ClashTotal
+mod GroupStretch
 mod GrowWays
 mod GrowLoop
 pub mod ClashFits

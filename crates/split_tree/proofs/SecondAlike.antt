@@ -8,16 +8,17 @@ use Rattle.std.proofs.lemmas.List.{take_more, take_all, length-take-le, take-app
 use Rattle.std.proofs.lemmas.Option.{slice_get_past}
 use Rattle.std.specs.List.{AllByRecursion}
 use Rattle.cnf_text.specs.Literal.{Literal}
-use Rattle.split_tree.specs.declared.grow.Ahead.{Ahead}
+use Rattle.split_tree.specs.declared.group.Ahead.{Ahead}
 use Rattle.split_tree.specs.Clash.{AllFit}
 use Rattle.split_tree.specs.SplitTree.{Numbered, numbered, SplitsOn, going}
 use Rattle.split_tree.specs.Inner.Clash.{IsFitting}
-use Rattle.split_tree.specs.Inner.Grow.{cubes_ahead, AreFit}
+use Rattle.split_tree.specs.Inner.Grow.{cubes_ahead, AreFit, led_by}
 use Rattle.split_tree.specs.Inner.Second.{AreAlike}
 use Rattle.split_tree.proofs.ClashFits.{are_fit, all_fit}
 use Rattle.split_tree.proofs.SplitTreeUnique.{literals_of}
 use Rattle.split_tree.proofs.GrowLoop.{all_push, weigh, weigh_push, lighter_split}
 use Rattle.split_tree.proofs.GrowWays.{all_split, cubes_ahead-append}
+use Rattle.split_tree.proofs.GroupStretch.{shared_splits}
 use Rattle.split_tree.proofs.SecondWalk.{below, none_below, Rises, all_last, FirstOnes, all_first}
 use Rattle.split_tree.proofs.SecondWalk.{before_other, Walks, all_walked}
 
@@ -37,97 +38,153 @@ one_more P cubes i c inside is all here =
     (record { number = c.number; literals = c.literals.now }) all here)
 
 -- how a list is cut at a place
-Cut : List Ahead → ℕ → Option Ahead → Type 0
+Cut : List Numbered → ℕ → Option Numbered → Type 0
 Cut cubes n None = take n cubes ≡ cubes
-Cut cubes n (Some c) = (rest : List Ahead) × (cubes ≡ take n cubes ++ c ∷ rest)
+Cut cubes n (Some c) = (rest : List Numbered) × (cubes ≡ take n cubes ++ c ∷ rest)
 
-cut_step : (d : Ahead) (cubes : List Ahead) (n : ℕ) (found : Option Ahead) → Cut cubes n found
-    → Cut (d ∷ cubes) (suc n) found
+cut_step : (d : Numbered) (cubes : List Numbered) (n : ℕ) (found : Option Numbered)
+    → Cut cubes n found → Cut (d ∷ cubes) (suc n) found
 unfolding Cut
 cut_step d cubes n None h = ap (λ more. d ∷ more) h
 cut_step d cubes n (Some c) h = (h.0, ap (λ more. d ∷ more) h.1)
 
-cut : (cubes : List Ahead) (n : ℕ) → Cut cubes n (slice_get cubes n)
+cut : (cubes : List Numbered) (n : ℕ) → Cut cubes n (slice_get cubes n)
 unfolding Cut
 cut [] zero = refl
 cut [] (suc n) = refl
 cut (d ∷ cubes) zero = (cubes, refl)
 cut (d ∷ cubes) (suc n) = cut_step d cubes n (slice_get cubes n) (cut cubes n)
 
-firsts_at : (cubes : List Ahead) (bound count new : ℕ) (found : Option Ahead)
-    → Rises (cubes_ahead cubes) → Cut cubes count found
-    → ((c : Ahead) → Some c ≡ found → AreFit (cubes_ahead (take count cubes ++ c ∷ [])) → ⊥)
+firsts_at : (cubes : List Numbered) (bound count new : ℕ) (found : Option Numbered)
+    → Rises cubes → Cut cubes count found
+    → ((c : Numbered) → Some c ≡ found → AreFit (take count cubes ++ c ∷ []) → ⊥)
     → MatchOption found (new ≡ bound) (λ c. new ≡ min c.number bound)
-    → FirstOnes (cubes_ahead cubes) (cubes_ahead (take count cubes)) bound new
+    → FirstOnes cubes (take count cubes) bound new
 unfolding Cut
 firsts_at cubes bound count new None rises whole next is =
-    rw (whole, is) (all_first (cubes_ahead cubes) bound rises)
+    rw (whole, is) (all_first cubes bound rises)
 firsts_at cubes bound count new (Some c) rises parted next is =
-    let firsts : List Numbered = cubes_ahead (take count cubes) in
-    let one : Numbered = record { number = c.number; literals = c.literals.now } in
-    let parts : cubes_ahead cubes ≡ firsts ++ one ∷ cubes_ahead parted.0 =
-    ap cubes_ahead parted.1 ∙ cubes_ahead-append (take count cubes) (c ∷ parted.0) in
     rw is
-    (subst (λ (all : List Numbered). FirstOnes all firsts bound (min c.number bound)) (sym parts)
-    (before_other firsts (cubes_ahead parted.0) one bound
-    (subst Rises parts rises)
-    (λ fit. next c refl (rw (cubes_ahead-append (take count cubes) (c ∷ [])) fit))))
+    (subst (λ (all : List Numbered). FirstOnes all (take count cubes) bound (min c.number bound))
+    (sym parted.1)
+    (before_other (take count cubes) parted.0 c bound (subst Rises parted.1 rises)
+    (λ fit. next c refl fit)))
 
 -- those that are alike are the first of the node's cubes below the new bound
-pub firsts : (cubes : List Ahead) (bound count new : ℕ) → Rises (cubes_ahead cubes)
-    → AreAlike cubes count
+pub firsts : (cubes : List Numbered) (bound count new : ℕ) → Rises cubes → AreAlike cubes count
     → MatchOption (slice_get cubes count) (new ≡ bound) (λ c. new ≡ min c.number bound)
-    → FirstOnes (cubes_ahead cubes) (cubes_ahead (take count cubes)) bound new
+    → FirstOnes cubes (take count cubes) bound new
 firsts cubes bound count new rises alike is =
     firsts_at cubes bound count new (slice_get cubes count) rises (cut cubes count) alike.next is
 
-same_first : (xs rest : List Ahead) (f c : Ahead) → Some f ≡ slice_get (xs ++ c ∷ rest) 0
+same_first : (xs rest : List Numbered) (f c : Numbered) → Some f ≡ slice_get (xs ++ c ∷ rest) 0
     → Some f ≡ slice_get (xs ++ c ∷ []) 0
 same_first [] rest f c h = h
 same_first (d ∷ xs) rest f c h = h
 
-cut_some : (cubes : List Ahead) (count : ℕ) (c : Ahead) (found : Option Ahead)
+cut_some : (cubes : List Numbered) (count : ℕ) (c : Numbered) (found : Option Numbered)
     → Some c ≡ found → Cut cubes count found
-    → (rest : List Ahead) × (cubes ≡ take count cubes ++ c ∷ rest)
+    → (rest : List Numbered) × (cubes ≡ take count cubes ++ c ∷ rest)
 unfolding Cut
 cut_some cubes count c None e h = absurd (cc)
 cut_some cubes count c (Some d) e h =
     let same : d ≡ c = cc in rw same at h
 
 -- a cube that doesn't go on with the first one's variable doesn't fit it
-pub apart_from_first : (cubes : List Ahead) (count : ℕ) (f c : Ahead) (l : Literal)
-    → Some f ≡ slice_get cubes 0 → Some l ≡ slice_get f.literals.now 0
-    → Some c ≡ slice_get cubes count → (SplitsOn l.variable c.literals.now → ⊥)
-    → AreFit (cubes_ahead (take count cubes ++ c ∷ [])) → ⊥
+pub apart_from_first : (cubes : List Numbered) (count : ℕ) (f c : Numbered) (l : Literal)
+    → Some f ≡ slice_get cubes 0 → Some l ≡ slice_get f.literals 0
+    → Some c ≡ slice_get cubes count → (SplitsOn l.variable c.literals → ⊥)
+    → AreFit (take count cubes ++ c ∷ []) → ⊥
 apart_from_first cubes count f c l first literal found other fit =
     let parted = cut_some cubes count c (slice_get cubes count) found (cut cubes count) in
     let first_again : Some f ≡ slice_get (take count cubes ++ c ∷ []) 0 =
     same_first (take count cubes) parted.0 f c
-    (subst (λ (all : List Ahead). Some f ≡ slice_get all 0) parted.1 first) in
+    (subst (λ (all : List Numbered). Some f ≡ slice_get all 0) parted.1 first) in
     let all = all_split (take count cubes ++ c ∷ []) f l first_again literal fit in
-    other (all_last (λ d. SplitsOn l.variable d.literals) (cubes_ahead (take count cubes)) []
-    (record { number = c.number; literals = c.literals.now })
-    (rw (cubes_ahead-append (take count cubes) (c ∷ [])) at all))
+    other (all_last (λ d. SplitsOn l.variable d.literals) (take count cubes) [] c all)
 
 -- no cube is behind all
 pub none_behind : (cubes : List Ahead) (c : Ahead) → Some c ≡ slice_get cubes (length cubes) → ⊥
 none_behind cubes c h = let none = slice_get_past cubes (length cubes) (omega arith) in cc
 
-ahead_length : (cubes : List Ahead) → length (cubes_ahead cubes) ≡ length cubes
-ahead_length [] = refl
-ahead_length (c ∷ cubes) = ap suc (ahead_length cubes)
-
-taken : (count : ℕ) (cubes : List Ahead) → length (take count cubes) ≤ count
+taken : (count : ℕ) (cubes : List Numbered) → length (take count cubes) ≤ count
 taken zero cubes = omega arith
 taken (suc n) [] = omega arith
 taken (suc n) (c ∷ cubes) = let less = taken n cubes in omega arith
 
 -- at most one is alike
-pub few_alike : (cubes : List Ahead) (count : ℕ) → count ≤ 1
-    → length (cubes_ahead (take count cubes)) ≤ 1
-few_alike cubes count few =
-    let less = taken count cubes in
-    let same = ahead_length (take count cubes) in omega arith
+pub few_alike : (cubes : List Numbered) (count : ℕ) → count ≤ 1 → length (take count cubes) ≤ 1
+few_alike cubes count few = let less = taken count cubes in omega arith
+
+-- ---- the cubes at a node, as what lies ahead of each
+
+pub ahead_length : (cubes : List Ahead) → length (cubes_ahead cubes) ≡ length cubes
+ahead_length [] = refl
+ahead_length (c ∷ cubes) = ap suc (ahead_length cubes)
+
+pub ahead_take : (n : ℕ) (cubes : List Ahead)
+    → take n (cubes_ahead cubes) ≡ cubes_ahead (take n cubes)
+ahead_take zero cubes = refl
+ahead_take (suc n) [] = refl
+ahead_take (suc n) (c ∷ cubes) =
+    ap (λ (more : List Numbered). record { number = c.number; literals = c.literals.now } ∷ more)
+    (ahead_take n cubes)
+
+-- without a first cube there is none
+pub nothing_first : (cubes : List Ahead) (d : Numbered) → None ≡ slice_get cubes 0
+    → Some d ≡ slice_get (cubes_ahead cubes) 0 → ⊥
+nothing_first [] d none h = cc
+nothing_first (c ∷ cubes) d none h = cc
+
+-- the cube at a place
+pub ahead_at : (P : List Literal → Type 0) (cubes : List Ahead) (n : ℕ) (d : Numbered)
+    → Some d ≡ slice_get (cubes_ahead cubes) n
+    → ((c : Ahead) → Some c ≡ slice_get cubes n → P c.literals.now → ⊥) → P d.literals → ⊥
+ahead_at P [] n d h none p = let past = slice_get_past (cubes_ahead []) n (omega arith) in cc
+ahead_at P (c ∷ cubes) zero d h none p =
+    let same : d ≡ record { number = c.number; literals = c.literals.now } = cc in
+    none c refl (subst (λ (e : Numbered). P e.literals) same p)
+ahead_at P (c ∷ cubes) (suc n) d h none p = ahead_at P cubes n d h none p
+
+led_length : (shared : List Literal) (cubes : List Ahead)
+    → length (led_by shared cubes) ≡ length cubes
+led_length shared [] = refl
+led_length shared (c ∷ cubes) = ap suc (led_length shared cubes)
+
+pub led_take : (n : ℕ) (shared : List Literal) (cubes : List Ahead)
+    → take n (led_by shared cubes) ≡ led_by shared (take n cubes)
+led_take zero shared cubes = refl
+led_take (suc n) shared [] = refl
+led_take (suc n) shared (c ∷ cubes) =
+    ap (λ (more : List Numbered).
+    record { number = c.number; literals = shared ++ c.literals.now } ∷ more)
+    (led_take n shared cubes)
+
+-- the number of the cube behind so many of a group
+pub number_behind : (shared : List Literal) (cubes : List Ahead) (n bound new : ℕ)
+    → MatchOption (slice_get cubes n) (new ≡ bound) (λ c. new ≡ min c.number bound)
+    → MatchOption (slice_get (led_by shared cubes) n) (new ≡ bound)
+    (λ c. new ≡ min c.number bound)
+number_behind shared [] n bound new h = h
+number_behind shared (c ∷ cubes) zero bound new h = h
+number_behind shared (c ∷ cubes) (suc n) bound new h = number_behind shared cubes n bound new h
+
+-- all cubes of a group that share a literal are alike
+pub all_alike : (shared : List Literal) (cubes : List Ahead) → 0 < length shared
+    → AreAlike (led_by shared cubes) (length cubes)
+all_alike [] cubes some = absurd (omega arith)
+all_alike (l ∷ rest) cubes some =
+    let all : List Numbered = led_by (l ∷ rest) cubes in
+    let long : length all ≡ length cubes = led_length (l ∷ rest) cubes in
+    record {
+      within = omega arith;
+      alike = inr (
+        l.variable,
+        rw (take_all (length cubes) all (omega arith)) (shared_splits (l ∷ rest) cubes l refl),
+      );
+      next = λ c h fit.
+          let none = slice_get_past all (length cubes) (omega arith) in absurd (cc);
+    }
 
 -- ---- what waits weighs less
 
@@ -135,35 +192,29 @@ literals_front : (xs ys : List Numbered) → literals_of xs ≤ literals_of (xs 
 literals_front [] ys = omega arith
 literals_front (c ∷ xs) ys = let less = literals_front xs ys in omega arith
 
-literals_taken : (count : ℕ) (cubes : List Ahead)
-    → literals_of (cubes_ahead (take count cubes)) ≤ literals_of (cubes_ahead cubes)
+literals_taken : (count : ℕ) (cubes : List Numbered)
+    → literals_of (take count cubes) ≤ literals_of cubes
 literals_taken count cubes =
-    let parts : cubes_ahead cubes
-    ≡ cubes_ahead (take count cubes) ++ cubes_ahead (drop count cubes) =
-    ap cubes_ahead (sym (take-append-drop count cubes))
-    ∙ cubes_ahead-append (take count cubes) (drop count cubes) in
-    let less = literals_front (cubes_ahead (take count cubes)) (cubes_ahead (drop count cubes)) in
-    subst (λ (all : List Numbered).
-    literals_of (cubes_ahead (take count cubes)) ≤ literals_of all) (sym parts) less
+    let less = literals_front (take count cubes) (drop count cubes) in
+    subst (λ (all : List Numbered). literals_of (take count cubes) ≤ literals_of all)
+    (take-append-drop count cubes) less
 
 some_cubes : (cubes : List Numbered) → 1 < length cubes → cubes ≢ []
 some_cubes [] h e = absurd (omega arith)
 some_cubes (c ∷ cubes) h e = cc
 
 -- more than one is alike: then their branches weigh less than all of the node's cubes
-pub lighter_down : (ws : List (List Numbered)) (cubes : List Ahead) (count v : ℕ)
+pub lighter_down : (ws : List (List Numbered)) (cubes : List Numbered) (count v : ℕ)
     → 1 < count → count ≤ length cubes
-    → AllByRecursion (λ c. SplitsOn v c.literals) (cubes_ahead (take count cubes))
-    → weigh ((ws ++ going false (cubes_ahead (take count cubes)) ∷ [])
-    ++ going true (cubes_ahead (take count cubes)) ∷ []) < weigh (ws ++ cubes_ahead cubes ∷ [])
+    → AllByRecursion (λ c. SplitsOn v c.literals) (take count cubes)
+    → weigh ((ws ++ going false (take count cubes) ∷ []) ++ going true (take count cubes) ∷ [])
+    < weigh (ws ++ cubes ∷ [])
 lighter_down ws cubes count v many within split =
-    let long : length (cubes_ahead (take count cubes)) ≡ count =
-    ahead_length (take count cubes) ∙ length-take-le count cubes within in
+    let long : length (take count cubes) ≡ count = length-take-le count cubes within in
     let down =
-    lighter_split ws (cubes_ahead (take count cubes)) v
-    (some_cubes (cubes_ahead (take count cubes)) (omega arith), split) in
-    let front = weigh_push ws (cubes_ahead (take count cubes)) in
-    let whole = weigh_push ws (cubes_ahead cubes) in
+    lighter_split ws (take count cubes) v (some_cubes (take count cubes) (omega arith), split) in
+    let front = weigh_push ws (take count cubes) in
+    let whole = weigh_push ws cubes in
     let less = literals_taken count cubes in
     omega arith
 

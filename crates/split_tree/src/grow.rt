@@ -4,50 +4,15 @@ ghost use Rattle.std.specs.Prelude.{length, ◌<◌, ◌^◌, true, false, OnOk,
 ghost use Rattle.std.specs.Prelude.{IfSome, IsTrue, ◌↔◌, []};
 ghost use Rattle.std.specs.List.{All, AllByRecursion};
 ghost use Rattle.split_tree.specs.Inner.Nodes.{HasVariable};
-ghost use Rattle.std.specs.Option.{option_to_list};
-ghost use Rattle.split_tree.specs.SplitTree.{numbered, going, going_with, SplitsOn};
+ghost use Rattle.split_tree.specs.SplitTree.{numbered, going, SplitsOn};
+ghost use Rattle.split_tree.specs.Clash.{cube_lists};
+ghost use Rattle.split_tree.specs.Inner.Grow.{cubes_ahead, group_ahead, IsShapeAt, AreShapesOf};
+ghost use Rattle.split_tree.specs.Inner.Grow.{waiting};
 
+use crate::group::{Ahead, Group, gathered};
 use crate::shape::Shape;
 use cnf_text::literal::Lit;
 use std::alloc::{AllocError, Global};
-
-/// A cube on its way down the tree.
-#[derive(Clone, Copy)]
-pub struct Ahead<'a> {
-    /// The cube's number, from 1.
-    pub number: u32,
-    /// Its literals from here on.
-    pub literals: &'a [Lit],
-}
-
-ghost use Rattle.split_tree.specs.Clash.{cube_lists};
-ghost use Rattle.split_tree.specs.Inner.Grow.{cubes_ahead, IsShapeAt, AreShapesOf, waiting};
-
-impl<'a> Ahead<'a> {
-    /// Whether the cube hasn't ended, and its next literal is of this variable.
-    pub fn splits_on(&self, variable: u32) -> bool
-        ensures { IsTrue result ↔ SplitsOn variable self.now.literals.now }
-    {
-        match self.literals.first() {
-            Some(next) => next.variable() == variable,
-            None => false,
-        }
-    }
-
-    /// The cube behind its next literal, where that has this sign.
-    fn going(&self, sign: bool) -> Option<Ahead<'a>>
-        ensures { cubes_ahead (option_to_list result)
-            ≡ going_with sign self.now.number self.now.literals.now [] }
-    {
-        match self.literals {
-            [literal, rest @ ..] if literal.positive() == sign => Some(Ahead {
-                number: self.number,
-                literals: rest,
-            }),
-            _ => None,
-        }
-    }
-}
 
 /// Whether each of these cubes goes on with a literal of this variable.
 fn all_split_on(variable: u32, cubes: &[Ahead]) -> bool
@@ -63,7 +28,7 @@ fn all_split_on(variable: u32, cubes: &[Ahead]) -> bool
 }
 
 /// What stands where these cubes have come to, or `None` where two of them clash.
-fn shape_at(cubes: &[Ahead]) -> Option<Shape>
+fn shape_of(cubes: &[Ahead]) -> Option<Shape>
     ensures shape { IsShapeAt result (cubes_ahead cubes.now) }
     ensures variable { IfSome result HasVariable }
 {
@@ -85,6 +50,23 @@ fn shape_at(cubes: &[Ahead]) -> Option<Shape>
     }
 }
 
+/// What stands where this group has come to, or `None` where two of its cubes clash.
+fn shape_at(group: &Group) -> Option<Shape>
+    ensures shape { IsShapeAt result (group_ahead group.now) }
+    ensures variable { IfSome result HasVariable }
+{
+    if group.cubes.is_empty() {
+        return Some(Shape::Missing);
+    }
+    match group.shared.first() {
+        Some(next) => {
+            let variable = next.variable();
+            Some(Shape::Split(variable))
+        }
+        None => shape_of(&group.cubes),
+    }
+}
+
 /// The cubes that go the way of this sign.
 fn cubes_going<'a>(
     alloc: Global,
@@ -102,18 +84,51 @@ fn cubes_going<'a>(
     Ok(way)
 }
 
-/// Lets the branches of a split on these cubes wait, the positive one on top.
+/// The groups of both branches of a split on this group's cubes, the positive one first. What all
+/// of them go on with leads all of them to one branch.
+fn branches_of<'a>(alloc: Global, group: Group<'a>) -> Result<(Group<'a>, Group<'a>), AllocError>
+    ensures positive { IfOk result
+        (λ branches. group_ahead branches.0 ≡ going true (group_ahead group.entry)) }
+    ensures negative { IfOk result
+        (λ branches. group_ahead branches.1 ≡ going false (group_ahead group.entry)) }
+{
+    match group.shared {
+        [next, rest @ ..] => {
+            let all = Group {
+                shared: rest,
+                cubes: group.cubes,
+            };
+            let none = Group {
+                shared: &[],
+                cubes: Vec::new(alloc),
+            };
+            Ok(if next.positive() {
+                (all, none)
+            } else {
+                (none, all)
+            })
+        }
+        [] => {
+            let positive = gathered(cubes_going(alloc, true, &group.cubes)?);
+            let negative = gathered(cubes_going(alloc, false, &group.cubes)?);
+            Ok((positive, negative))
+        }
+    }
+}
+
+/// Lets the branches of a split on this group's cubes wait, the positive one on top.
 pub fn push_branches<'a>(
     alloc: Global,
-    cubes: &[Ahead<'a>],
-    pending: &mut Vec<Vec<Ahead<'a>>>,
+    group: Group<'a>,
+    pending: &mut Vec<Group<'a>>,
 ) -> Result<(), AllocError>
     ensures { OnOk result (waiting pending.new.items
-        ≡ (waiting pending.old.items ++ going false (cubes_ahead cubes.now) ∷ [])
-        ++ going true (cubes_ahead cubes.now) ∷ []) }
+        ≡ (waiting pending.old.items ++ going false (group_ahead group.entry) ∷ [])
+        ++ going true (group_ahead group.entry) ∷ []) }
 {
-    pending.push(cubes_going(alloc, false, cubes)?)?;
-    pending.push(cubes_going(alloc, true, cubes)?)?;
+    let (positive, negative) = branches_of(alloc, group)?;
+    pending.push(negative)?;
+    pending.push(positive)?;
     Ok(())
 }
 
@@ -124,15 +139,16 @@ pub fn grow(alloc: Global, start: Vec<Ahead>) -> Result<Option<Vec<Shape>>, Allo
 {
     let mut shapes = Vec::new(alloc);
     let mut pending = Vec::new(alloc);
-    pending.push(start)?;
-    while let Some(cubes) = pending.pop() {
-        let Some(shape) = shape_at(&cubes) else {
+    pending.push(gathered(start))?;
+    while let Some(group) = pending.pop() {
+        let Some(shape) = shape_at(&group) else {
             return Ok(None);
         };
         shapes.push(shape)?;
-        if let Shape::Split(_) = shape {
-            push_branches(alloc, &cubes, &mut pending)?;
-        }
+        let Shape::Split(_) = shape else {
+            continue;
+        };
+        push_branches(alloc, group, &mut pending)?;
     }
     Ok(Some(shapes))
 }

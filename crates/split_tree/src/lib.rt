@@ -2,6 +2,7 @@
 #![tactic(auto)]
 
 mod clash;
+mod group;
 mod grow;
 mod laws;
 mod node;

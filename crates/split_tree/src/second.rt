@@ -6,10 +6,11 @@ ghost use Rattle.std.specs.List.{AllByRecursion};
 ghost use Rattle.split_tree.specs.Clash.{AllFit, cube_lists};
 ghost use Rattle.split_tree.specs.SplitTree.{SplitsOn};
 ghost use Rattle.split_tree.specs.Inner.Clash.{IsFitting};
-ghost use Rattle.split_tree.specs.Inner.Grow.{cubes_ahead};
+ghost use Rattle.split_tree.specs.Inner.Grow.{cubes_ahead, group_ahead};
 ghost use Rattle.split_tree.specs.Inner.Second.{AreAlike};
 
-use crate::grow::{Ahead, at_root, push_branches};
+use crate::group::{Ahead, Group, gathered};
+use crate::grow::{at_root, push_branches};
 use cnf_text::literal::Lit;
 use std::alloc::{AllocError, Global};
 
@@ -32,7 +33,7 @@ fn split_len(variable: u32, cubes: &[Ahead]) -> usize
 /// How many of these cubes, from the first on, may fit: those that go on with a literal of the
 /// first one's variable, or that one alone where it has ended.
 fn alike_len(cubes: &[Ahead]) -> usize
-    ensures { AreAlike cubes.now result }
+    ensures { AreAlike (cubes_ahead cubes.now) result }
 {
     let Some(first) = cubes.first() else {
         return 0;
@@ -40,6 +41,17 @@ fn alike_len(cubes: &[Ahead]) -> usize
     match first.literals.first() {
         Some(literal) => split_len(literal.variable(), cubes),
         None => 1,
+    }
+}
+
+/// How many of this group's cubes, from the first on, may fit: all, where they go on together.
+fn alike_in(group: &Group) -> usize
+    ensures { AreAlike (group_ahead group.now) result }
+{
+    if group.shared.is_empty() {
+        alike_len(&group.cubes)
+    } else {
+        group.cubes.len()
     }
 }
 
@@ -57,7 +69,7 @@ fn bound_behind(cubes: &[Ahead], count: usize, bound: u32) -> u32
 /// How many cubes fit before the first that clashes with one before it, where some two clash. The
 /// bound is the least second cube of a clash that was found so far. Where the cubes at a node don't
 /// all go on alike, the first that doesn't is the second of a clash, and only those before it can
-/// be that of a lesser one. So each literal is looked at once.
+/// be that of a lesser one. So each literal is looked at a few times at most.
 pub fn fitting(alloc: Global, cubes: &[Vec<Lit>]) -> Result<usize, AllocError>
     requires few { length cubes.now < 2 ^ 32 }
     requires clash { AllFit (cube_lists cubes.now) → ⊥ }
@@ -65,13 +77,14 @@ pub fn fitting(alloc: Global, cubes: &[Vec<Lit>]) -> Result<usize, AllocError>
 {
     let mut bound = cubes.len() as u32;
     let mut pending = Vec::new(alloc);
-    pending.push(at_root(alloc, cubes)?)?;
-    while let Some(node) = pending.pop() {
-        let alike = alike_len(&node);
+    pending.push(gathered(at_root(alloc, cubes)?))?;
+    while let Some(mut group) = pending.pop() {
+        let alike = alike_in(&group);
+        bound = bound_behind(&group.cubes, alike, bound);
         if alike > 1 {
-            push_branches(alloc, &node[..alike], &mut pending)?;
+            group.cubes.truncate(alike);
+            push_branches(alloc, group, &mut pending)?;
         }
-        bound = bound_behind(&node, alike, bound);
     }
     Ok(bound as usize - 1)
 }

@@ -1,11 +1,13 @@
-use Rattle.std.specs.Prelude.{◌≡◌, ◌≢◌, List, [], ◌∷◌, map, Vec}
+use Rattle.std.specs.Prelude.{◌≡◌, ◌≢◌, List, [], ◌∷◌, ◌++◌, map, Vec}
 use Rattle.std.specs.List.{AllByRecursion}
 use Rattle.std.specs.declared.option.Option.{Option}
 use Rattle.std.specs.declared.option.Option.TheVariants.{None, Some}
 use Rattle.split_tree.specs.declared.shape.Shape.{Shape}
 use Rattle.split_tree.specs.declared.shape.Shape.TheVariants.{Missing, Cube, Split}
 use Rattle.split_tree.specs.declared.clash.Relation.TheVariants.{Fit}
-use Rattle.split_tree.specs.declared.grow.Ahead.{Ahead}
+use Rattle.split_tree.specs.declared.group.Ahead.{Ahead}
+use Rattle.split_tree.specs.declared.group.Group.{Group}
+use Rattle.cnf_text.specs.Literal.{Literal}
 use Rattle.split_tree.specs.Clash.{relation_of}
 use Rattle.split_tree.specs.SplitTree.{SplitTree, Numbered, SplitsOn, IsTreeOf}
 use Rattle.split_tree.specs.Inner.Nodes.{preorder}
@@ -15,6 +17,20 @@ abbrev pub cubes_ahead : List Ahead → List Numbered
 cubes_ahead [] = []
 cubes_ahead (c ∷ cubes) =
     record { number = c.number; literals = c.literals.now } ∷ cubes_ahead cubes
+
+-- the literals go on with this stretch
+abbrev pub BeginsWith : List Literal → List Literal → Type 0
+BeginsWith stretch literals = (rest : List Literal) × (literals ≡ stretch ++ rest)
+
+-- the same cubes where this stretch lies ahead of each before its own literals
+abbrev pub led_by : List Literal → List Ahead → List Numbered
+led_by stretch [] = []
+led_by stretch (c ∷ cubes) =
+    record { number = c.number; literals = stretch ++ c.literals.now } ∷ led_by stretch cubes
+
+-- the cubes of a group, by what lies ahead of them
+abbrev pub group_ahead : Group → List Numbered
+group_ahead group = led_by group.shared.now group.cubes.items
 
 -- no two of them clash
 abbrev pub AreFit : List Numbered → Type 0
@@ -36,5 +52,5 @@ AreShapesOf cubes (Some shapes) =
     (tree : SplitTree) × IsTreeOf tree cubes × (preorder tree ≡ shapes.items)
 
 -- the lists of cubes whose trees are still to grow, the next one last
-abbrev pub waiting : {Z : Type 0} → List (Vec Ahead Z) → List (List Numbered)
-waiting pending = map (λ cubes. cubes_ahead cubes.items) pending
+abbrev pub waiting : List Group → List (List Numbered)
+waiting pending = map group_ahead pending

@@ -1,27 +1,17 @@
-use Rattle.std.proofs.Common.{◌≡◌, true, false, refl}
-use Rattle.split_tree.proofs.GrowWays.{some_ahead, alone, ended_clash, all_split}
+use Rattle.std.proofs.Common.{arith}
+use Rattle.split_tree.proofs.GroupStretch.{some_led, shared_splits, nothing_shared}
 use Rattle.split_tree.proofs.grow.shape_at.Goals as goal
 
-pub returns-then-cubes-eq1-clause-shape : goal.returns-then-cubes-eq1-clause-shape
-returns-then-cubes-eq1-clause-shape c =
-    alone c.args.cubes.now c.in-Some.first.now c.in-Some.ensures.value
-    c.in_default-first.ensures.value c.if-cubes-eq1.true
+pub returns-in-Some-clause-shape : goal.returns-in-Some-clause-shape
+returns-in-Some-clause-shape c =
+    let group = c.args.group.now in
+    rw c.variable-variable.ensures.value (
+      some_led group.shared.now group.cubes.items (λ none. grind (arith)),
+      shared_splits group.shared.now group.cubes.items c.in-Some.next.now c.in-Some.ensures.value,
+    )
 
-pub returns-else-cubes-eq1-clause-shape : goal.returns-else-cubes-eq1-clause-shape
-returns-else-cubes-eq1-clause-shape c =
-    ended_clash c.args.cubes.now c.in-Some.first.now c.in-Some.ensures.value
-    c.in_default-first.ensures.value c.if-cubes-eq1.false
-
-pub returns-then-all_split_on-clause-shape : goal.returns-then-all_split_on-clause-shape
-returns-then-all_split_on-clause-shape c = (
-  some_ahead c.args.cubes.now c.in-Some.first.now c.in-Some.ensures.value,
-  c.if-all_split_on.ensures.0 refl,
-)
-
-pub returns-else-all_split_on-clause-shape : goal.returns-else-all_split_on-clause-shape
-returns-else-all_split_on-clause-shape c fit =
-    let k : false ≡ true = c.if-all_split_on.ensures.1
-    (rw c.variable-variable.ensures.value
-    (all_split c.args.cubes.now c.in-Some.first.now c.in-Some-first.literal.now
-    c.in-Some.ensures.value c.in-Some-first.ensures.value fit)) in
-    cc
+pub returns-in-None-clause-shape : goal.returns-in-None-clause-shape
+returns-in-None-clause-shape c =
+    let group = c.args.group.now in
+    rw (nothing_shared group.shared.now group.cubes.items c.in-None.ensures.value)
+    (rw c.deref.ensures.value at c.shape_of.ensures.shape)

@@ -5,9 +5,9 @@ use Rattle.split_tree.proofs.GrowLoop.{weigh}
 use Rattle.split_tree.proofs.SecondWalk.{Walks}
 use Rattle.split_tree.proofs.second.fitting.Given as goal
 
-abbrev pub invariant-loop-node : goal.invariant-loop-node
-invariant-loop-node l =
+abbrev pub invariant-loop-group : goal.invariant-loop-group
+invariant-loop-group l =
     Walks (numbered 1 (cube_lists l.fn.cubes)) l.bound (waiting l.pending.items)
 
-abbrev pub decreases-loop-node : goal.decreases-loop-node
-decreases-loop-node l = weigh (waiting l.pending.items)
+abbrev pub decreases-loop-group : goal.decreases-loop-group
+decreases-loop-group l = weigh (waiting l.pending.items)
