@@ -99,7 +99,7 @@ signs-swap false false = refl
 same-negation : (m l : Literal) → same (negation m) l ≡ same m (negation l)
 same-negation m l = ap (λ b. (m.variable == l.variable) && b) (signs-swap m.positive l.positive)
 
-has-negations : (clause : List Literal) (l : Literal) →
+pub has-negations : (clause : List Literal) (l : Literal) →
     has (negations clause) l ≡ has clause (negation l)
 unfolding has
 has-negations clause l =

@@ -12,7 +12,7 @@ use Rattle.std.specs.FinMap as fin
 use Rattle.std.proofs.lemmas.List.{at_drop_more, at_drop_all}
 use Rattle.std.proofs.lemmas.Map.Views.{any-filter_same}
 use Rattle.std.proofs.lemmas.Bool.{or_left, or_right, or_cases, cases_Bool, both_ways}
-use Rattle.std.proofs.lemmas.Bool.{false_from_ne_true, not_from_false, not_from_true, and_parts}
+use Rattle.std.proofs.lemmas.Bool.{not_from_false, not_from_true, and_parts}
 use Rattle.std.proofs.lemmas.Bool.{and_from, cond-false, eqb-true, eq-eqb, false≢true}
 use Rattle.cnf_text.specs.Literal.{Literal, negation}
 use Rattle.hint_check.specs.Literals.{Literals, has, is_tautology, meets, negations, with_literals}
@@ -24,6 +24,7 @@ use Rattle.hint_check.specs.Addition.{group_outcome, groups_fault, is_covered, a
 use Rattle.hint_check.specs.Addition.{pivot_fault, resolution_fault}
 use Rattle.hint_check.specs.Propagation.{Reached, chain}
 use Rattle.hint_check.specs.declared.Reason.TheVariants.{Empty, Candidate}
+use Rattle.hint_check.proofs.ListTests.{same_tests}
 use Rattle.hint_check.proofs.LiveMaps.{all-get, get-all}
 
 -- what all listed numbers pass is passed by a number that the list has
@@ -44,10 +45,6 @@ named_all p (n ∷ ids) each =
     and_from (p n) (list_all p ids)
     (each n (or_left (n == n) (list_any (λ m. m == n) ids) (eq-eqb n n refl)))
     (named_all p ids (λ id later. each id (or_right (n == id) (list_any (λ m. m == id) ids) later)))
-
-same_tests : (a b : Bool) → (a ≡ true → b ≡ true) → (b ≡ true → a ≡ true) → a ≡ b
-same_tests true b there back = sym (there refl)
-same_tests false b there back = sym (false_from_ne_true b (λ h. false≢true (back h)))
 
 and_implied : (a b : Bool) → (a ≡ true → b ≡ true) → (a && b) ≡ a
 and_implied true b h = h refl

@@ -9,6 +9,9 @@ use Rattle.hint_check.specs.declared.slots.Slot.{Slot}
 use Rattle.hint_check.specs.Inner.Blocks.{clause_of, Within}
 use Rattle.hint_check.specs.Inner.Table.{no_slot, slot_at, slot_clause, entry_of, near_entries}
 use Rattle.hint_check.specs.Inner.Table.{clauses_in, SlotsEndBy, SetsSlot}
+use Rattle.hint_check.specs.Live.{Live}
+use Rattle.hint_check.specs.Inner.Alike.{SameLiterals, Alike, AreSame}
+use Rattle.hint_check.proofs.AlikeMaps.{AreSame-push, AreSame-length, alike-row}
 use Rattle.hint_check.proofs.LiveStart.{enumerate_from-push}
 use Rattle.hint_check.proofs.TableEntries.{slot-new, slot-grown, slot-pushed}
 
@@ -51,12 +54,12 @@ entries-push blocks id (s ∷ slots) slot =
     (entry_of (id + length (s ∷ slots)) (slot_clause blocks slot)))
 
 -- without clauses there is only the slot of 0, which has none
-pub front-none : (blocks : List Block) (slots : List Slot) → slots ≡ no_slot ∷ [] →
+front-none : (blocks : List Block) (slots : List Slot) → slots ≡ no_slot ∷ [] →
     near_entries blocks 0 slots ≡ enumerate_from 1 []
 front-none blocks slots is = ap (near_entries blocks 0) is
 
 -- one clause more
-pub front-push : (blocks blocks' more : List Block) (slots slots' : List Slot) (slot : Slot)
+front-push : (blocks blocks' more : List Block) (slots slots' : List Slot) (slot : Slot)
     (clauses : List (List Literal)) → SlotsEndBy slots (length blocks) →
     blocks' ≡ blocks ++ more → slots' ≡ slots ++ slot ∷ [] → slot.start ≡ length blocks →
     slot.end ≡ length blocks + length more → length slots ≡ length clauses + 1 →
@@ -74,13 +77,41 @@ front-push blocks blocks' more slots slots' slot clauses ends grown pushed start
     (let e : 0 + length slots ≡ 1 + length clauses = omega (arith, long) in e)
     ∙ sym (enumerate_from-push 1 clauses (clause_of more))
 
+-- entries in a row, with clauses of the same literals as these
+pub record IsRow (entries : List (ℕ × List Literal)) (clauses : List (List Literal)) : Type 0 where
+  pub kept : List (List Literal)
+  pub is : entries ≡ enumerate_from 1 kept
+  pub same : AreSame kept clauses
+
+-- without clauses the row is empty
+pub row-none : (blocks : List Block) (slots : List Slot) → slots ≡ no_slot ∷ [] →
+    IsRow (near_entries blocks 0 slots) []
+row-none blocks slots is = record { kept = []; is = front-none blocks slots is; same = tt }
+
+-- one clause more, with the same literals as another
+pub row-push : (blocks blocks' more : List Block) (slots slots' : List Slot) (slot : Slot)
+    (clauses : List (List Literal)) (clause : List Literal) → SlotsEndBy slots (length blocks) →
+    blocks' ≡ blocks ++ more → slots' ≡ slots ++ slot ∷ [] → slot.start ≡ length blocks →
+    slot.end ≡ length blocks + length more → length slots ≡ length clauses + 1 →
+    SameLiterals (clause_of more) clause → IsRow (near_entries blocks 0 slots) clauses →
+    IsRow (near_entries blocks' 0 slots') (clauses ++ clause ∷ [])
+row-push blocks blocks' more slots slots' slot clauses clause ends grown pushed starts at_end long
+    same row = record {
+      kept = row.kept ++ clause_of more ∷ [];
+      is = front-push blocks blocks' more slots slots' slot row.kept ends grown pushed starts at_end
+          (long ∙ ap (λ n. n + 1) (sym (AreSame-length row.kept clauses row.same))) row.is;
+      same = AreSame-push row.kept clauses (clause_of more) clause row.same same;
+    }
+
 -- the clauses of a formula in its slots
 pub front-clauses : (blocks : List Block) (slots : List Slot) (clauses : List (List Literal)) →
-    near_entries blocks 0 slots ≡ enumerate_from 1 clauses →
-    clauses_in blocks 0 slots [] ≡ fin.from_entries (enumerate_from 1 clauses)
+    IsRow (near_entries blocks 0 slots) clauses →
+    Alike (clauses_in blocks 0 slots []) (fin.from_entries (enumerate_from 1 clauses))
 unfolding clauses_in
-front-clauses blocks slots clauses is =
-    ap fin.from_entries (append_nil (near_entries blocks 0 slots) ∙ is)
+front-clauses blocks slots clauses row =
+    subst (λ (live : Live). Alike live (fin.from_entries (enumerate_from 1 clauses)))
+    (sym (ap fin.from_entries (append_nil (near_entries blocks 0 slots) ∙ row.is)))
+    (alike-row row.kept clauses row.same)
 
 one_end : (place count : ℕ) → (slot_at (no_slot ∷ []) place).end ≤ count
 one_end zero count = omega arith

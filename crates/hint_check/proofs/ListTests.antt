@@ -1,9 +1,14 @@
 -- Tests over lists.
 use Rattle.std.proofs.Common.{◌≡◌, Bool, true, false, not, cond, ◌||◌, List, [], ◌∷◌, map, refl, ap}
-use Rattle.std.proofs.Common.{◌∙◌, inl, inr}
+use Rattle.std.proofs.Common.{◌∙◌, sym, inl, inr}
 use Rattle.std.specs.List.{list_any, filter}
 use Rattle.std.proofs.lemmas.Bool.{or_cases, or_left, or_right, cond_both, cond-true, both_ways}
-use Rattle.std.proofs.lemmas.Bool.{or_parts, not_from_false}
+use Rattle.std.proofs.lemmas.Bool.{or_parts, not_from_false, false_from_ne_true, false≢true}
+
+-- tests are equal where each follows from the other
+pub same_tests : (a b : Bool) → (a ≡ true → b ≡ true) → (b ≡ true → a ≡ true) → a ≡ b
+same_tests true b there back = sym (there refl)
+same_tests false b there back = sym (false_from_ne_true b (λ h. false≢true (back h)))
 
 module _ {X : Type 0} where
   -- where one test implies another, a list with an element for the first has one for the second

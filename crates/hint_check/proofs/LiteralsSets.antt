@@ -214,6 +214,11 @@ or_comm true false = refl
 or_comm false true = refl
 or_comm false false = refl
 
+-- no literals are the set of none
+pub has-none : has [] ≡ (λ l. false)
+unfolding has
+has-none = refl
+
 -- one more literal in a list
 pub has-push : (literals : List Literal) (l : Literal) →
     has (literals ++ l ∷ []) ≡ with_literal (has literals) l

@@ -15,6 +15,8 @@ use Rattle.std.proofs.lemmas.Bool.{cases_Bool, cond-true, cond-false}
 use Rattle.cnf_text.specs.Literal.{Literal}
 use Rattle.hint_check.specs.Live.{Live}
 use Rattle.hint_check.specs.Inner.Live.{NamesHolders, AreParts}
+use Rattle.hint_check.specs.Inner.Alike.{AlikeAt, Alike}
+use Rattle.hint_check.proofs.AlikeLists.{shows-same}
 use Rattle.std.proofs.lemmas.Bool.{or_left, or_right}
 use Rattle.std.proofs.lemmas.List.Folds.{list_any-append}
 use Rattle.hint_check.specs.Inner.Index.{NamesEntries, shows}
@@ -97,26 +99,34 @@ or_here p xs ys h = list_any-append p xs ys ∙ or_left (list_any p xs) (list_an
 or_there : (p : ℕ → Bool) (xs ys : List ℕ) → list_any p ys ≡ true → list_any p (xs ++ ys) ≡ true
 or_there p xs ys h = list_any-append p xs ys ∙ or_right (list_any p xs) (list_any p ys) h
 
+-- what names a clause for the literals that it shows names one with the same literals
+named_alike : (clause : List Literal) (o : Option (List Literal)) → AlikeAt (Some clause) o →
+    (l : Literal) (P : Type 0) → IfSome o (λ other. shows other l ≡ true → P) →
+    shows clause l ≡ true → P
+named_alike clause None h l P named holds = absurd h
+named_alike clause (Some other) h l P named holds =
+    named (sym (shows-same clause other h l) ∙ holds)
+
 -- the ids of own clauses and of the base's name all live clauses that show a literal
 pub parts-NamesHolders : (live front own : Live) (base : List (List Literal)) (l : Literal)
     (ids of_own of_base : List ℕ) → AreParts live front own →
-    front ≡ fin.from_entries (enumerate_from 1 base) → ids ≡ of_own ++ of_base →
+    Alike front (fin.from_entries (enumerate_from 1 base)) → ids ≡ of_own ++ of_base →
     NamesEntries (fin.entries own) l of_own → NamesEntries (enumerate_from 1 base) l of_base →
     NamesHolders live l ids
-unfolding AreParts NamesEntries
-parts-NamesHolders live front own base l ids of_own of_base parts is listed own_named named q =
+unfolding AreParts NamesEntries Alike
+parts-NamesHolders live front own base l ids of_own of_base parts alike listed own_named named q =
     subst (λ named.
     IfSome (fin.get live q) (λ clause. shows clause l ≡ true → list_any (λ n. n == q) named ≡ true))
     (sym listed)
     (IfSome-weaker (fin.get live q) (parts q) (λ clause part holds. elim part [
       | inl of_front ↦
-          let found : fin.find nat_cmp q (enumerate_from 1 base) ≡ Some clause =
-          sym (fin.get-from_entries nat_cmp_total (enumerate_from 1 base) q)
-          ∙ ap (λ m. fin.get m q) (sym is) ∙ of_front in
+          let found = fin.find nat_cmp q (enumerate_from 1 base) in
           or_there (λ n. n == q) of_own of_base
-          (subst (λ o.
-          IfSome o (λ c. shows c l ≡ true → list_any (λ n. n == q) of_base ≡ true)) found
-          (named q) holds)
+          (named_alike clause found
+          (subst (λ o. AlikeAt o found) of_front
+          (subst (AlikeAt (fin.get front q))
+          (fin.get-from_entries nat_cmp_total (enumerate_from 1 base) q) (alike q)))
+          l (list_any (λ n. n == q) of_base ≡ true) (named q) holds)
       | inr own_one ↦
           let found : fin.find nat_cmp q (fin.entries own) ≡ Some clause =
           sym (fin.get-entries own q) ∙ own_one in

@@ -1,4 +1,5 @@
 -- The words of private contracts: no public contract names them, and no other crate does.
+pub mod Alike
 pub mod Live
 pub mod Propagate
 pub mod Apply

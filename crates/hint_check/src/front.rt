@@ -1,7 +1,10 @@
-//! The clauses of a formula in blocks, by their ids from 1 on.
+//! The clauses of a formula in blocks, by their ids from 1 on, without the literals that a clause
+//! repeats.
 ghost use Rattle.std.specs.Prelude.{◌≡◌, IfOk};
 
 use crate::block::{Block, push_clause};
+use crate::distinct::{distinct, may_repeat};
+use crate::scratch::ClauseScratch;
 use crate::slots::{NO_SLOT, Slot};
 use cnf_text::formula::Clause;
 use std::alloc::{AllocError, Global};
@@ -40,21 +43,26 @@ impl Front {
     ghost use Rattle.std.specs.Prelude.{◌≡◌, ◌≤◌, IfOk, [], length};
     ghost use Rattle.std.specs.FinMap as map;
     ghost use Rattle.std.specs.List.{enumerate_from};
+    ghost use Rattle.hint_check.specs.Inner.Alike.{Alike};
     ghost use Rattle.hint_check.specs.Inner.Blocks.{Within};
     ghost use Rattle.hint_check.specs.Inner.Table.{clauses_in, SlotsEndBy};
 
-    /// These clauses, under the ids from 1 on. An error is a refused growth, or that there are more
-    /// blocks than four bytes count.
+    /// Clauses with the literals of these, each once, under the ids from 1 on. An error is a
+    /// refused growth, or that there are more blocks than four bytes count.
     pub fn of(alloc: Global, clauses: &[Clause]) -> Result<Front, AllocError>
-        ensures { IfOk result (λ front. front ≡ map.from_entries (enumerate_from 1 clauses.now)) }
+        ensures { IfOk result (λ front.
+            Alike front (map.from_entries (enumerate_from 1 clauses.now))) }
     {
+        let mut scratch = ClauseScratch::new(alloc);
         let mut blocks = Vec::new(alloc);
         let mut reach = 0;
         let mut slots = Vec::new(alloc);
         slots.push(NO_SLOT)?;
         for clause in clauses {
             let start = blocks.len();
-            push_clause(&mut blocks, &mut reach, clause.lits())?;
+            let lits = clause.lits();
+            let lits = distinct(&mut scratch, lits, may_repeat(lits))?;
+            push_clause(&mut blocks, &mut reach, lits)?;
             let end = blocks.len();
             if end > u32::MAX as usize {
                 return Err(AllocError);

@@ -14,6 +14,16 @@ pub struct ClauseScratch {
     pub set: Assignment,
 }
 
+impl ClauseScratch {
+    /// With room for nothing. It takes no memory yet.
+    pub fn new(alloc: Global) -> ClauseScratch {
+        ClauseScratch {
+            lits: Vec::new(alloc),
+            set: Assignment::new(alloc),
+        }
+    }
+}
+
 /// What is written on to find the candidates of a step.
 #[derive(Drop)]
 pub struct Candidates {
@@ -28,10 +38,7 @@ impl Candidates {
     fn new(alloc: Global) -> Candidates {
         Candidates {
             ids: Vec::new(alloc),
-            clause: ClauseScratch {
-                lits: Vec::new(alloc),
-                set: Assignment::new(alloc),
-            },
+            clause: ClauseScratch::new(alloc),
         }
     }
 }

@@ -1,6 +1,6 @@
 //! Stamps by number: in one list of numbers from 0 on, and in a sorted map.
 ghost use Rattle.std.specs.Prelude.{◌≡◌, ℕ, ◌<◌, ◌≤◌, ◌==◌, if◌then◌else◌, [], nat_eq, length};
-ghost use Rattle.std.specs.Prelude.{slice_index, slice_set, OnOk};
+ghost use Rattle.std.specs.Prelude.{slice_index, slice_set, IfOk, OnOk, OnErr};
 ghost use Rattle.std.specs.Map.{lookup};
 ghost use Rattle.hint_check.specs.Inner.Stamps.{mapped_at, HasEntry};
 
@@ -131,6 +131,18 @@ impl StampMap {
             Some(stamp) => stamp,
             None => 0,
         }
+    }
+
+    /// Sets the stamp of a number, with an entry or without, in one look-up, and gives the stamp
+    /// that it had.
+    pub fn put(&mut self, number: u32, stamp: u32) -> Result<u32, AllocError>
+        ensures had { IfOk result (λ had. had ≡ mapped_at self.old number) }
+        ensures ok { OnOk result ((n : ℕ)
+            → mapped_at self.new n ≡ (if number == n then stamp else mapped_at self.old n)) }
+        ensures err { OnErr result (self.new ≡ self.old) }
+    {
+        let had = self.stamps.insert(number, stamp)?;
+        Ok(had.unwrap_or(0))
     }
 
     /// Makes an entry for a number, and changes no stamp.

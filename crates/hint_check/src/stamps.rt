@@ -1,7 +1,7 @@
 //! A stamp for each number: in one list for the near numbers, which are most, and in a map for the
 //! others.
 ghost use Rattle.std.specs.Prelude.{◌≡◌, ℕ, ◌<◌, ◌≤◌, ◌==◌, if◌then◌else◌, ◌↔◌, IsTrue, [], length};
-ghost use Rattle.std.specs.Prelude.{OnOk, map};
+ghost use Rattle.std.specs.Prelude.{IfOk, OnOk, OnErr, map};
 ghost use Rattle.cnf_text.specs.Literal.{literal_number};
 ghost use Rattle.hint_check.specs.Inner.Stamps.{stamp_at, HasRoom, Forgets};
 
@@ -75,6 +75,15 @@ impl Stamps {
         (number as usize) < self.near.len()
     }
 
+    /// The stamp of a near number that has room.
+    #[inline(always)]
+    pub fn get_at_hand(&self, number: u32) -> u32
+        requires { number < length self.now.0 }
+        ensures { result ≡ stamp_at self.now number }
+    {
+        self.near.get(number as usize)
+    }
+
     /// Sets the stamp of a near number that has room.
     #[inline(always)]
     pub fn set_at_hand(&mut self, number: u32, stamp: u32)
@@ -124,6 +133,23 @@ impl Stamps {
         } else {
             self.far.set(number, stamp);
         }
+    }
+
+    /// Sets the stamp of a number, makes room for it where it has none, and gives the stamp that it
+    /// had.
+    pub fn put(&mut self, number: u32, stamp: u32) -> Result<u32, AllocError>
+        ensures had { IfOk result (λ had. had ≡ stamp_at self.old number) }
+        ensures ok { OnOk result ((n : ℕ)
+            → stamp_at self.new n ≡ (if number == n then stamp else stamp_at self.old n)) }
+        ensures err { OnErr result ((n : ℕ) → stamp_at self.new n ≡ stamp_at self.old n) }
+    {
+        if number >= NEAR {
+            return self.far.put(number, stamp);
+        }
+        let had = self.near.get(number as usize);
+        self.make_room(number)?;
+        self.set(number, stamp);
+        Ok(had)
     }
 
     /// Sets the stamp of a number to 0.

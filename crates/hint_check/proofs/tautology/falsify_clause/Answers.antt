@@ -28,11 +28,11 @@ loop-lit-preserved c =
     ∙ c.loop-lit.invariant.set in
     record {
       set = ap (λ set. with_literals set (negations rest))
-          (c.in_ok-put.ensures.set ∙ ap (with_literal before) c.negated.ensures)
+          (c.in_ok-repeats.ensures.set ∙ ap (with_literal before) c.negated-negated.ensures)
           ∙ sym (with_literals-more before (negation l) (negations rest)) ∙ here;
-      tautology = found-turn full before c.loop-lit.found _ l rest here
-          (ap (λ b. c.loop-lit.found || b) c.contains-found.ensures)
-          ∙ sym (at_literal (λ ls. c.loop-lit.found || meets full ls) clause i l at_it
+      tautology = found-turn full before c.loop-lit.tautology _ l rest here
+          (ap (λ b. c.loop-lit.tautology || b) c.contains.ensures)
+          ∙ sym (at_literal (λ ls. c.loop-lit.tautology || meets full ls) clause i l at_it
           c.lit-item.is)
           ∙ c.loop-lit.invariant.tautology;
     }
@@ -41,8 +41,8 @@ pub returns-clause-tautology : goal.returns-clause-tautology
 returns-clause-tautology c =
     let clause = c.args.clause.now in
     let full = with_literals no_literals (negations clause) in
-    sym (found-end full c.loop-lit.found)
-    ∙ sym (at_drop_all (λ ls. c.loop-lit.found || meets full ls) clause c.loop-lit.lit-index
+    sym (found-end full c.loop-lit.tautology)
+    ∙ sym (at_drop_all (λ ls. c.loop-lit.tautology || meets full ls) clause c.loop-lit.lit-index
     (omega arith))
     ∙ c.loop-lit.invariant.tautology
 

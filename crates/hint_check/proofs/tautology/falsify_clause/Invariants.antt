@@ -8,7 +8,7 @@ abbrev pub invariant-loop-lit : goal.invariant-loop-lit
 invariant-loop-lit l = record {
   set : with_literals (set_of l.assignment) (negations (drop l.lit-index l.clause))
       ≡ with_literals no_literals (negations l.clause);
-  tautology : (l.found
+  tautology : (l.tautology
       || meets (with_literals no_literals (negations l.clause)) (drop l.lit-index l.clause))
       ≡ is_tautology l.clause;
 }

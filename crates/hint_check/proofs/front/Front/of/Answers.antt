@@ -1,14 +1,13 @@
-use Rattle.std.proofs.Common.{◌≡◌, ◌+◌, ◌++◌, ◌∷◌, [], List, length, take, sym, ap, ◌∙◌}
+use Rattle.std.proofs.Common.{◌≡◌, ◌+◌, ◌++◌, ◌∷◌, [], List, length, take, get_or, sym, ap, ◌∙◌}
 use Rattle.std.proofs.Common.{subst, arith}
-use Rattle.std.specs.List.{enumerate_from}
 use Rattle.std.proofs.lemmas.List.{length-append, take_more, take_all, length-take-le}
-use Rattle.cnf_text.specs.Literal.{Literal}
 use Rattle.hint_check.specs.declared.slots.Slot.{Slot}
 use Rattle.hint_check.specs.Inner.Blocks.{clause_of}
-use Rattle.hint_check.specs.Inner.Table.{no_slot, SlotsEndBy}
+use Rattle.hint_check.specs.Inner.Table.{no_slot, near_entries, SlotsEndBy}
 use Rattle.hint_check.proofs.TableEntries.{SlotsEndBy-set}
-use Rattle.hint_check.proofs.FrontEntries.{front-none, front-push, front-clauses, ends-none}
+use Rattle.hint_check.proofs.FrontEntries.{IsRow, row-none, row-push, front-clauses, ends-none}
 use Rattle.hint_check.proofs.FrontEntries.{SetsSlot-push, within-none}
+use Rattle.hint_check.specs.Inner.Alike.{SameLiterals}
 use Rattle.hint_check.proofs.front.Front.of.Goals as goal
 
 pub loop-clause-init : goal.loop-clause-init
@@ -17,7 +16,7 @@ loop-clause-init c =
     c.in_ok-push.ensures.items ∙ ap (λ (ss : List Slot). ss ++ no_slot ∷ [])
     c.new-slots.ensures.items in
     record {
-      entries = front-none c.new-blocks.result.items c.push.new.self.items one;
+      entries = row-none c.new-blocks.result.items c.push.new.self.items one;
       ends = ends-none c.push.new.self.items (length c.new-blocks.result.items) one;
       within = within-none c.new-blocks.result.items 0 c.new-blocks.ensures.items;
       long = ap length one;
@@ -40,15 +39,17 @@ loop-clause-preserved c =
     omega (arith, c.len-start.ensures, c.loop-clause.blocks.ok.0) in
     let at_end : slot.end ≡ length blocks + length g.0 =
     omega (arith, c.len-end.ensures, grown, c.push_clause.new.blocks.ok.0) in
-    let clause : clause_of g.0 ≡ c.clause-item.result = g.2 ∙ c.lits.ensures in
+    let same : SameLiterals (clause_of g.0) (get_or clauses i c.clause-item.result) =
+    subst (λ ls. SameLiterals ls (get_or clauses i c.clause-item.result)) (sym g.2)
+    (subst (SameLiterals c.in_ok-lits.lits.now) (c.lits-lits.ensures ∙ c.clause-item.is)
+    c.in_ok-lits.ensures) in
     record {
-      entries = front-push blocks blocks' g.0 slots slots' slot (take i clauses) was.ends g.1
-          c.in_ok-push-2.ensures.items starts at_end
-          (was.long ∙ ap (λ n. n + 1) (sym (length-take-le i clauses (omega arith)))) was.entries
-          ∙ ap (λ (x : List Literal). enumerate_from 1 (take i clauses ++ x ∷ []))
-          (clause ∙ c.clause-item.is)
-          ∙ ap (enumerate_from 1)
-          (sym (take_more clauses i c.clause-item.result c.loop-clause-test.true));
+      entries = subst (IsRow (near_entries blocks' 0 slots'))
+          (sym (take_more clauses i c.clause-item.result c.loop-clause-test.true))
+          (row-push blocks blocks' g.0 slots slots' slot (take i clauses)
+          (get_or clauses i c.clause-item.result) was.ends g.1 c.in_ok-push-2.ensures.items starts
+          at_end (was.long ∙ ap (λ n. n + 1) (sym (length-take-le i clauses (omega arith))))
+          same was.entries);
       ends = subst (SlotsEndBy slots') (sym grown)
           (SlotsEndBy-set slots slots' (length slots) slot (length blocks) (length g.0) was.ends
           (SetsSlot-push slots slots' slot c.in_ok-push-2.ensures.items) (omega (arith, at_end)));
@@ -60,6 +61,6 @@ loop-clause-preserved c =
 pub returns : goal.returns
 returns c =
     front-clauses c.loop-clause.blocks.items c.loop-clause.slots.items c.args.clauses.now
-    (c.loop-clause.invariant.entries
-    ∙ ap (enumerate_from 1)
-    (take_all c.loop-clause.clause-index c.args.clauses.now (omega arith)))
+    (subst (IsRow (near_entries c.loop-clause.blocks.items 0 c.loop-clause.slots.items))
+    (take_all c.loop-clause.clause-index c.args.clauses.now (omega arith))
+    c.loop-clause.invariant.entries)
