@@ -4,6 +4,7 @@ use Rattle.std.proofs.Common.{length, take, drop, Option, Some, None, inr, inl, 
 use Rattle.std.proofs.Common.{append-nil, IfSome}
 use Rattle.std.proofs.lemmas.Bool.{eqb-true}
 use Rattle.std.proofs.lemmas.List.{take-append-drop, take_more, take_all, length-drop}
+use Rattle.std.proofs.KnownBytes.{Consumes-nil, Consumes-trans}
 use Rattle.std.specs.Io.KnownBytes.{Consumes, IsAtEnd}
 use Rattle.memchr.specs.Find.{IsLastByte, is_byte}
 use Rattle.case_core.specs.Outline.{OutlineOf, IsOutlineOf, AreWholeLines}
@@ -50,19 +51,6 @@ handed_over outline text begun read first rest end last first_is rest_is is =
 
 -- ---- a source that is read to its end
 
--- what was lost in two steps
-pub lost_twice : (first middle last : Option (List ℕ)) (one two : List ℕ) →
-    Consumes first middle one → Consumes middle last two → Consumes first last (one ++ two)
-lost_twice None middle last one two a b = tt
-lost_twice (Some xs) None last one two a b = absurd a
-lost_twice (Some xs) (Some ys) None one two a b = absurd b
-lost_twice (Some xs) (Some ys) (Some zs) one two a b =
-    a ∙ ap (λ (y : List ℕ). one ++ y) b ∙ sym (append_assoc one two zs)
-
-lost_nothing : (now : Option (List ℕ)) → Consumes now now []
-lost_nothing None = tt
-lost_nothing (Some xs) = refl
-
 -- what a source has given so far was handed over, up to a line that is begun
 pub record OutlinesSoFar (first now : Option (List ℕ)) (outline : OutlineOf)
     (begun : List ℕ) : Type 0 where
@@ -75,7 +63,7 @@ pub nothing_read : (now : Option (List ℕ)) (outline : OutlineOf) → IsOutline
 nothing_read now outline is = record {
   read = [];
   handed = record { lines = []; whole = inl refl; is = is; parts = refl };
-  lost = lost_nothing now;
+  lost = Consumes-nil now;
 }
 
 -- a step of it
@@ -95,7 +83,7 @@ more_read first now next old new begun left read so_far lost step =
         parts = ap (λ (r : List ℕ). r ++ read) so_far.handed.parts
             ∙ append_assoc so_far.handed.lines begun read ∙ handed.parts;
       };
-      lost = lost_twice first now next so_far.read read so_far.lost lost;
+      lost = Consumes-trans first now next so_far.read read so_far.lost lost;
     }
 
 all_lost : (first now : Option (List ℕ)) (read : List ℕ) → Consumes first now read → IsAtEnd now →
@@ -122,7 +110,7 @@ pub all_read : (first now next : Option (List ℕ)) (old new : OutlineOf) (begun
 all_read first now next old new begun none so_far lost is_none end step =
     let whole =
     all_lost first next (so_far.read ++ none)
-    (lost_twice first now next so_far.read none so_far.lost lost) end in
+    (Consumes-trans first now next so_far.read none so_far.lost lost) end in
     let is : IsOutlineOf new so_far.read =
     subst (λ (t : List ℕ). IsOutlineOf new t) (sym so_far.handed.parts)
     (step so_far.handed.lines so_far.handed.whole so_far.handed.is) in

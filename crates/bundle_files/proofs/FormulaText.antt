@@ -154,8 +154,8 @@ bundle_tokens text over rest formula is made =
     ∙ plain_front (lines_of over) (lines_of rest) plain (no_lines over) (no_lines rest)
     ∙ ap (λ (t : List ℕ). t ++ 10 ∷ text_before (lines_of rest)) (text_is_lines over) in
     let found =
-    below_header 1 made.before made.line made.after
-    (lines_of (text_before (lines_of rest))) is.problem is.has.tokens made.bare made.first there in (
+    below_header 1 made.before made.line made.after (lines_of (text_before (lines_of rest)))
+    is.problem is.has.tokens made.bare made.first there in (
       found.0,
       ap (λ (t : List ℕ). after_header (token_lines 1 t)) front
           ∙ by_lines after_header 1 (over ++ 10 ∷ text_before (lines_of rest))

@@ -29,6 +29,21 @@ part_is_read (Some (Some text)) sections leaf place bytes at (other, lies, is) =
       refl,
     )
 
+-- of a part of no length there is nothing to read
+pub empty_is_read : (known : Option (Option (List ℕ))) (sections : List Section) (leaf : Leaf)
+    (place : Place) (bytes : List ℕ)
+    → ((text : List ℕ) → proof_for (map (section_in text) sections) (Named leaf)
+    ≡ Some (part_in text place.start place.length))
+    → place.length ≡ 0 → bytes ≡ [] → IsRead (held_in known sections leaf) bytes true
+empty_is_read None sections leaf place bytes at none is = (Some bytes, tt, refl, refl)
+empty_is_read (Some None) sections leaf place bytes at none is = (Some bytes, tt, refl, refl)
+empty_is_read (Some (Some text)) sections leaf place bytes at none is =
+    part_is_read (Some (Some text)) sections leaf place bytes at (
+      text,
+      refl,
+      is ∙ sym (ap (λ (n : ℕ). part_in text place.start n) none),
+    )
+
 -- a buffer all of which was filled
 pub filled : (count : ℕ) (bytes before : List ℕ) → length bytes ≡ count →
     take count (bytes ++ drop (length bytes) before) ≡ bytes

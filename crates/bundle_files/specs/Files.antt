@@ -89,8 +89,8 @@ held_if true lies = Some lies
 abbrev pub IsOpened : Option (List ℕ) → Option (List ℕ) → Type 0
 IsOpened lies remaining = (bytes : List ℕ) × (lies ≡ Some bytes) × (remaining ≡ Some bytes)
 
--- a file that was opened at a place: it lies there, and its bytes from the place on are what is left
--- to read
+-- a file that was opened at a place: it lies there, and its bytes from the place on are what is
+-- left to read
 abbrev pub IsOpenedAt : Option (List ℕ) → ℕ → Option (List ℕ) → Type 0
 IsOpenedAt lies place remaining =
     (bytes : List ℕ) × (lies ≡ Some bytes) × (remaining ≡ Some (drop place bytes))

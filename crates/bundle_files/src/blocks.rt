@@ -1,5 +1,6 @@
 //! A file that is read block by block, or a part of it.
-ghost use Rattle.std.specs.Prelude.{◌≡◌, ◌<◌, ◌^◌, ◌-◌, ◌++◌, List, ℕ, IfOk, IfErr, IfSome, OnOk, length};
+ghost use Rattle.std.specs.Prelude.{◌≡◌, ◌<◌, ◌^◌, ◌-◌, ◌++◌, List, ℕ, length};
+ghost use Rattle.std.specs.Prelude.{IfOk, IfErr, IfSome, OnOk};
 ghost use Rattle.std.specs.Io.KnownBytes.{Consumes};
 ghost use Rattle.cube_report.specs.Device.{IsDeviceFault};
 ghost use Rattle.case_core.specs.Outline.{IsOutlineOf, AreWholeLines};

@@ -38,9 +38,9 @@ pub trait Opener {
         ensures absent { IfErr result (λ error. knows self.old ≡ true
             → error_kind error ≡ ErrorKind.NotFound → files self.old path.now ≡ None) };
 
-    /// Opens the file at this path, which is read from a place on, counted in bytes from 0. It fails
-    /// where the file can't be opened, with `NotFound` and `OutOfMemory` as `open` has them, or the
-    /// place can't be gone to; nothing changes.
+    /// Opens the file at this path, which is read from a place on, counted in bytes from 0. It
+    /// fails where the file can't be opened, with `NotFound` and `OutOfMemory` as `open` has them,
+    /// or the place can't be gone to; nothing changes.
     fn open_at(&mut self, path: &str, place: u64) -> io::Result<Self::Opened>
         ensures knows { knows self.new ≡ knows self.old }
         ensures files { files self.new ≡ files self.old }

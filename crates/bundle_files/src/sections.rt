@@ -57,6 +57,10 @@ impl<F: Opener + Drop> LeafProofs for SectionReader<F> {
             bytes.clear();
             return Ok(false);
         };
+        if place.length == 0 {
+            bytes.clear();
+            return Ok(true);
+        }
         bytes.resize(place.length, 0)?;
         match self.files.read_part(self.path.as_str(), place.start, bytes) {
             Ok(()) => Ok(true),

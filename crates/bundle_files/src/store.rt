@@ -118,8 +118,8 @@ pub trait Store {
         ensures err { IfErr result
             (λ fault. IsDeviceFault (failures self.old) (failures self.new) fault) };
 
-    /// A reader of the proofs of a case that are parts of the file at this path, for one worker, with
-    /// no failed read yet.
+    /// A reader of the proofs of a case that are parts of the file at this path, for one worker,
+    /// with no failed read yet.
     fn sections(
         &self,
         alloc: Global,
@@ -135,7 +135,8 @@ pub trait Store {
         requires { failures self.old + Self.Sections.failures sections < 2 ^ 64 }
         ensures held { held self.new ≡ held self.old }
         ensures allowed { StaysAllowed (allows self.old) (allows self.new) }
-        ensures failures { failures self.new ≡ failures self.old + Self.Sections.failures sections };
+        ensures failures { failures self.new
+            ≡ failures self.old + Self.Sections.failures sections };
 
     /// Takes a reader back: its failed reads count as failed calls of the store's.
     fn settle(&mut self, reader: Self::Reader)

@@ -9,14 +9,14 @@ use Rattle.std.proofs.lemmas.List.Sums.{sum_by-append}
 use Rattle.cnf_text.specs.Tokens.{is_line_end}
 use Rattle.case_core.specs.Bundle.{lines_of, is_label, line_onto, text_before, labelled}
 use Rattle.case_core.specs.Case.{part_in}
-use Rattle.case_core.specs.Inner.Bundle.{EndsWith, HasNoLabel, FirstLabel, EndsAtLine}
-use Rattle.case_core.specs.Inner.Bundle.{IsCutAtLine}
+use Rattle.case_core.specs.Inner.Bundle.{EndsWith, HasNoLabel, FirstLabel, IsCutAtLine}
+use Rattle.case_core.specs.Outline.{AreWholeLines}
 
 -- What is cut off the front so far: nothing but lines that are no label lines.
 pub record CutOff (text rest : List ℕ) : Type 0 where
   pub done : List ℕ
   pub parts : text ≡ done ++ rest
-  pub at_line : EndsAtLine done
+  pub at_line : AreWholeLines done
   pub front : text_before (lines_of text) ≡ done ++ text_before (lines_of rest)
   pub skipped : ℕ
   pub counted : skipped + length (lines_of rest) ≡ length (lines_of text)
@@ -158,7 +158,7 @@ cut_at_line text rest before cut counted =
     let front : take before text ≡ cut.done =
     front_of text rest before (record { front = cut.done; parts = cut.parts }) counted in record {
       parts = cut.parts ∙ ap (λ r. r ++ rest) (sym front);
-      at_line = subst (λ (f : List ℕ). EndsAtLine f) (sym front) cut.at_line;
+      at_line = subst (λ (f : List ℕ). AreWholeLines f) (sym front) cut.at_line;
     }
 
 -- what stands below the first line of a text's end, as a part of the text

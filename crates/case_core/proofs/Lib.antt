@@ -14,6 +14,7 @@ mod ScanLabels
 mod ScanTaken
 mod ScanWhole
 mod OutlineLines
+mod OutlineOnly
 mod OutlineSteps
 mod OutlineCase
 pub use Rattle.cnf_text.proofs.DimacsFormula

@@ -1,12 +1,13 @@
 -- A bundle that is kept as an outline: no proof in it, but where each of them stands.
-use Rattle.std.specs.Prelude.{ℕ, ◌+◌, ◌≤◌, ◌≡◌, ◌⊎◌, refl, List, [], ◌∷◌, ◌++◌, length, map, None}
+use Rattle.std.specs.Prelude.{ℕ, ◌+◌, ◌≤◌, ◌≡◌, ◌≢◌, ◌⊎◌, refl, List, [], ◌∷◌, ◌++◌, length}
+use Rattle.std.specs.Prelude.{map, None}
 use Rattle.std.specs.Coded.{Coded, code_by, coded×, coded_ℕ, coded_list}
 use Rattle.split_tree.specs.declared.node.Target.{Target}
 use Rattle.split_tree.specs.declared.node.Target.TheVariants.{Node}
 use Rattle.case_core.specs.declared.case.Section.{Section}
 use Rattle.case_core.specs.declared.outline.Place.{Place}
 use Rattle.case_core.specs.Bundle.{Labelled, icnf_text, labels_of}
-use Rattle.case_core.specs.Case.{CaseOf, part_in, section_in, proof_for}
+use Rattle.case_core.specs.Case.{CaseOf, SectionOf, part_in, section_in, proof_for}
 use Rattle.case_core.specs.CaseCode.{target_code, case_code}
 use Rattle.case_core.specs.Sections.{IsCaseOf}
 
@@ -86,3 +87,7 @@ pub record IsOutlinedCase (text : List ℕ) (outlined : OutlinedOf) : Type 0 whe
   })
   pub leaves : (node : ℕ) → proof_for (map (section_in text) outlined.sections) (Node node) ≡ None
   pub bare : outlined.case.sections ≡ []
+
+-- an inner node has one of these sections
+abbrev pub HasInnerSection : List SectionOf → Type 0
+HasInnerSection sections = (node : ℕ) × (proof_for sections (Node node) ≢ None)

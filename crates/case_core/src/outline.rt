@@ -1,8 +1,9 @@
 //! The outline of a bundle that is handed over block by block, and its case with no proof in it.
 
-ghost use Rattle.std.specs.Prelude.{◌≡◌, ◌≤◌, ◌+◌, ◌^◌, [], IfOk, IfErr, IfSome};
+ghost use Rattle.std.specs.Prelude.{◌≡◌, ◌≢◌, ◌≤◌, ◌+◌, ◌^◌, ◌⊎◌, [], length};
+ghost use Rattle.std.specs.Prelude.{IfOk, IfErr, IfSome, IfNone, None};
 ghost use Rattle.split_tree.specs.SplitTree.{total};
-ghost use Rattle.case_core.specs.Inner.Outline.{AreMoved};
+ghost use Rattle.case_core.specs.Inner.Outline.{AreMoved, HasInner};
 
 use crate::bundle::{Parts, cut, read_parts};
 use crate::case::{Case, Section};
@@ -52,12 +53,14 @@ impl Model for Outline {
 
 impl Outline {
     ghost use Rattle.std.specs.Prelude.{◌≡◌, ◌<◌, ◌++◌, ◌∷◌, ℕ, List, [], true, false, length};
-    ghost use Rattle.std.specs.Prelude.{OnOk, IfOk, IfErr, IfSome, MatchOption, All};
+    ghost use Rattle.std.specs.Prelude.{OnOk, IfOk, IfErr, IfSome, IfNone, MatchOption, All};
     ghost use Rattle.cnf_text.specs.Tokens.{is_line_end};
     ghost use Rattle.case_core.specs.Bundle.{BeginsWithLabel, is_label};
     ghost use Rattle.case_core.specs.Inner.Bundle.{HasNoLabel};
     ghost use Rattle.case_core.specs.Inner.Outline.{GoesOn, GoesTo};
     ghost use Rattle.case_core.specs.Outline.{AreWholeLines, IsOutlineOf, IsOutlinedCase};
+    ghost use Rattle.case_core.specs.Outline.{HasInnerSection};
+    ghost use Rattle.case_core.specs.Case.{CaseOf};
     ghost use Rattle.case_core.specs.Sections.{IsCaseOf};
 
     /// The outline of no text yet.
@@ -174,14 +177,18 @@ impl Outline {
         // Without the sections it is the case of a text too.
         ensures head { IfOk result (λ some. IfSome some (λ outlined.
             (head : List ℕ) × IsCaseOf head outlined.case)) }
+        // Nothing comes only where a text with this outline has a fault, or a section for an inner
+        // node.
+        ensures only { IfOk result (λ some. IfNone some ((text : List ℕ)
+            → IsOutlineOf self text → (case : CaseOf) → IsCaseOf text case
+            → HasInnerSection case.sections)) }
         // There is no other error than want of memory.
         ensures memory { IfErr result (λ fault. fault ≡ CaseFault.Memory) }
     {
         let Outline { text, places, .. } = self;
         let parts = match read_parts(alloc, &text) {
             Ok(parts) => parts,
-            Err(CaseFault::Memory) => return Err(CaseFault::Memory),
-            Err(_) => return Ok(None),
+            Err(fault) => return want_of_memory(fault),
         };
         let Parts {
             formula,
@@ -204,6 +211,17 @@ impl Outline {
     }
 }
 
+/// The error of want of memory, and nothing of another fault.
+fn want_of_memory(fault: CaseFault) -> Result<Option<OutlinedCase>, CaseFault>
+    ensures nothing { IfOk result (λ some. (some ≡ None) × (fault ≢ CaseFault.Memory)) }
+    ensures memory { IfErr result (λ told. told ≡ CaseFault.Memory) }
+{
+    match fault {
+        CaseFault::Memory => Err(CaseFault::Memory),
+        _ => Ok(None),
+    }
+}
+
 /// The sections with these places in the text of their own; `None` where there are not as many
 /// places as sections, or where a section is for an inner node.
 fn move_sections(
@@ -211,8 +229,10 @@ fn move_sections(
     sections: &[Section],
     places: &[Place],
 ) -> Result<Option<Vec<Section>>, AllocError>
-    ensures { IfOk result
+    ensures moved { IfOk result
         (λ some. IfSome some (λ moved. AreMoved sections.now places.now moved.items)) }
+    ensures none { IfOk result (λ some. IfNone some
+        ((length sections.now ≢ length places.now) ⊎ HasInner sections.now)) }
 {
     if sections.len() != places.len() {
         return Ok(None);

@@ -1,6 +1,7 @@
 -- What a worker has seen after it posted the finding of a leaf's proof.
 use Rattle.std.proofs.Common.{◌≡◌, ℕ, true, List, [], ◌∷◌, ◌++◌, Option, None, Some, Bool, refl}
-use Rattle.std.proofs.Common.{sym, ap, All, ◌∙◌, subst, is_some, unwrap_or, append_assoc, append-nil}
+use Rattle.std.proofs.Common.{sym, ap, All, ◌∙◌, subst, is_some, unwrap_or}
+use Rattle.std.proofs.Common.{append_assoc, append-nil}
 use Rattle.std.specs.Prelude.{IfSome}
 use Rattle.std.proofs.lemmas.List.Elements.{All-push, All-weaker}
 use Rattle.case_core.specs.Leaf.{Leaf}

@@ -294,9 +294,9 @@ struct Recorded {
     bytes: Vec<u8>,
 }
 
-/// What the request's bundle is said to be, and the record of it where a file for that is asked for.
-/// Where nothing else is asked for than what a report says, and the bundle is a file's, its proofs
-/// are read one by one; else all of it is read first, and kept for what is told of it.
+/// What the request's bundle is said to be, and the record of it where a file for that is asked
+/// for. Where nothing else is asked for than what a report says, and the bundle is a file's, its
+/// proofs are read one by one; else all of it is read first, and kept for what is told of it.
 fn judge_request<R, D, I, G, X>(
     rt: &R,
     store: &mut D,

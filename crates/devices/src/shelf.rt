@@ -167,6 +167,7 @@ impl<'t> Shelf<'t> {
         ensures made { result.made ≡ self.entry.made }
         ensures at { result.fails_at ≡ self.entry.fails_at }
         ensures fault { result.fault ≡ self.entry.fault }
+        ensures lengths { result.tells_lengths ≡ true }
     {
         Shelf {
             tells_lengths: true,

@@ -126,7 +126,8 @@ style =
 -- its size, as high as it has rows, and its colours
 unfoldable pub head : ℕ → List ℕ
 head height =
-    codes "<svg xmlns=\"http://www.w3.org/2000/svg\"" ++ attribute (codes " viewBox=\"0 0 2048 ") height
+    codes "<svg xmlns=\"http://www.w3.org/2000/svg\""
+    ++ attribute (codes " viewBox=\"0 0 2048 ") height
     ++ codes " width=\"2048\"" ++ attribute (codes " height=\"") height ++ style
 
 -- a word of the first line

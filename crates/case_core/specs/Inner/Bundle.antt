@@ -1,7 +1,8 @@
 -- Where a text is cut at its label lines.
-use Rattle.std.specs.Prelude.{◌≡◌, ◌⊎◌, ℕ, ◌+◌, ◌==◌, List, [], ◌∷◌, ◌++◌, length, false, All}
+use Rattle.std.specs.Prelude.{◌≡◌, ℕ, ◌+◌, ◌==◌, List, [], ◌∷◌, ◌++◌, length, false, All}
 use Rattle.cnf_text.specs.Tokens.{words}
 use Rattle.case_core.specs.Bundle.{lines_of, Labelled, labelled, BeginsWithLabel}
+use Rattle.case_core.specs.Outline.{AreWholeLines}
 
 -- a text and its end
 pub record EndsWith (text end : List ℕ) : Type 0 where
@@ -16,21 +17,17 @@ HasNoLabel text = (number : ℕ) → labelled number (lines_of text) ≡ []
 abbrev pub HasNoLetter : List ℕ → Type 0
 HasNoLetter bytes = All (λ b. (b == 108) ≡ false) bytes
 
--- it ends where a line begins
-abbrev pub EndsAtLine : List ℕ → Type 0
-EndsAtLine front = (front ≡ []) ⊎ ((lines : List ℕ) × (front ≡ lines ++ 10 ∷ []))
-
 -- the end of a text from the start of a line on, before which no byte is the letter l
 pub record AfterPlainLines (text end : List ℕ) : Type 0 where
   pub front : List ℕ
   pub parts : text ≡ front ++ end
   pub plain : HasNoLetter front
-  pub at_line : EndsAtLine front
+  pub at_line : AreWholeLines front
 
 -- a text in two parts, the second of which begins where a line does
 pub record IsCutAtLine (text front end : List ℕ) : Type 0 where
   pub parts : text ≡ front ++ end
-  pub at_line : EndsAtLine front
+  pub at_line : AreWholeLines front
 
 -- the end of a text from its first label line on
 pub record FirstLabel (text end : List ℕ) : Type 0 where

@@ -1,8 +1,8 @@
 -- How an outline goes on, and what the case of one keeps.
-use Rattle.std.specs.Prelude.{ℕ, ◌≡◌, List, [], ◌∷◌, ◌++◌, map}
+use Rattle.std.specs.Prelude.{ℕ, ◌≡◌, ◌⊎◌, List, [], ◌∷◌, ◌++◌, map}
 use Rattle.split_tree.specs.SplitTree.{SplitTree}
 use Rattle.split_tree.specs.declared.node.Leaf.{Leaf}
-use Rattle.split_tree.specs.declared.node.Target.TheVariants.{Leaf as Named}
+use Rattle.split_tree.specs.declared.node.Target.TheVariants.{Leaf as Named, Node}
 use Rattle.case_core.specs.declared.case.Section.{Section}
 use Rattle.case_core.specs.declared.outline.Place.{Place}
 use Rattle.case_core.specs.Case.{section_in, AreSections}
@@ -36,6 +36,11 @@ AreMoved [] [] (new ∷ news) = ⊥
 AreMoved [] (place ∷ places) news = ⊥
 AreMoved (section ∷ sections) [] news = ⊥
 AreMoved (section ∷ sections) (place ∷ places) [] = ⊥
+
+-- one of these sections is for an inner node
+abbrev pub HasInner : List Section → Type 0
+HasInner [] = ⊥
+HasInner (section ∷ sections) = ((node : ℕ) × (section.target ≡ Node node)) ⊎ HasInner sections
 
 -- of whichever text the sections are parts, they and the table of their places belong together
 pub record AreTabledIn (tree : SplitTree) (sections : List Section) (places : List ℕ)

@@ -4,7 +4,7 @@ use Rattle.std.proofs.lemmas.Slice.{take-put_mid_below}
 use Rattle.std.specs.Io.KnownBytes.{Consumes}
 use borrow.Rule.Slice.PartMut.{put_mid, post_of}
 use lib.Seq.{take-add, take-append-le}
-use Rattle.bundle_files.proofs.BlocksLines.{lost_twice}
+use Rattle.std.proofs.KnownBytes.{Consumes-trans}
 use Rattle.bundle_files.proofs.blocks.fill.Goals as goal
 
 part_put : (start room count : ℕ) (old new : List ℕ) → start ≤ length old → count ≤ length new →
@@ -42,7 +42,7 @@ loop-done-preserved g c =
           (g.S.Source.remaining c.read.new.self) bytes)
           (filled_more c.loop-done.done (length c.loop-done.buffer - c.loop-done.done)
           c.in-Ok.count c.loop-done.buffer c.read.new.buffer was.within c.in-Ok.ensures.bound.0)
-          (lost_twice (g.S.Source.remaining c.args.source.now)
+          (Consumes-trans (g.S.Source.remaining c.args.source.now)
           (g.S.Source.remaining c.loop-done.source) (g.S.Source.remaining c.read.new.self)
           (take c.loop-done.done c.loop-done.buffer) (take c.in-Ok.count c.read.new.buffer)
           was.lost c.in-Ok.ensures.bytes.0);

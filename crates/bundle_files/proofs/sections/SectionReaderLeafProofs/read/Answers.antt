@@ -1,5 +1,6 @@
 use Rattle.std.proofs.Common.{◌≡◌, ◌∙◌, ap, sym, subst, ℕ, List, Option, Some, map, length}
 use Rattle.std.proofs.Common.{◌++◌, take, drop, true, arith}
+use Rattle.std.specs.String.{string_bytes}
 use Rattle.check_crew.specs.LeafProofs.{IsRead}
 use Rattle.case_core.specs.Target.TheVariants.{Leaf as Named}
 use Rattle.case_core.specs.Case.{part_in, section_in, proof_for}
@@ -7,7 +8,7 @@ use Rattle.case_core.specs.declared.case.Section.{Section}
 use Rattle.case_core.specs.Outline.{OutlinedOf}
 use Rattle.bundle_files.specs.Files.{held_if}
 use Rattle.bundle_files.specs.Parts.{IsPart, held_in}
-use Rattle.bundle_files.proofs.PartsRead.{part_is_read, filled}
+use Rattle.bundle_files.proofs.PartsRead.{part_is_read, empty_is_read, filled}
 use Rattle.bundle_files.proofs.sections.SectionReaderLeafProofs.read.Goals as goal
 
 pub returns-in-Ok-clause-found : goal.returns-in-Ok-clause-found
@@ -38,3 +39,14 @@ returns-in-Ok-clause-found g c =
     (c.in-Ok.ensures.length ∙ whole)))
     (subst (λ (n : ℕ). IsPart (known c.as_str.result.now) c.in-Some.place.start n
     c.read_part.new.bytes) size c.in-Ok.ensures.part)))
+
+pub returns-then-place-eq0-clause-found : goal.returns-then-place-eq0-clause-found
+returns-then-place-eq0-clause-found g c =
+    empty_is_read (held_if (g.F.Opener.knows c.args.self.now.files.opener)
+    (g.F.Opener.files c.args.self.now.files.opener (string_bytes c.args.self.now.path)))
+    c.args.self.now.outlined.value.sections c.args.leaf c.in-Some.place _
+    (λ text. subst (λ (s : List Section). proof_for (map (section_in text) s)
+    (Named c.args.leaf)
+    ≡ Some (part_in text c.in-Some.place.start c.in-Some.place.length))
+    (ap (λ (o : OutlinedOf). o.sections) c.deref.ensures) (c.in-Some.ensures text))
+    (omega arith) c.clear-then-place-eq0.ensures.items
