@@ -331,6 +331,35 @@ const REPEATING: &[Proof] = &[
     ),
 ];
 
+/// The four clauses over two variables, the first of which repeats both of its literals.
+const LONG_REPEATED: &[&[i32]] = &[
+    &[1, 2, 2, 2, 2, 2, 2, 2, 2, 1],
+    &[1, -2],
+    &[-1, 2],
+    &[-1, -2],
+];
+
+/// Clauses of more than eight literals that repeat some: as hints, as candidates and as lemmas.
+const REPEATING_LONG: &[Proof] = &[
+    (&[], "5 1 0 1 2 0\n6 0 5 3 4 0\n", None),
+    (&[], "5 3 0 1 0\n", Some((1, Reason::Unit))),
+    (&[], "5 -2 0 -1 2 0\n", Some((1, Reason::Candidate))),
+    (&[], "5 -2 0 -1 2 -3 4 0\n", Some((2, Reason::End))),
+    (&[], "5 1 1 1 1 1 1 1 1 1 1 0 1 2 0\n6 0 5 3 4 0\n", None),
+    (
+        &[],
+        "5 -3 1 -3 1 -3 1 -3 1 -3 1 0 1 2 0\n6 3 0 0\n",
+        Some((2, Reason::Candidate)),
+    ),
+    (
+        &[],
+        "5 -3 1 -3 1 -3 1 -3 1 -3 1 0 1 2 0\n6 3 0 -5 1 2 0\n",
+        Some((3, Reason::End)),
+    ),
+    (&[-1], "6 0 5 1 2 0\n", None),
+    (&[-1], "6 0 5 1 0\n", Some((1, Reason::Empty))),
+];
+
 /// A tautology and another clause, each of more than eight literals.
 const LONG: &[&[i32]] = &[
     &[1, 2, 3, 4, 5, 6, 7, 8, 9, -1],
@@ -590,6 +619,7 @@ const OVER_FOUR: Table = (
 const OVER_OTHERS: &[Table] = &[
     (EIGHT, &[TWICE_FOUR]),
     (REPEATED, &[REPEATING]),
+    (LONG_REPEATED, &[REPEATING_LONG]),
     (LONG, &[LONG_CANDIDATES]),
     (WITH_EMPTY, &[REFUTED_AT_ONCE]),
     (EMPTY_ALONE, &[REFUTED_ALONE]),

@@ -46,6 +46,32 @@ const CLASHES: &[Clash] = &[
         },
     ),
     (&[&[1], &[-1], &[1]], TreeFault::Repeats { cube: 3 }),
+    (
+        &[
+            &[1, 2, -3, 4, 5, -6, 7, 8, -9],
+            &[1, 2, -3, 4, 5, -6, 7, 8, 9],
+            &[1, 2, -3, 4, 5, -6, 7, 8, 9],
+        ],
+        TreeFault::Repeats { cube: 3 },
+    ),
+    (
+        &[
+            &[-1, 2, 3, -4, 5, 6, 7, 8],
+            &[-1, 2, 3, -4, 5, 6, 7, -8],
+            &[-1, 2, 3, -4, 5, 6, 7],
+        ],
+        TreeFault::Overlap {
+            first: 1,
+            second: 3,
+        },
+    ),
+    (
+        &[&[1, 2, 3, 4, 5, 6], &[1, 2, 3, 4, 5, -6], &[1, 2, 3, 4, 7]],
+        TreeFault::NotATree {
+            first: 1,
+            second: 3,
+        },
+    ),
 ];
 
 /// Whether the cubes are within the limits that `build` asks for.
@@ -168,6 +194,28 @@ fn a_variable_splits_twice(rt: HostRuntime) {
         assert!(rt; weighs(&rt, &tree, leaf, weight), "{leaf:?}");
     }
     assert!(rt; tree.missing_count() == 2);
+}
+
+#[test]
+fn cubes_share_a_stretch(rt: HostRuntime) {
+    let tree = tree(
+        &rt,
+        rt.alloc(),
+        &[&[1, -2, 3, -4, 5], &[1, -2, 3, -4, -5, 6]],
+    );
+    let leaves: [(Leaf, &[i32]); 7] = [
+        (Leaf::Missing(1), &[1, 2]),
+        (Leaf::Missing(2), &[1, -2, 3, 4]),
+        (Leaf::Cube(1), &[1, -2, 3, -4, 5]),
+        (Leaf::Cube(2), &[1, -2, 3, -4, -5, 6]),
+        (Leaf::Missing(3), &[1, -2, 3, -4, -5, -6]),
+        (Leaf::Missing(4), &[1, -2, -3]),
+        (Leaf::Missing(5), &[-1]),
+    ];
+    for (leaf, path) in leaves {
+        assert!(rt; has_path(&rt, rt.alloc(), &tree, leaf, path), "{leaf:?}");
+    }
+    assert!(rt; tree.leaf_count() == 7);
 }
 
 /// The tree of the one cube of the literals 1 to `last`.
