@@ -64,7 +64,7 @@ fn paths(alloc: Global, opened: usize) -> Result<Vec<u8>, Fail> {
     Ok(paths)
 }
 
-// The file is opened for the label lines, and then for each proof.
+// The file is opened for the label lines, and then for each proof that has a byte.
 #[test]
 fn each_proof_at_its_place(rt: HostRuntime) -> Result<(), Fail> {
     for words in [
@@ -74,7 +74,7 @@ fn each_proof_at_its_place(rt: HostRuntime) -> Result<(), Fail> {
         ends_after(&rt, words, ALL, (0, ALL_REPORT, b""), 5)?;
         ends_after(&rt, words, ALL_WITHOUT_END, (0, ALL_REPORT, b""), 5)?;
         ends_after(&rt, words, NO_M1, (1, WITHOUT_M1_REPORT, b""), 4)?;
-        ends_after(&rt, words, BARE_LABEL, (1, BARE_LABEL_REPORT, b""), 3)?;
+        ends_after(&rt, words, BARE_LABEL, (1, BARE_LABEL_REPORT, b""), 2)?;
         ends_after(&rt, words, b"", (1, BARE_REPORT, b""), 1)?;
     }
     Ok(())
