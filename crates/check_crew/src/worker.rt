@@ -1,6 +1,7 @@
 //! What one worker does.
 
-ghost use Rattle.std.specs.Prelude.{◌≡◌, ◌<◌, None, length, true, false, All, IsTrue, IfOk, OnOk};
+ghost use Rattle.std.specs.Prelude.{◌≡◌, ◌<◌, ◌∷◌, [], None, length, true, false, All, IsTrue, IfOk};
+ghost use Rattle.std.specs.Prelude.{OnOk};
 ghost use Rattle.case_core.specs.FindingOf.{finding_of};
 ghost use Rattle.case_core.specs.Finding.{HasSection, IsFinding, target_of};
 ghost use Rattle.case_core.specs.Leaves.{IsTargetAt};
@@ -223,9 +224,31 @@ fn take_all<R: Wait, G: Gate>(
     let Ok(mut examiner) = Examiner::over(site.alloc, site.case) else {
         return true;
     };
+    take_from(site, worker, &mut examiner, pass, job_pass, turn)
+}
+
+/// Examines the section of the first turn, which has been claimed, and then claims turns as
+/// `take_turns` does.
+fn take_from<R: Wait, G: Gate>(
+    site: Site<'_, R, G>,
+    worker: u32,
+    examiner: &mut Examiner<'_>,
+    pass: &mut Pass,
+    job_pass: &mut JobPass,
+    turn: usize,
+) -> bool
+    requires ready { AreReady site.case.now (shared_of site.core.now) site.jobs.now site.order.now }
+    requires examiner { examiner.old ≡ site.case.now }
+    requires pass { IsNewPass (shared_of site.core.now) pass.old }
+    requires jobs { queue.IsPassOf site.jobs.now job_pass.old }
+    requires turn { turn < length site.order.now }
+    requires claimed { job_pass.old.claims ≡ turn ∷ [] }
+    ensures { IsShiftOf (shared_of site.entry.core.now) site.entry.jobs.now site.entry.order.now
+        (record { pass = pass.new; job_pass = job_pass.new; short_of_memory = result }) }
+{
     let place = site.order[turn];
-    match take_turn(site, worker, &mut examiner, pass, place) {
-        Ok(()) => take_turns(site, worker, &mut examiner, pass, job_pass),
+    match take_turn(site, worker, examiner, pass, place) {
+        Ok(()) => take_turns(site, worker, examiner, pass, job_pass),
         Err(_) => true,
     }
 }

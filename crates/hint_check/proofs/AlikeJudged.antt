@@ -41,7 +41,7 @@ hint_alike (Some one) (Some other) h set next =
     (unfalsified-same one other h set))
 
 module _ (one other : Live) (h : Alike one other) where
-  pub chain-alike : (hints : List ℕ) (set : Literals) → chain one set hints ≡ chain other set hints
+  chain-alike : (hints : List ℕ) (set : Literals) → chain one set hints ≡ chain other set hints
   unfolding chain Alike
   chain-alike [] set = refl
   chain-alike (hint ∷ hints) set =

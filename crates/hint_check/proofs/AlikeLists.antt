@@ -55,14 +55,14 @@ any_has p (m ∷ one) other inside h =
 
 module _ (one other : List Literal) (h : SameLiterals one other) where
   -- some literal of the one passes where some literal of the other does
-  pub any-same : (p : Literal → Bool) → list_any p one ≡ list_any p other
+  any-same : (p : Literal → Bool) → list_any p one ≡ list_any p other
   unfolding SameLiterals
   any-same p =
       same_tests (list_any p one) (list_any p other)
       (any_has p one other (λ l held. sym (h l) ∙ held))
       (any_has p other one (λ l held. h l ∙ held))
 
-  pub has-same : has one ≡ has other
+  has-same : has one ≡ has other
   unfolding SameLiterals
   has-same = λ i l. h l i
 
@@ -72,7 +72,7 @@ module _ (one other : List Literal) (h : SameLiterals one other) where
       any-same (λ l. has one (negation l))
       ∙ ap (λ test. list_any (λ l. test (negation l)) other) has-same
 
-  pub meets-same : (set : Literals) → meets set one ≡ meets set other
+  meets-same : (set : Literals) → meets set one ≡ meets set other
   unfolding meets
   meets-same set = any-same set
 

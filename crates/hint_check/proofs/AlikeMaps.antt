@@ -30,7 +30,7 @@ pub alike-self : (live : Live) → Alike live live
 unfolding Alike
 alike-self live id = at-self (fin.get live id)
 
-pub alike-back : (one other : Live) → Alike one other → Alike other one
+alike-back : (one other : Live) → Alike one other → Alike other one
 unfolding Alike
 alike-back one other h id = at-back (fin.get one id) (fin.get other id) (h id)
 

@@ -379,8 +379,22 @@ pub fn put_far(far: &mut Far, id: u64, span: Span) -> Result<usize, AllocError>
     }
 }
 
-/// Takes an id out of the far ones, and answers how many blocks it had.
+/// Takes an id out of the far ones, and answers how many blocks it had. Mostly there are none.
+#[inline(always)]
 pub fn take_far(far: &mut Far, id: u64) -> usize
+    ensures taken { (q : ℕ) → lookup (nat_eq q) far.new
+        ≡ cond (nat_eq id q) None (lookup (nat_eq q) far.old) }
+    ensures ends { (count : ℕ) → SpansEndBy far.old count → SpansEndBy far.new count }
+{
+    if far.is_empty() {
+        return 0;
+    }
+    take_from_some(far, id)
+}
+
+/// The same, where there may be some.
+#[inline(never)]
+fn take_from_some(far: &mut Far, id: u64) -> usize
     ensures taken { (q : ℕ) → lookup (nat_eq q) far.new
         ≡ cond (nat_eq id q) None (lookup (nat_eq q) far.old) }
     ensures ends { (count : ℕ) → SpansEndBy far.old count → SpansEndBy far.new count }

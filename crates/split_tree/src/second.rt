@@ -69,7 +69,7 @@ fn bound_behind(cubes: &[Ahead], count: usize, bound: u32) -> u32
 /// How many cubes fit before the first that clashes with one before it, where some two clash. The
 /// bound is the least second cube of a clash that was found so far. Where the cubes at a node don't
 /// all go on alike, the first that doesn't is the second of a clash, and only those before it can
-/// be that of a lesser one. So each literal is looked at a few times at most.
+/// be that of a lesser one. So all literals together are looked at a few times at most.
 pub fn fitting(alloc: Global, cubes: &[Vec<Lit>]) -> Result<usize, AllocError>
     requires few { length cubes.now < 2 ^ 32 }
     requires clash { AllFit (cube_lists cubes.now) → ⊥ }

@@ -3,7 +3,7 @@ use Rattle.std.specs.Map.{lookup}
 use Rattle.hint_check.specs.Inner.Far.{placed}
 use Rattle.hint_check.proofs.FarKnown.{none-left}
 use Rattle.hint_check.proofs.FarSpans.{spans-change, Apart-change, Apart-absent, SpansEndBy-change}
-use Rattle.hint_check.proofs.far.take_far.Goals as goal
+use Rattle.hint_check.proofs.far.take_from_some.Goals as goal
 
 -- ---- out of its seat
 
