@@ -280,6 +280,15 @@ fn top_takes_verdicts(rt: &impl Abort, alloc: Global, case: &Case) -> bool {
     takes_verdicts(rt, alloc, &mut above)
 }
 
+/// Ends the test where these posts leave the part of two cubes otherwise, as it is or stored.
+fn need_both(rt: &impl Abort, alloc: Global, posts: &[Target], wanted: Option<Seen>) {
+    assert!(rt; leaves(rt, alloc, BOTH_CUBES, posts, wanted), "{posts:?}");
+    assert!(rt;
+        leaves_stored(rt, alloc, BOTH_CUBES, posts, wanted),
+        "{posts:?}"
+    );
+}
+
 // Both branches of the root weigh half. A second finding of a leaf changes nothing, and the second
 // leaf marks the root.
 #[test]
@@ -287,18 +296,9 @@ fn leaves_of_one_part(rt: HostRuntime) {
     let one = seen_with(Became::Marked, HALF, Mark::Refuted, Mark::Open);
     let again = seen_with(Became::Already, HALF, Mark::Refuted, Mark::Open);
     let both = seen_with(Became::RootMarked(0), 0, Mark::Refuted, Mark::Refuted);
-    let alloc = rt.alloc();
-    for (posts, wanted) in &[
-        ([cube(1)].as_slice(), one),
-        ([cube(1), cube(1)].as_slice(), again),
-        ([cube(1), cube(1), cube(2)].as_slice(), both),
-    ] {
-        assert!(rt; leaves(&rt, alloc, BOTH_CUBES, posts, *wanted), "{posts:?}");
-        assert!(rt;
-            leaves_stored(&rt, alloc, BOTH_CUBES, posts, *wanted),
-            "{posts:?}"
-        );
-    }
+    need_both(&rt, rt.alloc(), &[cube(1)], one);
+    need_both(&rt, rt.alloc(), &[cube(1), cube(1)], again);
+    need_both(&rt, rt.alloc(), &[cube(1), cube(1), cube(2)], both);
 }
 
 // At cut 1 each leaf is a part: its verdict takes half, once, and the verdicts of both parts mark

@@ -75,7 +75,26 @@ fn has_branches(alloc: Global, boards: &Boards, branches: &[Target]) -> bool {
     }
 }
 
-/// Whether all boards of a cut stand so after these posts, and each was answered as it is to be.
+/// Whether all boards stand so.
+fn are_so(rt: &impl Abort, alloc: Global, boards: &Boards, stand: &Stand) -> bool {
+    all_marked(rt, boards, stand.marks)
+        && boards.root_marked() == stand.root
+        && boards.open_weight() == stand.open
+        && has_branches(alloc, boards, stand.branches)
+}
+
+/// Whether they stand so after these posts, and each was answered as it is to be.
+fn are_so_after(
+    rt: &impl Abort,
+    alloc: Global,
+    boards: &mut Boards,
+    posts: &[(Target, bool)],
+    stand: &Stand,
+) -> bool {
+    all_answered(rt, alloc, boards, posts) && are_so(rt, alloc, boards, stand)
+}
+
+/// Whether all boards of a cut stand so after these posts.
 fn stands_at(
     rt: &impl Abort,
     alloc: Global,
@@ -87,11 +106,7 @@ fn stands_at(
     requires { cut ≤ 6 }
 {
     let mut boards = Boards::new(alloc, case, cut).expect(rt, "memory");
-    all_answered(rt, alloc, &mut boards, posts)
-        && all_marked(rt, &boards, stand.marks)
-        && boards.root_marked() == stand.root
-        && boards.open_weight() == stand.open
-        && has_branches(alloc, &boards, stand.branches)
+    are_so_after(rt, alloc, &mut boards, posts, stand)
 }
 
 /// Whether the boards stand so at cut 0, where the whole tree is one part, at cut 1, where its

@@ -20,6 +20,11 @@ fn first_wrong(alloc: Global, bundles: &[Bundle]) -> Option<&'static str> {
     None
 }
 
+/// Ends the test where one of the bundles doesn't have its fault.
+fn need_faults(rt: &impl Abort, alloc: Global, bundles: &[Bundle]) {
+    assert_eq!(rt; first_wrong(alloc, bundles), None);
+}
+
 const CLASHING_CUBES: &[Bundle] = &[
     (
         "p inccnf\na 1 2 0\na 1 0\n",
@@ -43,7 +48,7 @@ const CLASHING_CUBES: &[Bundle] = &[
 
 #[test]
 fn clashing_cubes(rt: HostRuntime) {
-    assert_eq!(rt; first_wrong(rt.alloc(), CLASHING_CUBES), None);
+    need_faults(&rt, rt.alloc(), CLASHING_CUBES);
 }
 
 const FAULTS_OF_THE_TEXT: &[Bundle] = &[
@@ -59,7 +64,7 @@ const FAULTS_OF_THE_TEXT: &[Bundle] = &[
 
 #[test]
 fn faults_of_the_text(rt: HostRuntime) {
-    assert_eq!(rt; first_wrong(rt.alloc(), FAULTS_OF_THE_TEXT), None);
+    need_faults(&rt, rt.alloc(), FAULTS_OF_THE_TEXT);
 }
 
 const FAULTS_OF_LEAF_LABELS: &[Bundle] = &[
@@ -80,7 +85,7 @@ const FAULTS_OF_LEAF_LABELS: &[Bundle] = &[
 
 #[test]
 fn faults_of_leaf_labels(rt: HostRuntime) {
-    assert_eq!(rt; first_wrong(rt.alloc(), FAULTS_OF_LEAF_LABELS), None);
+    need_faults(&rt, rt.alloc(), FAULTS_OF_LEAF_LABELS);
 }
 
 const FORMS_OF_LEAF_LABELS: &[Bundle] = &[
@@ -113,7 +118,7 @@ const FORMS_OF_LEAF_LABELS: &[Bundle] = &[
 
 #[test]
 fn forms_of_leaf_labels(rt: HostRuntime) {
-    assert_eq!(rt; first_wrong(rt.alloc(), FORMS_OF_LEAF_LABELS), None);
+    need_faults(&rt, rt.alloc(), FORMS_OF_LEAF_LABELS);
 }
 
 const LABELS_OF_INNER_NODES: &[Bundle] = &[
@@ -137,7 +142,7 @@ const LABELS_OF_INNER_NODES: &[Bundle] = &[
 
 #[test]
 fn labels_of_inner_nodes(rt: HostRuntime) {
-    assert_eq!(rt; first_wrong(rt.alloc(), LABELS_OF_INNER_NODES), None);
+    need_faults(&rt, rt.alloc(), LABELS_OF_INNER_NODES);
 }
 
 const FORMS_OF_INNER_LABELS: &[Bundle] = &[
@@ -165,16 +170,20 @@ const FORMS_OF_INNER_LABELS: &[Bundle] = &[
 
 #[test]
 fn forms_of_inner_labels(rt: HostRuntime) {
-    assert_eq!(rt; first_wrong(rt.alloc(), FORMS_OF_INNER_LABELS), None);
+    need_faults(&rt, rt.alloc(), FORMS_OF_INNER_LABELS);
 }
 
-/// What is said of a target's section, if it has one.
-fn judged(rt: &impl Abort, alloc: Global, bundle: &str, target: Target) -> Option<Judged> {
-    let case = case(rt, alloc, bundle);
-    match finding_of(rt, alloc, &case, target) {
+/// What is said of a target's section in a case, if it has one.
+fn judged_in(rt: &impl Abort, alloc: Global, case: &Case, target: Target) -> Option<Judged> {
+    match finding_of(rt, alloc, case, target) {
         Some(finding) => Some(finding.judged()),
         None => None,
     }
+}
+
+/// The same in a bundle's case.
+fn judged(rt: &impl Abort, alloc: Global, bundle: &str, target: Target) -> Option<Judged> {
+    judged_in(rt, alloc, &case(rt, alloc, bundle), target)
 }
 
 #[test]
@@ -223,9 +232,13 @@ fn are_proofs(case: &Case, proofs: &[&str]) -> bool {
     count == proofs.len()
 }
 
+/// Whether a case has no clause and one cube, and these are the proofs of its sections.
+fn is_one_cube(case: &Case, proofs: &[&str]) -> bool {
+    case.formula().clauses().is_empty() && case.tree().cube_count() == 1 && are_proofs(case, proofs)
+}
+
 #[test]
 fn sections_in_order(rt: HostRuntime) {
     let case = case(&rt, rt.alloc(), "p inccnf\na 1 0\nl m1\nlast\nl 1\n");
-    assert!(rt; case.formula().clauses().is_empty() && case.tree().cube_count() == 1);
-    assert!(rt; are_proofs(&case, &["last\n", ""]));
+    assert!(rt; is_one_cube(&case, &["last\n", ""]));
 }

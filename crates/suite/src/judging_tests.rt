@@ -1,6 +1,7 @@
 //! Proofs and the judgements that were worked out by hand from the rules of judging. The judge has
 //! to give them, over a base that many checkers share and over a formula of its own, and so has the
 //! plain judge.
+use crate::judges::{Work, with_judge};
 use crate::literals::{formula, lits};
 use crate::{nine, plain};
 use cnf_text::literal::Lit;
@@ -603,7 +604,7 @@ fn first_wrong_owned(
 type Table = (&'static [&'static [i32]], &'static [&'static [Proof]]);
 
 /// That over the four clauses.
-const OVER_FOUR: Table = (
+static OVER_FOUR: Table = (
     FOUR,
     &[
         ADDITIONS,
@@ -626,6 +627,16 @@ const OVER_OTHERS: &[Table] = &[
     (&[], &[NO_CLAUSE]),
 ];
 
+/// The table over the four clauses.
+fn over_four() -> &'static Table {
+    &OVER_FOUR
+}
+
+/// The tables over other formulas.
+fn over_others() -> &'static [Table] {
+    OVER_OTHERS
+}
+
 /// The first proof of a table that a judge doesn't judge as expected.
 fn first_wrong_of(rt: &impl Abort, alloc: Global, table: &Table) -> Option<&'static str> {
     let (clauses, lists) = *table;
@@ -640,13 +651,13 @@ fn first_wrong_of(rt: &impl Abort, alloc: Global, table: &Table) -> Option<&'sta
 
 #[test]
 fn expected_of_every_judge(rt: HostRuntime) {
-    let wrong = first_wrong_of(&rt, rt.alloc(), &OVER_FOUR);
+    let wrong = first_wrong_of(&rt, rt.alloc(), over_four());
     assert_eq!(rt; wrong, None);
 }
 
 #[test]
 fn expected_of_every_judge_elsewhere(rt: HostRuntime) {
-    for table in OVER_OTHERS {
+    for table in over_others() {
         let wrong = first_wrong_of(&rt, rt.alloc(), table);
         assert_eq!(rt; wrong, None);
     }
@@ -684,34 +695,36 @@ fn first_wrong_in_rounds(
     None
 }
 
-/// The same by one judge over a base.
-fn first_wrong_over(
-    rt: &impl Abort,
-    alloc: Global,
-    base: &Base,
-    lists: &[&[Proof]],
-) -> Option<&'static str> {
-    let mut judge = Judge::over(alloc, base).expect(rt, "memory");
-    first_wrong_in_rounds(rt, alloc, &mut judge, lists)
+/// The lists of proofs, and the first that the judge doesn't judge as expected.
+#[derive(Drop)]
+struct InRounds<'t> {
+    lists: &'t [&'t [Proof]],
+    wrong: Option<&'static str>,
+}
+
+impl<'t> Work for InRounds<'t> {
+    fn with<R: Abort>(&mut self, rt: &R, alloc: Global, judge: &mut Judge, _base: &Base) {
+        self.wrong = first_wrong_in_rounds(rt, alloc, judge, self.lists);
+    }
 }
 
 /// The same of a table by one judge.
 fn first_wrong_of_one_judge(rt: &impl Abort, alloc: Global, table: &Table) -> Option<&'static str> {
     let (clauses, lists) = *table;
-    let formula = formula(rt, alloc, clauses);
-    let base = Base::new(alloc, &formula).expect(rt, "memory");
-    first_wrong_over(rt, alloc, &base, lists)
+    let mut rounds = InRounds { lists, wrong: None };
+    with_judge(rt, alloc, clauses, &mut rounds);
+    rounds.wrong
 }
 
 #[test]
 fn expected_of_one_judge(rt: HostRuntime) {
-    let wrong = first_wrong_of_one_judge(&rt, rt.alloc(), &OVER_FOUR);
+    let wrong = first_wrong_of_one_judge(&rt, rt.alloc(), over_four());
     assert_eq!(rt; wrong, None);
 }
 
 #[test]
 fn expected_of_one_judge_elsewhere(rt: HostRuntime) {
-    for table in OVER_OTHERS {
+    for table in over_others() {
         let wrong = first_wrong_of_one_judge(&rt, rt.alloc(), table);
         assert_eq!(rt; wrong, None);
     }
@@ -737,32 +750,36 @@ fn owning_base_stays(rt: HostRuntime) {
     );
 }
 
+/// The steps that put in other far ids.
+fn push_others(alloc: Global, text: &mut Vec<u8>) -> Result<(), AllocError> {
+    for id in 2_000_000..2_000_000 + OTHERS {
+        text.extend_from_slice(format!(in alloc; "{id} 1 -1 0 0\n")?.as_bytes())?;
+    }
+    Ok(())
+}
+
 /// Those steps and this end.
 fn far_text(alloc: Global, end: &str) -> Result<Vec<u8>, AllocError> {
     let mut text = Vec::new(alloc);
     text.extend_from_slice(ONE_PLACE.as_bytes())?;
-    for id in 2_000_000..2_000_000 + OTHERS {
-        text.extend_from_slice(format!(in alloc; "{id} 1 -1 0 0\n")?.as_bytes())?;
-    }
+    push_others(alloc, &mut text)?;
     text.extend_from_slice(TWO_PLACES.as_bytes())?;
     text.extend_from_slice(end.as_bytes())?;
     Ok(text)
 }
 
+/// Ends the test where a judge doesn't give the steps with this end the judgement that is expected.
+fn need_far(rt: &impl Abort, alloc: Global, base: &Base, end: &str, want: Judged) {
+    let text = far_text(alloc, end).expect(rt, "memory");
+    assert_eq!(rt; judged_over(rt, alloc, base, &[], &text), want);
+    assert_eq!(rt; plain::judge(rt, alloc, base.formula(), &[], &text), want);
+}
+
 #[test]
 fn far_ids_of_one_place(rt: HostRuntime) {
-    let alloc = rt.alloc();
-    let formula = formula(&rt, alloc, FOUR);
-    let base = Base::new(alloc, &formula).expect(&rt, "memory");
+    let formula = formula(&rt, rt.alloc(), FOUR);
+    let base = Base::new(rt.alloc(), &formula).expect(&rt, "memory");
     for (end, fault) in PLACE_ENDS {
-        let text = far_text(alloc, end).expect(&rt, "memory");
-        assert_eq!(rt;
-            judged_over(&rt, alloc, &base, &[], &text),
-            expected(*fault)
-        );
-        assert_eq!(rt;
-            plain::judge(&rt, alloc, &formula, &[], &text),
-            expected(*fault)
-        );
+        need_far(&rt, rt.alloc(), &base, end, expected(*fault));
     }
 }

@@ -12,6 +12,8 @@ mod cases;
 #[cfg(test)]
 mod icnf_tests;
 #[cfg(test)]
+mod judges;
+#[cfg(test)]
 mod judging_tests;
 #[cfg(test)]
 mod literals;

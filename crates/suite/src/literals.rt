@@ -8,14 +8,20 @@ use cnf_text::literal::Lit;
 use std::alloc::Global;
 use std::process::Abort;
 
+/// The literal of a number.
+fn lit(rt: &impl Abort, number: i32) -> Lit
+    ensures { result ≡ literal_of number }
+{
+    Lit::new(number).expect(rt, "no literal")
+}
+
 /// The literals of these numbers, in this order.
 pub fn lits(rt: &impl Abort, alloc: Global, numbers: &[i32]) -> Vec<Lit>
     ensures { result.items ≡ map literal_of numbers.now }
 {
     let mut lits = Vec::new(alloc);
     for number in numbers {
-        let lit = Lit::new(*number).expect(rt, "no literal");
-        lits.push(lit).expect(rt, "memory");
+        lits.push(lit(rt, *number)).expect(rt, "memory");
     }
     lits
 }

@@ -1,6 +1,6 @@
 //! Outlines of bundles that are handed over block by block: where the proofs of leaves stand.
 use crate::cases::case;
-use case_core::{Case, Leaf, Outline, Place, Target, split_line};
+use case_core::{Case, Leaf, Outline, OutlinedCase, Place, Target, split_line};
 use fixtures::bundles::{BOTH_CUBES, ROOT};
 use fixtures::{four, halves};
 use std::alloc::Global;
@@ -97,6 +97,21 @@ fn in_two(rt: &impl Abort, alloc: Global, bundle: &[u8], cut: usize) -> Outline 
     outline
 }
 
+/// Whether a case has its leaves' proofs at these places, and none in memory.
+fn are_at(outlined: &OutlinedCase, places: &[(Leaf, Option<Place>)]) -> bool {
+    for (leaf, place) in places {
+        if outlined.place_of(*leaf) != *place {
+            return false;
+        }
+    }
+    outlined.case().sections().is_empty()
+}
+
+/// The case of an outline, if it isn't to be read whole.
+fn outlined(rt: &impl Abort, alloc: Global, outline: Outline) -> Option<OutlinedCase> {
+    outline.into_case(alloc).expect(rt, "memory")
+}
+
 /// Whether the case of an outline has its leaves' proofs at these places, and none in memory.
 fn has_places(
     rt: &impl Abort,
@@ -104,15 +119,10 @@ fn has_places(
     outline: Outline,
     places: &[(Leaf, Option<Place>)],
 ) -> bool {
-    let Some(outlined) = outline.into_case(alloc).expect(rt, "memory") else {
-        return false;
-    };
-    for (leaf, place) in places {
-        if outlined.place_of(*leaf) != *place {
-            return false;
-        }
+    match outlined(rt, alloc, outline) {
+        Some(outlined) => are_at(&outlined, places),
+        None => false,
     }
-    outlined.case().sections().is_empty()
 }
 
 #[test]
@@ -155,26 +165,50 @@ fn proof_in(case: &Case, leaf: Leaf) -> Option<&[u8]> {
     }
 }
 
+/// The part of a text at a place; `None` where there is no place, or not in the text.
+fn part_at(text: &[u8], place: Option<Place>) -> Option<&[u8]> {
+    match place {
+        Some(place) => text.get(place.start..place.start.saturating_add(place.length)),
+        None => None,
+    }
+}
+
 /// Whether the parts of the text at the outline's places are the proofs of the case read whole.
-fn has_proofs(rt: &impl Abort, alloc: Global, bundle: &str, leaves: &[Leaf]) -> bool {
-    let whole = case(rt, alloc, bundle);
-    let outline = line_by_line(rt, alloc, bundle.as_bytes());
-    let Some(outlined) = outline.into_case(alloc).expect(rt, "memory") else {
-        return false;
-    };
+fn are_proofs(outlined: &OutlinedCase, whole: &Case, text: &[u8], leaves: &[Leaf]) -> bool {
     for leaf in leaves {
-        let part = match outlined.place_of(*leaf) {
-            Some(place) => bundle
-                .as_bytes()
-                .get(place.start..place.start.saturating_add(place.length)),
-            None => None,
-        };
-        if part != proof_in(&whole, *leaf) {
+        if part_at(text, outlined.place_of(*leaf)) != proof_in(whole, *leaf) {
             return false;
         }
     }
-    outlined.case().formula().clauses().len() == whole.formula().clauses().len()
-        && outlined.case().tree().cube_count() == whole.tree().cube_count()
+    true
+}
+
+/// Whether two cases have as many clauses, and as many cubes.
+fn as_many(one: &Case, other: &Case) -> bool {
+    one.formula().clauses().len() == other.formula().clauses().len()
+        && one.tree().cube_count() == other.tree().cube_count()
+}
+
+/// Whether the case of a text's outline is the case read whole, but for the proofs, which are at
+/// the outline's places.
+fn is_outlined(rt: &impl Abort, alloc: Global, whole: &Case, text: &[u8], leaves: &[Leaf]) -> bool {
+    match outlined(rt, alloc, line_by_line(rt, alloc, text)) {
+        Some(outlined) => {
+            are_proofs(&outlined, whole, text, leaves) && as_many(outlined.case(), whole)
+        }
+        None => false,
+    }
+}
+
+/// The same of a bundle's case.
+fn has_proofs(rt: &impl Abort, alloc: Global, bundle: &str, leaves: &[Leaf]) -> bool {
+    is_outlined(
+        rt,
+        alloc,
+        &case(rt, alloc, bundle),
+        bundle.as_bytes(),
+        leaves,
+    )
 }
 
 #[test]
@@ -202,7 +236,6 @@ const READ_WHOLE: &[&str] = &[
 fn bundles_to_be_read_whole(rt: HostRuntime) {
     for bundle in READ_WHOLE {
         let outline = line_by_line(&rt, rt.alloc(), bundle.as_bytes());
-        let outlined = outline.into_case(rt.alloc()).expect(&rt, "memory");
-        assert!(rt; outlined.is_none(), "{bundle:?}");
+        assert!(rt; outlined(&rt, rt.alloc(), outline).is_none(), "{bundle:?}");
     }
 }

@@ -1,7 +1,8 @@
 //! The judge and the plain judge on proofs that are made up step by step, by a linear congruential
 //! generator.
+use crate::judges::{Work, with_judge};
 use crate::judging_tests::{REPEATED, judged_by, judged_over};
-use crate::literals::{formula, lits};
+use crate::literals::lits;
 use crate::plain;
 use cnf_text::literal::Lit;
 use fixtures::bundles::FOUR;
@@ -208,6 +209,54 @@ fn push_words(
     Ok(())
 }
 
+/// A random deletion.
+fn push_deletion(random: &mut Generator, text: &mut Vec<u8>) -> Result<(), AllocError> {
+    push(text, b"0 d")?;
+    push_words(random, text, &NAMED_IDS)?;
+    push(text, b"0\n")
+}
+
+/// A random group of hints.
+fn push_group(random: &mut Generator, text: &mut Vec<u8>) -> Result<(), AllocError> {
+    text.push(b'-')?;
+    push(text, random.word(&NAMED_IDS))?;
+    push_words(random, text, &NAMED_IDS)
+}
+
+/// A few random groups of hints.
+fn push_groups(random: &mut Generator, text: &mut Vec<u8>) -> Result<(), AllocError> {
+    for _ in 0..random.few() {
+        push_group(random, text)?;
+    }
+    Ok(())
+}
+
+/// A random addition, up to its groups.
+fn push_clause(random: &mut Generator, text: &mut Vec<u8>) -> Result<(), AllocError> {
+    push(text, random.word(&NEW_IDS))?;
+    push_words(random, text, &LITERALS)?;
+    push(text, b"0")?;
+    push_words(random, text, &NAMED_IDS)
+}
+
+/// A random addition.
+fn push_addition(random: &mut Generator, text: &mut Vec<u8>) -> Result<(), AllocError> {
+    push_clause(random, text)?;
+    push_groups(random, text)?;
+    push(text, b"0\n")
+}
+
+/// One of the steps given.
+fn push_given(
+    random: &mut Generator,
+    text: &mut Vec<u8>,
+    given: &[&'static [u8]; 16],
+) -> Result<(), AllocError> {
+    push(text, random.word(given))?;
+    text.push(b'\n')?;
+    Ok(())
+}
+
 /// A random step: one of two is among those given, and one of eight of the others deletes.
 fn push_step(
     random: &mut Generator,
@@ -215,25 +264,12 @@ fn push_step(
     given: &[&'static [u8]; 16],
 ) -> Result<(), AllocError> {
     if random.next() % 2 == 0 {
-        push(text, random.word(given))?;
-        text.push(b'\n')?;
-        return Ok(());
+        push_given(random, text, given)
+    } else if random.next() % 8 == 0 {
+        push_deletion(random, text)
+    } else {
+        push_addition(random, text)
     }
-    if random.next() % 8 == 0 {
-        push(text, b"0 d")?;
-        push_words(random, text, &NAMED_IDS)?;
-        return push(text, b"0\n");
-    }
-    push(text, random.word(&NEW_IDS))?;
-    push_words(random, text, &LITERALS)?;
-    push(text, b"0")?;
-    push_words(random, text, &NAMED_IDS)?;
-    for _ in 0..random.few() {
-        text.push(b'-')?;
-        push(text, random.word(&NAMED_IDS))?;
-        push_words(random, text, &NAMED_IDS)?;
-    }
-    push(text, b"0\n")
 }
 
 fn count(tally: &mut Tally, judged: Judged) {
@@ -262,6 +298,19 @@ struct Trials {
 /// A text, how long it was before its last step, and the length after which a proof is begun anew.
 type Growing<'t> = (&'t mut Vec<u8>, usize, usize);
 
+/// Takes the last step of a text back where it isn't good, and all steps where they refute or are
+/// long.
+fn take_back(text: &mut Vec<u8>, before: usize, longest: usize, judged: Judged) {
+    match judged {
+        Judged::Rejected {
+            step: _,
+            reason: Reason::End,
+        } if text.len() < longest => {}
+        Judged::Rejected { step: _, reason } if reason != Reason::End => text.truncate(before),
+        _ => text.clear(),
+    }
+}
+
 /// Whether both judges say the same of a text, and so does a fast one that judged other texts over
 /// this base. Its last step is taken back where it isn't good.
 fn agree(
@@ -278,14 +327,7 @@ fn agree(
     let fast = judged_over(rt, alloc, base, path, text);
     let kept = judged_by(rt, alloc, judge, path, text);
     count(tally, slow);
-    match slow {
-        Judged::Rejected {
-            step: _,
-            reason: Reason::End,
-        } if text.len() < longest => {}
-        Judged::Rejected { step: _, reason } if reason != Reason::End => text.truncate(before),
-        _ => text.clear(),
-    }
+    take_back(text, before, longest, slow);
     slow == fast && slow == kept
 }
 
@@ -334,8 +376,25 @@ fn differences_over(
     differ
 }
 
-/// The same over the base of these clauses, in two rounds, so that each path follows a longer one
-/// or a shorter one.
+/// The proofs of all paths in two rounds, so that each path follows a longer one or a shorter one,
+/// and the number of texts on which the judges differed.
+#[derive(Drop)]
+struct InRounds<'t> {
+    given: &'t [&'static [u8]; 16],
+    trials: &'t mut Trials,
+    differ: u32,
+}
+
+impl<'t> Work for InRounds<'t> {
+    fn with<R: Abort>(&mut self, rt: &R, alloc: Global, judge: &mut Judge, base: &Base) {
+        for _ in 0..2 {
+            let more = differences_over(rt, alloc, judge, base, self.given, self.trials);
+            self.differ = self.differ.saturating_add(more);
+        }
+    }
+}
+
+/// The number of them over the base of these clauses.
 fn differences_of(
     rt: &impl Abort,
     alloc: Global,
@@ -343,15 +402,13 @@ fn differences_of(
     given: &[&'static [u8]; 16],
     trials: &mut Trials,
 ) -> u32 {
-    let formula = formula(rt, alloc, clauses);
-    let base = Base::new(alloc, &formula).expect(rt, "memory");
-    let mut judge = Judge::over(alloc, &base).expect(rt, "memory");
-    let mut differ = 0u32;
-    for _ in 0..2 {
-        let more = differences_over(rt, alloc, &mut judge, &base, given, trials);
-        differ = differ.saturating_add(more);
-    }
-    differ
+    let mut rounds = InRounds {
+        given,
+        trials,
+        differ: 0,
+    };
+    with_judge(rt, alloc, clauses, &mut rounds);
+    rounds.differ
 }
 
 const NOTHING_YET: Tally = Tally {
@@ -381,16 +438,21 @@ const FORMULAS: &[Given] = &[
     (PAIRS, &PAIRS_STEPS),
 ];
 
+/// Ends the test where the judges differ on a text over one of the formulas.
+fn need_no_difference(rt: &impl Abort, alloc: Global, trials: &mut Trials) {
+    for (clauses, given) in FORMULAS {
+        let differ = differences_of(rt, alloc, clauses, given, trials);
+        assert_eq!(rt; differ, 0);
+    }
+}
+
 #[test]
 fn both_judges_agree(rt: HostRuntime) {
     let mut trials = Trials {
         random: Generator { state: 22 },
         tally: NOTHING_YET,
     };
-    for (clauses, given) in FORMULAS {
-        let differ = differences_of(&rt, rt.alloc(), clauses, given, &mut trials);
-        assert_eq!(rt; differ, 0);
-    }
+    need_no_difference(&rt, rt.alloc(), &mut trials);
     let tally = trials.tally;
     assert!(rt; least(tally) > 0, "{tally:?}");
 }
@@ -428,22 +490,40 @@ const SPREAD_STEPS: [(&[u8], &[u8]); 8] = [
     (b"0 d", b"0"),
 ];
 
+/// The id of an addition, and what follows it.
+fn push_spread_begin(
+    random: &mut Generator,
+    text: &mut Vec<u8>,
+    kind: usize,
+    begins: &[u8],
+) -> Result<(), AllocError> {
+    if kind < 6 {
+        push(text, random.word(&SPREAD_IDS))?;
+    }
+    text.extend_from_slice(begins)
+}
+
+/// What another id names, where a step needs it.
+fn push_spread_named(
+    random: &mut Generator,
+    text: &mut Vec<u8>,
+    kind: usize,
+) -> Result<(), AllocError> {
+    if kind != 5 {
+        text.push(b' ')?;
+    }
+    if kind > 2 {
+        push(text, random.word(&SPREAD_IDS))?;
+    }
+    Ok(())
+}
+
 /// A random step that adds a clause under one of these ids, or deletes.
 fn push_spread_step(random: &mut Generator, text: &mut Vec<u8>) -> Result<(), AllocError> {
     let kind = (random.next() % 8) as usize;
     let (begins, ends) = SPREAD_STEPS[kind];
-    if kind < 6 {
-        push(text, random.word(&SPREAD_IDS))?;
-    }
-    text.extend_from_slice(begins)?;
-    if kind > 2 {
-        if kind != 5 {
-            text.push(b' ')?;
-        }
-        push(text, random.word(&SPREAD_IDS))?;
-    } else {
-        text.push(b' ')?;
-    }
+    push_spread_begin(random, text, kind, begins)?;
+    push_spread_named(random, text, kind)?;
     text.extend_from_slice(ends)?;
     text.push(b'\n')?;
     Ok(())
@@ -458,32 +538,51 @@ const LONGEST_SPREAD: usize = 1500;
 fn spread_differences(
     rt: &impl Abort,
     alloc: Global,
+    judge: &mut Judge,
     base: &Base,
-    random: &mut Generator,
-    tally: &mut Tally,
+    trials: &mut Trials,
 ) -> u32 {
     let mut text = Vec::new(alloc);
-    let mut judge = Judge::over(alloc, base).expect(rt, "memory");
     let mut differ = 0u32;
     for _ in 0..SPREAD_TRIES {
         let before = text.len();
-        push_spread_step(random, &mut text).expect(rt, "memory");
+        push_spread_step(&mut trials.random, &mut text).expect(rt, "memory");
         let growing = (&mut text, before, LONGEST_SPREAD);
-        if !agree(rt, alloc, &mut judge, base, &[], growing, tally) {
+        if !agree(rt, alloc, judge, base, &[], growing, &mut trials.tally) {
             differ = differ.saturating_add(1);
         }
     }
     differ
 }
 
+/// These steps, and the number of texts on which the judges differed.
+#[derive(Drop)]
+struct Spread<'t> {
+    trials: &'t mut Trials,
+    differ: u32,
+}
+
+impl<'t> Work for Spread<'t> {
+    fn with<R: Abort>(&mut self, rt: &R, alloc: Global, judge: &mut Judge, base: &Base) {
+        self.differ = spread_differences(rt, alloc, judge, base, self.trials);
+    }
+}
+
+/// The number of them over the base of the four clauses.
+fn spread_over_four(rt: &impl Abort, alloc: Global, trials: &mut Trials) -> u32 {
+    let mut spread = Spread { trials, differ: 0 };
+    with_judge(rt, alloc, FOUR, &mut spread);
+    spread.differ
+}
+
 #[test]
 fn both_judges_agree_on_spread_ids(rt: HostRuntime) {
-    let mut random = Generator { state: 7 };
-    let mut tally = NOTHING_YET;
-    let four = formula(&rt, rt.alloc(), FOUR);
-    let base = Base::new(rt.alloc(), &four).expect(&rt, "memory");
-    let differ = spread_differences(&rt, rt.alloc(), &base, &mut random, &mut tally);
-    assert_eq!(rt; differ, 0);
+    let mut trials = Trials {
+        random: Generator { state: 7 },
+        tally: NOTHING_YET,
+    };
+    assert_eq!(rt; spread_over_four(&rt, rt.alloc(), &mut trials), 0);
+    let tally = trials.tally;
     let named = tally.id.min(tally.hint).min(tally.candidate);
     assert!(rt; named.min(tally.good) > 0, "{tally:?}");
 }

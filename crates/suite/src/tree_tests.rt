@@ -170,31 +170,69 @@ fn weighs(rt: &impl Abort, tree: &Tree, leaf: Leaf, weight: u64) -> bool {
     tree.weight_of(leaf) == weight
 }
 
-#[test]
-fn no_cubes_leave_one_leaf(rt: HostRuntime) {
-    let tree = tree(&rt, rt.alloc(), &[]);
+/// Ends the test where one of these leaves doesn't have its path.
+fn need_paths(rt: &impl Abort, alloc: Global, tree: &Tree, leaves: &[(Leaf, &[i32])]) {
+    for (leaf, path) in leaves {
+        assert!(rt; has_path(rt, alloc, tree, *leaf, path), "{leaf:?}");
+    }
+}
+
+/// Ends the test where one of these leaves doesn't have its weight.
+fn need_weights(rt: &impl Abort, tree: &Tree, leaves: &[(Leaf, u64)]) {
+    for (leaf, weight) in leaves {
+        assert!(rt; weighs(rt, tree, *leaf, *weight), "{leaf:?}");
+    }
+}
+
+/// Ends the test where a tree isn't one missing leaf, or has one of these leaves.
+fn need_one_missing(rt: &impl Abort, alloc: Global, tree: &Tree, others: &[Leaf]) {
     assert!(rt; tree.leaf_count() == 1 && tree.cube_count() == 0 && tree.missing_count() == 1);
-    assert!(rt; has_path(&rt, rt.alloc(), &tree, Leaf::Missing(1), &[]));
+    assert!(rt; has_path(rt, alloc, tree, Leaf::Missing(1), &[]));
     assert!(rt; tree.total() == WHOLE);
-    for leaf in [Leaf::Missing(2), Leaf::Missing(0), Leaf::Cube(1)] {
-        assert!(rt; !tree.has_leaf(leaf), "{leaf:?}");
+    for leaf in others {
+        assert!(rt; !tree.has_leaf(*leaf), "{leaf:?}");
     }
 }
 
 #[test]
+fn no_cubes_leave_one_leaf(rt: HostRuntime) {
+    let tree = tree(&rt, rt.alloc(), &[]);
+    let others = [Leaf::Missing(2), Leaf::Missing(0), Leaf::Cube(1)];
+    need_one_missing(&rt, rt.alloc(), &tree, &others);
+}
+
+/// Leaves of a tree that splits by a variable twice, and their paths.
+const TWICE_PATHS: &[(Leaf, &[i32])] = &[
+    (Leaf::Missing(1), &[1, 1]),
+    (Leaf::Missing(2), &[-1]),
+    (Leaf::Cube(1), &[1, -1]),
+];
+
+/// The weights of these leaves.
+const TWICE_WEIGHTS: &[(Leaf, u64)] = &[
+    (Leaf::Missing(1), QUARTER),
+    (Leaf::Missing(2), HALF),
+    (Leaf::Cube(1), QUARTER),
+];
+
+#[test]
 fn a_variable_splits_twice(rt: HostRuntime) {
     let tree = tree(&rt, rt.alloc(), &[&[1, -1]]);
-    let leaves: [(Leaf, &[i32], u64); 3] = [
-        (Leaf::Missing(1), &[1, 1], QUARTER),
-        (Leaf::Missing(2), &[-1], HALF),
-        (Leaf::Cube(1), &[1, -1], QUARTER),
-    ];
-    for (leaf, path, weight) in leaves {
-        assert!(rt; has_path(&rt, rt.alloc(), &tree, leaf, path), "{leaf:?}");
-        assert!(rt; weighs(&rt, &tree, leaf, weight), "{leaf:?}");
-    }
+    need_paths(&rt, rt.alloc(), &tree, TWICE_PATHS);
+    need_weights(&rt, &tree, TWICE_WEIGHTS);
     assert!(rt; tree.missing_count() == 2);
 }
+
+/// The leaves of two cubes that share a stretch, and their paths.
+const STRETCH_PATHS: &[(Leaf, &[i32])] = &[
+    (Leaf::Missing(1), &[1, 2]),
+    (Leaf::Missing(2), &[1, -2, 3, 4]),
+    (Leaf::Cube(1), &[1, -2, 3, -4, 5]),
+    (Leaf::Cube(2), &[1, -2, 3, -4, -5, 6]),
+    (Leaf::Missing(3), &[1, -2, 3, -4, -5, -6]),
+    (Leaf::Missing(4), &[1, -2, -3]),
+    (Leaf::Missing(5), &[-1]),
+];
 
 #[test]
 fn cubes_share_a_stretch(rt: HostRuntime) {
@@ -203,18 +241,7 @@ fn cubes_share_a_stretch(rt: HostRuntime) {
         rt.alloc(),
         &[&[1, -2, 3, -4, 5], &[1, -2, 3, -4, -5, 6]],
     );
-    let leaves: [(Leaf, &[i32]); 7] = [
-        (Leaf::Missing(1), &[1, 2]),
-        (Leaf::Missing(2), &[1, -2, 3, 4]),
-        (Leaf::Cube(1), &[1, -2, 3, -4, 5]),
-        (Leaf::Cube(2), &[1, -2, 3, -4, -5, 6]),
-        (Leaf::Missing(3), &[1, -2, 3, -4, -5, -6]),
-        (Leaf::Missing(4), &[1, -2, -3]),
-        (Leaf::Missing(5), &[-1]),
-    ];
-    for (leaf, path) in leaves {
-        assert!(rt; has_path(&rt, rt.alloc(), &tree, leaf, path), "{leaf:?}");
-    }
+    need_paths(&rt, rt.alloc(), &tree, STRETCH_PATHS);
     assert!(rt; tree.leaf_count() == 7);
 }
 
@@ -229,21 +256,21 @@ fn long_tree(rt: &impl Abort, alloc: Global, last: i32) -> Tree {
     built(rt, alloc, &cubes).expect(rt, "no tree")
 }
 
+/// Leaves of the cube of the literals 1 to 61, and their weights.
+const LONG_WEIGHTS: &[(Leaf, u64)] = &[
+    (Leaf::Missing(61), HALF),
+    (Leaf::Missing(60), QUARTER),
+    (Leaf::Missing(3), 2),
+    (Leaf::Missing(2), 1),
+    (Leaf::Missing(1), 1),
+    (Leaf::Cube(1), 1),
+];
+
 #[test]
 fn weights_end_at_one(rt: HostRuntime) {
     let tree = long_tree(&rt, rt.alloc(), 61);
     assert!(rt; tree.missing_count() == 61 && tree.total() == 1_152_921_504_606_846_977);
-    let leaves = [
-        (Leaf::Missing(61), HALF),
-        (Leaf::Missing(60), QUARTER),
-        (Leaf::Missing(3), 2),
-        (Leaf::Missing(2), 1),
-        (Leaf::Missing(1), 1),
-        (Leaf::Cube(1), 1),
-    ];
-    for (leaf, weight) in leaves {
-        assert!(rt; weighs(&rt, &tree, leaf, weight), "{leaf:?}");
-    }
+    need_weights(&rt, &tree, LONG_WEIGHTS);
 }
 
 #[test]
@@ -323,27 +350,36 @@ fn has_parts(
     parts.len() == wanted.len()
 }
 
+/// The parts of a cut of their tree.
+const PARTS: &[(Option<Leaf>, u64)] = &[
+    (Some(Leaf::Cube(1)), HALF),
+    (Some(Leaf::Cube(2)), QUARTER),
+    (Some(Leaf::Cube(3)), QUARTER),
+];
+
 #[test]
 fn parts_of_a_cut(rt: HostRuntime) {
     let tree = tree(&rt, rt.alloc(), THREE);
-    let leaves = [
-        (Some(Leaf::Cube(1)), HALF),
-        (Some(Leaf::Cube(2)), QUARTER),
-        (Some(Leaf::Cube(3)), QUARTER),
-    ];
-    assert!(rt; has_parts(&rt, rt.alloc(), &tree, 2, &leaves));
+    assert!(rt; has_parts(&rt, rt.alloc(), &tree, 2, PARTS));
     assert!(rt; has_parts(&rt, rt.alloc(), &tree, 0, &[(None, WHOLE)]));
+}
+
+/// Ends the test where a cube's leaf doesn't have the path of its numbers.
+fn need_cubes(rt: &impl Abort, alloc: Global, tree: &Tree, cubes: &[&[i32]]) {
+    let mut number = 0u32;
+    for path in cubes {
+        number = number.wrapping_add(1);
+        assert!(rt;
+            has_path(rt, alloc, tree, Leaf::Cube(number), path),
+            "{number}"
+        );
+    }
 }
 
 #[test]
 fn paths_of_parts(rt: HostRuntime) {
     let tree = tree(&rt, rt.alloc(), THREE);
-    for (leaf, path) in [Leaf::Cube(1), Leaf::Cube(2), Leaf::Cube(3)]
-        .into_iter()
-        .zip(THREE)
-    {
-        assert!(rt; has_path(&rt, rt.alloc(), &tree, leaf, path), "{leaf:?}");
-    }
+    need_cubes(&rt, rt.alloc(), &tree, THREE);
 }
 
 #[test]
@@ -356,21 +392,42 @@ fn the_top_of_a_tree(rt: HostRuntime) {
 /// Two cubes with the branch `1`, `-2` missing.
 const TWO: &[&[i32]] = &[&[1, 2], &[-1]];
 
+/// Whether this is the node with the path of these numbers.
+fn is_node(
+    rt: &impl Abort,
+    alloc: Global,
+    tree: &Tree,
+    numbers: &[i32],
+    node: Option<u32>,
+) -> bool {
+    match (tree.node_of(&lits(rt, alloc, numbers)), node) {
+        (Some(found), Some(wanted)) => found == NodeId::new(wanted),
+        (None, None) => true,
+        _ => false,
+    }
+}
+
+/// Ends the test where one of these paths doesn't lead to its node.
+fn need_nodes(rt: &impl Abort, alloc: Global, tree: &Tree, paths: &[(&[i32], Option<u32>)]) {
+    for (numbers, node) in paths {
+        assert!(rt; is_node(rt, alloc, tree, numbers, *node), "{numbers:?}");
+    }
+}
+
+/// Paths in the tree of these cubes, and the inner nodes that they lead to.
+const NODES: &[(&[i32], Option<u32>)] = &[
+    (&[], Some(0)),
+    (&[1], Some(1)),
+    (&[-1], None),
+    (&[1, 2], None),
+    (&[1, 3], None),
+    (&[-1, 2], None),
+];
+
 #[test]
 fn inner_nodes_by_path(rt: HostRuntime) {
     let tree = tree(&rt, rt.alloc(), TWO);
-    let paths: [(&[i32], Option<NodeId>); 6] = [
-        (&[], Some(NodeId::new(0))),
-        (&[1], Some(NodeId::new(1))),
-        (&[-1], None),
-        (&[1, 2], None),
-        (&[1, 3], None),
-        (&[-1, 2], None),
-    ];
-    for (numbers, node) in paths {
-        let path = lits(&rt, rt.alloc(), numbers);
-        assert!(rt; tree.node_of(&path) == node, "{numbers:?}");
-    }
+    need_nodes(&rt, rt.alloc(), &tree, NODES);
 }
 
 #[test]

@@ -8,6 +8,7 @@ use case_core::{Case, Finding, Target, examine, read_bundle};
 use fixtures::targets::has_target;
 use std::alloc::Global;
 use std::process::Abort;
+use std::sync::atomic::{AtomicU64, Ordering};
 
 /// The case that a bundle stands for.
 pub fn case(rt: &impl Abort, alloc: Global, bundle: &str) -> Case
@@ -32,4 +33,9 @@ pub fn finding_of<'c>(
     let asked = target;
     assert!(rt; has_target(case.tree(), asked));
     examine(alloc, case, target).expect(rt, "memory")
+}
+
+/// Ends the test where a count isn't the one that is given.
+pub fn need_count(rt: &impl Abort, what: &str, count: &AtomicU64, wanted: u64) {
+    assert_eq!(rt; count.load(Ordering::SeqCst), wanted, "{what}");
 }

@@ -2,7 +2,7 @@
 //! and that what they find is what one thread finds.
 ghost use Rattle.std.specs.Prelude.{◌≡◌};
 
-use crate::cases::case;
+use crate::cases::{case, need_count};
 use case_core::{Case, Leaf, Target};
 use check_crew::{Elsewhere, Found, Gate, NoGate, Settings, conquer};
 use crossbeam_utils::Backoff;
@@ -199,9 +199,9 @@ fn two_workers_cross(rt: HostRuntime) {
                 BOTH_CUBES_REPORT
             )
         );
-        assert_eq!(rt; gate.seen.load(Ordering::SeqCst), 1);
-        assert_eq!(rt; gate.second_weight.load(Ordering::SeqCst), second_weight);
-        assert_eq!(rt; gate.first_weight.load(Ordering::SeqCst), 0);
+        need_count(&rt, "seen", &gate.seen, 1);
+        need_count(&rt, "second_weight", &gate.second_weight, second_weight);
+        need_count(&rt, "first_weight", &gate.first_weight, 0);
     }
 }
 
@@ -220,7 +220,7 @@ fn one_worker_does_not_cross(rt: HostRuntime) {
             BOTH_CUBES_REPORT
         )
     );
-    assert_eq!(rt; gate.seen.load(Ordering::SeqCst), 0);
+    need_count(&rt, "seen", &gate.seen, 0);
 }
 
 /// Holds back each worker until four are about to examine a section.
@@ -269,8 +269,8 @@ fn four_workers_meet(rt: HostRuntime) {
             FOUR_CUBES_REPORT
         )
     );
-    assert_eq!(rt; gate.met.load(Ordering::SeqCst), 4);
-    assert_eq!(rt; gate.workers.load(Ordering::SeqCst), 15);
+    need_count(&rt, "met", &gate.met, 4);
+    need_count(&rt, "workers", &gate.workers, 15);
 }
 
 // Fewer can't: one of them gives up waiting before the fourth section is begun. The report is the
@@ -317,21 +317,26 @@ impl Gate for Rooted {
     }
 }
 
+/// Ends the test where two workers don't find the root marked at this cut.
+fn need_rooted<R: Abort + Threads + Wait + Sync>(rt: &R, alloc: Global, cut: u32) {
+    let gate = Rooted {
+        root_posted: AtomicU64::new(0),
+        root_weight: AtomicU64::new(1),
+        later: AtomicU64::new(0),
+    };
+    let settings = settings(rt, 3, cut);
+    let wanted = ROOT_AND_LEAVES_REPORT;
+    assert!(rt; gives(rt, alloc, ROOT_AND_LEAVES, settings, &gate, wanted));
+    need_count(rt, "later", &gate.later, 2);
+    need_count(rt, "root_weight", &gate.root_weight, 0);
+}
+
 // The root's proof is posted while two other workers are at work: what they find is posted below a
 // root that is marked already.
 #[test]
 fn the_root_is_posted_while_others_work(rt: HostRuntime) {
     for cut in [0, 1] {
-        let gate = Rooted {
-            root_posted: AtomicU64::new(0),
-            root_weight: AtomicU64::new(1),
-            later: AtomicU64::new(0),
-        };
-        let settings = settings(&rt, 3, cut);
-        let wanted = ROOT_AND_LEAVES_REPORT;
-        assert!(rt; gives(&rt, rt.alloc(), ROOT_AND_LEAVES, settings, &gate, wanted));
-        assert_eq!(rt; gate.later.load(Ordering::SeqCst), 2);
-        assert_eq!(rt; gate.root_weight.load(Ordering::SeqCst), 0);
+        need_rooted(&rt, rt.alloc(), cut);
     }
 }
 
@@ -365,22 +370,27 @@ impl Gate for Listing {
     }
 }
 
+/// Ends the test where one worker takes a bundle's sections in another order.
+fn need_order<R: Abort + Threads + Wait + Sync>(rt: &R, alloc: Global, bundle: &str, order: u64) {
+    let gate = Listing {
+        before: AtomicU64::new(0),
+        after: AtomicU64::new(0),
+        workers: AtomicU64::new(0),
+    };
+    let settings = settings(rt, 1, 2);
+    let refuted = refutes(rt, alloc, bundle, settings, &gate);
+    assert!(rt; refuted == (order > 0));
+    need_count(rt, "before", &gate.before, order);
+    need_count(rt, "after", &gate.after, order);
+    need_count(rt, "workers", &gate.workers, 0);
+}
+
 // One worker takes the sections of longer proofs first, and those of equal length in the order of
 // the text. It is worker 0.
 #[test]
 fn long_proofs_first(rt: HostRuntime) {
     for (bundle, order) in [(LENGTHS, 3214), (FOUR_CUBES, 1234), (NOTHING, 0)] {
-        let gate = Listing {
-            before: AtomicU64::new(0),
-            after: AtomicU64::new(0),
-            workers: AtomicU64::new(0),
-        };
-        let settings = settings(&rt, 1, 2);
-        let refuted = refutes(&rt, rt.alloc(), bundle, settings, &gate);
-        assert_eq!(rt; refuted, order > 0);
-        assert_eq!(rt; gate.before.load(Ordering::SeqCst), order);
-        assert_eq!(rt; gate.after.load(Ordering::SeqCst), order);
-        assert_eq!(rt; gate.workers.load(Ordering::SeqCst), 0);
+        need_order(&rt, rt.alloc(), bundle, order);
     }
 }
 
@@ -423,27 +433,43 @@ impl Gate for Tally {
     }
 }
 
+/// Ends the test where a bundle's section isn't examined and told once, or the report is another.
+fn need_once<R: Abort + Threads + Wait + Sync>(
+    rt: &R,
+    alloc: Global,
+    workers: u32,
+    bundle: &str,
+    report: &[u8],
+    once: u64,
+) {
+    let gate = Tally {
+        started: AtomicU64::new(0),
+        before: AtomicU64::new(0),
+        after: AtomicU64::new(0),
+        ended: AtomicU64::new(0),
+    };
+    let settings = settings(rt, workers, 1);
+    assert!(rt; gives(rt, alloc, bundle, settings, &gate, report));
+    need_count(rt, "started", &gate.started, 1);
+    need_count(rt, "before", &gate.before, once);
+    need_count(rt, "after", &gate.after, once);
+    need_count(rt, "ended", &gate.ended, 1);
+}
+
 // Whatever the number of workers, each section is examined once and told once, between one start
 // and one end.
 #[test]
 fn each_section_is_told_once(rt: HostRuntime) {
     for workers in [1, 2, 4, 32] {
-        for (bundle, report, once) in [
-            (FOUR_CUBES, FOUR_CUBES_REPORT, 0x11110),
-            (ROOT_AND_LEAVES, ROOT_AND_LEAVES_REPORT, 0x111),
-        ] {
-            let gate = Tally {
-                started: AtomicU64::new(0),
-                before: AtomicU64::new(0),
-                after: AtomicU64::new(0),
-                ended: AtomicU64::new(0),
-            };
-            let settings = settings(&rt, workers, 1);
-            assert!(rt; gives(&rt, rt.alloc(), bundle, settings, &gate, report));
-            assert_eq!(rt; gate.started.load(Ordering::SeqCst), 1);
-            assert_eq!(rt; gate.before.load(Ordering::SeqCst), once);
-            assert_eq!(rt; gate.after.load(Ordering::SeqCst), once);
-            assert_eq!(rt; gate.ended.load(Ordering::SeqCst), 1);
-        }
+        need_once(
+            &rt,
+            rt.alloc(),
+            workers,
+            FOUR_CUBES,
+            FOUR_CUBES_REPORT,
+            0x11110,
+        );
+        let report = ROOT_AND_LEAVES_REPORT;
+        need_once(&rt, rt.alloc(), workers, ROOT_AND_LEAVES, report, 0x111);
     }
 }

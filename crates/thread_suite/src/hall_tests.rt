@@ -223,7 +223,7 @@ pub fn one(rt: &impl Abort, alloc: Global, hall: &Hall<'_>, pass: Pass) -> Vec<P
 }
 
 /// These passes of a hall and one more.
-pub fn with(rt: &impl Abort, hall: &Hall<'_>, passes: Vec<Pass>, pass: Pass) -> Vec<Pass>
+fn with(rt: &impl Abort, hall: &Hall<'_>, passes: Vec<Pass>, pass: Pass) -> Vec<Pass>
     requires { All (IsPassOf (hall_of hall.now)) passes.items × IsPassOf (hall_of hall.now) pass }
     ensures { All (IsPassOf (hall_of hall.now)) result.items }
 {
@@ -251,6 +251,33 @@ pub fn closed(hall: Hall<'_>, passes: Vec<Pass>) -> Option<(bool, u64)>
     }
 }
 
+/// The same with this pass alone.
+fn closed_with_one(
+    rt: &impl Abort,
+    alloc: Global,
+    hall: Hall<'_>,
+    pass: Pass,
+) -> Option<(bool, u64)>
+    requires { IsPassOf (hall_of hall) pass }
+{
+    let passes = one(rt, alloc, &hall, pass);
+    closed(hall, passes)
+}
+
+/// The same with these two passes.
+fn closed_with_two(
+    rt: &impl Abort,
+    alloc: Global,
+    hall: Hall<'_>,
+    first: Pass,
+    second: Pass,
+) -> Option<(bool, u64)>
+    requires { IsPassOf (hall_of hall) first × IsPassOf (hall_of hall) second }
+{
+    let passes = two(rt, alloc, &hall, first, second);
+    closed(hall, passes)
+}
+
 /// The hall and the pass that come back where a hall isn't closed with this pass alone.
 fn refused<'c>(rt: &impl Abort, alloc: Global, hall: Hall<'c>, pass: Pass) -> (Hall<'c>, Pass)
     requires { IsPassOf (hall_of hall) pass }
@@ -265,17 +292,23 @@ fn refused<'c>(rt: &impl Abort, alloc: Global, hall: Hall<'c>, pass: Pass) -> (H
 }
 
 /// Posts a leaf twice. Whether it is marked once, and the other leaf stays open.
-fn leaf_twice<R: Wait + Abort>(rt: &R, alloc: Global, hall: &Hall<'_>, pass: &mut Pass) -> bool
-    requires cut { (hall_of hall.now).of.cut ≡ 0 }
+fn leaf_twice<R: Wait + Abort>(
+    rt: &R,
+    alloc: Global,
+    hall: &Hall<'_>,
+    pass: &mut Pass,
+    cut: u32,
+) -> bool
+    requires cut { (cut ≤ 6) × ((hall_of hall.now).of.cut ≡ cut) }
     requires own { IsPassOf (hall_of hall.now) pass.old }
     requires free { (view_of pass.old).owes ≡ None }
     ensures own { IsPassOf (hall_of hall.now) pass.new }
     ensures free { (view_of pass.new).owes ≡ None }
 {
     let once = post(rt, alloc, hall, pass, cube(1)) == Became::Marked;
-    let half = open_in(rt, alloc, hall, pass, 0, 0) == HALF;
+    let half = open_in(rt, alloc, hall, pass, cut, 0) == HALF;
     let again = post(rt, alloc, hall, pass, cube(1)) == Became::Already(cube(1));
-    let still = open_in(rt, alloc, hall, pass, 0, 0) == HALF;
+    let still = open_in(rt, alloc, hall, pass, cut, 0) == HALF;
     let marked = mark_of(rt, hall, pass, cube(1)) == Mark::Refuted;
     let open = mark_of(rt, hall, pass, cube(2)) == Mark::Open;
     once && half && again && still && marked && open
@@ -296,17 +329,96 @@ fn leaf_after<R: Wait + Abort>(rt: &R, alloc: Global, hall: &Hall<'_>, pass: &mu
     owed && whole && root && none
 }
 
+/// Posts both leaves so. Whether all this holds of them.
+fn leaves_of_one<R: Wait + Abort>(
+    rt: &R,
+    alloc: Global,
+    hall: &Hall<'_>,
+    pass: &mut Pass,
+    cut: u32,
+) -> bool
+    requires cut { (cut ≤ 6) × ((hall_of hall.now).of.cut ≡ cut) }
+    requires own { IsPassOf (hall_of hall.now) pass.old }
+    requires free { (view_of pass.old).owes ≡ None }
+    ensures own { IsPassOf (hall_of hall.now) pass.new }
+{
+    let once = leaf_twice(rt, alloc, hall, pass, cut);
+    let both = leaf_after(rt, alloc, hall, pass);
+    once && both
+}
+
+/// What one pass does in a hall.
+#[derive(Clone, Copy)]
+enum Scene {
+    OnePart,
+    ThreeParts,
+    RootAbove,
+    RootInAPart,
+    PartUnderRoot,
+    Rejected,
+}
+
+/// Whether all that a pass does holds.
+fn plays<R: Wait + Abort>(
+    rt: &R,
+    alloc: Global,
+    hall: &Hall<'_>,
+    pass: &mut Pass,
+    cut: u32,
+    scene: Scene,
+) -> bool
+    requires cut { (cut ≤ 6) × ((hall_of hall.now).of.cut ≡ cut) }
+    requires own { IsPassOf (hall_of hall.now) pass.old }
+    requires free { (view_of pass.old).owes ≡ None }
+    ensures own { IsPassOf (hall_of hall.now) pass.new }
+{
+    match scene {
+        Scene::OnePart => leaves_of_one(rt, alloc, hall, pass, cut),
+        Scene::ThreeParts => takes_three(rt, alloc, hall, pass, cut),
+        Scene::RootAbove => root_above(rt, alloc, hall, pass, cut),
+        Scene::RootInAPart => first_part(rt, alloc, hall, pass, inner(0)) == (true, true),
+        Scene::PartUnderRoot => part_after_root(rt, alloc, hall, pass, cut),
+        Scene::Rejected => rejected(rt, alloc, hall, pass, cut),
+    }
+}
+
+/// Whether all that the one pass of a hall does holds, and how the hall is closed after it.
+fn played<R: Wait + Abort>(
+    rt: &R,
+    alloc: Global,
+    case: &Case,
+    cut: u32,
+    scene: Scene,
+) -> (bool, Option<(bool, u64)>)
+    requires { cut ≤ 6 }
+{
+    let (hall, mut pass) = hall_for_one(rt, alloc, case, cut);
+    let holds = plays(rt, alloc, &hall, &mut pass, cut, scene);
+    (holds, closed_with_one(rt, alloc, hall, pass))
+}
+
+/// Ends the test where that doesn't hold in a hall of a bundle's case, or the hall isn't closed
+/// with the root so and so much open.
+fn need<R: Wait + Abort>(
+    rt: &R,
+    alloc: Global,
+    bundle: &str,
+    cut: u32,
+    scene: Scene,
+    end: (bool, u64),
+)
+    requires { cut ≤ 6 }
+{
+    let case = case(rt, alloc, bundle);
+    let (holds, boards) = played(rt, alloc, &case, cut, scene);
+    assert!(rt; holds && boards == Some(end));
+}
+
 // A leaf is marked by its first finding alone, and a second one comes back. The other leaf marks
 // the part, and its verdict the tree.
 #[test]
 fn one_part(rt: HostRuntime) {
-    let case = case(&rt, rt.alloc(), BOTH_CUBES);
-    let (hall, mut pass) = hall_for_one(&rt, rt.alloc(), &case, 0);
-    let once = leaf_twice(&rt, rt.alloc(), &hall, &mut pass);
-    let both = leaf_after(&rt, rt.alloc(), &hall, &mut pass);
-    let passes = one(&rt, rt.alloc(), &hall, pass);
-    let boards = closed(hall, passes);
-    assert!(rt; once && both && boards == Some((true, 0)));
+    need(&rt, rt.alloc(), BOTH_CUBES, 0, Scene::OnePart, (true, 0));
 }
 
 /// Whether the first part has no open weight, and its pass owes its verdict: the board above is
@@ -348,20 +460,41 @@ fn verdicts<'c, R: Wait + Abort>(
     part && !first && half && owed && root && none
 }
 
+/// Whether a verdict is owed until it is posted, and the hall is then closed with the root marked.
+fn goes_on<'c, R: Wait + Abort>(
+    rt: &R,
+    alloc: Global,
+    hall: Hall<'c>,
+    mut pass: Pass,
+    verdict: PartVerdict<'c>,
+) -> bool
+    requires cut { (hall_of hall).of.cut ≡ 1 }
+    requires own { IsPassOf (hall_of hall) pass }
+    requires owes { (view_of pass).owes ≡ Some (verdict_of verdict).part }
+    requires verdict { IsVerdictOf (hall_of hall).of (verdict_of verdict).part verdict }
+{
+    let owed = is_owed(rt, alloc, &hall, &mut pass);
+    let posted = verdicts(rt, alloc, &hall, &mut pass, verdict);
+    let boards = closed_with_one(rt, alloc, hall, pass);
+    owed && posted && boards == Some((true, 0))
+}
+
+/// Whether a hall at cut 1 isn't closed while a verdict is owed, and the work goes on with the hall
+/// and the pass that come back.
+fn are_two_parts<R: Wait + Abort>(rt: &R, alloc: Global, case: &Case) -> bool {
+    let (hall, mut pass) = hall_for_one(rt, alloc, case, 1);
+    let verdict = post_last(rt, alloc, &hall, &mut pass, cube(1));
+    let owed = is_owed(rt, alloc, &hall, &mut pass);
+    let (hall, pass) = refused(rt, alloc, hall, pass);
+    let done = goes_on(rt, alloc, hall, pass, verdict);
+    owed && done
+}
+
 // At cut 1 each leaf is a part, whose verdict is owed until it is posted. Until then the hall isn't
 // closed, and the work goes on with the hall and the pass that come back.
 #[test]
 fn two_parts(rt: HostRuntime) {
-    let case = case(&rt, rt.alloc(), BOTH_CUBES);
-    let (hall, mut pass) = hall_for_one(&rt, rt.alloc(), &case, 1);
-    let verdict = post_last(&rt, rt.alloc(), &hall, &mut pass, cube(1));
-    let owed = is_owed(&rt, rt.alloc(), &hall, &mut pass);
-    let (hall, mut pass) = refused(&rt, rt.alloc(), hall, pass);
-    let still = is_owed(&rt, rt.alloc(), &hall, &mut pass);
-    let posted = verdicts(&rt, rt.alloc(), &hall, &mut pass, verdict);
-    let passes = one(&rt, rt.alloc(), &hall, pass);
-    let boards = closed(hall, passes);
-    assert!(rt; owed && still && posted && boards == Some((true, 0)));
+    assert!(rt; are_two_parts(&rt, rt.alloc(), &case(&rt, rt.alloc(), BOTH_CUBES)));
 }
 
 /// Posts the leaf of a part, and its verdict. Whether the part's weight is open before and not
@@ -371,43 +504,62 @@ fn takes_part<R: Wait + Abort>(
     alloc: Global,
     hall: &Hall<'_>,
     pass: &mut Pass,
+    cut: u32,
     part: u32,
     weight: u64,
     left: u64,
 ) -> bool
-    requires cut { (hall_of hall.now).of.cut ≡ 2 }
+    requires cut { (cut ≤ 6) × ((hall_of hall.now).of.cut ≡ cut) }
     requires own { IsPassOf (hall_of hall.now) pass.old }
     requires free { (view_of pass.old).owes ≡ None }
     ensures own { IsPassOf (hall_of hall.now) pass.new }
     ensures free { (view_of pass.new).owes ≡ None }
 {
-    let before = open_in(rt, alloc, hall, pass, 2, part) == weight;
+    let before = open_in(rt, alloc, hall, pass, cut, part) == weight;
     let verdict = post_last(rt, alloc, hall, pass, cube(part.wrapping_add(1)));
     let right = verdict.part() == part && pass.owes() == Some(part);
-    let none = open_in(rt, alloc, hall, pass, 2, part) == 0;
+    let none = open_in(rt, alloc, hall, pass, cut, part) == 0;
     let root = post_part(rt, hall, pass, verdict);
     let above = open_above(hall, pass) == left;
     before && right && none && above && root == (left == 0)
+}
+
+/// Whether the three parts are taken so, one after another.
+fn takes_three<R: Wait + Abort>(
+    rt: &R,
+    alloc: Global,
+    hall: &Hall<'_>,
+    pass: &mut Pass,
+    cut: u32,
+) -> bool
+    requires cut { (cut ≤ 6) × ((hall_of hall.now).of.cut ≡ cut) }
+    requires own { IsPassOf (hall_of hall.now) pass.old }
+    requires free { (view_of pass.old).owes ≡ None }
+    ensures own { IsPassOf (hall_of hall.now) pass.new }
+{
+    let whole = open_above(hall, pass) == WHOLE;
+    let first = takes_part(rt, alloc, hall, pass, cut, 0, HALF, HALF);
+    let second = takes_part(rt, alloc, hall, pass, cut, 1, QUARTER, QUARTER);
+    let third = takes_part(rt, alloc, hall, pass, cut, 2, QUARTER, 0);
+    whole && first && second && third
 }
 
 // The three leaves of two depths are three parts at cut 2, in tree order. The last one's verdict
 // marks the root.
 #[test]
 fn three_parts(rt: HostRuntime) {
-    let case = case(&rt, rt.alloc(), THREE);
-    let (hall, mut pass) = hall_for_one(&rt, rt.alloc(), &case, 2);
-    let whole = open_above(&hall, &mut pass) == WHOLE;
-    let first = takes_part(&rt, rt.alloc(), &hall, &mut pass, 0, HALF, HALF);
-    let second = takes_part(&rt, rt.alloc(), &hall, &mut pass, 1, QUARTER, QUARTER);
-    let third = takes_part(&rt, rt.alloc(), &hall, &mut pass, 2, QUARTER, 0);
-    let passes = one(&rt, rt.alloc(), &hall, pass);
-    let boards = closed(hall, passes);
-    assert!(rt; whole && first && second && third && boards == Some((true, 0)));
+    need(&rt, rt.alloc(), THREE, 2, Scene::ThreeParts, (true, 0));
 }
 
 /// Whether a finding of the root marks it on the board above the parts, and the parts stay open.
-fn root_above<R: Wait + Abort>(rt: &R, alloc: Global, hall: &Hall<'_>, pass: &mut Pass) -> bool
-    requires cut { (hall_of hall.now).of.cut ≡ 1 }
+fn root_above<R: Wait + Abort>(
+    rt: &R,
+    alloc: Global,
+    hall: &Hall<'_>,
+    pass: &mut Pass,
+    cut: u32,
+) -> bool
+    requires cut { (cut ≤ 6) × ((hall_of hall.now).of.cut ≡ cut) }
     requires own { IsPassOf (hall_of hall.now) pass.old }
     requires free { (view_of pass.old).owes ≡ None }
     ensures own { IsPassOf (hall_of hall.now) pass.new }
@@ -415,7 +567,7 @@ fn root_above<R: Wait + Abort>(rt: &R, alloc: Global, hall: &Hall<'_>, pass: &mu
 {
     let marked = post(rt, alloc, hall, pass, inner(0)) == Became::TopMarked;
     let none = open_above(hall, pass) == 0;
-    let half = open_in(rt, alloc, hall, pass, 1, 0) == HALF;
+    let half = open_in(rt, alloc, hall, pass, cut, 0) == HALF;
     let refuted = mark_of(rt, hall, pass, inner(0)) == Mark::Refuted;
     let open = mark_of(rt, hall, pass, cube(1)) == Mark::Open;
     marked && none && half && refuted && open && pass.owes() == None
@@ -424,12 +576,7 @@ fn root_above<R: Wait + Abort>(rt: &R, alloc: Global, hall: &Hall<'_>, pass: &mu
 // Above the cut, a refuted root marks the tree, and nothing is owed.
 #[test]
 fn root_above_the_cut(rt: HostRuntime) {
-    let case = case(&rt, rt.alloc(), ROOT);
-    let (hall, mut pass) = hall_for_one(&rt, rt.alloc(), &case, 1);
-    let root = root_above(&rt, rt.alloc(), &hall, &mut pass);
-    let passes = one(&rt, rt.alloc(), &hall, pass);
-    let boards = closed(hall, passes);
-    assert!(rt; root && boards == Some((true, 0)));
+    need(&rt, rt.alloc(), ROOT, 1, Scene::RootAbove, (true, 0));
 }
 
 /// Posts the finding of a target that marks the first part's root, and the verdict. Whether this is
@@ -455,30 +602,49 @@ fn first_part<R: Wait + Abort>(
 // At cut 0 the root is in the only part, and its finding marks that.
 #[test]
 fn root_in_a_part(rt: HostRuntime) {
-    let case = case(&rt, rt.alloc(), ROOT);
-    let (hall, mut pass) = hall_for_one(&rt, rt.alloc(), &case, 0);
-    let posted = first_part(&rt, rt.alloc(), &hall, &mut pass, inner(0));
-    let passes = one(&rt, rt.alloc(), &hall, pass);
-    let boards = closed(hall, passes);
-    assert!(rt; posted == (true, true) && boards == Some((true, 0)));
+    need(&rt, rt.alloc(), ROOT, 0, Scene::RootInAPart, (true, 0));
+}
+
+/// Posts the root's finding, then a part's and its verdict. Whether only the root's marks the root.
+fn part_after_root<R: Wait + Abort>(
+    rt: &R,
+    alloc: Global,
+    hall: &Hall<'_>,
+    pass: &mut Pass,
+    cut: u32,
+) -> bool
+    requires cut { (cut ≤ 6) × ((hall_of hall.now).of.cut ≡ cut) }
+    requires own { IsPassOf (hall_of hall.now) pass.old }
+    requires free { (view_of pass.old).owes ≡ None }
+    ensures own { IsPassOf (hall_of hall.now) pass.new }
+{
+    let root = root_above(rt, alloc, hall, pass, cut);
+    let part = first_part(rt, alloc, hall, pass, cube(1));
+    root && part == (true, false) && open_above(hall, pass) == 0
 }
 
 // Under a marked root a part is owed as before, and its verdict marks no root.
 #[test]
 fn part_under_a_marked_root(rt: HostRuntime) {
-    let case = case(&rt, rt.alloc(), ROOT_AND_CUBE);
-    let (hall, mut pass) = hall_for_one(&rt, rt.alloc(), &case, 1);
-    let root = root_above(&rt, rt.alloc(), &hall, &mut pass);
-    let part = first_part(&rt, rt.alloc(), &hall, &mut pass, cube(1));
-    let none = open_above(&hall, &mut pass) == 0;
-    let passes = one(&rt, rt.alloc(), &hall, pass);
-    let boards = closed(hall, passes);
-    assert!(rt; root && part == (true, false) && none && boards == Some((true, 0)));
+    need(
+        &rt,
+        rt.alloc(),
+        ROOT_AND_CUBE,
+        1,
+        Scene::PartUnderRoot,
+        (true, 0),
+    );
 }
 
 /// Posts a rejected leaf twice. Whether its finding is told, and nothing is covered.
-fn rejected<R: Wait + Abort>(rt: &R, alloc: Global, hall: &Hall<'_>, pass: &mut Pass) -> bool
-    requires cut { (hall_of hall.now).of.cut ≡ 0 }
+fn rejected<R: Wait + Abort>(
+    rt: &R,
+    alloc: Global,
+    hall: &Hall<'_>,
+    pass: &mut Pass,
+    cut: u32,
+) -> bool
+    requires cut { (cut ≤ 6) × ((hall_of hall.now).of.cut ≡ cut) }
     requires own { IsPassOf (hall_of hall.now) pass.old }
     requires free { (view_of pass.old).owes ≡ None }
     ensures own { IsPassOf (hall_of hall.now) pass.new }
@@ -492,19 +658,21 @@ fn rejected<R: Wait + Abort>(rt: &R, alloc: Global, hall: &Hall<'_>, pass: &mut 
     let told = mark_of(rt, hall, pass, cube(1)) == rejected;
     let again = post(rt, alloc, hall, pass, cube(1)) == Became::Already(cube(1));
     let still = mark_of(rt, hall, pass, cube(1)) == rejected;
-    let whole = open_in(rt, alloc, hall, pass, 0, 0) == WHOLE;
+    let whole = open_in(rt, alloc, hall, pass, cut, 0) == WHOLE;
     once && told && again && still && whole
 }
 
 // A rejected leaf has its finding, and stays open.
 #[test]
 fn rejected_leaf(rt: HostRuntime) {
-    let case = case(&rt, rt.alloc(), REJECTED);
-    let (hall, mut pass) = hall_for_one(&rt, rt.alloc(), &case, 0);
-    let told = rejected(&rt, rt.alloc(), &hall, &mut pass);
-    let passes = one(&rt, rt.alloc(), &hall, pass);
-    let boards = closed(hall, passes);
-    assert!(rt; told && boards == Some((false, WHOLE)));
+    need(
+        &rt,
+        rt.alloc(),
+        REJECTED,
+        0,
+        Scene::Rejected,
+        (false, WHOLE),
+    );
 }
 
 /// Each of two passes posts a leaf of the only part. Whether each sees what the other posted.
@@ -530,16 +698,27 @@ fn see_leaves<R: Wait + Abort>(
     marked && half && owed && root && other && none && above && own
 }
 
+/// Whether a hall isn't closed with the first of its two passes, and then is with both, and the
+/// root is marked.
+fn needs_both(rt: &impl Abort, alloc: Global, hall: Hall<'_>, first: Pass, second: Pass) -> bool
+    requires { IsPassOf (hall_of hall) first × IsPassOf (hall_of hall) second }
+{
+    let (hall, first) = refused(rt, alloc, hall, first);
+    closed_with_two(rt, alloc, hall, first, second) == Some((true, 0))
+}
+
+/// Whether it is so in a hall at cut 0, in which each of two passes has posted a leaf.
+fn both_see_leaves<R: Wait + Abort>(rt: &R, alloc: Global, case: &Case) -> bool {
+    let (hall, mut first, mut second) = hall_for_two(rt, alloc, case, 0);
+    let seen = see_leaves(rt, alloc, &hall, &mut first, &mut second);
+    let both = needs_both(rt, alloc, hall, first, second);
+    seen && both
+}
+
 // What one pass posts the other sees. A hall isn't closed with one of its two passes.
 #[test]
 fn two_passes(rt: HostRuntime) {
-    let case = case(&rt, rt.alloc(), BOTH_CUBES);
-    let (hall, mut first, mut second) = hall_for_two(&rt, rt.alloc(), &case, 0);
-    let seen = see_leaves(&rt, rt.alloc(), &hall, &mut first, &mut second);
-    let (hall, first) = refused(&rt, rt.alloc(), hall, first);
-    let passes = two(&rt, rt.alloc(), &hall, first, second);
-    let boards = closed(hall, passes);
-    assert!(rt; seen && boards == Some((true, 0)));
+    assert!(rt; both_see_leaves(&rt, rt.alloc(), &case(&rt, rt.alloc(), BOTH_CUBES)));
 }
 
 /// Each of two passes posts a leaf that is a part, and then its verdict. Whether each sees what the
@@ -567,15 +746,18 @@ fn see_parts<R: Wait + Abort>(
     none && whole && marked && half && root && left
 }
 
+/// Whether each of two passes sees the other's part in a hall at cut 1, which is then closed.
+fn both_see_parts<R: Wait + Abort>(rt: &R, alloc: Global, case: &Case) -> bool {
+    let (hall, mut first, mut second) = hall_for_two(rt, alloc, case, 1);
+    let seen = see_parts(rt, alloc, &hall, &mut first, &mut second);
+    let boards = closed_with_two(rt, alloc, hall, first, second);
+    seen && boards == Some((true, 0))
+}
+
 // Two passes can owe a part each at the same time.
 #[test]
 fn two_passes_owe(rt: HostRuntime) {
-    let case = case(&rt, rt.alloc(), BOTH_CUBES);
-    let (hall, mut first, mut second) = hall_for_two(&rt, rt.alloc(), &case, 1);
-    let seen = see_parts(&rt, rt.alloc(), &hall, &mut first, &mut second);
-    let passes = two(&rt, rt.alloc(), &hall, first, second);
-    let boards = closed(hall, passes);
-    assert!(rt; seen && boards == Some((true, 0)));
+    assert!(rt; both_see_parts(&rt, rt.alloc(), &case(&rt, rt.alloc(), BOTH_CUBES)));
 }
 
 /// The place of the board on which findings of a node are posted.

@@ -1,11 +1,11 @@
 //! A hall that threads of a scope share: each of them gets a pass, and gives it back.
-ghost use Rattle.std.specs.Prelude.{◌≡◌, ◌≤◌, None, All};
+ghost use Rattle.std.specs.Prelude.{◌≡◌, ◌≤◌, ◌<◌, None, All};
 ghost use Rattle.mark_board.specs.Board.{IsPlace};
 ghost use Rattle.board_hall.specs.Halls.{hall_of, shared_of, core_of, view_of, promised};
-ghost use Rattle.board_hall.specs.Halls.{IsPassOf};
+ghost use Rattle.board_hall.specs.Halls.{IsPassOf, IsNewPass};
 
 use crate::cases::{case, finding_of};
-use crate::hall_tests::{closed, hall_for_two, need_part, next_pass, one, two, with};
+use crate::hall_tests::{closed, hall_for_two, need_part, next_pass, one, two};
 use board_hall::{Core, Hall, Pass, SameHall};
 use case_core::{Case, Target};
 use cube_report::report_of;
@@ -84,35 +84,101 @@ fn back<R: Threads>(rt: &R, core: &Core, thread: PromisedHandle<Pass, SameHall>)
     thread.join(rt)
 }
 
-/// Two threads post a leaf each, and both passes come back.
-fn post_from_two<R: Threads + Wait + Abort + Sync>(
+/// These threads and one more.
+fn and_thread(
+    rt: &impl Abort,
+    core: &Core,
+    threads: Vec<PromisedHandle<Pass, SameHall>>,
+    thread: PromisedHandle<Pass, SameHall>,
+) -> Vec<PromisedHandle<Pass, SameHall>>
+    requires { All (λ thread. IsPassOf (shared_of core.now) (promised thread.promise)) threads.items
+        × IsPassOf (shared_of core.now) (promised thread.promise) }
+    ensures { All (λ thread. IsPassOf (shared_of core.now) (promised thread.promise)) result.items }
+{
+    let _core = core;
+    let mut threads = threads;
+    threads.push(thread).expect(rt, "memory");
+    threads
+}
+
+/// These passes and one more.
+fn and_pass(rt: &impl Abort, core: &Core, passes: Vec<Pass>, pass: Pass) -> Vec<Pass>
+    requires { All (IsPassOf (shared_of core.now)) passes.items
+        × IsPassOf (shared_of core.now) pass }
+    ensures { All (IsPassOf (shared_of core.now)) result.items }
+{
+    let _core = core;
+    let mut passes = passes;
+    passes.push(pass).expect(rt, "memory");
+    passes
+}
+
+/// Starts a thread for each of these passes: the first posts the leaf of cube 1, the next that of
+/// cube 2, and so on.
+fn start_all<'s, E, R: Wait + Abort + Sync>(
+    scope: &Scope<'s, E>,
+    rt: &'s R,
+    alloc: Global,
+    core: &'s Core,
+    case: &'s Case,
+    passes: Vec<Pass>,
+    drops: bool,
+) -> Vec<PromisedHandle<Pass, SameHall>>
+    requires of { case.now ≡ (core_of core.now).case }
+    requires new { All (IsNewPass (shared_of core.now)) passes.items }
+    ensures { All (λ thread. IsPassOf (shared_of core.now) (promised thread.promise)) result.items }
+{
+    let mut threads = Vec::new(alloc);
+    let mut number = 0u32;
+    for pass in passes {
+        number = number.wrapping_add(1);
+        let thread = start(scope, rt, alloc, core, case, pass, cube(number), drops);
+        threads = and_thread(rt, core, threads, thread);
+    }
+    threads
+}
+
+/// The passes that these threads give back.
+fn all_back<R: Threads + Abort>(
+    rt: &R,
+    alloc: Global,
+    core: &Core,
+    threads: Vec<PromisedHandle<Pass, SameHall>>,
+) -> Vec<Pass>
+    requires { All (λ thread. IsPassOf (shared_of core.now) (promised thread.promise))
+        threads.items }
+    ensures { All (IsPassOf (shared_of core.now)) result.items }
+{
+    let mut passes = Vec::new(alloc);
+    for thread in threads {
+        passes = and_pass(rt, core, passes, back(rt, core, thread));
+    }
+    passes
+}
+
+/// A thread for each of these passes posts a leaf, and all passes come back.
+fn post_from_each<R: Threads + Wait + Abort + Sync>(
     rt: &R,
     alloc: Global,
     core: &Core,
     case: &Case,
-    first: Pass,
-    second: Pass,
+    passes: Vec<Pass>,
     drops: bool,
-) -> (Pass, Pass)
+) -> Vec<Pass>
     requires of { case.now ≡ (core_of core.now).case }
-    requires own { IsPassOf (shared_of core.now) first × IsPassOf (shared_of core.now) second }
-    requires free { ((view_of first).owes ≡ None) × ((view_of second).owes ≡ None) }
-    ensures { IsPassOf (shared_of core.now) result.0 × IsPassOf (shared_of core.now) result.1 }
+    requires new { All (IsNewPass (shared_of core.now)) passes.items }
+    ensures { All (IsPassOf (shared_of core.now)) result.items }
 {
     thread::scope(
         thread::scope_env(),
         rt,
-        |scope| -> (Pass, Pass)
+        |scope| -> Vec<Pass>
             requires of { case.now ≡ (core_of core.now).case }
-            requires own { IsPassOf (shared_of core.now) first
-                × IsPassOf (shared_of core.now) second }
-            requires free { ((view_of first).owes ≡ None) × ((view_of second).owes ≡ None) }
-            ensures { IsPassOf (shared_of core.entry.now) result.0
-                × IsPassOf (shared_of core.entry.now) result.1 }
+            requires new { All (IsNewPass (shared_of core.now)) passes.items }
+            ensures { All (IsPassOf (shared_of core.entry.now)) result.items }
         {
-            let one = start(scope, rt, alloc, core, case, first, cube(1), drops);
-            let other = start(scope, rt, alloc, core, case, second, cube(2), drops);
-            (back(rt, core, one), back(rt, core, other))
+            let threads = start_all(scope, rt, alloc, core, case, passes, drops);
+            all_back(rt, alloc, core, threads)
         },
     )
 }
@@ -127,6 +193,23 @@ fn reports(rt: &impl Abort, alloc: Global, hall: Hall<'_>, passes: Vec<Pass>, te
     }
 }
 
+/// Whether so many threads that post a leaf each make this report.
+fn all_refute<R: Threads + Wait + Abort + Sync>(
+    rt: &R,
+    alloc: Global,
+    case: &Case,
+    cut: u32,
+    count: usize,
+    text: &[u8],
+) -> bool
+    requires cut { cut ≤ 6 }
+    requires count { (0 < count) × (count ≤ 64) }
+{
+    let (hall, passes) = Hall::open(alloc, case, cut, count).expect(rt, "memory");
+    let passes = post_from_each(rt, alloc, hall.core(), case, passes, false);
+    reports(rt, alloc, hall, passes, text)
+}
+
 /// Whether two threads that post a leaf each make the report where both are refuted.
 fn two_refute<R: Threads + Wait + Abort + Sync>(
     rt: &R,
@@ -136,10 +219,7 @@ fn two_refute<R: Threads + Wait + Abort + Sync>(
 ) -> bool
     requires { cut ≤ 6 }
 {
-    let (hall, first, second) = hall_for_two(rt, alloc, case, cut);
-    let (first, second) = post_from_two(rt, alloc, hall.core(), case, first, second, false);
-    let passes = two(rt, alloc, &hall, first, second);
-    reports(rt, alloc, hall, passes, BOTH_CUBES_REPORT)
+    all_refute(rt, alloc, case, cut, 2, BOTH_CUBES_REPORT)
 }
 
 // Two threads post a leaf each: in one part, or in a part for each of them.
@@ -150,27 +230,31 @@ fn two_threads(rt: HostRuntime) {
     assert!(rt; two_refute(&rt, rt.alloc(), &case, 1));
 }
 
-/// Whether both passes came back with a part that they owe.
-fn both_owe(passes: &[Pass]) -> bool {
-    passes.len() == 2 && passes[0].owes().is_some() && passes[1].owes().is_some()
+/// Whether these are so many passes, and each owes a part, or none does.
+fn all_owe(passes: &[Pass], count: usize, owe: bool) -> bool {
+    for pass in passes {
+        if pass.owes().is_some() != owe {
+            return false;
+        }
+    }
+    passes.len() == count
 }
 
-/// Whether a hall isn't closed with these passes, and both come back with a part that they owe.
-fn comes_back(hall: Hall<'_>, passes: Vec<Pass>) -> bool
+/// Whether a hall isn't closed with these passes, and so many come back, which owe a part or don't.
+fn comes_back(hall: Hall<'_>, passes: Vec<Pass>, count: usize, owe: bool) -> bool
     requires { All (IsPassOf (hall_of hall)) passes.items }
 {
     match hall.close(passes) {
         Ok(_) => false,
-        Err((_, passes)) => both_owe(&passes),
+        Err((_, passes)) => all_owe(&passes, count, owe),
     }
 }
 
 /// Whether a hall isn't closed where two threads drop the verdicts that they owe.
 fn drop_verdicts<R: Threads + Wait + Abort + Sync>(rt: &R, alloc: Global, case: &Case) -> bool {
-    let (hall, first, second) = hall_for_two(rt, alloc, case, 1);
-    let (first, second) = post_from_two(rt, alloc, hall.core(), case, first, second, true);
-    let passes = two(rt, alloc, &hall, first, second);
-    comes_back(hall, passes)
+    let (hall, passes) = Hall::open(alloc, case, 1, 2).expect(rt, "memory");
+    let passes = post_from_each(rt, alloc, hall.core(), case, passes, true);
+    comes_back(hall, passes, 2, true)
 }
 
 // Where verdicts that are owed are dropped, the hall isn't closed.
@@ -216,16 +300,6 @@ fn lose_pass<R: Threads + Wait + Abort + Sync>(
     )
 }
 
-/// Whether a hall isn't closed with the one pass that is left, and it comes back owing nothing.
-fn comes_back_alone(hall: Hall<'_>, passes: Vec<Pass>) -> bool
-    requires { All (IsPassOf (hall_of hall)) passes.items }
-{
-    match hall.close(passes) {
-        Ok(_) => false,
-        Err((_, passes)) => passes.len() == 1 && passes[0].owes().is_none(),
-    }
-}
-
 /// Whether a hall isn't closed where one of two threads kept its pass.
 fn lacks_pass<R: Threads + Wait + Abort + Sync>(
     rt: &R,
@@ -238,7 +312,8 @@ fn lacks_pass<R: Threads + Wait + Abort + Sync>(
     let (hall, first, second) = hall_for_two(rt, alloc, case, cut);
     let done = lose_pass(rt, alloc, hall.core(), case, first);
     let passes = one(rt, alloc, &hall, second);
-    done && comes_back_alone(hall, passes)
+    let back = comes_back(hall, passes, 1, false);
+    done && back
 }
 
 // Where a pass is lost, because its thread has ended and didn't give it back, the hall isn't
@@ -250,51 +325,6 @@ fn lost_pass(rt: HostRuntime) {
     assert!(rt; lacks_pass(&rt, rt.alloc(), &case, 1));
 }
 
-/// Four threads post a leaf each, and all passes come back.
-fn post_from_four<R: Threads + Wait + Abort + Sync>(
-    rt: &R,
-    alloc: Global,
-    core: &Core,
-    case: &Case,
-    a: Pass,
-    b: Pass,
-    c: Pass,
-    d: Pass,
-) -> ((Pass, Pass), (Pass, Pass))
-    requires of { case.now ≡ (core_of core.now).case }
-    requires a { IsPassOf (shared_of core.now) a × ((view_of a).owes ≡ None) }
-    requires b { IsPassOf (shared_of core.now) b × ((view_of b).owes ≡ None) }
-    requires c { IsPassOf (shared_of core.now) c × ((view_of c).owes ≡ None) }
-    requires d { IsPassOf (shared_of core.now) d × ((view_of d).owes ≡ None) }
-    ensures first { IsPassOf (shared_of core.now) result.0.0
-        × IsPassOf (shared_of core.now) result.0.1 }
-    ensures second { IsPassOf (shared_of core.now) result.1.0
-        × IsPassOf (shared_of core.now) result.1.1 }
-{
-    thread::scope(
-        thread::scope_env(),
-        rt,
-        |scope| -> ((Pass, Pass), (Pass, Pass))
-            requires of { case.now ≡ (core_of core.now).case }
-            requires a { IsPassOf (shared_of core.now) a × ((view_of a).owes ≡ None) }
-            requires b { IsPassOf (shared_of core.now) b × ((view_of b).owes ≡ None) }
-            requires c { IsPassOf (shared_of core.now) c × ((view_of c).owes ≡ None) }
-            requires d { IsPassOf (shared_of core.now) d × ((view_of d).owes ≡ None) }
-            ensures first { IsPassOf (shared_of core.entry.now) result.0.0
-                × IsPassOf (shared_of core.entry.now) result.0.1 }
-            ensures second { IsPassOf (shared_of core.entry.now) result.1.0
-                × IsPassOf (shared_of core.entry.now) result.1.1 }
-        {
-            let a = start(scope, rt, alloc, core, case, a, cube(1), false);
-            let b = start(scope, rt, alloc, core, case, b, cube(2), false);
-            let c = start(scope, rt, alloc, core, case, c, cube(3), false);
-            let d = start(scope, rt, alloc, core, case, d, cube(4), false);
-            let first = (back(rt, core, a), back(rt, core, b));
-            (first, (back(rt, core, c), back(rt, core, d)))
-        },
-    )
-}
-
 /// Whether four threads that post a leaf each make the report where all four are refuted.
 fn four_refute<R: Threads + Wait + Abort + Sync>(
     rt: &R,
@@ -304,16 +334,7 @@ fn four_refute<R: Threads + Wait + Abort + Sync>(
 ) -> bool
     requires { cut ≤ 6 }
 {
-    let (hall, mut passes) = Hall::open(alloc, case, cut, 4).expect(rt, "memory");
-    let a = next_pass(rt, &hall, &mut passes);
-    let b = next_pass(rt, &hall, &mut passes);
-    let c = next_pass(rt, &hall, &mut passes);
-    let d = next_pass(rt, &hall, &mut passes);
-    let (first, second) = post_from_four(rt, alloc, hall.core(), case, a, b, c, d);
-    let passes = two(rt, alloc, &hall, first.0, first.1);
-    let passes = with(rt, &hall, passes, second.0);
-    let passes = with(rt, &hall, passes, second.1);
-    reports(rt, alloc, hall, passes, FOUR_CUBES_REPORT)
+    all_refute(rt, alloc, case, cut, 4, FOUR_CUBES_REPORT)
 }
 
 // Four threads post a leaf each: in one part, in two parts, or in a part for each of them.
@@ -479,43 +500,37 @@ fn fallen(core: &Core, mut pass: Pass) -> (Pass, bool)
     (pass, falls)
 }
 
-/// Two threads post a leaf each, while this one reads the open weight. All passes come back.
+/// A thread for each of these passes posts a leaf, while this one reads the open weight. All passes
+/// come back, and whether it only fell.
 fn read_beside<R: Threads + Wait + Abort + Sync>(
     rt: &R,
     alloc: Global,
     core: &Core,
     case: &Case,
-    first: Pass,
-    second: Pass,
+    passes: Vec<Pass>,
     reader: Pass,
-) -> (Pass, Pass, (Pass, bool))
+) -> (Vec<Pass>, bool)
     requires of { case.now ≡ (core_of core.now).case }
     requires place { IsPlace (core_of core.now).cut (core_of core.now).case.tree (Place.Part 0) }
-    requires own { IsPassOf (shared_of core.now) first × IsPassOf (shared_of core.now) second }
-    requires free { ((view_of first).owes ≡ None) × ((view_of second).owes ≡ None) }
+    requires new { All (IsNewPass (shared_of core.now)) passes.items }
     requires reader { IsPassOf (shared_of core.now) reader }
-    ensures own { IsPassOf (shared_of core.now) result.0 × IsPassOf (shared_of core.now) result.1 }
-    ensures reader { IsPassOf (shared_of core.now) result.2.0 }
+    ensures { All (IsPassOf (shared_of core.now)) result.0.items }
 {
     thread::scope(
         thread::scope_env(),
         rt,
-        |scope| -> (Pass, Pass, (Pass, bool))
+        |scope| -> (Vec<Pass>, bool)
             requires of { case.now ≡ (core_of core.now).case }
             requires place { IsPlace (core_of core.now).cut (core_of core.now).case.tree
                 (Place.Part 0) }
-            requires own { IsPassOf (shared_of core.now) first
-                × IsPassOf (shared_of core.now) second }
-            requires free { ((view_of first).owes ≡ None) × ((view_of second).owes ≡ None) }
+            requires new { All (IsNewPass (shared_of core.now)) passes.items }
             requires reader { IsPassOf (shared_of core.now) reader }
-            ensures own { IsPassOf (shared_of core.entry.now) result.0
-                × IsPassOf (shared_of core.entry.now) result.1 }
-            ensures reader { IsPassOf (shared_of core.entry.now) result.2.0 }
+            ensures { All (IsPassOf (shared_of core.entry.now)) result.0.items }
         {
-            let one = start(scope, rt, alloc, core, case, first, cube(1), false);
-            let other = start(scope, rt, alloc, core, case, second, cube(2), false);
-            let seen = fallen(core, reader);
-            (back(rt, core, one), back(rt, core, other), seen)
+            let threads = start_all(scope, rt, alloc, core, case, passes, false);
+            let (reader, falls) = fallen(core, reader);
+            let passes = all_back(rt, alloc, core, threads);
+            (and_pass(rt, core, passes, reader), falls)
         },
     )
 }
@@ -525,14 +540,10 @@ fn read_beside<R: Threads + Wait + Abort + Sync>(
 fn half_falls<R: Threads + Wait + Abort + Sync>(rt: &R, alloc: Global, case: &Case) -> bool {
     need_part(rt, alloc, case, 0, 0);
     let (hall, mut passes) = Hall::open(alloc, case, 0, 3).expect(rt, "memory");
-    let first = next_pass(rt, &hall, &mut passes);
-    let second = next_pass(rt, &hall, &mut passes);
     let reader = next_pass(rt, &hall, &mut passes);
-    let (first, second, seen) = read_beside(rt, alloc, hall.core(), case, first, second, reader);
-    let passes = two(rt, alloc, &hall, first, second);
-    let passes = with(rt, &hall, passes, seen.0);
+    let (passes, falls) = read_beside(rt, alloc, hall.core(), case, passes, reader);
     let boards = closed(hall, passes);
-    seen.1 && boards == Some((false, HALF))
+    falls && boards == Some((false, HALF))
 }
 
 // What a pass reads of the open weight, while others post, only falls, and by whole leaves.

@@ -2,10 +2,10 @@
 //! once, and that what is said is what a run says of the bundle with all proofs.
 ghost use Rattle.std.specs.Prelude.{◌≡◌, All, vec_len};
 
-use crate::cases::case;
+use crate::cases::{case, need_count};
 use case_core::{Case, Leaf, Target};
 use check_crew::{Elsewhere, Found, Gate, LeafProofs, NoGate, ReadFault, Settings};
-use cube_report::{judge_apart, run_one};
+use cube_report::{Fault, Outcome, judge_apart, run_one};
 use fixtures::bundles::FOUR_CUBES_REPORT;
 use fixtures::four;
 use std::alloc::{AllocError, Global};
@@ -226,25 +226,50 @@ enum Said {
     Fault,
 }
 
-/// What a run says of a bundle with these proofs, at these numbers of workers and of the cut.
-fn run_apart<R: Abort + AllocGlobal + Threads + Wait + Sync, G: Gate + Sync>(
+/// What a run's answer says.
+fn answered(answer: Result<Result<Option<Outcome>, Fault>, Lent<'_>>) -> Said {
+    match answer {
+        Ok(Ok(Some(outcome))) => Said::Report(outcome.text),
+        Ok(Ok(None)) => Said::Elsewhere,
+        Ok(Err(_)) => Said::Fault,
+        Err(one) => Said::Unread(one.failed),
+    }
+}
+
+/// What a run says of a case with these proofs, at these numbers of workers and of the cut.
+fn run_on<R: Abort + AllocGlobal + Threads + Wait + Sync, G: Gate + Sync>(
     rt: &R,
-    bundle: &str,
+    case: &Case,
     (workers, cut): (u32, u32),
     gate: &G,
     proofs: &[Option<&[u8]>],
     reads: &AtomicU64,
     fails_at: u32,
 ) -> Said {
-    let case = case(rt, rt.alloc(), bundle);
     let settings = Settings::new(workers, cut).expect(rt, "no settings");
     let all = readers(rt, proofs, reads, fails_at, workers);
-    match judge_apart(rt, rt.alloc(), &case, settings, gate, false, all) {
-        Ok(Ok(Some(outcome))) => Said::Report(outcome.text),
-        Ok(Ok(None)) => Said::Elsewhere,
-        Ok(Err(_)) => Said::Fault,
-        Err(one) => Said::Unread(one.failed),
-    }
+    answered(judge_apart(rt, rt.alloc(), case, settings, gate, false, all))
+}
+
+/// The same of a bundle's case.
+fn run_apart<R: Abort + AllocGlobal + Threads + Wait + Sync, G: Gate + Sync>(
+    rt: &R,
+    bundle: &str,
+    numbers: (u32, u32),
+    gate: &G,
+    proofs: &[Option<&[u8]>],
+    reads: &AtomicU64,
+    fails_at: u32,
+) -> Said {
+    run_on(
+        rt,
+        &case(rt, rt.alloc(), bundle),
+        numbers,
+        gate,
+        proofs,
+        reads,
+        fails_at,
+    )
 }
 
 /// Whether it is this report.
@@ -253,6 +278,18 @@ fn is_report(said: Said, wanted: &[u8]) -> bool {
         Said::Report(text) => text.as_slice() == wanted,
         _ => false,
     }
+}
+
+/// Ends the test where a gate wasn't told of all four proofs, once, between a start and an end.
+fn need_all_told(rt: &impl Abort, gate: &Told) {
+    need_count(rt, "elsewhere", &gate.elsewhere, 4);
+    need_count(rt, "bytes", &gate.bytes, 72);
+    need_count(rt, "bytes after", &gate.bytes_after, 72);
+    need_count(rt, "started", &gate.started, 1);
+    need_count(rt, "before", &gate.before, 0x11110);
+    need_count(rt, "after", &gate.after, 0x11110);
+    need_count(rt, "fell back", &gate.fell_back, 0);
+    need_count(rt, "ended", &gate.ended, 1);
 }
 
 // Whatever the number of workers, each proof is read once, judged once and told once, between one
@@ -265,15 +302,8 @@ fn each_proof_is_read_once(rt: HostRuntime) {
             let reads = AtomicU64::new(0);
             let told = run_apart(&rt, CUBES, (workers, cut), &gate, ALL, &reads, 0);
             assert!(rt; is_report(told, FOUR_CUBES_REPORT));
-            assert_eq!(rt; reads.load(Ordering::SeqCst), 0x11110);
-            assert_eq!(rt; gate.elsewhere.load(Ordering::SeqCst), 4);
-            assert_eq!(rt; gate.bytes.load(Ordering::SeqCst), 72);
-            assert_eq!(rt; gate.bytes_after.load(Ordering::SeqCst), 72);
-            assert_eq!(rt; gate.started.load(Ordering::SeqCst), 1);
-            assert_eq!(rt; gate.before.load(Ordering::SeqCst), 0x11110);
-            assert_eq!(rt; gate.after.load(Ordering::SeqCst), 0x11110);
-            assert_eq!(rt; gate.fell_back.load(Ordering::SeqCst), 0);
-            assert_eq!(rt; gate.ended.load(Ordering::SeqCst), 1);
+            need_count(&rt, "reads", &reads, 0x11110);
+            need_all_told(&rt, &gate);
         }
     }
 }
@@ -290,8 +320,8 @@ fn a_leaf_has_no_proof_elsewhere(rt: HostRuntime) {
             let reads = AtomicU64::new(0);
             let said = run_apart(&rt, bundle, (workers, 1), &gate, WITHOUT_SECOND, &reads, 0);
             assert!(rt; is_report(said, report));
-            assert_eq!(rt; reads.load(Ordering::SeqCst), 0x11110);
-            assert_eq!(rt; gate.after.load(Ordering::SeqCst), told);
+            need_count(&rt, "reads", &reads, 0x11110);
+            need_count(&rt, "after", &gate.after, told);
         }
     }
 }
@@ -310,9 +340,9 @@ fn all_in_one_bundle(rt: HostRuntime) {
             let reads = AtomicU64::new(0);
             let told = run_apart(&rt, bundle, (workers, 0), &gate, proofs, &reads, 0);
             assert!(rt; matches!(told, Said::Elsewhere));
-            assert_eq!(rt; gate.fell_back.load(Ordering::SeqCst), leaf);
+            need_count(&rt, "fell_back", &gate.fell_back, leaf);
             assert!(rt; workers > 1 || reads.load(Ordering::SeqCst) == read);
-            assert_eq!(rt; gate.ended.load(Ordering::SeqCst), 1);
+            need_count(&rt, "ended", &gate.ended, 1);
         }
     }
 }
@@ -337,7 +367,7 @@ fn long_proofs_are_read_first(rt: HostRuntime) {
     let reads = AtomicU64::new(0);
     let told = run_apart(&rt, CUBES, (1, 2), &gate, ALL, &reads, 0);
     assert!(rt; is_report(told, FOUR_CUBES_REPORT));
-    assert_eq!(rt; gate.order.load(Ordering::SeqCst), 3214);
+    need_count(&rt, "order", &gate.order, 3214);
 }
 
 /// For each cube what a digit of the number to base 3 says, from the lowest on: no proof, its own,
@@ -357,19 +387,43 @@ fn proofs_by<'t>(rt: &(impl Abort + AllocGlobal), digits: u32) -> Vec<Option<&'t
     proofs
 }
 
+/// Puts bytes behind a text.
+fn push(rt: &impl Abort, text: &mut Vec<u8>, bytes: &[u8]) {
+    text.extend_from_slice(bytes).expect(rt, "memory");
+}
+
 /// The bundle of the cubes with these proofs as their sections.
 fn bundle_of(rt: &(impl Abort + AllocGlobal), proofs: &[Option<&[u8]>]) -> Vec<u8> {
     let mut bundle = Vec::new(rt.alloc());
-    bundle
-        .extend_from_slice(CUBES.as_bytes())
-        .expect(rt, "memory");
+    push(rt, &mut bundle, CUBES.as_bytes());
     for (label, proof) in LABELS.iter().zip(proofs) {
         if let Some(text) = proof {
-            bundle.extend_from_slice(*label).expect(rt, "memory");
-            bundle.extend_from_slice(*text).expect(rt, "memory");
+            push(rt, &mut bundle, label);
+            push(rt, &mut bundle, text);
         }
     }
     bundle
+}
+
+/// The report on that bundle by one thread.
+fn report_on(rt: &(impl Abort + AllocGlobal), proofs: &[Option<&[u8]>]) -> Vec<u8> {
+    let bundle = bundle_of(rt, proofs);
+    run_one(rt.alloc(), &bundle).expect(rt, "no report")
+}
+
+/// Ends the test where the report is another with these proofs beside the cubes, or a leaf's isn't
+/// read once.
+fn need_report<R: Abort + AllocGlobal + Threads + Wait + Sync>(
+    rt: &R,
+    digits: u32,
+    proofs: &[Option<&[u8]>],
+    wanted: &[u8],
+) {
+    let reads = AtomicU64::new(0);
+    let numbers = (1 + digits % 5, digits % 3);
+    let told = run_apart(rt, CUBES, numbers, &NoGate, proofs, &reads, 0);
+    assert!(rt; is_report(told, wanted), "{digits}");
+    assert_eq!(rt; reads.load(Ordering::SeqCst), 0x11110, "{digits}");
 }
 
 // Whatever lies there for the four cubes, the report is that on the bundle with it as sections.
@@ -377,20 +431,7 @@ fn bundle_of(rt: &(impl Abort + AllocGlobal), proofs: &[Option<&[u8]>]) -> Vec<u
 fn as_sections_of_the_bundle(rt: HostRuntime) {
     for digits in 0..81 {
         let proofs = proofs_by(&rt, digits);
-        let bundle = bundle_of(&rt, &proofs);
-        let alone = run_one(rt.alloc(), &bundle).expect(&rt, "no report");
-        let reads = AtomicU64::new(0);
-        let workers = 1 + digits % 5;
-        let told = run_apart(
-            &rt,
-            CUBES,
-            (workers, digits % 3),
-            &NoGate,
-            &proofs,
-            &reads,
-            0,
-        );
-        assert!(rt; is_report(told, &alone), "{digits}");
-        assert_eq!(rt; reads.load(Ordering::SeqCst), 0x11110, "{digits}");
+        let alone = report_on(&rt, &proofs);
+        need_report(&rt, digits, &proofs, &alone);
     }
 }
