@@ -8,23 +8,23 @@ ghost use Rattle.hint_check.specs.Inner.Live.{NamesHolders};
 ghost use Rattle.hint_check.specs.Inner.Needed.{is_needed, HasAll, NamesNeeded};
 
 use crate::assignment::Assignment;
+use crate::in_order::InOrder;
 use crate::live::LiveClauses;
 use crate::scratch::ClauseScratch;
 use crate::tautology::{holds_with_none_true, is_found_tautology};
 use cnf_text::literal::Lit;
 use std::alloc::{AllocError, Global};
-use std::collections::BTreeSet;
 use std::marker::Model;
 
 /// Up to this many ids are looked at one by one, and so many look-ups go over a list of any length.
 pub const FEW: usize = 8;
 
-/// Ids in a list, and a set of them where many are looked up in a list that is long. To a contract
-/// it is the list.
+/// Ids in a list, and in order besides where many are looked up in a list that is long. To a
+/// contract it is the list.
 #[derive(Drop)]
 pub struct Listed<'l> {
     ids: &'l [u64],
-    set: Option<BTreeSet<u64>>,
+    in_order: Option<InOrder>,
 }
 
 impl<'l> Model for Listed<'l> {
@@ -36,7 +36,7 @@ impl<'l> Model for Listed<'l> {
 
     ghost view = { λ listed. listed.ids.now };
 
-    ghost invariant = { λ listed. IfSome listed.set (λ set. HasAll set listed.ids.now) };
+    ghost invariant = { λ listed. IfSome listed.in_order (λ ordered. HasAll ordered listed.ids.now) };
 }
 
 impl<'l> Listed<'l> {
@@ -48,11 +48,14 @@ impl<'l> Listed<'l> {
         ensures { IfOk result (λ listed. listed ≡ ids.now) }
     {
         if ids.len() <= FEW || look_ups <= FEW {
-            return Ok(Listed { ids, set: None });
+            return Ok(Listed {
+                ids,
+                in_order: None,
+            });
         }
         Ok(Listed {
             ids,
-            set: Some(set_of(alloc, ids)?),
+            in_order: Some(in_order(alloc, ids)?),
         })
     }
 
@@ -67,21 +70,19 @@ impl<'l> Listed<'l> {
     pub fn contains(&self, id: u64) -> bool
         ensures { result ≡ list_any (λ named. named == id) self.now }
     {
-        match &self.set {
-            Some(set) => set.contains(&id),
+        match &self.in_order {
+            Some(ids) => ids.contains(id),
             None => self.ids.contains(&id),
         }
     }
 }
 
-fn set_of(alloc: Global, ids: &[u64]) -> Result<BTreeSet<u64>, AllocError>
-    ensures { IfOk result (λ set. HasAll set ids.now) }
+fn in_order(alloc: Global, ids: &[u64]) -> Result<InOrder, AllocError>
+    ensures { IfOk result (λ ordered. HasAll ordered ids.now) }
 {
-    let mut set = BTreeSet::new(alloc);
-    for id in ids {
-        set.insert(*id)?;
-    }
-    Ok(set)
+    let mut copy = Vec::new(alloc);
+    copy.extend_from_slice(ids)?;
+    Ok(InOrder::of(copy))
 }
 
 /// Whether the clause that is live under an id needs a group. The scratch is for nothing else.

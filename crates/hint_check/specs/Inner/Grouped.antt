@@ -1,8 +1,5 @@
--- A set of ids that stands for a list of groups, for the contracts of private functions.
+-- Ids that stand for a list of groups, for the contracts of private functions.
 use Rattle.std.specs.Prelude.{◌≡◌, ℕ, ◌==◌, Bool, List}
-use Rattle.std.specs.BTreeSet as set
-use Rattle.std.specs.BTreeSet.{BTreeSet}
-use Rattle.std.specs.Ordering.{nat_cmp}
 use Rattle.std.specs.List.{list_any}
 use Rattle.lrat_text.specs.Grammar.{HintGroup as Group}
 
@@ -10,6 +7,6 @@ use Rattle.lrat_text.specs.Grammar.{HintGroup as Group}
 abbrev pub has_group : List Group → ℕ → Bool
 has_group groups id = list_any (λ group. group.candidate == id) groups
 
--- the set has the candidates of these groups
-abbrev pub Names : BTreeSet ℕ → List Group → Type 0
-Names ids groups = (id : ℕ) → set.contains nat_cmp ids id ≡ has_group groups id
+-- the ids are the candidates of these groups
+abbrev pub Names : List ℕ → List Group → Type 0
+Names ids groups = (id : ℕ) → list_any (λ named. named == id) ids ≡ has_group groups id

@@ -1,11 +1,8 @@
 -- The live clauses that need a group of hints, by their ids, for the contracts of private
 -- functions.
 use Rattle.std.specs.Prelude.{◌≡◌, ℕ, ◌==◌, Bool, false, List}
-use Rattle.std.specs.BTreeSet as set
-use Rattle.std.specs.BTreeSet.{BTreeSet}
 use Rattle.std.specs.List.{list_any}
 use Rattle.std.specs.Option.{option_map_or}
-use Rattle.std.specs.Ordering.{nat_cmp}
 use Rattle.std.specs.FinMap as map
 use Rattle.cnf_text.specs.Literal.{Literal}
 use Rattle.hint_check.specs.Literals.{Literals}
@@ -21,6 +18,7 @@ abbrev pub NamesNeeded : Live → Literals → Literal → List ℕ → Type 0
 NamesNeeded live reached pivot ids =
     (id : ℕ) → list_any (λ named. named == id) ids ≡ is_needed live reached pivot id
 
--- the set has the ids of the list
-abbrev pub HasAll : BTreeSet ℕ → List ℕ → Type 0
-HasAll ids list = (id : ℕ) → set.contains nat_cmp ids id ≡ list_any (λ named. named == id) list
+-- the ids of both lists are the same
+abbrev pub HasAll : List ℕ → List ℕ → Type 0
+HasAll ids list =
+    (id : ℕ) → list_any (λ named. named == id) ids ≡ list_any (λ named. named == id) list
