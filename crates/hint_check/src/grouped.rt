@@ -8,8 +8,8 @@ use crate::needed::FEW;
 use lrat_text::StepBuffer;
 use std::alloc::{AllocError, Global};
 
-/// The candidates of a step's groups, to be looked up in one step each, and no set where the groups
-/// or the look-ups are few.
+/// The candidates of a step's groups, in order, and nothing where the groups or the look-ups are
+/// few.
 pub fn grouped_ids(
     alloc: Global,
     step: &StepBuffer,
@@ -23,6 +23,7 @@ pub fn grouped_ids(
     Ok(Some(candidates(alloc, step)?))
 }
 
+/// The candidates of a step's groups, in order.
 fn candidates(alloc: Global, step: &StepBuffer) -> Result<InOrder, AllocError>
     ensures { IfOk result (λ ids. Names ids step.now.groups) }
 {
@@ -34,7 +35,7 @@ fn candidates(alloc: Global, step: &StepBuffer) -> Result<InOrder, AllocError>
     Ok(InOrder::of(ids))
 }
 
-/// Whether a step has a group for an id. The set is that of the step's candidates.
+/// Whether a step has a group for an id. The ids in order are the step's candidates.
 pub fn has_group(grouped: &Option<InOrder>, step: &StepBuffer, id: u64) -> bool
     requires { IfSome grouped.now (λ ids. Names ids step.now.groups) }
     ensures { result ≡ has_group step.now.groups id }

@@ -24,11 +24,10 @@ impl Model for InOrder {
 
 impl InOrder {
     /// These ids, in order.
-    pub fn of(ids: Vec<u64>) -> InOrder
+    pub fn of(mut ids: Vec<u64>) -> InOrder
         ensures { (id : ℕ) → list_any (λ named. named == id) result
             ≡ list_any (λ named. named == id) ids.items }
     {
-        let mut ids = ids;
         ids.sort_unstable();
         InOrder { ids }
     }

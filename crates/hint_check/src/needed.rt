@@ -36,7 +36,8 @@ impl<'l> Model for Listed<'l> {
 
     ghost view = { λ listed. listed.ids.now };
 
-    ghost invariant = { λ listed. IfSome listed.in_order (λ ordered. HasAll ordered listed.ids.now) };
+    ghost invariant = { λ listed. IfSome listed.in_order
+        (λ ordered. HasAll ordered listed.ids.now) };
 }
 
 impl<'l> Listed<'l> {
@@ -77,6 +78,7 @@ impl<'l> Listed<'l> {
     }
 }
 
+/// The ids of a list, in order.
 fn in_order(alloc: Global, ids: &[u64]) -> Result<InOrder, AllocError>
     ensures { IfOk result (λ ordered. HasAll ordered ids.now) }
 {

@@ -627,12 +627,12 @@ const OVER_OTHERS: &[Table] = &[
     (&[], &[NO_CLAUSE]),
 ];
 
-/// The table over the four clauses.
+/// The table over the four clauses. A test that calls this is cheaper to prove than one that names it.
 fn over_four() -> &'static Table {
     &OVER_FOUR
 }
 
-/// The tables over other formulas.
+/// The tables over other formulas, by a call for the same cause.
 fn over_others() -> &'static [Table] {
     OVER_OTHERS
 }
@@ -695,6 +695,9 @@ fn first_wrong_in_rounds(
     None
 }
 
+/// What is wrong where no judge has judged.
+const NOT_JUDGED: Option<&str> = Some("no judge was at work");
+
 /// The lists of proofs, and the first that the judge doesn't judge as expected.
 #[derive(Drop)]
 struct InRounds<'t> {
@@ -711,7 +714,10 @@ impl<'t> Work for InRounds<'t> {
 /// The same of a table by one judge.
 fn first_wrong_of_one_judge(rt: &impl Abort, alloc: Global, table: &Table) -> Option<&'static str> {
     let (clauses, lists) = *table;
-    let mut rounds = InRounds { lists, wrong: None };
+    let mut rounds = InRounds {
+        lists,
+        wrong: NOT_JUDGED,
+    };
     with_judge(rt, alloc, clauses, &mut rounds);
     rounds.wrong
 }

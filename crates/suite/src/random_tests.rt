@@ -376,6 +376,9 @@ fn differences_over(
     differ
 }
 
+/// The number of texts on which judges differ where no text was judged.
+const NOT_JUDGED: u32 = u32::MAX;
+
 /// The proofs of all paths in two rounds, so that each path follows a longer one or a shorter one,
 /// and the number of texts on which the judges differed.
 #[derive(Drop)]
@@ -387,6 +390,7 @@ struct InRounds<'t> {
 
 impl<'t> Work for InRounds<'t> {
     fn with<R: Abort>(&mut self, rt: &R, alloc: Global, judge: &mut Judge, base: &Base) {
+        self.differ = 0;
         for _ in 0..2 {
             let more = differences_over(rt, alloc, judge, base, self.given, self.trials);
             self.differ = self.differ.saturating_add(more);
@@ -405,7 +409,7 @@ fn differences_of(
     let mut rounds = InRounds {
         given,
         trials,
-        differ: 0,
+        differ: NOT_JUDGED,
     };
     with_judge(rt, alloc, clauses, &mut rounds);
     rounds.differ
@@ -570,7 +574,10 @@ impl<'t> Work for Spread<'t> {
 
 /// The number of them over the base of the four clauses.
 fn spread_over_four(rt: &impl Abort, alloc: Global, trials: &mut Trials) -> u32 {
-    let mut spread = Spread { trials, differ: 0 };
+    let mut spread = Spread {
+        trials,
+        differ: NOT_JUDGED,
+    };
     with_judge(rt, alloc, FOUR, &mut spread);
     spread.differ
 }
