@@ -27,6 +27,14 @@ near-at marks n near =
     cond-true (nat_lt n 2097152) (slice_index marks.0 n) (mapped_at marks.1 n)
     (lt-ltb n 2097152 near)
 
+-- no stamp of the list is above one that none is above
+pub list-latest : (marks : Marks) (stamp : ℕ) → length marks.0 ≤ 2097152 → NoneAbove marks stamp →
+    (n : ℕ) → n < length marks.0 → slice_index marks.0 n ≤ stamp
+unfolding NoneAbove
+list-latest marks stamp few above n inside =
+    let low = above n in
+    let same = near-at marks n (omega (arith, few, inside)) in omega (arith, low, same)
+
 -- ---- the set
 
 -- the set of these stamps is determined by what they answer

@@ -53,6 +53,12 @@ is_shown stamps stamp l =
 abbrev pub shown_by : AtHand → Literals
 shown_by at_hand = is_shown at_hand.stamps.now at_hand.epoch
 
+-- no stamp at hand is above the epoch
+abbrev pub IsLatest : AtHand → Type 0
+IsLatest at_hand =
+    (number : ℕ) → number < length at_hand.stamps.now
+    → slice_index at_hand.stamps.now number ≤ at_hand.epoch
+
 -- what the stamps show is in the set, and of near literals they show all that is
 pub record Shows (stamps : List ℕ) (stamp : ℕ) (set : Literals) : Type 0 where
   pub real : (l : Literal) → is_shown stamps stamp l ≡ true → set l ≡ true

@@ -14,7 +14,7 @@ returns-then-is_left-clause-counts c clause rest counts =
     (sym one)
     (counts-left at_hand.stamps.now at_hand.epoch clause tally.left tally.last f rest counts
     (ap (λ n. slice_index at_hand.stamps.now n == at_hand.epoch) (sym c.number.ensures)
-    ∙ sym c.shows-is_left.ensures ∙ c.if-is_left.true))
+    ∙ grind (arith, c.lacks-is_left.ensures, c.if-is_left.true)))
 
 pub returns-else-is_left-clause-counts : goal.returns-else-is_left-clause-counts
 returns-else-is_left-clause-counts c clause rest counts =
@@ -26,4 +26,4 @@ returns-else-is_left-clause-counts c clause rest counts =
     subst (λ n. Counts (is_shown at_hand.stamps.now at_hand.epoch) clause n tally.last rest) same
     (counts-shown at_hand.stamps.now at_hand.epoch clause tally.left tally.last f rest counts
     (ap (λ n. slice_index at_hand.stamps.now n == at_hand.epoch) (sym c.number.ensures)
-    ∙ sym c.shows-is_left.ensures ∙ c.if-is_left.false))
+    ∙ grind (arith, c.lacks-is_left.ensures, c.if-is_left.false)))
