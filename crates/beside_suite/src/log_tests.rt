@@ -1,16 +1,14 @@
 //! The log of a run, by one that counts what it is to keep.
 
-use cube_command::{Counted, FileStore, Found, Log, NoExplain, NoGate, command};
+use crate::calls::{DEVICE, Ending, ends_beside};
+use cube_command::{Counted, FileStore, Found, Log, NoGate};
 use cube_report::{Leaf, Target};
 use devices::Shelf;
 use fixtures::bundles::{BOTH_CUBES, BOTH_CUBES_REPORT};
 use std::process::Abort;
 use std::sync::Wait;
 use std::sync::atomic::{AtomicU64, Ordering};
-use std::test::Fail;
 use std::thread::Threads;
-
-const DEVICE: &[u8] = b"cubeboard: F13 device\n";
 
 /// A log whose file can be made or not, which counts how often it is begun, the lines that it
 /// should keep of two refuted cubes, and any other.
@@ -65,58 +63,50 @@ impl Log for Counting {
     }
 }
 
-/// The status of the program on these words and the two refuted cubes, with this log, and what it
-/// writes as a report and as errors.
-fn status_with<R: AllocGlobal + Abort + Threads + Wait + Sync>(
+/// The program on these words and the two refuted cubes, with this log, ends so.
+fn ends_logging<R: AllocGlobal + Abort + Threads + Wait + Sync>(
     rt: &R,
     words: &[&str],
     log: &Counting,
-) -> (u8, Vec<u8>, Vec<u8>) {
-    let mut output = Vec::new(rt.alloc());
-    let mut errors = Vec::new(rt.alloc());
+    ending: Ending<'_>,
+) {
     let shelf = Shelf::new(rt.alloc(), &[]).expect(rt, "no memory");
-    let status = command(
-        rt,
-        &mut FileStore::new(shelf),
-        words,
-        &mut Counted::new(BOTH_CUBES.as_bytes()),
-        &mut Counted::new(&mut output),
-        &mut Counted::new(&mut errors),
-        &NoGate,
-        &NoGate,
-        &NoExplain,
-        log,
-    );
-    (status, output, errors)
+    let store = &mut FileStore::new(shelf);
+    let input = &mut Counted::new(BOTH_CUBES.as_bytes());
+    ends_beside(rt, store, words, input, 0, (&NoGate, log), ending);
+}
+
+/// The same, and the log has counted so far what is told here.
+fn ends_with<R: AllocGlobal + Abort + Threads + Wait + Sync>(
+    rt: &R,
+    words: &[&str],
+    log: &Counting,
+    ending: Ending<'_>,
+    counts: (u64, u64, u64),
+) {
+    ends_logging(rt, words, log, ending);
+    assert_eq!(rt; log.counts(), counts, "{words:?}");
 }
 
 // Each proof has its line, and the report is as it is without a log, which is then left alone.
 #[test]
-fn a_line_for_each_proof(rt: HostRuntime) -> Result<(), Fail> {
+fn a_line_for_each_proof(rt: HostRuntime) {
+    let ending = (0, BOTH_CUBES_REPORT, b"".as_slice());
     for (words, counts) in [
         (["--log", "a.log"].as_slice(), (1, 2, 0)),
         (&["--log=a.log", "--workers", "1"], (1, 2, 0)),
         (&["--progress"], (0, 0, 0)),
     ] {
-        let log = Counting::new(true);
-        let (status, output, errors) = status_with(&rt, words, &log);
-        assert!(rt; status == 0 && errors.is_empty(), "{words:?}");
-        assert!(rt; output.as_slice() == BOTH_CUBES_REPORT, "{words:?}");
-        assert_eq!(rt; log.counts(), counts);
+        ends_with(&rt, words, &Counting::new(true), ending, counts);
     }
-    Ok(())
 }
 
 // Where the file can't be made there is no report, and the device is at fault. Without the word
 // nobody asks for it.
 #[test]
-fn no_log(rt: HostRuntime) -> Result<(), Fail> {
+fn no_log(rt: HostRuntime) {
     let log = Counting::new(false);
-    let (status, output, errors) = status_with(&rt, &["--log", "a.log"], &log);
-    assert_eq!(rt; status, 5);
-    assert!(rt; output.is_empty() && errors.as_slice() == DEVICE);
-    assert_eq!(rt; log.counts(), (1, 0, 0));
-    let (status, output, _) = status_with(&rt, &[], &log);
-    assert!(rt; status == 0 && output.as_slice() == BOTH_CUBES_REPORT);
-    Ok(())
+    let words = ["--log", "a.log"];
+    ends_with(&rt, &words, &log, (5, b"", DEVICE), (1, 0, 0));
+    ends_with(&rt, &[], &log, (0, BOTH_CUBES_REPORT, b""), (1, 0, 0));
 }

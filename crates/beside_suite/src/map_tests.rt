@@ -1,21 +1,18 @@
 //! The file for a picture, and what comes of a run where it can't be written. What is looked for in
 //! a picture is written by hand from what a cell is.
-ghost use Rattle.std.specs.Prelude.{◌≡◌, ◌<◌, ◌^◌, ◌-◌};
+ghost use Rattle.std.specs.Prelude.{◌<◌, ◌^◌, ◌-◌};
 
-use cube_command::{Counted, FileStore, NoExplain, NoGate, NoLog, command};
+use crate::calls::{DEVICE, Ending, HEADER, ends_with};
+use cube_command::FileStore;
 use cube_report::Fault;
-use devices::{Narrow, Shelf};
+use devices::Shelf;
 use fixtures::bundles::{BOTH_CUBES, BOTH_CUBES_REPORT};
 use std::process::Abort;
 use std::sync::Wait;
 use std::test::Fail;
 use std::thread::Threads;
 
-const DEVICE: &[u8] = b"cubeboard: F13 device\n";
-
 const MEMORY: &[u8] = b"cubeboard: F6 memory\n";
-
-const HEADER: &[u8] = b"cubeboard: F1 header\n";
 
 /// The cells of `BOTH_CUBES`: the root, and its leaves below it.
 const CELLS: &[&str] = &[
@@ -33,32 +30,34 @@ const CELLS: &[&str] = &[
     ),
 ];
 
-/// The status of the program on these words and this input, and what it writes as a report and as
-/// errors.
-fn status_with<R: AllocGlobal + Abort + Threads + Wait + Sync>(
+/// Ends the test where these aren't the path and the bytes of a picture with all of `CELLS`.
+fn is_picture<R: Abort>(rt: &R, path: &str, bytes: &[u8]) {
+    let written = str::from_utf8(bytes).expect(rt, "no text");
+    assert!(rt;
+        path == "tree.svg" && written.starts_with("<svg ") && written.ends_with("</svg>\n"),
+        "{path}"
+    );
+    for cell in CELLS {
+        assert!(rt; written.contains(cell), "{cell}");
+    }
+}
+
+/// The program on these words reports on two refuted cubes, and makes a picture where there are
+/// words.
+fn draws<R: AllocGlobal + Abort + Threads + Wait + Sync>(
     rt: &R,
     store: &mut FileStore<Shelf<'_>>,
     words: &[&str],
-    input: &[u8],
-    output: &mut Narrow,
-) -> (u8, Vec<u8>)
-    requires store { store.old.failed < 2 ^ 64 - 1 }
-    requires output { output.old.failed < 2 ^ 64 - 1 }
+)
+    requires { store.old.failed < 2 ^ 64 - 1 }
 {
-    let mut errors = Vec::new(rt.alloc());
-    let status = command(
-        rt,
-        store,
-        words,
-        &mut Counted::new(input),
-        output,
-        &mut Counted::new(&mut errors),
-        &NoGate,
-        &NoGate,
-        &NoExplain,
-        &NoLog,
-    );
-    (status, errors)
+    let ending = (0, BOTH_CUBES_REPORT, b"".as_slice());
+    ends_with(rt, store, words, BOTH_CUBES.as_bytes(), 0, ending);
+    let made = store.opener().made();
+    assert!(rt; made.is_none() == words.is_empty(), "{words:?}");
+    if let Some((path, bytes)) = made {
+        is_picture(rt, path, bytes);
+    }
 }
 
 // The picture lies at the path that the words say, and the report is the same. Without the word
@@ -67,22 +66,31 @@ fn status_with<R: AllocGlobal + Abort + Threads + Wait + Sync>(
 fn a_picture(rt: HostRuntime) -> Result<(), Fail> {
     for words in [["--map", "tree.svg"].as_slice(), &["--map=tree.svg"], &[]] {
         let mut store = FileStore::new(Shelf::new(rt.alloc(), &[])?);
-        let mut output = Narrow::new(rt.alloc(), 0);
-        let input = BOTH_CUBES.as_bytes();
-        let (status, errors) = status_with(&rt, &mut store, words, input, &mut output);
-        assert!(rt; status == 0 && errors.is_empty(), "{words:?}");
-        assert!(rt; output.written.as_slice() == BOTH_CUBES_REPORT, "{words:?}");
-        let Some((path, bytes)) = store.opener().made() else {
-            assert!(rt; words.is_empty(), "{words:?}");
-            continue;
-        };
-        assert!(rt; !words.is_empty() && path == "tree.svg", "{words:?}");
-        let written = str::from_utf8(bytes).expect(&rt, "no text");
-        assert!(rt; written.starts_with("<svg ") && written.ends_with("</svg>\n"));
-        for cell in CELLS {
-            assert!(rt; written.contains(cell), "{words:?}");
-        }
+        draws(&rt, &mut store, words);
     }
+    Ok(())
+}
+
+/// The program, asked for a picture of this input, with files and an output that fail at these
+/// calls, ends so, and makes a file or makes none.
+fn ends_drawing<R: AllocGlobal + Abort + Threads + Wait + Sync>(
+    rt: &R,
+    failing: (u64, Fault, u64),
+    input: &[u8],
+    ending: Ending<'_>,
+    is_made: bool,
+) -> Result<(), Fail> {
+    let (file_at, fault, output_at) = failing;
+    let mut store = FileStore::new(Shelf::failing(rt.alloc(), &[], file_at, fault)?);
+    ends_with(
+        rt,
+        &mut store,
+        &["--map", "tree.svg"],
+        input,
+        output_at,
+        ending,
+    );
+    assert!(rt; store.opener().made().is_some() == is_made);
     Ok(())
 }
 
@@ -90,35 +98,16 @@ fn a_picture(rt: HostRuntime) -> Result<(), Fail> {
 // file.
 #[test]
 fn no_picture(rt: HostRuntime) -> Result<(), Fail> {
-    let words = ["--map", "tree.svg"].as_slice();
-    for (fault, wanted, line) in [(Fault::Device, 5, DEVICE), (Fault::Memory, 4, MEMORY)] {
-        let mut store = FileStore::new(Shelf::failing(rt.alloc(), &[], 1, fault)?);
-        let mut output = Narrow::new(rt.alloc(), 0);
-        let input = BOTH_CUBES.as_bytes();
-        let (status, errors) = status_with(&rt, &mut store, words, input, &mut output);
-        assert_eq!(rt; status, wanted);
-        assert!(rt; output.written.is_empty() && errors.as_slice() == line);
-        assert!(rt; store.opener().made().is_none());
-    }
-    let mut store = FileStore::new(Shelf::new(rt.alloc(), &[])?);
-    let mut output = Narrow::new(rt.alloc(), 0);
-    let (status, errors) = status_with(&rt, &mut store, words, b"p cnf 1 1\n", &mut output);
-    assert_eq!(rt; status, 3);
-    assert!(rt; errors.as_slice() == HEADER);
-    assert!(rt; output.written.is_empty() && store.opener().made().is_none());
-    Ok(())
+    let input = BOTH_CUBES.as_bytes();
+    ends_drawing(&rt, (1, Fault::Device, 0), input, (5, b"", DEVICE), false)?;
+    ends_drawing(&rt, (1, Fault::Memory, 0), input, (4, b"", MEMORY), false)?;
+    let cnf = b"p cnf 1 1\n";
+    ends_drawing(&rt, (0, Fault::Device, 0), cnf, (3, b"", HEADER), false)
 }
 
 // The picture is written before the report: it is there where the report can't be written.
 #[test]
 fn a_picture_without_a_report(rt: HostRuntime) -> Result<(), Fail> {
-    let mut store = FileStore::new(Shelf::new(rt.alloc(), &[])?);
-    let mut output = Narrow::new(rt.alloc(), 1);
     let input = BOTH_CUBES.as_bytes();
-    let words = ["--map", "tree.svg"].as_slice();
-    let (status, errors) = status_with(&rt, &mut store, words, input, &mut output);
-    assert_eq!(rt; status, 5);
-    assert!(rt; output.written.is_empty() && errors.as_slice() == DEVICE);
-    assert!(rt; store.opener().made().is_some());
-    Ok(())
+    ends_drawing(&rt, (0, Fault::Device, 1), input, (5, b"", DEVICE), true)
 }

@@ -1,9 +1,8 @@
 //! What the program tells of a run while it goes on. The lines are written by hand from how the
 //! bundles are made and from how the clock goes.
 
-use cube_command::{
-    Counted, FileStore, Metered, MeteredFiles, NoExplain, NoGate, NoLog, Progress, command,
-};
+use crate::calls::{Ending, HEADER, ends_beside};
+use cube_command::{Counted, FileStore, Metered, MeteredFiles, NoLog, Progress};
 use devices::{File, Shelf};
 use fixtures::bundles::{FOUR_CUBES, FOUR_CUBES_REPORT};
 use fixtures::four;
@@ -83,93 +82,80 @@ impl<'a, R> Clock for Device<'a, R> {
     }
 }
 
-/// Whether the program, on these words and this bundle, answers this status, writes this report and
-/// no error, and tells this text on the device.
-fn tells<R: AllocGlobal + Abort + Threads + Wait + Sync>(
+/// The program, on these words and this bundle, ends so, and tells its progress on the device.
+fn ends_telling<R: AllocGlobal + Abort + Threads + Wait + Sync>(
     rt: &R,
     words: &[&str],
     bundle: &str,
     device: &Device<'_, R>,
     on_terminal: bool,
-    wanted: (u8, &[u8], &str),
-) -> bool {
-    let mut output = Vec::new(rt.alloc());
-    let mut errors = Vec::new(rt.alloc());
+    ending: Ending<'_>,
+) {
     let shelf = Shelf::new(rt.alloc(), &[]).expect(rt, "no memory");
-    let status = command(
-        rt,
-        &mut FileStore::new(shelf),
-        words,
-        &mut Counted::new(bundle.as_bytes()),
-        &mut Counted::new(&mut output),
-        &mut Counted::new(&mut errors),
-        &NoGate,
-        &Progress::new(device, on_terminal),
-        &NoExplain,
-        &NoLog,
-    );
-    let (wanted_status, report, text) = wanted;
-    status == wanted_status && *output == *report && errors.is_empty() && device.has(text)
+    let store = &mut FileStore::new(shelf);
+    let input = &mut Counted::new(bundle.as_bytes());
+    let progress = &Progress::new(device, on_terminal);
+    ends_beside(rt, store, words, input, 0, (progress, &NoLog), ending);
 }
+
+/// How a clock goes and what a device is: by how many milliseconds the clock moves on, whether each
+/// write fails, and whether it is a terminal.
+type Kind = (u64, bool, bool);
+
+/// The program, on these words and this bundle, ends so, and tells this text on such a device.
+fn tells<R: AllocGlobal + Abort + Threads + Wait + Sync>(
+    rt: &R,
+    words: &[&str],
+    bundle: &str,
+    kind: Kind,
+    ending: Ending<'_>,
+    text: &str,
+) {
+    let (step, is_broken, on_terminal) = kind;
+    let device = Device::new(rt, step, is_broken);
+    ends_telling(rt, words, bundle, &device, on_terminal, ending);
+    assert!(rt; device.has(text), "{words:?}");
+}
+
+/// How a run on `FOUR_CUBES` ends.
+const FOUR_REFUTED: Ending<'static> = (0, FOUR_CUBES_REPORT, b"");
 
 // One worker, and a clock that moves by 600 milliseconds: a line is due at every second section.
 // Each of the four leaves is a quarter of the weight.
 #[test]
 fn a_line_each_second(rt: HostRuntime) {
     let words = ["--workers", "1", "--progress"];
-    let device = Device::new(&rt, 600, false);
-    let wanted = "cubeboard: 2 of 4 judged, 24 of 48 bytes, 2 refuted, 0 rejected, 50.000 % open\n\
-                  cubeboard: 4 of 4 judged, 48 of 48 bytes, 4 refuted, 0 rejected, 0.000 % open\n\
-                  cubeboard: 4 of 4 judged, 48 of 48 bytes, 4 refuted, 0 rejected, 0.000 % open\n";
-    assert!(rt;
-        tells(
-            &rt,
-            &words,
-            FOUR_CUBES,
-            &device,
-            false,
-            (0, FOUR_CUBES_REPORT, wanted)
-        )
-    );
+    let told = "cubeboard: 2 of 4 judged, 24 of 48 bytes, 2 refuted, 0 rejected, 50.000 % open\n\
+                cubeboard: 4 of 4 judged, 48 of 48 bytes, 4 refuted, 0 rejected, 0.000 % open\n\
+                cubeboard: 4 of 4 judged, 48 of 48 bytes, 4 refuted, 0 rejected, 0.000 % open\n";
+    let kind = (600, false, false);
+    tells(&rt, &words, FOUR_CUBES, kind, FOUR_REFUTED, told);
 }
 
 // On a terminal each line is written over the one before, and the last one is ended.
 #[test]
 fn over_the_line_before(rt: HostRuntime) {
     let words = ["--progress", "--workers=1"];
-    let device = Device::new(&rt, 600, false);
-    let wanted = "\rcubeboard: 2 of 4 judged, 24 of 48 bytes, 2 refuted, 0 rejected, \
-                  50.000 % open\x1b[K\
-                  \rcubeboard: 4 of 4 judged, 48 of 48 bytes, 4 refuted, 0 rejected, \
-                  0.000 % open\x1b[K\
-                  \rcubeboard: 4 of 4 judged, 48 of 48 bytes, 4 refuted, 0 rejected, \
-                  0.000 % open\x1b[K\n";
-    assert!(rt;
-        tells(
-            &rt,
-            &words,
-            FOUR_CUBES,
-            &device,
-            true,
-            (0, FOUR_CUBES_REPORT, wanted)
-        )
-    );
+    let told = "\rcubeboard: 2 of 4 judged, 24 of 48 bytes, 2 refuted, 0 rejected, \
+                50.000 % open\x1b[K\
+                \rcubeboard: 4 of 4 judged, 48 of 48 bytes, 4 refuted, 0 rejected, \
+                0.000 % open\x1b[K\
+                \rcubeboard: 4 of 4 judged, 48 of 48 bytes, 4 refuted, 0 rejected, \
+                0.000 % open\x1b[K\n";
+    let kind = (600, false, true);
+    tells(&rt, &words, FOUR_CUBES, kind, FOUR_REFUTED, told);
 }
 
 // Where no second passes, there is the last line alone, whatever the workers and the cut. The node
 // that is refuted closes what lies under it, also where it is above the cut, and once.
 #[test]
 fn the_last_line(rt: HostRuntime) {
-    let wanted = "cubeboard: 3 of 3 judged, 32 of 32 bytes, 2 refuted, 1 rejected, 50.000 % open\n";
+    let told = "cubeboard: 3 of 3 judged, 32 of 32 bytes, 2 refuted, 1 rejected, 50.000 % open\n";
+    let ending = (1, NODE_ABOVE_REPORT, b"".as_slice());
     for workers in ["1", "2", "4"] {
         for cut in ["0", "1", "2", "6"] {
             let words = ["--workers", workers, "--cut", cut, "--progress"];
-            let device = Device::new(&rt, 0, false);
-            let wanted = (1, NODE_ABOVE_REPORT, wanted);
-            assert!(rt;
-                tells(&rt, &words, NODE_ABOVE, &device, false, wanted),
-                "{words:?}"
-            );
+            tells(&rt, &words, NODE_ABOVE, (0, false, false), ending, told);
         }
     }
 }
@@ -177,63 +163,44 @@ fn the_last_line(rt: HostRuntime) {
 // Without the word nothing is told, and a device that fails changes nothing.
 #[test]
 fn nothing_else_changes(rt: HostRuntime) {
-    let device = Device::new(&rt, 2000, false);
-    assert!(rt;
-        tells(
-            &rt,
-            &[],
-            FOUR_CUBES,
-            &device,
-            false,
-            (0, FOUR_CUBES_REPORT, "")
-        )
-    );
-    let device = Device::new(&rt, 2000, true);
-    let words = ["--progress"];
-    assert!(rt;
-        tells(
-            &rt,
-            &words,
-            FOUR_CUBES,
-            &device,
-            false,
-            (0, FOUR_CUBES_REPORT, "")
-        )
-    );
+    let working = (2000, false, false);
+    tells(&rt, &[], FOUR_CUBES, working, FOUR_REFUTED, "");
+    let broken = (2000, true, false);
+    tells(&rt, &["--progress"], FOUR_CUBES, broken, FOUR_REFUTED, "");
 }
 
-/// What a run ends with: its status, its report, what it writes as an error, and what it tells on
-/// the device.
-type End<'t> = (u8, &'t [u8], &'t [u8], &'t str);
-
-/// Whether the program, on these words and a file that gives 16 bytes a read, ends so.
-fn tells_of_file<R: AllocGlobal + Abort + Threads + Wait + Sync>(
+/// The program, on these words and a file that gives 16 bytes a read, ends so, and tells its
+/// progress on the device.
+fn ends_telling_of_file<R: AllocGlobal + Abort + Threads + Wait + Sync>(
     rt: &R,
     words: &[&str],
     file: File<'_>,
     device: &Device<'_, R>,
     on_terminal: bool,
-    wanted: End<'_>,
-) -> bool {
-    let mut output = Vec::new(rt.alloc());
-    let mut errors = Vec::new(rt.alloc());
+    ending: Ending<'_>,
+) {
     let files = [file];
     let shelf = Shelf::new(rt.alloc(), &files).expect(rt, "no memory");
-    let progress = Progress::new(device, on_terminal);
-    let status = command(
-        rt,
-        &mut FileStore::new(MeteredFiles::new(shelf, &progress)),
-        words,
-        &mut Counted::new(Metered::new(b"".as_slice(), &progress)),
-        &mut Counted::new(&mut output),
-        &mut Counted::new(&mut errors),
-        &NoGate,
-        &progress,
-        &NoExplain,
-        &NoLog,
-    );
-    let (wanted_status, report, error, text) = wanted;
-    status == wanted_status && *output == *report && *errors == *error && device.has(text)
+    let progress = &Progress::new(device, on_terminal);
+    let store = &mut FileStore::new(MeteredFiles::new(shelf, progress));
+    let input = &mut Counted::new(Metered::new(b"".as_slice(), progress));
+    ends_beside(rt, store, words, input, 0, (progress, &NoLog), ending);
+}
+
+/// The program, on these words and such a file, ends so, and tells this text on a device that
+/// works.
+fn tells_of_file<R: AllocGlobal + Abort + Threads + Wait + Sync>(
+    rt: &R,
+    words: &[&str],
+    file: File<'_>,
+    step: u64,
+    on_terminal: bool,
+    ending: Ending<'_>,
+    text: &str,
+) {
+    let device = Device::new(rt, step, false);
+    ends_telling_of_file(rt, words, file, &device, on_terminal, ending);
+    assert!(rt; device.has(text), "{words:?}");
 }
 
 // A clock that moves by 300 milliseconds, and 137 bytes: a line is due at every fourth read, and
@@ -241,21 +208,12 @@ fn tells_of_file<R: AllocGlobal + Abort + Threads + Wait + Sync>(
 #[test]
 fn how_much_was_read(rt: HostRuntime) {
     let words = ["--workers", "1", "--progress", "four.icnf"];
-    let device = Device::new(&rt, 300, false);
     let told = "cubeboard: reading: 64 bytes so far\n\
                 cubeboard: reading: 128 bytes so far\n\
                 cubeboard: 4 of 4 judged, 48 of 48 bytes, 4 refuted, 0 rejected, 0.000 % open\n\
                 cubeboard: 4 of 4 judged, 48 of 48 bytes, 4 refuted, 0 rejected, 0.000 % open\n";
-    assert!(rt;
-        tells_of_file(
-            &rt,
-            &words,
-            ("four.icnf", FOUR_CUBES.as_bytes()),
-            &device,
-            false,
-            (0, FOUR_CUBES_REPORT, b"", told)
-        )
-    );
+    let file = ("four.icnf", FOUR_CUBES.as_bytes());
+    tells_of_file(&rt, &words, file, 300, false, FOUR_REFUTED, told);
 }
 
 // On a terminal the line on what was read is taken away before a fault is told. It is due at each
@@ -263,33 +221,15 @@ fn how_much_was_read(rt: HostRuntime) {
 #[test]
 fn a_fault_behind_reading(rt: HostRuntime) {
     let words = ["--progress", "cnf.icnf"];
-    let device = Device::new(&rt, 1000, false);
     let told = "\rcubeboard: reading: 10 bytes so far\x1b[K\
                 \rcubeboard: reading: 10 bytes so far\x1b[K\r\x1b[K";
-    assert!(rt;
-        tells_of_file(
-            &rt,
-            &words,
-            ("cnf.icnf", b"p cnf 1 0\n"),
-            &device,
-            true,
-            (3, b"", b"cubeboard: F1 header\n", told)
-        )
-    );
+    let file = ("cnf.icnf", b"p cnf 1 0\n".as_slice());
+    tells_of_file(&rt, &words, file, 1000, true, (3, b"", HEADER), told);
 }
 
 // Without the word nothing is told of reading.
 #[test]
 fn no_word_on_reading(rt: HostRuntime) {
-    let device = Device::new(&rt, 1000, false);
-    assert!(rt;
-        tells_of_file(
-            &rt,
-            &["four.icnf"],
-            ("four.icnf", FOUR_CUBES.as_bytes()),
-            &device,
-            false,
-            (0, FOUR_CUBES_REPORT, b"", "")
-        )
-    );
+    let file = ("four.icnf", FOUR_CUBES.as_bytes());
+    tells_of_file(&rt, &["four.icnf"], file, 1000, false, FOUR_REFUTED, "");
 }

@@ -1,8 +1,9 @@
 //! The file for a record, and what comes of a run where it can't be written. The digests were taken
 //! from `sha256sum`, each of the text that is told beside it.
-ghost use Rattle.std.specs.Prelude.{◌≡◌, ◌<◌, ◌^◌, ◌-◌};
+ghost use Rattle.std.specs.Prelude.{◌<◌, ◌^◌, ◌-◌};
 
-use cube_command::{Counted, FileStore, NoExplain, NoGate, NoLog, command};
+use crate::calls::{DEVICE, Ending, HEADER, ends_with, status_of};
+use cube_command::{Counted, FileStore, NoGate, NoLog};
 use cube_report::Fault;
 use devices::{File, Narrow, Shelf};
 use fixtures::bundles::{BOTH_CUBES, BOTH_CUBES_REPORT};
@@ -10,10 +11,6 @@ use std::process::Abort;
 use std::sync::Wait;
 use std::test::Fail;
 use std::thread::Threads;
-
-const DEVICE: &[u8] = b"cubeboard: F13 device\n";
-
-const HEADER: &[u8] = b"cubeboard: F1 header\n";
 
 /// What `sha256sum` prints of `BOTH_CUBES` up to the end of the line `a -1 0`.
 const BOTH_CUBES_LINE: &[u8] =
@@ -38,34 +35,6 @@ const FILES: &[File<'static>] = &[
     ("D/1.lrat", b"5 1 0 1 2 0\n6 0 5 3 4 0\n"),
 ];
 
-/// The status of the program on these words and this input, and what it writes as a report and as
-/// errors.
-fn status_with<R: AllocGlobal + Abort + Threads + Wait + Sync>(
-    rt: &R,
-    store: &mut FileStore<Shelf<'_>>,
-    words: &[&str],
-    input: &[u8],
-    output: &mut Narrow,
-) -> (u8, Vec<u8>)
-    requires store { store.old.failed < 2 ^ 64 - 1 }
-    requires output { output.old.failed < 2 ^ 64 - 1 }
-{
-    let mut errors = Vec::new(rt.alloc());
-    let status = command(
-        rt,
-        store,
-        words,
-        &mut Counted::new(input),
-        output,
-        &mut Counted::new(&mut errors),
-        &NoGate,
-        &NoGate,
-        &NoExplain,
-        &NoLog,
-    );
-    (status, errors)
-}
-
 /// Whether the file that was made lies at this path, and is this line and then this report.
 fn has_made(store: &FileStore<Shelf<'_>>, path: &str, line: &[u8], report: &[u8]) -> bool {
     match store.opener().made() {
@@ -77,27 +46,48 @@ fn has_made(store: &FileStore<Shelf<'_>>, path: &str, line: &[u8], report: &[u8]
     }
 }
 
+/// The line and the report of a record that was made, if one was.
+type Record<'t> = Option<(&'t [u8], &'t [u8])>;
+
+/// Ends the test where no such record lies at `a.record`; where there is to be none, where a file
+/// was made.
+fn is_record<R: Abort>(rt: &R, store: &FileStore<Shelf<'_>>, words: &[&str], record: Record<'_>) {
+    let is_so = match record {
+        Some((line, report)) => has_made(store, "a.record", line, report),
+        None => store.opener().made().is_none(),
+    };
+    assert!(rt; is_so, "{words:?}");
+}
+
+/// The program on these words and this input, with these files and an output that fails at this
+/// call, ends so, and makes this record.
+fn records<R: AllocGlobal + Abort + Threads + Wait + Sync>(
+    rt: &R,
+    mut store: FileStore<Shelf<'_>>,
+    words: &[&str],
+    input: &[u8],
+    fails_at: u64,
+    ending: Ending<'_>,
+    record: Record<'_>,
+)
+    requires { store.failed < 2 ^ 64 - 1 }
+{
+    ends_with(rt, &mut store, words, input, fails_at, ending);
+    is_record(rt, &store, words, record);
+}
+
+/// The words for a record.
+const RECORD: &[&str] = &["--record", "a.record"];
+
 // The record lies at the path that the words say: the digest of the text before the first label
 // line, and the report, which is the same. Without the word nothing is written to a file.
 #[test]
 fn a_record(rt: HostRuntime) -> Result<(), Fail> {
-    for words in [
-        ["--record", "a.record"].as_slice(),
-        &["--record=a.record"],
-        &[],
-    ] {
-        let mut store = FileStore::new(Shelf::new(rt.alloc(), &[])?);
-        let mut output = Narrow::new(rt.alloc(), 0);
-        let input = BOTH_CUBES.as_bytes();
-        let (status, errors) = status_with(&rt, &mut store, words, input, &mut output);
-        assert!(rt; status == 0 && errors.is_empty(), "{words:?}");
-        assert!(rt; output.written.as_slice() == BOTH_CUBES_REPORT, "{words:?}");
-        if words.is_empty() {
-            assert!(rt; store.opener().made().is_none());
-        } else {
-            let made = has_made(&store, "a.record", BOTH_CUBES_LINE, BOTH_CUBES_REPORT);
-            assert!(rt; made, "{words:?}");
-        }
+    let made = Some((BOTH_CUBES_LINE, BOTH_CUBES_REPORT));
+    for (words, record) in [(RECORD, made), (&["--record=a.record"], made), (&[], None)] {
+        let store = FileStore::new(Shelf::new(rt.alloc(), &[])?);
+        let ending = (0, BOTH_CUBES_REPORT, b"".as_slice());
+        records(&rt, store, words, BOTH_CUBES.as_bytes(), 0, ending, record);
     }
     Ok(())
 }
@@ -114,15 +104,9 @@ fn a_record_of_a_file(rt: HostRuntime) -> Result<(), Fail> {
         (from_input, BARE, 0, BARE_REFUTED),
         (bare, b"", 1, BARE_OPEN),
     ] {
-        let mut store = FileStore::new(Shelf::new(rt.alloc(), FILES)?);
-        let mut output = Narrow::new(rt.alloc(), 0);
-        let (status, errors) = status_with(&rt, &mut store, words, input, &mut output);
-        assert!(rt; status == wanted && errors.is_empty(), "{words:?}");
-        assert!(rt; output.written.as_slice() == report, "{words:?}");
-        assert!(rt;
-            has_made(&store, "a.record", BARE_LINE, report),
-            "{words:?}"
-        );
+        let store = FileStore::new(Shelf::new(rt.alloc(), FILES)?);
+        let record = Some((BARE_LINE, report));
+        records(&rt, store, words, input, 0, (wanted, report, b""), record);
     }
     Ok(())
 }
@@ -131,36 +115,38 @@ fn a_record_of_a_file(rt: HostRuntime) -> Result<(), Fail> {
 // memory that was refused. Where the input is refused there is no file.
 #[test]
 fn no_record(rt: HostRuntime) -> Result<(), Fail> {
-    let words = ["--record", "a.record"].as_slice();
+    let input = BOTH_CUBES.as_bytes();
     for fault in [Fault::Device, Fault::Memory] {
-        let mut store = FileStore::new(Shelf::failing(rt.alloc(), &[], 1, fault)?);
-        let mut output = Narrow::new(rt.alloc(), 0);
-        let input = BOTH_CUBES.as_bytes();
-        let (status, errors) = status_with(&rt, &mut store, words, input, &mut output);
-        assert_eq!(rt; status, 5);
-        assert!(rt; output.written.is_empty() && errors.as_slice() == DEVICE);
-        assert!(rt; store.opener().made().is_none());
+        let store = FileStore::new(Shelf::failing(rt.alloc(), &[], 1, fault)?);
+        records(&rt, store, RECORD, input, 0, (5, b"", DEVICE), None);
     }
-    let mut store = FileStore::new(Shelf::new(rt.alloc(), &[])?);
-    let mut output = Narrow::new(rt.alloc(), 0);
-    let (status, errors) = status_with(&rt, &mut store, words, b"p cnf 1 1\n", &mut output);
-    assert_eq!(rt; status, 3);
-    assert!(rt; errors.as_slice() == HEADER);
-    assert!(rt; output.written.is_empty() && store.opener().made().is_none());
+    let store = FileStore::new(Shelf::new(rt.alloc(), &[])?);
+    records(
+        &rt,
+        store,
+        RECORD,
+        b"p cnf 1 1\n",
+        0,
+        (3, b"", HEADER),
+        None,
+    );
     Ok(())
 }
 
 // The record is written before the report: it is there where the report can't be written.
 #[test]
 fn a_record_without_a_report(rt: HostRuntime) -> Result<(), Fail> {
-    let mut store = FileStore::new(Shelf::new(rt.alloc(), &[])?);
-    let mut output = Narrow::new(rt.alloc(), 1);
-    let input = BOTH_CUBES.as_bytes();
-    let words = ["--record", "a.record"].as_slice();
-    let (status, errors) = status_with(&rt, &mut store, words, input, &mut output);
-    assert_eq!(rt; status, 5);
-    assert!(rt; output.written.is_empty() && errors.as_slice() == DEVICE);
-    assert!(rt; has_made(&store, "a.record", BOTH_CUBES_LINE, BOTH_CUBES_REPORT));
+    let store = FileStore::new(Shelf::new(rt.alloc(), &[])?);
+    let made = Some((BOTH_CUBES_LINE, BOTH_CUBES_REPORT));
+    records(
+        &rt,
+        store,
+        RECORD,
+        BOTH_CUBES.as_bytes(),
+        1,
+        (5, b"", DEVICE),
+        made,
+    );
     Ok(())
 }
 
@@ -169,18 +155,50 @@ fn a_record_without_a_report(rt: HostRuntime) -> Result<(), Fail> {
 #[test]
 fn a_picture_without_a_record(rt: HostRuntime) -> Result<(), Fail> {
     let mut store = FileStore::new(Shelf::new(rt.alloc(), &[])?);
-    let mut output = Narrow::new(rt.alloc(), 0);
-    let input = BOTH_CUBES.as_bytes();
     let words = ["--record", "a.record", "--map", "tree.svg"].as_slice();
-    let (status, errors) = status_with(&rt, &mut store, words, input, &mut output);
-    assert_eq!(rt; status, 5);
-    assert!(rt; output.written.is_empty() && errors.as_slice() == DEVICE);
-    let Some((path, bytes)) = store.opener().made() else {
-        assert!(rt; false);
-        return Ok(());
+    let ending = (5, b"".as_slice(), DEVICE);
+    ends_with(&rt, &mut store, words, BOTH_CUBES.as_bytes(), 0, ending);
+    let is_picture = match store.opener().made() {
+        Some((path, bytes)) => path == "tree.svg" && bytes.starts_with(b"<svg "),
+        None => false,
     };
-    assert!(rt; path == "tree.svg" && bytes.starts_with(b"<svg "));
+    assert!(rt; is_picture);
     Ok(())
+}
+
+/// Ends the test where the program on these words reports, or doesn't say that they name one file
+/// twice.
+fn is_refused<R: AllocGlobal + Abort + Threads + Wait + Sync>(
+    rt: &R,
+    store: &mut FileStore<Shelf<'_>>,
+    words: &[&str],
+)
+    requires { store.old.failed < 2 ^ 64 - 1 }
+{
+    let mut output = Narrow::new(rt.alloc(), 0);
+    let mut errors = Vec::new(rt.alloc());
+    let input = &mut Counted::new(BARE);
+    let answer = status_of(
+        rt,
+        store,
+        words,
+        input,
+        &mut output,
+        &mut errors,
+        &NoGate,
+        &NoLog,
+    );
+    is_refusal(rt, answer, &output.written, &errors);
+}
+
+/// Ends the test where this status, this report and these errors aren't those of such words.
+fn is_refusal<R: Abort>(rt: &R, answer: u8, output: &[u8], errors: &[u8]) {
+    assert!(rt; answer == 2 && output.is_empty(), "{answer}");
+    let told = str::from_utf8(errors).expect(rt, "no text");
+    assert!(rt;
+        told.contains("'--map' and '--record' can't name the same file"),
+        "{told}"
+    );
 }
 
 // One file can't be both. Then nothing is read or made.
@@ -189,15 +207,8 @@ fn one_path_for_two_files(rt: HostRuntime) -> Result<(), Fail> {
     let apart = ["--map", "one", "--record=one", "case.icnf"].as_slice();
     for words in [apart, &["--record", "one", "--map", "one"]] {
         let mut store = FileStore::new(Shelf::new(rt.alloc(), FILES)?);
-        let mut output = Narrow::new(rt.alloc(), 0);
-        let (status, errors) = status_with(&rt, &mut store, words, BARE, &mut output);
-        assert_eq!(rt; status, 2);
-        let told = str::from_utf8(&errors).expect(&rt, "no text");
-        assert!(rt;
-            told.contains("'--map' and '--record' can't name the same file"),
-            "{told}"
-        );
-        assert!(rt; output.written.is_empty() && store.opener().made().is_none());
+        is_refused(&rt, &mut store, words);
+        assert!(rt; store.opener().made().is_none());
         assert!(rt; store.opener().asked()?.is_empty());
     }
     Ok(())
