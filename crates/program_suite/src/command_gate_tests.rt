@@ -1,7 +1,9 @@
 //! The program's words for its workers and its cut, by what a gate sees of them.
+ghost use Rattle.std.specs.Prelude.{◌<◌, ◌^◌, ◌-◌};
 
+use crate::command_tests::status_of;
 use crossbeam_utils::Backoff;
-use cube_command::{Counted, FileStore, Found, Gate, NoExplain, NoGate, NoLog, command};
+use cube_command::{Counted, FileStore, Found, Gate};
 use cube_report::Target;
 use devices::Shelf;
 use fixtures::bundles::TURNS;
@@ -29,21 +31,14 @@ fn status_beside<R: AllocGlobal + Abort + Threads + Wait + Sync, G: Gate + Sync>
     bundle: &str,
     gate: &G,
 ) -> u8 {
-    let mut output = Vec::new(rt.alloc());
-    let mut errors = Vec::new(rt.alloc());
     let shelf = Shelf::new(rt.alloc(), &[]).expect(rt, "no memory");
-    command(
-        rt,
-        &mut FileStore::new(shelf),
-        words,
-        &mut Counted::new(bundle.as_bytes()),
-        &mut Counted::new(&mut output),
-        &mut Counted::new(&mut errors),
-        gate,
-        &NoGate,
-        &NoExplain,
-        &NoLog,
-    )
+    let mut report = Vec::new(rt.alloc());
+    let mut line = Vec::new(rt.alloc());
+    let store = &mut FileStore::new(shelf);
+    let input = &mut Counted::new(bundle.as_bytes());
+    let output = &mut Counted::new(&mut report);
+    let errors = &mut Counted::new(&mut line);
+    status_of(rt, store, words, input, output, errors, gate)
 }
 
 /// Holds back each worker until as many have come as are awaited, or one of them has waited too
@@ -90,26 +85,44 @@ impl Gate for Gathering {
     fn after(&self, _worker: u32, _found: &Found<'_>) {}
 }
 
+/// The numbers of the workers that come to a gate that awaits so many, as bits. Ends the test where
+/// another count of sections had all that are awaited.
+fn gathers<R: AllocGlobal + Abort + Threads + Wait + Sync>(
+    rt: &R,
+    words: &[&str],
+    awaited: u32,
+    met: u64,
+) -> u64 {
+    let gate = Gathering::new(awaited);
+    assert_eq!(rt; status_beside(rt, words, EIGHT_CUBES, &gate), 0);
+    assert_eq!(rt; gate.met.load(Ordering::SeqCst), met, "{words:?}");
+    gate.workers.load(Ordering::SeqCst)
+}
+
+/// Ends the test where it isn't so many workers, by the bits of their numbers, that are at work at
+/// once, or where one more comes.
+fn has_workers<R: AllocGlobal + Abort + Threads + Wait + Sync>(
+    rt: &R,
+    words: &[&str],
+    count: u32,
+    numbers: u64,
+)
+    requires { count < 2 ^ 32 - 1 }
+{
+    assert_eq!(rt; gathers(rt, words, count, 8), numbers, "{words:?}");
+    gathers(rt, words, count + 1, 0);
+}
+
 // As many workers as the words say are at work at once, with the numbers from 0 on, and no more;
 // four where the words don't say.
 #[test]
 fn workers(rt: HostRuntime) {
-    for (words, count, numbers) in [
-        (["--workers", "1"].as_slice(), 1, 1),
-        (&["--workers", "2"], 2, 3),
-        (&["--workers=3"], 3, 7),
-        (&[], 4, 15),
-        (&["--cut", "0"], 4, 15),
-        (&["--workers", "7"], 7, 127),
-    ] {
-        let gate = Gathering::new(count);
-        assert_eq!(rt; status_beside(&rt, words, EIGHT_CUBES, &gate), 0);
-        assert_eq!(rt; gate.met.load(Ordering::SeqCst), 8, "{words:?}");
-        assert_eq!(rt; gate.workers.load(Ordering::SeqCst), numbers, "{words:?}");
-        let gate = Gathering::new(count + 1);
-        assert_eq!(rt; status_beside(&rt, words, EIGHT_CUBES, &gate), 0);
-        assert_eq!(rt; gate.met.load(Ordering::SeqCst), 0, "{words:?}");
-    }
+    has_workers(&rt, &["--workers", "1"], 1, 1);
+    has_workers(&rt, &["--workers", "2"], 2, 3);
+    has_workers(&rt, &["--workers=3"], 3, 7);
+    has_workers(&rt, &[], 4, 15);
+    has_workers(&rt, &["--cut", "0"], 4, 15);
+    has_workers(&rt, &["--workers", "7"], 7, 127);
 }
 
 /// Keeps the open weight that stands on the board of the last target that was posted.
@@ -126,25 +139,26 @@ impl Gate for Weighing {
     }
 }
 
+/// Ends the test where another weight stands on the last board.
+fn weighs<R: AllocGlobal + Abort + Threads + Wait + Sync>(rt: &R, words: &[&str], weight: u64) {
+    let gate = Weighing {
+        weight: AtomicU64::new(1),
+    };
+    assert_eq!(rt; status_beside(rt, words, DEEP, &gate), 1);
+    assert_eq!(rt; gate.weight.load(Ordering::SeqCst), weight, "{words:?}");
+}
+
 // The boards are cut at the depth that the words say, or at depth 3: when the one leaf is refuted,
 // which weighs 2^53, its board's open weight is the rest of the weight 2^(60-D) of its part.
 #[test]
 fn cuts(rt: HostRuntime) {
-    for (words, weight) in [
-        (["--cut", "0"].as_slice(), 1_143_914_305_352_105_984u64),
-        (&["--cut", "1"], 567_453_553_048_682_496),
-        (&["--cut", "2"], 279_223_176_896_970_752),
-        (&["--cut", "3"], 135_107_988_821_114_880),
-        (&["--cut", "4"], 63_050_394_783_186_944),
-        (&["--cut", "5"], 27_021_597_764_222_976),
-        (&["--cut", "6"], 9_007_199_254_740_992),
-        (&[], 135_107_988_821_114_880),
-        (&["--workers", "1"], 135_107_988_821_114_880),
-    ] {
-        let gate = Weighing {
-            weight: AtomicU64::new(1),
-        };
-        assert_eq!(rt; status_beside(&rt, words, DEEP, &gate), 1);
-        assert_eq!(rt; gate.weight.load(Ordering::SeqCst), weight, "{words:?}");
-    }
+    weighs(&rt, &["--cut", "0"], 1_143_914_305_352_105_984);
+    weighs(&rt, &["--cut", "1"], 567_453_553_048_682_496);
+    weighs(&rt, &["--cut", "2"], 279_223_176_896_970_752);
+    weighs(&rt, &["--cut", "3"], 135_107_988_821_114_880);
+    weighs(&rt, &["--cut", "4"], 63_050_394_783_186_944);
+    weighs(&rt, &["--cut", "5"], 27_021_597_764_222_976);
+    weighs(&rt, &["--cut", "6"], 9_007_199_254_740_992);
+    weighs(&rt, &[], 135_107_988_821_114_880);
+    weighs(&rt, &["--workers", "1"], 135_107_988_821_114_880);
 }

@@ -3,13 +3,15 @@
 ghost use Rattle.std.specs.Prelude.{◌<◌, ◌^◌, ◌-◌, ℕ, List};
 
 use cube_command::{
-    Counted, FileStore, NoExplain, NoGate, NoLog, Source, Store, SystemFiles, command,
+    Counted, FileStore, Gate, NoExplain, NoGate, NoLog, Sink, Source, Store, SystemFiles, command,
 };
 use cube_report::Fault;
 use devices::{Broken, File, Narrow, Shelf};
 use fixtures::bundles::{BOTH_CUBES, OPEN, OPEN_REPORT, REFUTED, REFUTED_REPORT};
 use fixtures::four;
+use std::alloc::Global;
 use std::fs;
+use std::fs::Files;
 use std::process::Abort;
 use std::sync::Wait;
 use std::test::Fail;
@@ -105,124 +107,174 @@ pub(crate) const FAULTS: &[(&[u8], &[u8])] = &[
 /// How a call of the program ends: its status, its report and its line of errors.
 pub(crate) type Ending<'t> = (u8, &'t [u8], &'t [u8]);
 
-/// The status of the program on these words and this input, with these files, and what it writes as
-/// a report and as errors.
-fn told<R: AllocGlobal + Abort + Threads + Wait + Sync, D: Store, I: Source>(
+/// The status of the program on these words, files and streams, beside a gate.
+pub(crate) fn status_of<R, D, I, O, E, G>(
     rt: &R,
     store: &mut D,
     words: &[&str],
     input: &mut I,
-) -> (u8, Vec<u8>, Vec<u8>)
+    output: &mut O,
+    errors: &mut E,
+    gate: &G,
+) -> u8
+where
+    R: AllocGlobal + Threads + Wait + Sync,
+    D: Store,
+    I: Source,
+    O: Sink,
+    E: Sink,
+    G: Gate + Sync,
+    requires store { D.failures store.old < 2 ^ 64 - 1 }
+    requires input { I.failures input.old < 2 ^ 64 - 1 }
+    requires output { O.failures output.old < 2 ^ 64 - 1 }
+    requires errors { E.failures errors.old < 2 ^ 64 - 1 }
+    requires files { (path bytes : List ℕ) → D.allows store.old path bytes }
+    requires reports { (text : List ℕ) → O.allows output.old text }
+    requires lines { (text : List ℕ) → E.allows errors.old text }
+{
+    command(
+        rt, store, words, input, output, errors, gate, &NoGate, &NoExplain, &NoLog,
+    )
+}
+
+/// Ends the test where the program's status, report and line of errors aren't these.
+fn is_ending<R: Abort>(rt: &R, words: &[&str], told: Ending<'_>, ending: Ending<'_>) {
+    let (answer, output, errors) = told;
+    let (status, report, line) = ending;
+    assert!(rt; answer == status, "{answer} on {words:?}");
+    assert!(rt; output == report && errors == line, "{words:?}");
+}
+
+/// The program on these words and this input, with these files, ends so.
+fn ends_with<R: AllocGlobal + Abort + Threads + Wait + Sync, D: Store, I: Source>(
+    rt: &R,
+    store: &mut D,
+    words: &[&str],
+    input: &mut I,
+    ending: Ending<'_>,
+)
     requires store { D.failures store.old < 2 ^ 64 - 1 }
     requires input { I.failures input.old < 2 ^ 64 - 1 }
     requires allowed { (path bytes : List ℕ) → D.allows store.old path bytes }
 {
-    let mut output = Vec::new(rt.alloc());
-    let mut errors = Vec::new(rt.alloc());
-    let status = command(
-        rt,
-        store,
-        words,
-        input,
-        &mut Counted::new(&mut output),
-        &mut Counted::new(&mut errors),
-        &NoGate,
-        &NoGate,
-        &NoExplain,
-        &NoLog,
-    );
-    (status, output, errors)
+    let mut report = Vec::new(rt.alloc());
+    let mut line = Vec::new(rt.alloc());
+    let output = &mut Counted::new(&mut report);
+    let errors = &mut Counted::new(&mut line);
+    let status = status_of(rt, store, words, input, output, errors, &NoGate);
+    is_ending(rt, words, (status, &report, &line), ending);
 }
 
-/// What the program told on these words is this ending.
-fn is_ending<R: Abort>(rt: &R, words: &[&str], told: (u8, Vec<u8>, Vec<u8>), ending: Ending<'_>) {
-    let (answer, output, errors) = told;
-    let (status, report, line) = ending;
-    assert!(rt; answer == status, "{answer} on {words:?}");
-    assert!(rt;
-        output.as_slice() == report && errors.as_slice() == line,
-        "{words:?}"
-    );
-}
-
-/// The program on these words and this input, with these files, ends so.
-fn ends_with<R: AllocGlobal + Abort + Threads + Wait + Sync, D: Store>(
+/// Ends the test where other paths were asked for.
+fn has_asked<R: Abort>(
     rt: &R,
-    store: &mut D,
+    store: &FileStore<Shelf<'_>>,
     words: &[&str],
-    input: &[u8],
-    ending: Ending<'_>,
-)
-    requires store { D.failures store.old < 2 ^ 64 - 1 }
-    requires allowed { (path bytes : List ℕ) → D.allows store.old path bytes }
-{
-    let told = told(rt, store, words, &mut Counted::new(input));
-    is_ending(rt, words, told, ending);
-}
-
-/// The program on these words and this input ends so with files in memory, after it has asked for
-/// these paths.
-fn asks_for<R: AllocGlobal + Abort + Threads + Wait + Sync>(
-    rt: &R,
-    mut store: FileStore<Shelf<'_>>,
-    words: &[&str],
-    input: &[u8],
-    ending: Ending<'_>,
     paths: &[u8],
-) -> Result<(), Fail>
-    requires { store.failed < 2 ^ 64 - 1 }
-{
-    ends_with(rt, &mut store, words, input, ending);
+) -> Result<(), Fail> {
     assert!(rt; store.opener().asked()?.as_slice() == paths, "{words:?}");
     Ok(())
 }
 
+/// The program on these words and this input ends so with files in memory, after it has asked for
+/// these paths.
+fn asks_shelf<R: AllocGlobal + Abort + Threads + Wait + Sync>(
+    rt: &R,
+    shelf: Shelf<'_>,
+    words: &[&str],
+    input: &[u8],
+    ending: Ending<'_>,
+    paths: &[u8],
+) -> Result<(), Fail> {
+    let mut store = FileStore::new(shelf);
+    ends_with(rt, &mut store, words, &mut Counted::new(input), ending);
+    has_asked(rt, &store, words, paths)
+}
+
+/// The same with these files.
+fn asks_for<R: AllocGlobal + Abort + Threads + Wait + Sync>(
+    rt: &R,
+    files: &[File<'_>],
+    words: &[&str],
+    input: &[u8],
+    ending: Ending<'_>,
+    paths: &[u8],
+) -> Result<(), Fail> {
+    asks_shelf(
+        rt,
+        Shelf::new(rt.alloc(), files)?,
+        words,
+        input,
+        ending,
+        paths,
+    )
+}
+
 #[test]
 fn statuses(rt: HostRuntime) -> Result<(), Fail> {
-    for (bundle, status, report) in [(REFUTED, 0, REFUTED_REPORT), (OPEN, 1, OPEN_REPORT)] {
-        let store = FileStore::new(Shelf::new(rt.alloc(), ALL_FILES)?);
-        asks_for(&rt, store, &[], bundle, (status, report, b""), b"")?;
-    }
-    Ok(())
+    asks_for(&rt, ALL_FILES, &[], REFUTED, (0, REFUTED_REPORT, b""), b"")?;
+    asks_for(&rt, ALL_FILES, &[], OPEN, (1, OPEN_REPORT, b""), b"")
 }
 
 #[test]
 fn faults(rt: HostRuntime) -> Result<(), Fail> {
     for (bundle, line) in FAULTS {
-        let store = FileStore::new(Shelf::new(rt.alloc(), ALL_FILES)?);
-        asks_for(&rt, store, &[], bundle, (3, b"", line), b"")?;
+        asks_for(&rt, ALL_FILES, &[], bundle, (3, b"", line), b"")?;
     }
     Ok(())
+}
+
+/// A bundle with a fault is refused by this line, as the input and as FILE, and no proof is looked
+/// for.
+fn is_at_fault<R: AllocGlobal + Abort + Threads + Wait + Sync>(
+    rt: &R,
+    bundle: &[u8],
+    line: &[u8],
+) -> Result<(), Fail> {
+    let ending = (3, b"".as_slice(), line);
+    asks_for(rt, ALL_FILES, &["--proofs", "D"], bundle, ending, b"")?;
+    let files = [("FILE", bundle), ("D/1.lrat", b"x".as_slice())];
+    let words = ["--proofs", "D", "FILE"];
+    asks_for(rt, &files, &words, REFUTED, ending, b"FILE\n")
 }
 
 // A bundle with a fault has no leaves, so no proof is looked for.
 #[test]
 fn faults_with_a_folder(rt: HostRuntime) -> Result<(), Fail> {
     for (bundle, line) in FAULTS {
-        let ending = (3, b"".as_slice(), *line);
-        let store = FileStore::new(Shelf::new(rt.alloc(), ALL_FILES)?);
-        asks_for(&rt, store, &["--proofs", "D"], bundle, ending, b"")?;
-        let files = [("FILE", *bundle), ("D/1.lrat", b"x".as_slice())];
-        let store = FileStore::new(Shelf::new(rt.alloc(), &files)?);
-        let words = ["--proofs", "D", "FILE"];
-        asks_for(&rt, store, &words, REFUTED, ending, b"FILE\n")?;
+        is_at_fault(&rt, bundle, line)?;
     }
     Ok(())
+}
+
+/// A bundle with a cube of so many literals.
+fn bundle_of(alloc: Global, count: u32) -> Result<Vec<u8>, Fail> {
+    let mut bundle = Vec::new(alloc);
+    bundle.extend_from_slice(b"p inccnf\na")?;
+    for _ in 0..count {
+        bundle.extend_from_slice(b" 1")?;
+    }
+    bundle.extend_from_slice(b" 0\n")?;
+    Ok(bundle)
 }
 
 // A cube of 4,097 literals is above the limit.
 #[test]
 fn a_limit(rt: HostRuntime) -> Result<(), Fail> {
-    let mut bundle = Vec::new(rt.alloc());
-    bundle.extend_from_slice(b"p inccnf\na")?;
-    for _ in 0..4_097 {
-        bundle.extend_from_slice(b" 1")?;
-    }
-    bundle.extend_from_slice(b" 0\n")?;
-    let store = FileStore::new(Shelf::new(rt.alloc(), ALL_FILES)?);
+    let bundle = bundle_of(rt.alloc(), 4_097)?;
     let ending = (3, b"".as_slice(), b"cubeboard: F5 limit\n".as_slice());
-    asks_for(&rt, store, &["--proofs", "D"], &bundle, ending, b"")?;
-    Ok(())
+    asks_for(&rt, ALL_FILES, &["--proofs", "D"], &bundle, ending, b"")
+}
+
+/// The program on these words and this input ends so with the files of the system.
+fn ends_on_system<R: AllocGlobal + Abort + Files + Threads + Wait + Sync>(
+    rt: &R,
+    words: &[&str],
+    input: &[u8],
+    ending: Ending<'_>,
+) {
+    let mut store = FileStore::new(SystemFiles::new(rt));
+    ends_with(rt, &mut store, words, &mut Counted::new(input), ending);
 }
 
 // The words name files and folders of the system.
@@ -232,21 +284,14 @@ fn files(rt: HostRuntime) -> Result<(), Fail> {
     fs::create_dir_all(&rt, "files_test/unreadable/1.lrat")?;
     fs::write(&rt, "files_test/case.icnf", BUNDLE)?;
     fs::write(&rt, "files_test/proofs/1.lrat", PROOF)?;
-    let proofs = ["--proofs", "files_test/proofs"];
+    let refuted = (0, REFUTED_REPORT, b"".as_slice());
+    let broken = (5, b"".as_slice(), DEVICE);
+    ends_on_system(&rt, &["--proofs", "files_test/proofs"], BUNDLE, refuted);
     let both = ["--proofs=files_test/proofs", "files_test/case.icnf"];
-    let unreadable = ["--proofs", "files_test/unreadable"];
-    let no_file = ["files_test/no_such_file"];
-    let folder = ["files_test"];
-    for (words, input, status, report, line) in [
-        (proofs.as_slice(), BUNDLE, 0, REFUTED_REPORT, b"".as_slice()),
-        (both.as_slice(), b"", 0, REFUTED_REPORT, b""),
-        (unreadable.as_slice(), BUNDLE, 5, b"", DEVICE),
-        (no_file.as_slice(), BUNDLE, 5, b"", DEVICE),
-        (folder.as_slice(), BUNDLE, 5, b"", DEVICE),
-    ] {
-        let mut store = FileStore::new(SystemFiles::new(&rt));
-        ends_with(&rt, &mut store, words, input, (status, report, line));
-    }
+    ends_on_system(&rt, &both, b"", refuted);
+    ends_on_system(&rt, &["--proofs", "files_test/unreadable"], BUNDLE, broken);
+    ends_on_system(&rt, &["files_test/no_such_file"], BUNDLE, broken);
+    ends_on_system(&rt, &["files_test"], BUNDLE, broken);
     fs::remove_dir_all(&rt, "files_test")?;
     Ok(())
 }
@@ -261,27 +306,26 @@ const FILE_ALONE: &[&str] = &["FILE", "--workers", "1", "--proofs", "D"];
 // there.
 #[test]
 fn proofs_of_a_folder(rt: HostRuntime) -> Result<(), Fail> {
-    for (files, status, report) in [
-        (ALL_FILES, 0, ALL_REPORT),
-        (WITHOUT_M1, 1, WITHOUT_M1_REPORT),
-        (&[], 1, BARE_REPORT),
-    ] {
-        let ending = (status, report, b"".as_slice());
-        let store = FileStore::new(Shelf::new(rt.alloc(), files)?);
-        asks_for(&rt, store, ALONE, MIXED, ending, PROOF_PATHS)?;
-    }
-    Ok(())
+    let without_m1 = (1, WITHOUT_M1_REPORT, b"".as_slice());
+    let bare = (1, BARE_REPORT, b"".as_slice());
+    asks_for(
+        &rt,
+        ALL_FILES,
+        ALONE,
+        MIXED,
+        (0, ALL_REPORT, b""),
+        PROOF_PATHS,
+    )?;
+    asks_for(&rt, WITHOUT_M1, ALONE, MIXED, without_m1, PROOF_PATHS)?;
+    asks_for(&rt, &[], ALONE, MIXED, bare, PROOF_PATHS)
 }
 
 // Without a folder no proof is looked for.
 #[test]
 fn no_folder(rt: HostRuntime) -> Result<(), Fail> {
     let ending = (1, BARE_REPORT, b"".as_slice());
-    let store = FileStore::new(Shelf::new(rt.alloc(), ALL_FILES)?);
-    asks_for(&rt, store, &[], MIXED, ending, b"")?;
-    let store = FileStore::new(Shelf::new(rt.alloc(), ALL_FILES)?);
-    asks_for(&rt, store, &["FILE"], b"", ending, b"FILE\n")?;
-    Ok(())
+    asks_for(&rt, ALL_FILES, &[], MIXED, ending, b"")?;
+    asks_for(&rt, ALL_FILES, &["FILE"], b"", ending, b"FILE\n")
 }
 
 // A folder's proofs begin on lines of their own: also where the bundle's last line, or a proof's,
@@ -293,15 +337,12 @@ fn lines_without_an_end(rt: HostRuntime) -> Result<(), Fail> {
         ("D/2.lrat", b"6 0 5 1 2 0".as_slice()),
     ];
     let report: &[u8] = b"t 2 0 1152921504606846976\na 1 refuted\na 2 refuted\nw 0\ns REFUTED\n";
-    for bundle in [
-        four!("a 1 0\na -1 0").as_bytes(),
-        four!("a 1 0\na -1 0\nc a comment").as_bytes(),
-    ] {
-        let store = FileStore::new(Shelf::new(rt.alloc(), &files)?);
-        let paths = b"D/1.lrat\nD/2.lrat\n";
-        asks_for(&rt, store, ALONE, bundle, (0, report, b""), paths)?;
-    }
-    Ok(())
+    let ending = (0, report, b"".as_slice());
+    let paths = b"D/1.lrat\nD/2.lrat\n";
+    let bare = four!("a 1 0\na -1 0").as_bytes();
+    asks_for(&rt, &files, ALONE, bare, ending, paths)?;
+    let commented = four!("a 1 0\na -1 0\nc a comment").as_bytes();
+    asks_for(&rt, &files, ALONE, commented, ending, paths)
 }
 
 // A leaf with a proof in the bundle and one in the folder has two: the second one's label stands
@@ -310,11 +351,46 @@ fn lines_without_an_end(rt: HostRuntime) -> Result<(), Fail> {
 fn a_proof_in_both_places(rt: HostRuntime) -> Result<(), Fail> {
     let line: &[u8] = b"cubeboard: F12 second proof, line 13\n";
     let files = [("D/2.lrat", b"6 0 5 1 2 0\n".as_slice())];
-    let store = FileStore::new(Shelf::new(rt.alloc(), &files)?);
     let paths = b"D/1.lrat\nD/2.lrat\nD/1.lrat\nD/2.lrat\n";
     let input = BOTH_CUBES.as_bytes();
-    asks_for(&rt, store, ALONE, input, (3, b"", line), paths)?;
-    Ok(())
+    asks_for(&rt, &files, ALONE, input, (3, b"", line), paths)
+}
+
+/// The second file of a folder, with a faulty label line, and the line that tells it.
+const BAD_LABELS: &[(&[u8], &[u8])] = &[
+    (
+        b"7 0 5 6 2 0\nc\nl x\n",
+        b"cubeboard: F10 bad label, line 15\n",
+    ),
+    (
+        b"7 0 5 6 2 0\nc\nl 3\n",
+        b"cubeboard: F11 no such leaf, line 15\n",
+    ),
+    (
+        b"7 0 5 6 2 0\nc\nl 1\n",
+        b"cubeboard: F12 second proof, line 15\n",
+    ),
+    // The label of the next leaf, whose own label stands behind this file and an empty line.
+    (
+        b"7 0 5 6 2 0\nl m1\n7 0 5 6 3 0\n",
+        b"cubeboard: F12 second proof, line 17\n",
+    ),
+];
+
+/// A folder with this second file is refused by this line.
+fn is_bad_label<R: AllocGlobal + Abort + Threads + Wait + Sync>(
+    rt: &R,
+    second: &[u8],
+    line: &[u8],
+) -> Result<(), Fail> {
+    let files = [
+        ("D/1.lrat", b"7 0 5 6 4 0\n".as_slice()),
+        ("D/2.lrat", second),
+        ("D/m1.lrat", b"7 0 5 6 3 0\nl y\n"),
+        ("D/m2.lrat", b"7 0 5 6 1 0\n"),
+    ];
+    let paths = b"D/1.lrat\nD/2.lrat\nD/1.lrat\nD/2.lrat\nD/m1.lrat\nD/m2.lrat\n";
+    asks_for(rt, &files, ALONE, MIXED, (3, b"", line), paths)
 }
 
 // A faulty label line is told by its line in the bundle with all proofs: behind the bundle's last
@@ -323,49 +399,34 @@ fn a_proof_in_both_places(rt: HostRuntime) -> Result<(), Fail> {
 // that file, but all are read again, also those behind the fault.
 #[test]
 fn a_bad_label_among_files(rt: HostRuntime) -> Result<(), Fail> {
-    let paths = b"D/1.lrat\nD/2.lrat\nD/1.lrat\nD/2.lrat\nD/m1.lrat\nD/m2.lrat\n";
-    for (second, line) in [
-        (
-            b"7 0 5 6 2 0\nc\nl x\n".as_slice(),
-            b"cubeboard: F10 bad label, line 15\n".as_slice(),
-        ),
-        (
-            b"7 0 5 6 2 0\nc\nl 3\n",
-            b"cubeboard: F11 no such leaf, line 15\n",
-        ),
-        (
-            b"7 0 5 6 2 0\nc\nl 1\n",
-            b"cubeboard: F12 second proof, line 15\n",
-        ),
-        // The label of the next leaf, whose own label stands behind this file and an empty line.
-        (
-            b"7 0 5 6 2 0\nl m1\n7 0 5 6 3 0\n",
-            b"cubeboard: F12 second proof, line 17\n",
-        ),
-    ] {
-        let files = [
-            ("D/1.lrat", b"7 0 5 6 4 0\n".as_slice()),
-            ("D/2.lrat", second),
-            ("D/m1.lrat", b"7 0 5 6 3 0\nl y\n"),
-            ("D/m2.lrat", b"7 0 5 6 1 0\n"),
-        ];
-        let store = FileStore::new(Shelf::new(rt.alloc(), &files)?);
-        asks_for(&rt, store, ALONE, MIXED, (3, b"", line), paths)?;
+    for (second, line) in BAD_LABELS {
+        is_bad_label(&rt, second, line)?;
     }
     Ok(())
+}
+
+/// A read that fails so behind the first fault ends the program so.
+fn fails_behind<R: AllocGlobal + Abort + Threads + Wait + Sync>(
+    rt: &R,
+    fault: Fault,
+    ending: Ending<'_>,
+) -> Result<(), Fail> {
+    let files = [("D/1.lrat", b"l x\n".as_slice())];
+    let paths = b"D/1.lrat\nD/1.lrat\nD/2.lrat\nD/m1.lrat\n";
+    let shelf = Shelf::failing(rt.alloc(), &files, 4, fault)?;
+    asks_shelf(rt, shelf, ALONE, MIXED, ending, paths)
 }
 
 // A read that fails behind the first fault comes before it.
 #[test]
 fn a_file_fails_behind_a_fault(rt: HostRuntime) -> Result<(), Fail> {
-    let files = [("D/1.lrat", b"l x\n".as_slice())];
-    let paths = b"D/1.lrat\nD/1.lrat\nD/2.lrat\nD/m1.lrat\n";
-    for (fault, status, line) in [(Fault::Device, 5, DEVICE), (Fault::Memory, 4, MEMORY)] {
-        let store = FileStore::new(Shelf::failing(rt.alloc(), &files, 4, fault)?);
-        asks_for(&rt, store, ALONE, MIXED, (status, b"", line), paths)?;
-    }
-    Ok(())
+    fails_behind(&rt, Fault::Device, (5, b"", DEVICE))?;
+    fails_behind(&rt, Fault::Memory, (4, b"", MEMORY))
 }
+
+/// The paths of the proofs of `MIXED` where another leaf's section is in the first file.
+const THRICE: &[u8] = b"D/1.lrat\nD/1.lrat\nD/2.lrat\nD/m1.lrat\nD/m2.lrat\n\
+D/1.lrat\nD/2.lrat\nD/m1.lrat\nD/m2.lrat\n";
 
 // Where a file has the section of another leaf, and the bundle with all proofs has no fault, they
 // are read a third time, for the run on it.
@@ -376,50 +437,38 @@ fn a_section_in_the_file_of_another_leaf(rt: HostRuntime) -> Result<(), Fail> {
         ("D/2.lrat", b"7 0 5 6 2 0\n"),
         ("D/m2.lrat", b"7 0 5 6 1 0\n"),
     ];
-    let mut paths = Vec::new(rt.alloc());
-    paths.extend_from_slice(b"D/1.lrat\n")?;
-    paths.extend_from_slice(PROOF_PATHS)?;
-    paths.extend_from_slice(PROOF_PATHS)?;
-    let store = FileStore::new(Shelf::new(rt.alloc(), &files)?);
-    asks_for(&rt, store, ALONE, MIXED, (0, ALL_REPORT, b""), &paths)?;
-    Ok(())
+    asks_for(&rt, &files, ALONE, MIXED, (0, ALL_REPORT, b""), THRICE)
 }
 
 /// The program on these words, with these files and an input that refutes, ends so after it has
 /// asked for these paths, and reads no input.
 pub(crate) fn leaves_input<R: AllocGlobal + Abort + Threads + Wait + Sync>(
     rt: &R,
-    mut store: FileStore<Shelf<'_>>,
+    shelf: Shelf<'_>,
     words: &[&str],
     ending: Ending<'_>,
     paths: &[u8],
-) -> Result<(), Fail>
-    requires { store.failed < 2 ^ 64 - 1 }
-{
+) -> Result<(), Fail> {
+    let mut store = FileStore::new(shelf);
     let mut input = Broken::new(REFUTED, 0);
-    let told = told(rt, &mut store, words, &mut input);
-    is_ending(rt, words, told, ending);
+    ends_with(rt, &mut store, words, &mut input, ending);
     assert!(rt; input.calls == 0, "{words:?}");
-    assert!(rt; store.opener().asked()?.as_slice() == paths, "{words:?}");
-    Ok(())
+    has_asked(rt, &store, words, paths)
 }
 
 // FILE is asked for first, and the input isn't read.
 #[test]
 fn a_file_in_place_of_the_input(rt: HostRuntime) -> Result<(), Fail> {
     let all_paths = b"FILE\nD/1.lrat\nD/2.lrat\nD/m1.lrat\nD/m2.lrat\n".as_slice();
-    for (words, status, report, paths) in [
-        (["FILE"].as_slice(), 1, BARE_REPORT, b"FILE\n".as_slice()),
-        (FILE_ALONE, 0, ALL_REPORT, all_paths),
-        (
-            &["--workers=1", "--proofs=D", "FILE"],
-            0,
-            ALL_REPORT,
-            all_paths,
-        ),
+    let bare = (1, BARE_REPORT, b"".as_slice());
+    let all = (0, ALL_REPORT, b"".as_slice());
+    for (words, ending, paths) in [
+        (["FILE"].as_slice(), bare, b"FILE\n".as_slice()),
+        (FILE_ALONE, all, all_paths),
+        (&["--workers=1", "--proofs=D", "FILE"], all, all_paths),
     ] {
-        let store = FileStore::new(Shelf::new(rt.alloc(), ALL_FILES)?);
-        leaves_input(&rt, store, words, (status, report, b""), paths)?;
+        let shelf = Shelf::new(rt.alloc(), ALL_FILES)?;
+        leaves_input(&rt, shelf, words, ending, paths)?;
     }
     Ok(())
 }
@@ -428,28 +477,54 @@ fn a_file_in_place_of_the_input(rt: HostRuntime) -> Result<(), Fail> {
 #[test]
 fn no_file(rt: HostRuntime) -> Result<(), Fail> {
     for words in [["FILE"].as_slice(), &["--proofs", "D", "FILE"]] {
-        let store = FileStore::new(Shelf::new(rt.alloc(), WITHOUT_M1)?);
-        leaves_input(&rt, store, words, (5, b"", DEVICE), b"FILE\n")?;
+        let shelf = Shelf::new(rt.alloc(), WITHOUT_M1)?;
+        leaves_input(&rt, shelf, words, (5, b"", DEVICE), b"FILE\n")?;
     }
     Ok(())
 }
 
+/// The program, with files whose call at this number fails so, ends so after it has asked for these
+/// paths.
+fn file_fails_at<R: AllocGlobal + Abort + Threads + Wait + Sync>(
+    rt: &R,
+    fails_at: u64,
+    fault: Fault,
+    ending: Ending<'_>,
+    paths: &[u8],
+) -> Result<(), Fail> {
+    let shelf = Shelf::failing(rt.alloc(), ALL_FILES, fails_at, fault)?;
+    leaves_input(rt, shelf, FILE_ALONE, ending, paths)
+}
+
+/// The calls of the store, and the paths that are asked for up to each.
+const CALLS: &[(u64, &[u8])] = &[
+    (1, b"FILE\n"),
+    (2, b"FILE\nD/1.lrat\n"),
+    (3, b"FILE\nD/1.lrat\nD/2.lrat\n"),
+    (4, b"FILE\nD/1.lrat\nD/2.lrat\nD/m1.lrat\n"),
+    (5, b"FILE\nD/1.lrat\nD/2.lrat\nD/m1.lrat\nD/m2.lrat\n"),
+];
+
 // Each call of the store fails in turn, and no other follows it.
 #[test]
 fn a_file_fails(rt: HostRuntime) -> Result<(), Fail> {
-    for (fails_at, paths) in [
-        (1, b"FILE\n".as_slice()),
-        (2, b"FILE\nD/1.lrat\n"),
-        (3, b"FILE\nD/1.lrat\nD/2.lrat\n"),
-        (4, b"FILE\nD/1.lrat\nD/2.lrat\nD/m1.lrat\n"),
-        (5, b"FILE\nD/1.lrat\nD/2.lrat\nD/m1.lrat\nD/m2.lrat\n"),
-    ] {
-        for (fault, status, line) in [(Fault::Device, 5, DEVICE), (Fault::Memory, 4, MEMORY)] {
-            let store = FileStore::new(Shelf::failing(rt.alloc(), ALL_FILES, fails_at, fault)?);
-            leaves_input(&rt, store, FILE_ALONE, (status, b"", line), paths)?;
-        }
+    for (fails_at, paths) in CALLS {
+        file_fails_at(&rt, *fails_at, Fault::Device, (5, b"", DEVICE), paths)?;
+        file_fails_at(&rt, *fails_at, Fault::Memory, (4, b"", MEMORY), paths)?;
     }
     Ok(())
+}
+
+/// The program, whose input fails at this call, writes nothing and looks for no proof.
+fn input_fails_at<R: AllocGlobal + Abort + Threads + Wait + Sync>(
+    rt: &R,
+    fails_at: u64,
+) -> Result<(), Fail> {
+    let mut store = FileStore::new(Shelf::new(rt.alloc(), ALL_FILES)?);
+    let mut input = Broken::new(REFUTED, fails_at);
+    let words = ["--proofs", "D"];
+    ends_with(rt, &mut store, &words, &mut input, (5, b"", DEVICE));
+    has_asked(rt, &store, &words, b"")
 }
 
 // The input fails at each of its calls: nothing is written, and no proof is looked for.
@@ -457,95 +532,97 @@ fn a_file_fails(rt: HostRuntime) -> Result<(), Fail> {
 fn the_input_fails(rt: HostRuntime) -> Result<(), Fail> {
     let calls = REFUTED.len() as u64 / 16 + 2;
     for fails_at in 1..=calls {
-        let mut store = FileStore::new(Shelf::new(rt.alloc(), ALL_FILES)?);
-        let mut input = Broken::new(REFUTED, fails_at);
-        let (answer, output, errors) = told(&rt, &mut store, &["--proofs", "D"], &mut input);
-        assert!(rt; answer == 5 && output.is_empty(), "at {fails_at}");
-        assert!(rt; errors.as_slice() == DEVICE, "at {fails_at}");
-        assert!(rt; store.opener().asked()?.is_empty(), "at {fails_at}");
+        input_fails_at(&rt, fails_at)?;
     }
     Ok(())
 }
 
-/// The program on a bundle that refutes, with an output that fails at this call, ends with status 5
-/// after these bytes of the report and the line of a device.
-fn output_fails_at<R: AllocGlobal + Abort + Threads + Wait + Sync>(
+/// The program on these words and this input, with an output and a sink of errors that fail at
+/// these calls, ends so.
+fn ends_narrow<R: AllocGlobal + Abort + Threads + Wait + Sync>(
     rt: &R,
-    fails_at: u64,
-    before: &[u8],
+    words: &[&str],
+    input: &[u8],
+    fails_at: (u64, u64),
+    ending: Ending<'_>,
 ) -> Result<(), Fail> {
-    let mut output = Narrow::new(rt.alloc(), fails_at);
-    let mut errors = Vec::new(rt.alloc());
-    let no_words: [&str; 0] = [];
-    let answer = command(
+    let mut store = FileStore::new(Shelf::new(rt.alloc(), &[])?);
+    let (output_at, errors_at) = fails_at;
+    let mut output = Narrow::new(rt.alloc(), output_at);
+    let mut errors = Narrow::new(rt.alloc(), errors_at);
+    let input = &mut Counted::new(input);
+    let status = status_of(
         rt,
-        &mut FileStore::new(Shelf::new(rt.alloc(), &[])?),
-        &no_words,
-        &mut Counted::new(REFUTED),
+        &mut store,
+        words,
+        input,
         &mut output,
-        &mut Counted::new(&mut errors),
+        &mut errors,
         &NoGate,
-        &NoGate,
-        &NoExplain,
-        &NoLog,
     );
-    assert!(rt; answer == 5, "{answer} at {fails_at}");
-    assert!(rt; output.written.as_slice() == before, "at {fails_at}");
-    assert!(rt; errors.as_slice() == DEVICE, "at {fails_at}");
+    is_ending(
+        rt,
+        words,
+        (status, &output.written, &errors.written),
+        ending,
+    );
     Ok(())
 }
 
+// An output that fails has a beginning of the report.
 #[test]
 fn the_output_fails(rt: HostRuntime) -> Result<(), Fail> {
     for fails_at in 1..=REFUTED_REPORT.len() {
-        output_fails_at(&rt, fails_at as u64, &REFUTED_REPORT[..fails_at - 1])?;
+        let ending = (5, &REFUTED_REPORT[..fails_at - 1], DEVICE);
+        ends_narrow(&rt, &[], REFUTED, (fails_at as u64, 0), ending)?;
     }
     Ok(())
 }
 
-/// The program on this word and this input, with a sink of errors that fails at this call, ends
-/// with this status, no report, and these bytes of errors.
-fn errors_fail_at<R: AllocGlobal + Abort + Threads + Wait + Sync>(
+/// The program on these words and this input ends with this status and no report, also where the
+/// sink of errors fails within this line, at each of its bytes.
+fn errors_fail<R: AllocGlobal + Abort + Threads + Wait + Sync>(
     rt: &R,
     words: &[&str],
     input: &[u8],
     status: u8,
-    fails_at: u64,
-    before: &[u8],
+    line: &[u8],
 ) -> Result<(), Fail> {
-    let mut output = Vec::new(rt.alloc());
-    let mut errors = Narrow::new(rt.alloc(), fails_at);
-    let answer = command(
-        rt,
-        &mut FileStore::new(Shelf::new(rt.alloc(), &[])?),
-        words,
-        &mut Counted::new(input),
-        &mut Counted::new(&mut output),
-        &mut errors,
-        &NoGate,
-        &NoGate,
-        &NoExplain,
-        &NoLog,
-    );
-    assert!(rt; answer == status, "{answer} at {fails_at}");
-    assert!(rt; output.is_empty(), "at {fails_at}");
-    assert!(rt; errors.written.as_slice() == before, "at {fails_at}");
+    for fails_at in 1..=line.len() {
+        let ending = (status, b"".as_slice(), &line[..fails_at - 1]);
+        ends_narrow(rt, words, input, (0, fails_at as u64), ending)?;
+    }
     Ok(())
 }
 
 // A line that can't be written doesn't change the status.
 #[test]
 fn the_errors_fail(rt: HostRuntime) -> Result<(), Fail> {
-    for fails_at in 1..=HEADER.len() {
-        let before = &HEADER[..fails_at - 1];
-        errors_fail_at(&rt, &[], b"p cnf 2 4\n", 3, fails_at as u64, before)?;
-    }
-    for fails_at in 1..=DEVICE.len() {
-        let before = &DEVICE[..fails_at - 1];
-        errors_fail_at(&rt, &["FILE"], REFUTED, 5, fails_at as u64, before)?;
-    }
-    errors_fail_at(&rt, &["--help"], REFUTED, 2, 1, b"")?;
-    Ok(())
+    errors_fail(&rt, &[], b"p cnf 2 4\n", 3, HEADER)?;
+    errors_fail(&rt, &["FILE"], REFUTED, 5, DEVICE)?;
+    ends_narrow(&rt, &["--help"], REFUTED, (0, 1), (2, b"", b""))
+}
+
+/// The program on these words, files and this input ends with status 2, no report and a text of
+/// errors.
+fn ends_refused<R: AllocGlobal + Abort + Threads + Wait + Sync>(
+    rt: &R,
+    store: &mut FileStore<Shelf<'_>>,
+    words: &[&str],
+    input: &mut Broken<'_>,
+)
+    requires store { store.old.failed < 2 ^ 64 - 1 }
+    requires input { input.old.failed < 2 ^ 64 - 1 }
+{
+    let mut report = Vec::new(rt.alloc());
+    let mut text = Vec::new(rt.alloc());
+    let output = &mut Counted::new(&mut report);
+    let errors = &mut Counted::new(&mut text);
+    let status = status_of(rt, store, words, input, output, errors, &NoGate);
+    assert!(rt;
+        status == 2 && report.is_empty() && !text.is_empty(),
+        "{status} on {words:?}"
+    );
 }
 
 /// The program on these words ends with status 2, no report and a text of errors, and reads
@@ -556,47 +633,39 @@ fn is_refused<R: AllocGlobal + Abort + Threads + Wait + Sync>(
 ) -> Result<(), Fail> {
     let mut store = FileStore::new(Shelf::new(rt.alloc(), ALL_FILES)?);
     let mut input = Broken::new(REFUTED, 0);
-    let (answer, output, errors) = told(rt, &mut store, words, &mut input);
-    assert!(rt;
-        answer == 2 && output.is_empty() && !errors.is_empty(),
-        "{answer} on {words:?}"
-    );
-    assert!(rt;
-        store.opener().asked()?.is_empty() && input.calls == 0,
-        "{words:?}"
-    );
-    Ok(())
+    ends_refused(rt, &mut store, words, &mut input);
+    assert!(rt; input.calls == 0, "{words:?}");
+    has_asked(rt, &store, words, b"")
 }
+
+/// Words that are refused, or ask for help or the version.
+const REFUSED_WORDS: &[&[&str]] = &[
+    &["--help"],
+    &["-h"],
+    &["--version"],
+    &["-V"],
+    &["--proofs"],
+    &["--workers"],
+    &["--cut"],
+    &["--nothing"],
+    &["--workers", "0"],
+    &["--workers", "33"],
+    &["--workers", "x"],
+    &["--workers", ""],
+    &["--workers", "4294967297"],
+    &["--cut", "7"],
+    &["--cut", "x"],
+    &["--cut", ""],
+    &["--proofs", ""],
+    &["FILE", "FILE"],
+    &["FILE", "--help"],
+    &["--workers=1", "--workers=1"],
+];
 
 #[test]
 fn other_words(rt: HostRuntime) -> Result<(), Fail> {
-    for word in [
-        "--help",
-        "-h",
-        "--version",
-        "-V",
-        "--proofs",
-        "--workers",
-        "--cut",
-        "--nothing",
-    ] {
-        is_refused(&rt, &[word])?;
-    }
-    for words in [
-        ["--workers", "0"],
-        ["--workers", "33"],
-        ["--workers", "x"],
-        ["--workers", ""],
-        ["--workers", "4294967297"],
-        ["--cut", "7"],
-        ["--cut", "x"],
-        ["--cut", ""],
-        ["--proofs", ""],
-        ["FILE", "FILE"],
-        ["FILE", "--help"],
-        ["--workers=1", "--workers=1"],
-    ] {
-        is_refused(&rt, &words)?;
+    for words in REFUSED_WORDS {
+        is_refused(&rt, words)?;
     }
     Ok(())
 }
@@ -604,13 +673,9 @@ fn other_words(rt: HostRuntime) -> Result<(), Fail> {
 // The least and the greatest numbers are taken.
 #[test]
 fn ends_of_the_ranges(rt: HostRuntime) -> Result<(), Fail> {
-    for words in [
-        ["--workers", "1", "--cut", "0"],
-        ["--cut", "6", "--workers", "32"],
-    ] {
-        let store = FileStore::new(Shelf::new(rt.alloc(), ALL_FILES)?);
-        let ending = (0, REFUTED_REPORT, b"".as_slice());
-        asks_for(&rt, store, &words, REFUTED, ending, b"")?;
-    }
-    Ok(())
+    let ending = (0, REFUTED_REPORT, b"".as_slice());
+    let least = ["--workers", "1", "--cut", "0"];
+    asks_for(&rt, ALL_FILES, &least, REFUTED, ending, b"")?;
+    let greatest = ["--cut", "6", "--workers", "32"];
+    asks_for(&rt, ALL_FILES, &greatest, REFUTED, ending, b"")
 }

@@ -4,7 +4,6 @@
 use crate::command_tests::{
     ALL_REPORT, BARE_REPORT, DEVICE, Ending, FAULTS, MEMORY, MIXED, WITHOUT_M1_REPORT, leaves_input,
 };
-use cube_command::FileStore;
 use cube_report::Fault;
 use devices::Shelf;
 use std::alloc::Global;
@@ -38,8 +37,32 @@ const INNER: &[u8] = b"l n 1 0\n6 0 5 3 4 0\n";
 const INNER_REPORT: &[u8] = b"t 2 2 1152921504606846976\na 1 open\na 2 open\n\
 m 1 1 -2 0 open\nm 2 -1 -2 0 open\nn 1 0 refuted\no -1 0\nw 576460752303423488\ns OPEN\n";
 
-/// The program on `MIXED` with these sections, as a file whose length is told, ends so after it has
-/// opened the file so often.
+/// The bundle `MIXED` with these sections.
+fn mixed_with(alloc: Global, sections: &[u8]) -> Result<Vec<u8>, Fail> {
+    let mut bundle = Vec::new(alloc);
+    bundle.extend_from_slice(MIXED)?;
+    bundle.extend_from_slice(sections)?;
+    Ok(bundle)
+}
+
+/// The program on this bundle, as a file whose length is told, one of whose calls may fail, ends so
+/// after it has opened the file so often.
+fn ends_opened<R: AllocGlobal + Abort + Threads + Wait + Sync>(
+    rt: &R,
+    words: &[&str],
+    bundle: &[u8],
+    fails: (u64, Fault),
+    ending: Ending<'_>,
+    opened: usize,
+) -> Result<(), Fail> {
+    let (at, fault) = fails;
+    let files = [("FILE", bundle)];
+    let paths = paths(rt.alloc(), opened)?;
+    let shelf = Shelf::failing(rt.alloc(), &files, at, fault)?;
+    leaves_input(rt, shelf.with_lengths(), words, ending, &paths)
+}
+
+/// The program on `MIXED` with these sections, as such a file, no call of which fails, ends so.
 fn ends_after<R: AllocGlobal + Abort + Threads + Wait + Sync>(
     rt: &R,
     words: &[&str],
@@ -47,13 +70,12 @@ fn ends_after<R: AllocGlobal + Abort + Threads + Wait + Sync>(
     ending: Ending<'_>,
     opened: usize,
 ) -> Result<(), Fail> {
-    let mut bundle = Vec::new(rt.alloc());
-    bundle.extend_from_slice(MIXED)?;
-    bundle.extend_from_slice(sections)?;
-    let files = [("FILE", bundle.as_slice())];
-    let store = FileStore::new(Shelf::new(rt.alloc(), &files)?.with_lengths());
-    leaves_input(rt, store, words, ending, &paths(rt.alloc(), opened)?)
+    let bundle = mixed_with(rt.alloc(), sections)?;
+    ends_opened(rt, words, &bundle, NEVER, ending, opened)
 }
+
+/// No call fails.
+const NEVER: (u64, Fault) = (0, Fault::Device);
 
 /// The path of the file, so often.
 fn paths(alloc: Global, opened: usize) -> Result<Vec<u8>, Fail> {
@@ -64,20 +86,23 @@ fn paths(alloc: Global, opened: usize) -> Result<Vec<u8>, Fail> {
     Ok(paths)
 }
 
+/// Each bundle ends so with these words.
+fn each_with<R: AllocGlobal + Abort + Threads + Wait + Sync>(
+    rt: &R,
+    words: &[&str],
+) -> Result<(), Fail> {
+    ends_after(rt, words, ALL, (0, ALL_REPORT, b""), 5)?;
+    ends_after(rt, words, ALL_WITHOUT_END, (0, ALL_REPORT, b""), 5)?;
+    ends_after(rt, words, NO_M1, (1, WITHOUT_M1_REPORT, b""), 4)?;
+    ends_after(rt, words, BARE_LABEL, (1, BARE_LABEL_REPORT, b""), 2)?;
+    ends_after(rt, words, b"", (1, BARE_REPORT, b""), 1)
+}
+
 // The file is opened for the label lines, and then for each proof that has a byte.
 #[test]
 fn each_proof_at_its_place(rt: HostRuntime) -> Result<(), Fail> {
-    for words in [
-        ["--workers=1", "FILE"].as_slice(),
-        &["FILE", "--workers", "1", "--cut", "2"],
-    ] {
-        ends_after(&rt, words, ALL, (0, ALL_REPORT, b""), 5)?;
-        ends_after(&rt, words, ALL_WITHOUT_END, (0, ALL_REPORT, b""), 5)?;
-        ends_after(&rt, words, NO_M1, (1, WITHOUT_M1_REPORT, b""), 4)?;
-        ends_after(&rt, words, BARE_LABEL, (1, BARE_LABEL_REPORT, b""), 2)?;
-        ends_after(&rt, words, b"", (1, BARE_REPORT, b""), 1)?;
-    }
-    Ok(())
+    each_with(&rt, &["--workers=1", "FILE"])?;
+    each_with(&rt, &["FILE", "--workers", "1", "--cut", "2"])
 }
 
 // A bundle with a proof of an inner node is read whole.
@@ -93,15 +118,7 @@ fn faults(rt: HostRuntime) -> Result<(), Fail> {
         if bundle.is_empty() {
             continue;
         }
-        let files = [("FILE", *bundle)];
-        let store = FileStore::new(Shelf::new(rt.alloc(), &files)?.with_lengths());
-        leaves_input(
-            &rt,
-            store,
-            &["FILE"],
-            (3, b"", *line),
-            &paths(rt.alloc(), 2)?,
-        )?;
+        ends_opened(&rt, &["FILE"], bundle, NEVER, (3, b"", line), 2)?;
     }
     Ok(())
 }
@@ -116,32 +133,24 @@ fn all_at_once(rt: HostRuntime) -> Result<(), Fail> {
 #[test]
 fn no_length(rt: HostRuntime) -> Result<(), Fail> {
     let files = [("FILE", MIXED)];
-    let store = FileStore::new(Shelf::new(rt.alloc(), &files)?);
-    leaves_input(&rt, store, &["FILE"], (1, BARE_REPORT, b""), b"FILE\n")?;
-    let store = FileStore::new(Shelf::new(rt.alloc(), &files)?.with_lengths());
-    leaves_input(&rt, store, &["OTHER"], (5, b"", DEVICE), b"OTHER\n")
+    let shelf = Shelf::new(rt.alloc(), &files)?;
+    leaves_input(&rt, shelf, &["FILE"], (1, BARE_REPORT, b""), b"FILE\n")?;
+    let shelf = Shelf::new(rt.alloc(), &files)?.with_lengths();
+    leaves_input(&rt, shelf, &["OTHER"], (5, b"", DEVICE), b"OTHER\n")
 }
+
+/// The words for one worker and the file.
+const ALONE: &[&str] = &["FILE", "--workers", "1"];
 
 // Each call fails in turn, and no other follows it.
 #[test]
 fn a_call_fails(rt: HostRuntime) -> Result<(), Fail> {
-    let mut bundle = Vec::new(rt.alloc());
-    bundle.extend_from_slice(MIXED)?;
-    bundle.extend_from_slice(ALL)?;
-    let files = [("FILE", bundle.as_slice())];
+    let bundle = mixed_with(rt.alloc(), ALL)?;
     for at in 1..=5 {
-        for (fault, status, line) in [(Fault::Device, 5, DEVICE), (Fault::Memory, 4, MEMORY)] {
-            let shelf = Shelf::failing(rt.alloc(), &files, at as u64, fault)?;
-            let store = FileStore::new(shelf.with_lengths());
-            let words = ["FILE", "--workers", "1"];
-            leaves_input(
-                &rt,
-                store,
-                &words,
-                (status, b"", line),
-                &paths(rt.alloc(), at)?,
-            )?;
-        }
+        let device = (at as u64, Fault::Device);
+        ends_opened(&rt, ALONE, &bundle, device, (5, b"", DEVICE), at)?;
+        let memory = (at as u64, Fault::Memory);
+        ends_opened(&rt, ALONE, &bundle, memory, (4, b"", MEMORY), at)?;
     }
     Ok(())
 }
