@@ -24,7 +24,25 @@ const EIGHT_CUBES: &str = four!(
 /// One cube at depth 7, and a proof for it.
 const DEEP: &str = four!("a 1 2 3 4 5 6 7 0\nl 1\n12 0 5 6 4 0\n");
 
-/// The status of the program on these words and this bundle, beside this gate.
+/// The status of the program on these words, files and this bundle, beside this gate.
+fn status_in<R: AllocGlobal + Abort + Threads + Wait + Sync, G: Gate + Sync>(
+    rt: &R,
+    store: &mut FileStore<Shelf<'_>>,
+    words: &[&str],
+    bundle: &str,
+    gate: &G,
+) -> u8
+    requires { store.old.failed < 2 ^ 64 - 1 }
+{
+    let mut report = Vec::new(rt.alloc());
+    let mut line = Vec::new(rt.alloc());
+    let input = &mut Counted::new(bundle.as_bytes());
+    let output = &mut Counted::new(&mut report);
+    let errors = &mut Counted::new(&mut line);
+    status_of(rt, store, words, input, output, errors, gate)
+}
+
+/// The same with no files.
 fn status_beside<R: AllocGlobal + Abort + Threads + Wait + Sync, G: Gate + Sync>(
     rt: &R,
     words: &[&str],
@@ -32,13 +50,7 @@ fn status_beside<R: AllocGlobal + Abort + Threads + Wait + Sync, G: Gate + Sync>
     gate: &G,
 ) -> u8 {
     let shelf = Shelf::new(rt.alloc(), &[]).expect(rt, "no memory");
-    let mut report = Vec::new(rt.alloc());
-    let mut line = Vec::new(rt.alloc());
-    let store = &mut FileStore::new(shelf);
-    let input = &mut Counted::new(bundle.as_bytes());
-    let output = &mut Counted::new(&mut report);
-    let errors = &mut Counted::new(&mut line);
-    status_of(rt, store, words, input, output, errors, gate)
+    status_in(rt, &mut FileStore::new(shelf), words, bundle, gate)
 }
 
 /// Holds back each worker until as many have come as are awaited, or one of them has waited too
