@@ -11,7 +11,6 @@ use fixtures::bundles::{BOTH_CUBES, OPEN, OPEN_REPORT, REFUTED, REFUTED_REPORT};
 use fixtures::four;
 use std::alloc::Global;
 use std::fs;
-use std::fs::Files;
 use std::process::Abort;
 use std::sync::Wait;
 use std::test::Fail;
@@ -266,17 +265,6 @@ fn a_limit(rt: HostRuntime) -> Result<(), Fail> {
     asks_for(&rt, ALL_FILES, &["--proofs", "D"], &bundle, ending, b"")
 }
 
-/// The program on these words and this input ends so with the files of the system.
-fn ends_on_system<R: AllocGlobal + Abort + Files + Threads + Wait + Sync>(
-    rt: &R,
-    words: &[&str],
-    input: &[u8],
-    ending: Ending<'_>,
-) {
-    let mut store = FileStore::new(SystemFiles::new(rt));
-    ends_with(rt, &mut store, words, &mut Counted::new(input), ending);
-}
-
 // The words name files and folders of the system.
 #[test]
 fn files(rt: HostRuntime) -> Result<(), Fail> {
@@ -284,14 +272,22 @@ fn files(rt: HostRuntime) -> Result<(), Fail> {
     fs::create_dir_all(&rt, "files_test/unreadable/1.lrat")?;
     fs::write(&rt, "files_test/case.icnf", BUNDLE)?;
     fs::write(&rt, "files_test/proofs/1.lrat", PROOF)?;
-    let refuted = (0, REFUTED_REPORT, b"".as_slice());
-    let broken = (5, b"".as_slice(), DEVICE);
-    ends_on_system(&rt, &["--proofs", "files_test/proofs"], BUNDLE, refuted);
+    let proofs = ["--proofs", "files_test/proofs"];
     let both = ["--proofs=files_test/proofs", "files_test/case.icnf"];
-    ends_on_system(&rt, &both, b"", refuted);
-    ends_on_system(&rt, &["--proofs", "files_test/unreadable"], BUNDLE, broken);
-    ends_on_system(&rt, &["files_test/no_such_file"], BUNDLE, broken);
-    ends_on_system(&rt, &["files_test"], BUNDLE, broken);
+    let unreadable = ["--proofs", "files_test/unreadable"];
+    let no_file = ["files_test/no_such_file"];
+    let folder = ["files_test"];
+    for (words, input, status, report, line) in [
+        (proofs.as_slice(), BUNDLE, 0, REFUTED_REPORT, b"".as_slice()),
+        (both.as_slice(), b"", 0, REFUTED_REPORT, b""),
+        (unreadable.as_slice(), BUNDLE, 5, b"", DEVICE),
+        (no_file.as_slice(), BUNDLE, 5, b"", DEVICE),
+        (folder.as_slice(), BUNDLE, 5, b"", DEVICE),
+    ] {
+        let mut store = FileStore::new(SystemFiles::new(&rt));
+        let input = &mut Counted::new(input);
+        ends_with(&rt, &mut store, words, input, (status, report, line));
+    }
     fs::remove_dir_all(&rt, "files_test")?;
     Ok(())
 }
