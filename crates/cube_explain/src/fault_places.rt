@@ -2,7 +2,7 @@
 
 use crate::lines::{Line, line_count, line_of};
 use crate::shown::Shown;
-use case_core::read_bundle;
+use case_core::{Tree, read_bundle};
 use cube_command::Asked;
 use std::alloc::Global;
 use std::io::Eprint;
@@ -75,18 +75,43 @@ fn tell_in_folder<R: Eprint + Files + AllocGlobal>(
     bundle: &[u8],
     number: u64,
 ) -> io::Result<()> {
-    let Ok(case) = read_bundle(alloc, bundle) else {
-        return Ok(());
-    };
+    match read_bundle(alloc, bundle) {
+        Ok(case) => tell_in_tree(device, alloc, folder, case.tree(), number),
+        Err(_) => Ok(()),
+    }
+}
+
+/// Tells the line of this number among those that a folder's proofs add to the bundle of a tree.
+fn tell_in_tree<R: Eprint + Files + AllocGlobal>(
+    device: &R,
+    alloc: Global,
+    folder: &str,
+    tree: &Tree,
+    number: u64,
+) -> io::Result<()> {
+    let cubes = tree.cube_count();
     let mut left = number;
-    for place in 0..case.tree().leaf_count() {
-        let path = path_of(alloc, folder, case.tree().cube_count(), place)?;
-        match tell_behind(device, path.as_str(), left)? {
+    for place in 0..tree.leaf_count() {
+        match tell_in_place(device, alloc, folder, cubes, place, left)? {
             Some(behind) => left = behind,
             None => return Ok(()),
         }
     }
     Ok(())
+}
+
+/// Tells the line of this number from the label line on of the proof of the leaf in this place,
+/// where the proof has it; otherwise answers its number from behind the proof on.
+fn tell_in_place<R: Eprint + Files + AllocGlobal>(
+    device: &R,
+    alloc: Global,
+    folder: &str,
+    cubes: u32,
+    place: u32,
+    number: u64,
+) -> io::Result<Option<u64>> {
+    let path = path_of(alloc, folder, cubes, place)?;
+    tell_behind(device, path.as_str(), number)
 }
 
 /// Where a folder has the proof of the leaf in this place, where the cubes come first.

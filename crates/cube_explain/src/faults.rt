@@ -153,15 +153,25 @@ fn tell_proofs<R: Eprint + Files + AllocGlobal + Clone + Drop>(
 ) -> io::Result<bool> {
     for entry in fs::read_dir(device, folder)? {
         let entry = entry?;
-        let name = entry.file_name();
-        if name.ends_with(".lrat") {
-            let path = format!(in device.alloc(); "{folder}/{name}")?;
-            if tell_error(device, path.as_str(), try_read(device, path.as_str()))? {
-                return Ok(true);
-            }
+        if tell_named(device, folder, entry.file_name())? {
+            return Ok(true);
         }
     }
     Ok(false)
+}
+
+/// Tells the file of this name in a folder where it is a proof and can't be read, and answers
+/// whether it is so.
+fn tell_named<R: Eprint + Files + AllocGlobal>(
+    device: &R,
+    folder: &str,
+    name: &str,
+) -> io::Result<bool> {
+    if !name.ends_with(".lrat") {
+        return Ok(false);
+    }
+    let path = format!(in device.alloc(); "{folder}/{name}")?;
+    tell_error(device, path.as_str(), try_read(device, path.as_str()))
 }
 
 /// Tells the first file that can't be made, and answers whether there is one.
