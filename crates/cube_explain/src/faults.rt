@@ -106,7 +106,8 @@ fn tell_parting<R: Eprint>(device: &R, one: &[u8], other: &[u8]) -> io::Result<(
             let (word, beside) = (Shown(word), Shown(beside));
             let after = same.saturating_sub(1);
             return eprintln!(device;
-                "explain: after {after} literals the one goes on with {word}, the other with {beside}"
+                "explain: after {after} literals the one goes on with {word}, \
+                 the other with {beside}"
             );
         }
         same = same.saturating_add(1);

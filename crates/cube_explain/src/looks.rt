@@ -38,7 +38,8 @@ impl fmt::Display for Looks {
             }
             Looks::Answer => "it looks like a solver's answer, and not like its proof",
             Looks::Dimacs => {
-                "it looks like a formula in DIMACS: name it by --formula, or make an iCNF text of it"
+                "it looks like a formula in DIMACS: name it by --formula, or make an iCNF text of \
+                 it"
             }
             Looks::Icnf => "it looks like iCNF",
             Looks::Unknown => "it looks like nothing that is known here",

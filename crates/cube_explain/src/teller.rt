@@ -86,7 +86,8 @@ impl<'a, R: Eprint> Teller<'a, R> {
         let greatest = formula.greatest_variable();
         let from = asked.formula.or(asked.file).unwrap_or(INPUT);
         let _ = eprintln!(self.device;
-            "explain: {from}: clauses: {clauses}; literals: {literals}; greatest variable: {greatest}"
+            "explain: {from}: clauses: {clauses}; literals: {literals}; \
+             greatest variable: {greatest}"
         );
     }
 
@@ -115,7 +116,8 @@ impl<'a, R: Eprint> Teller<'a, R> {
             Some(line) => {
                 let (number, text) = (above.saturating_add(line.number), Shown(line.text));
                 let _ = eprintln!(self.device;
-                    "explain: proof for {name}: step {step} is rejected: {from}, line {number}: {text}"
+                    "explain: proof for {name}: step {step} is rejected: {from}, line {number}: \
+                     {text}"
                 );
             }
             None => {

@@ -627,7 +627,8 @@ const OVER_OTHERS: &[Table] = &[
     (&[], &[NO_CLAUSE]),
 ];
 
-/// The table over the four clauses. A test that calls this is cheaper to prove than one that names it.
+/// The table over the four clauses. A test that calls this is cheaper to prove than one that names
+/// the table.
 fn over_four() -> &'static Table {
     &OVER_FOUR
 }
