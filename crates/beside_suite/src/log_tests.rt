@@ -1,63 +1,87 @@
 //! The log of a run, by one that counts what it is to keep.
 
 use crate::calls::{DEVICE, Ending, ends_beside};
-use cube_command::{Counted, FileStore, Found, Log, NoGate};
+use cube_command::{Counted, FileStore, Found, Log, NoGate, Spared};
 use cube_report::{Leaf, Target};
 use devices::Shelf;
 use fixtures::bundles::{BOTH_CUBES, BOTH_CUBES_REPORT};
+use std::alloc::{AllocError, Global};
 use std::process::Abort;
-use std::sync::Wait;
 use std::sync::atomic::{AtomicU64, Ordering};
+use std::sync::{Arc, Wait};
 use std::thread::Threads;
 
-/// A log whose file can be made or not, which counts how often it is begun, the lines that it
-/// should keep of two refuted cubes, and any other.
+/// The lines that a log was given: those that it should keep of two refuted cubes, and any other.
 #[derive(Drop)]
-struct Counting {
-    can_begin: bool,
-    begun: AtomicU64,
+struct Lines {
     wanted: AtomicU64,
     others: AtomicU64,
 }
 
+/// A log whose file can be made or not, which counts how often it is begun, and the lines that it
+/// is given.
+#[derive(Drop)]
+struct Counting {
+    can_begin: bool,
+    begun: AtomicU64,
+    lines: Arc<Lines>,
+}
+
 impl Counting {
-    fn new(can_begin: bool) -> Counting {
-        Counting {
-            can_begin,
-            begun: AtomicU64::new(0),
+    fn new(alloc: Global, can_begin: bool) -> Result<Counting, AllocError> {
+        let lines = Lines {
             wanted: AtomicU64::new(0),
             others: AtomicU64::new(0),
-        }
+        };
+        Ok(Counting {
+            can_begin,
+            begun: AtomicU64::new(0),
+            lines: Arc::new(alloc, lines)?,
+        })
     }
 
     /// How often it was begun, and how many lines of each kind it was given.
     fn counts(&self) -> (u64, u64, u64) {
         (
             self.begun.load(Ordering::SeqCst),
-            self.wanted.load(Ordering::SeqCst),
-            self.others.load(Ordering::SeqCst),
+            self.lines.wanted.load(Ordering::SeqCst),
+            self.lines.others.load(Ordering::SeqCst),
         )
     }
 }
 
-impl Log for Counting {
-    fn begin(&self, path: &str) -> bool {
-        if path == "a.log" {
-            self.begun.fetch_add(1, Ordering::SeqCst);
-        }
-        self.can_begin
-    }
+/// The lines of a log that was begun.
+#[derive(Drop)]
+struct Begun {
+    lines: Arc<Lines>,
+}
 
-    fn keep(&self, path: &str, found: &Found<'_>, line: &[u8]) {
+impl Log for Counting {
+    type Lines = Begun;
+
+    fn begin(&self, path: &str, _spared: &Spared) -> Option<Begun> {
+        if path != "a.log" {
+            return None;
+        }
+        self.begun.fetch_add(1, Ordering::SeqCst);
+        match Arc::try_clone(&self.lines) {
+            Ok(lines) if self.can_begin => Some(Begun { lines }),
+            _ => None,
+        }
+    }
+}
+
+impl cube_command::Lines for Begun {
+    fn keep(&self, found: &Found<'_>, line: &[u8]) {
         let is_wanted = match found.target {
             Target::Leaf(Leaf::Cube(1)) => line == b"a 1 refuted\n".as_slice(),
             Target::Leaf(Leaf::Cube(2)) => line == b"a 2 refuted\n".as_slice(),
             _ => false,
         };
-        let counter = if is_wanted && path == "a.log" {
-            &self.wanted
+        let counter = if is_wanted {
+            &self.lines.wanted
         } else {
-            &self.others
+            &self.lines.others
         };
         counter.fetch_add(1, Ordering::SeqCst);
     }
@@ -97,7 +121,8 @@ fn a_line_for_each_proof(rt: HostRuntime) {
         (&["--log=a.log", "--workers", "1"], (1, 2, 0)),
         (&["--progress"], (0, 0, 0)),
     ] {
-        ends_with(&rt, words, &Counting::new(true), ending, counts);
+        let log = Counting::new(rt.alloc(), true).expect(&rt, "no memory");
+        ends_with(&rt, words, &log, ending, counts);
     }
 }
 
@@ -105,7 +130,7 @@ fn a_line_for_each_proof(rt: HostRuntime) {
 // nobody asks for it.
 #[test]
 fn no_log(rt: HostRuntime) {
-    let log = Counting::new(false);
+    let log = Counting::new(rt.alloc(), false).expect(&rt, "no memory");
     let words = ["--log", "a.log"];
     ends_with(&rt, &words, &log, (5, b"", DEVICE), (1, 0, 0));
     ends_with(&rt, &[], &log, (0, BOTH_CUBES_REPORT, b""), (1, 0, 0));

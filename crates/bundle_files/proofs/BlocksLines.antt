@@ -115,3 +115,14 @@ all_read first now next old new begun none so_far lost is_none end step =
     subst (λ (t : List ℕ). IsOutlineOf new t) (sym so_far.handed.parts)
     (step so_far.handed.lines so_far.handed.whole so_far.handed.is) in
     some_outlined first new so_far.read none is_none is whole
+
+-- the outline is that of what was read
+pub all_handed : (first now : Option (List ℕ)) (old new : OutlineOf) (begun : List ℕ)
+    → OutlinesSoFar first now old begun
+    → ((text : List ℕ) → AreWholeLines text → IsOutlineOf old text
+    → IsOutlineOf new (text ++ begun))
+    → (text : List ℕ) × IsOutlineOf new text
+all_handed first now old new begun so_far step = (
+  so_far.handed.lines ++ begun,
+  step so_far.handed.lines so_far.handed.whole so_far.handed.is,
+)

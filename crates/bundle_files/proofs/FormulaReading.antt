@@ -1,5 +1,5 @@
 -- A formula's file that was read, and the bundle that it makes.
-use Rattle.std.proofs.Common.{◌≡◌, ◌≢◌, ◌∙◌, sym, ap, subst, ℕ, Bool, true}
+use Rattle.std.proofs.Common.{◌≡◌, ◌≢◌, ◌∙◌, sym, ap, subst, ℕ, Bool, true, false}
 use Rattle.std.proofs.Common.{List, [], ◌∷◌, ◌++◌, length, take, append_assoc, inl, inr, arith}
 use Rattle.std.proofs.Common.{Option, None, Some, Result, Ok, Err, OnOk, IfErr, IsErrAnd}
 use Rattle.std.specs.Prelude.{is_some, unwrap_or}
@@ -17,8 +17,8 @@ use Rattle.case_core.proofs.IcnfUnique.{one_text}
 use Rattle.cube_report.specs.declared.fault.Fault.{Fault}
 use Rattle.cube_report.specs.declared.fault.Fault.TheVariants.{Counts}
 use Rattle.cube_report.specs.Faults.{IsInputFault}
-use Rattle.bundle_files.specs.Files.{Held, Gives, IsFound, IsRead}
-use Rattle.bundle_files.specs.Formula.{IsOverwritten, IsUnderFormula}
+use Rattle.bundle_files.specs.Files.{Held, Gives, IsFound, IsHanded, IsRead, lies_in}
+use Rattle.bundle_files.specs.Formula.{IsOverwritten, IsUnder}
 use Rattle.bundle_files.specs.Formula.{IsFormulaFault}
 use Rattle.bundle_files.specs.Inner.Formula.{IsAppended, IsFormulaRead, IsOtherCount}
 
@@ -35,37 +35,63 @@ in_place part behind count same =
     subst (λ (n : ℕ). take n (part ++ behind) ≡ part) same (take-append_seam part behind)
 
 -- the file of a formula was read, its problem line too, and then a header was written over it
+formula_has : (has : List ℕ → List ℕ → Type 0) (path text read seen taken over written : List ℕ)
+    (said : code.Problem)
+    → has path text → read ≡ text → seen ≡ read
+    → (formula : List (List Literal)) × KeepsLimits formula
+    × ((is : IsDimacs seen formula) × (said ≡ told_problem is.problem))
+    → taken ≡ read → IsOverwritten taken over → written ≡ over
+    → IsFormulaRead has path written said
+formula_has has path text read seen taken over written said known same seen_is dimacs taken_is made
+    is =
+    let moved :
+    (is : IsDimacs text dimacs.0) × (said ≡ told_problem is.problem) =
+    subst
+    (λ (t : List ℕ). (is : IsDimacs t dimacs.0) × (said ≡ told_problem is.problem))
+    (seen_is ∙ same) dimacs.2 in
+    record {
+      text = text;
+      given = known;
+      formula = dimacs.0;
+      dimacs = moved.0;
+      said_is = moved.1;
+      overwritten =
+          subst (IsOverwritten text) (sym is)
+          (subst (λ (t : List ℕ). IsOverwritten t over) (taken_is ∙ same) made);
+    }
+
 pub formula_read : (held : Held) (path none read seen taken over written : List ℕ) (there : Bool)
     (said : code.Problem)
     → IsFound (held path) none read there → none ≡ [] → there ≡ true → seen ≡ read
     → (formula : List (List Literal)) × KeepsLimits formula
     × ((is : IsDimacs seen formula) × (said ≡ told_problem is.problem))
     → taken ≡ read → IsOverwritten taken over → written ≡ over
-    → IsFormulaRead held path written said
+    → IsFormulaRead (lies_in held) path written said
 formula_read held path none read seen taken over written there said found empty is_there seen_is
     dimacs
     taken_is made is = given found.0 found.1 (sym found.2 ∙ is_there) found.3
   where
     given : (proof : Option (List ℕ)) → Gives held path proof → is_some proof ≡ true
-        → read ≡ none ++ unwrap_or proof [] → IsFormulaRead held path written said
+        → read ≡ none ++ unwrap_or proof [] → IsFormulaRead (lies_in held) path written said
     given None known some text = absurd (cc)
     given (Some text) known some text_is =
-        let same : read ≡ text = text_is ∙ ap (λ (t : List ℕ). t ++ text) empty in
-        let moved :
-        (is : IsDimacs text dimacs.0) × (said ≡ told_problem is.problem) =
-        subst
-        (λ (t : List ℕ). (is : IsDimacs t dimacs.0) × (said ≡ told_problem is.problem))
-        (seen_is ∙ same) dimacs.2 in
-        record {
-          text = text;
-          given = known;
-          formula = dimacs.0;
-          dimacs = moved.0;
-          said_is = moved.1;
-          overwritten =
-              subst (IsOverwritten text) (sym is)
-              (subst (λ (t : List ℕ). IsOverwritten t over) (taken_is ∙ same) made);
-        }
+        formula_has (lies_in held) path text read seen taken over written said known
+        (text_is ∙ ap (λ (t : List ℕ). t ++ text) empty) seen_is dimacs taken_is made is
+
+-- the same of the text that the reading handed over
+pub formula_handed : (hands : List ℕ → List ℕ → Type 0)
+    (path none read seen taken over written : List ℕ) (there : Bool) (said : code.Problem)
+    → IsHanded (hands path) none read there → none ≡ [] → there ≡ true → seen ≡ read
+    → (formula : List (List Literal)) × KeepsLimits formula
+    × ((is : IsDimacs seen formula) × (said ≡ told_problem is.problem))
+    → taken ≡ read → IsOverwritten taken over → written ≡ over
+    → IsFormulaRead hands path written said
+formula_handed hands path none read seen taken over written false said handed empty is_there seen_is
+    dimacs taken_is made is = absurd (cc)
+formula_handed hands path none read seen taken over written true said handed empty is_there seen_is
+    dimacs taken_is made is =
+    formula_has hands path handed.0 read seen taken over written said handed.1
+    (handed.2 ∙ ap (λ (t : List ℕ). t ++ handed.0) empty) seen_is dimacs taken_is made is
 
 -- a bundle with a fault in its text has no clauses that could be counted
 pub not_counted : {T E : Type 0} (result : Result T E) (fault : TextFault) (part bundle : List ℕ)
@@ -95,14 +121,14 @@ whole_is over ended new bundle rest first second third =
     third ∙ second ∙ ap (λ (t : List ℕ). t ++ rest) first ∙ append_assoc over (10 ∷ []) rest
 
 -- it has as many clauses as the problem line says
-pub under_formula : (held after : Held) (path : List ℕ) (file input : Option (List ℕ))
-    (over ended new bundle : List ℕ) (said : code.Problem)
-    → IsFormulaRead held path over said → after ≡ held → ended ≡ over ++ 10 ∷ []
-    → IsAppended after file input ended new → bundle ≡ new
+pub under_formula : (has : List ℕ → List ℕ → Type 0) (path : List ℕ)
+    (file input : Option (List ℕ)) (over ended new bundle : List ℕ) (said : code.Problem)
+    → IsFormulaRead has path over said → ended ≡ over ++ 10 ∷ []
+    → IsAppended has file input ended new → bundle ≡ new
     → ((items : List Item) → StandsFor (icnf_text bundle) items
     → length (clauses_of items) ≡ said.clauses)
-    → IsUnderFormula held path file input bundle
-under_formula held after path file input over ended new bundle said r same ends appended is count =
+    → IsUnder has path file input bundle
+under_formula has path file input over ended new bundle said r ends appended is count =
     record {
       text = r.text;
       given = r.given;
@@ -111,7 +137,7 @@ under_formula held after path file input over ended new bundle said r same ends 
       over = over;
       overwritten = r.overwritten;
       rest = appended.0;
-      is_rest = subst (λ (h : Held). IsRead h file input appended.0) same appended.1;
+      is_rest = appended.1;
       whole = whole_is over ended new bundle appended.0 ends appended.2 is;
       no_clause_more = λ items stands.
           let many : length (clauses_of items) ≡ told r.dimacs.problem.clauses =
@@ -123,8 +149,8 @@ under_formula held after path file input over ended new bundle said r same ends 
 -- or it hasn't
 pub adds_clauses : (held after : Held) (path : List ℕ) (file input : Option (List ℕ))
     (over ended new bundle : List ℕ) (said : code.Problem) (fault : Fault)
-    → IsFormulaRead held path over said → after ≡ held → ended ≡ over ++ 10 ∷ []
-    → IsAppended after file input ended new → bundle ≡ new
+    → IsFormulaRead (lies_in held) path over said → after ≡ held → ended ≡ over ++ 10 ∷ []
+    → IsAppended (lies_in after) file input ended new → bundle ≡ new
     → IsOtherCount bundle said fault → IsInputFault fault
     → IsFormulaFault held (Some path) file input fault
 adds_clauses held after path file input over ended new bundle said fault r same ends appended is

@@ -17,8 +17,8 @@ use Rattle.case_core.proofs.DimacsFormula.{formula_of_tokens}
 use Rattle.case_core.proofs.IcnfUnique.{one_text_of, text_of}
 use Rattle.proof_folder.proofs.AddedLines.{with_ends, text_is_lines}
 use Rattle.cube_report.specs.Correct.{IsUnsatisfiable}
-use Rattle.bundle_files.specs.Files.{Held, Gives, IsJudgedOf}
-use Rattle.bundle_files.specs.Formula.{header_over, IsOverwritten, IsUnderFormula}
+use Rattle.bundle_files.specs.Files.{Held, IsJudgedOf}
+use Rattle.bundle_files.specs.Formula.{header_over, IsOverwritten, IsUnder}
 use Rattle.bundle_files.proofs.FilesFormula.{judged_keeps_items}
 use Rattle.bundle_files.proofs.FormulaLines.{bare_plain, clauses_plain, header_plain, header_tokens}
 
@@ -179,13 +179,13 @@ bundle_formula text over rest formula items is made stands count =
     (ap symbols_of (some_tokens _ stands.0 (sym found.1 ∙ stands.1)) ∙ stands.2.0) count
 
 -- so where the bundle has no model, the published formula has none
-pub published : (held : Held) (path : List ℕ) (file input folder : Option (List ℕ))
-    (read whole : List ℕ) (case : CaseOf)
-    → IsUnderFormula held path file input read → IsJudgedOf held folder read whole
+pub published : (has : List ℕ → List ℕ → Type 0) (held : Held) (path : List ℕ)
+    (file input folder : Option (List ℕ)) (read whole : List ℕ) (case : CaseOf)
+    → IsUnder has path file input read → IsJudgedOf held folder read whole
     → IsCaseOf whole case → IsUnsatisfiable read
-    → (text : List ℕ) × Gives held path (Some text)
+    → (text : List ℕ) × has path text
     × (formula : List (List Literal)) × IsDimacs text formula × HasNoModel formula
-published held path file input folder read whole case under judged is none =
+published has held path file input folder read whole case under judged is none =
     let stands : StandsFor (icnf_text read) is.items =
     judged_keeps_items held folder read whole is.items judged is.text in
     let same : clauses_of is.items ≡ under.formula =

@@ -1,7 +1,7 @@
 -- A bundle in a file whose proofs were read at their places: what was judged is what its bytes
 -- stand for.
 use Rattle.std.proofs.Common.{◌≡◌, ◌∙◌, ap, sym, subst, refl, ℕ, List, [], ◌++◌, map, Bool, Option}
-use Rattle.std.proofs.Common.{None, Some, Result, Ok, Err, IfOk, is_some}
+use Rattle.std.proofs.Common.{None, Some, Result, Ok, Err, IfOk, is_some, true}
 use Rattle.std.specs.Prelude.{IfSome, unwrap_or}
 use Rattle.case_core.specs.Leaf.{Leaf}
 use Rattle.case_core.specs.Leaves.{IsLeafAt, IsTargetAt}
@@ -10,7 +10,11 @@ use Rattle.case_core.specs.Target.TheVariants.{Leaf as Named, Node}
 use Rattle.case_core.specs.Case.{CaseOf, section_in, proof_for}
 use Rattle.case_core.specs.Sections.{IsCaseOf}
 use Rattle.cube_report.specs.Mark.{Mark}
-use Rattle.cube_report.specs.Correct.{IsOutcome}
+use Rattle.case_core.specs.Bundle.{icnf_text}
+use Rattle.case_core.specs.Formula.{HasNoModel}
+use Rattle.case_core.specs.Icnf.{clauses_of}
+use Rattle.case_core.proofs.IcnfUnique.{one_text_of, text_of}
+use Rattle.cube_report.specs.Correct.{IsOutcome, IsUnsatisfiable}
 use Rattle.cube_report.specs.Stated.{IsWrittenBy}
 use Rattle.cube_report.specs.declared.engine.Outcome.{Outcome}
 use Rattle.cube_report.specs.declared.fault.Fault.{Fault}
@@ -141,3 +145,51 @@ run_by_section held path outline outlined draws (Ok (Some outcome)) there case h
     )
 run_by_section held path outline outlined draws (Ok None) there case head few apart = tt
 run_by_section held path outline outlined draws (Err fault) there case head few apart = tt
+
+-- ---- what the formula is that was handed over
+
+unsatisfiable_case : (bundle : List ℕ) (case : CaseOf) → IsCaseOf bundle case →
+    IsUnsatisfiable bundle → HasNoModel case.formula
+unsatisfiable_case bundle case is none =
+    let one : none.1.0 ≡ is.items =
+    one_text_of (icnf_text bundle) none.1.0 is.items none.1.1
+    (text_of (icnf_text bundle) is.items is.text) in
+    subst HasNoModel (none.1.2 ∙ ap clauses_of one ∙ sym is.formula) none.2
+
+case_unsatisfiable : (bundle : List ℕ) (case : CaseOf) → IsCaseOf bundle case →
+    HasNoModel case.formula → IsUnsatisfiable bundle
+case_unsatisfiable bundle case is none = (
+  clauses_of is.items,
+  (is.items, text_of (icnf_text bundle) is.items is.text, refl),
+  subst HasNoModel is.formula none,
+)
+
+-- where it says refuted, so is the formula of the text of which the outline is
+pub handed_by_section : (hands : List ℕ → Type 0) (known : Option (Option (List ℕ)))
+    (outline : OutlineOf) (outlined : OutlinedOf)
+    (draws : Bool) (run : Result (Option Outcome) Fault) → IsOutlined known outline
+    → (text : List ℕ) × hands text × IsOutlineOf outline text
+    → ((text : List ℕ) → IsOutlineOf outline text → IsOutlinedCase text outlined)
+    → (head : List ℕ) × IsCaseOf head outlined.case → HasFewLeaves outlined.case.tree
+    → IfOk run (λ some. IfSome some (λ outcome. (marks : List Mark)
+    × AreFoundApart (held_in known outlined.sections) outlined.case marks
+    × IsWrittenBy outlined.case marks draws outcome.text.items outcome.map.items outcome.refuted))
+    → IfOk run (λ some. IfSome some (λ outcome. outcome.refuted ≡ true
+    → (text : List ℕ) × hands text × IsUnsatisfiable text))
+handed_by_section hands known outline outlined draws (Ok (Some outcome)) there handed case head few
+    apart =
+    λ says.
+    let judged = judged_of known outline outlined apart.0 there case head few apart.1 in
+    let written =
+    written_of judged.0 outlined.case apart.0 draws outcome.text.items outcome.map.items
+    outcome.refuted judged.2 apart.2 in
+    let none : HasNoModel outlined.case.formula =
+    subst HasNoModel judged.2.formula
+    (unsatisfiable_case judged.0 judged.2.whole judged.2.is (written.correct.sound says)) in (
+      handed.0,
+      handed.1,
+      case_unsatisfiable handed.0 _ (case handed.0 handed.2).is none,
+    )
+handed_by_section hands known outline outlined draws (Ok None) there handed case head few apart = tt
+handed_by_section hands known outline outlined draws (Err fault) there handed case head few apart =
+    tt

@@ -21,6 +21,10 @@ Held = List ℕ → Option (Option (List ℕ))
 abbrev pub Gives : Held → List ℕ → Option (List ℕ) → Type 0
 Gives held path given = IfSome (held path) (λ known. given ≡ known)
 
+-- a text that lies at a path, as far as is known
+abbrev pub lies_in : Held → List ℕ → List ℕ → Type 0
+lies_in held path text = Gives held path (Some text)
+
 -- what may be written at a path may still be written there
 abbrev pub StaysAllowed : (List ℕ → List ℕ → Type 0) → (List ℕ → List ℕ → Type 0) → Type 0
 StaysAllowed old new = (path bytes : List ℕ) → old path bytes → new path bytes
@@ -31,10 +35,16 @@ abbrev pub StaysAllowedBeside : List ℕ → (List ℕ → List ℕ → Type 0) 
 StaysAllowedBeside path old new =
     (other bytes : List ℕ) → other ≢ path → old other bytes → new other bytes
 
+-- the text that is read: the one of the file that is asked for, of those that a path has, or the
+-- input
+abbrev pub IsTextAt : (List ℕ → List ℕ → Type 0) → Option (List ℕ) → Option (List ℕ) → List ℕ →
+    Type 0
+IsTextAt has None input text = IfSome input (λ known. text ≡ known)
+IsTextAt has (Some path) input text = has path text
+
 -- the bundle that is read: that of the file that is asked for, or the input
 abbrev pub IsRead : Held → Option (List ℕ) → Option (List ℕ) → List ℕ → Type 0
-IsRead held None input bundle = IfSome input (λ known. bundle ≡ known)
-IsRead held (Some path) input bundle = Gives held path (Some bundle)
+IsRead held file input bundle = IsTextAt (lies_in held) file input bundle
 
 -- so many names of leaves of a kind, from this number on
 abbrev pub names_from : List ℕ → ℕ → ℕ → List (List ℕ)
@@ -100,6 +110,11 @@ abbrev pub IsFound : Option (Option (List ℕ)) → List ℕ → List ℕ → Bo
 IsFound known old new there =
     (given : Option (List ℕ)) × IfSome known (λ held. given ≡ held)
     × (there ≡ is_some given) × (new ≡ old ++ unwrap_or given [])
+
+-- reading a path appended a text of those that it hands over, or nothing where there is no file
+abbrev pub IsHanded : (List ℕ → Type 0) → List ℕ → List ℕ → Bool → Type 0
+IsHanded hands old new false = new ≡ old
+IsHanded hands old new true = (text : List ℕ) × hands text × (new ≡ old ++ text)
 
 -- no file lies at the path that is asked for, as far as is known
 abbrev pub IsAbsent : Held → Option (List ℕ) → Type 0

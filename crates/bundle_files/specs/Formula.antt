@@ -12,7 +12,7 @@ use Rattle.case_core.specs.Bundle.{lines_of, icnf_text}
 use Rattle.cube_report.specs.declared.fault.Fault.{Fault}
 use Rattle.cube_report.specs.declared.fault.Fault.TheVariants.{Counts, Device}
 use Rattle.cube_report.specs.Faults.{fault_of_dimacs}
-use Rattle.bundle_files.specs.Files.{Held, Gives, IsRead, IsJudgedOf, IsAbsent}
+use Rattle.bundle_files.specs.Files.{Held, Gives, lies_in, IsTextAt, IsRead, IsJudgedOf, IsAbsent}
 
 -- the header of an iCNF text, and blanks: as long as this line, where that has 8 bytes at least
 abbrev pub header_over : List ℕ → List ℕ
@@ -28,19 +28,19 @@ pub record IsOverwritten (text over : List ℕ) : Type 0 where
   pub first : (n : ℕ) → line_tokens n line ≢ []
   pub header : lines_of over ≡ before ++ header_over line ∷ after
 
--- the bundle of a formula's file and of a text of cubes and proofs: the file's text, which is a
--- DIMACS text, with a header over its problem line, a line end, and the other text, which adds no
--- clause
-pub record IsUnderFormula (held : Held) (path : List ℕ) (file input : Option (List ℕ))
+-- the bundle of a formula's file and of a text of cubes and proofs, of those texts that a path has:
+-- the file's text, which is a DIMACS text, with a header over its problem line, a line end, and the
+-- other text, which adds no clause
+pub record IsUnder (has : List ℕ → List ℕ → Type 0) (path : List ℕ) (file input : Option (List ℕ))
     (read : List ℕ) : Type 0 where
   pub text : List ℕ
-  pub given : Gives held path (Some text)
+  pub given : has path text
   pub formula : List (List Literal)
   pub dimacs : IsDimacs text formula
   pub over : List ℕ
   pub overwritten : IsOverwritten text over
   pub rest : List ℕ
-  pub is_rest : IsRead held file input rest
+  pub is_rest : IsTextAt has file input rest
   pub whole : read ≡ over ++ 10 ∷ rest
   pub no_clause_more : (items : List Item) → StandsFor (icnf_text read) items →
       length (clauses_of items) ≡ length formula
@@ -56,12 +56,26 @@ sources_by formula file = record { formula = formula; file = file }
 
 -- the bundle that is read: that of the file, or of the input; under the formula where that has a
 -- file of its own
+abbrev pub IsBundleBy : (List ℕ → List ℕ → Type 0) → Option (List ℕ) → Option (List ℕ) →
+    Option (List ℕ) → List ℕ → Type 0
+IsBundleBy has None file input read = IsTextAt has file input read
+IsBundleBy has (Some path) file input read = IsUnder has path file input read
+
+-- the same of the texts that lie there, as far as is known
+abbrev pub IsUnderFormula : Held → List ℕ → Option (List ℕ) → Option (List ℕ) → List ℕ → Type 0
+IsUnderFormula held path file input read = IsUnder (lies_in held) path file input read
+
 abbrev pub IsReadBy : Held → Option (List ℕ) → Option (List ℕ) → Option (List ℕ) → List ℕ → Type 0
-IsReadBy held None file input read = IsRead held file input read
-IsReadBy held (Some path) file input read = IsUnderFormula held path file input read
+IsReadBy held formula file input read = IsBundleBy (lies_in held) formula file input read
 
 abbrev pub IsReadFrom : Held → Sources → Option (List ℕ) → List ℕ → Type 0
 IsReadFrom held sources input read = IsReadBy held sources.formula sources.file input read
+
+-- the same of the texts that readings of the paths handed over, whether or not it is known what
+-- lies there
+abbrev pub IsHandedFrom : (List ℕ → List ℕ → Type 0) → Sources → Option (List ℕ) → List ℕ → Type 0
+IsHandedFrom hands sources input read =
+    IsBundleBy hands sources.formula sources.file input read
 
 -- for these words, the files and DIR, and this input, the bundle that is read, and the one that is
 -- judged

@@ -18,6 +18,7 @@ pub(crate) fn outline_of<S: Source>(alloc: Global, source: &mut S) -> Result<Out
     requires { S.failures source.old < 2 ^ 64 - 1 }
     ensures outline { IfOk result (λ outline.
         IfSome (S.remaining source.old) (λ text. IsOutlineOf outline text)) }
+    ensures read { IfOk result (λ outline. (text : List ℕ) × IsOutlineOf outline text) }
     ensures ok { OnOk result (S.failures source.new ≡ S.failures source.old) }
     ensures err { IfErr result
         (λ fault. IsDeviceFault (S.failures source.old) (S.failures source.new) fault) }

@@ -1,8 +1,8 @@
 //! What is said of a bundle in a file, each proof of which is read when a worker comes to its leaf.
 
 ghost use Rattle.std.specs.Prelude.{◌≡◌, ◌<◌, ◌^◌, ◌-◌, List, ℕ, All, IfOk, IfErr, IfSome, OnOk};
-ghost use Rattle.std.specs.Prelude.{Some, vec_len};
-ghost use Rattle.cube_report.specs.Correct.{IsOutcome};
+ghost use Rattle.std.specs.Prelude.{Some, true, vec_len};
+ghost use Rattle.cube_report.specs.Correct.{IsOutcome, IsUnsatisfiable};
 ghost use Rattle.cube_report.specs.Faults.{IsInputFault};
 ghost use Rattle.cube_report.specs.Mark.{Mark};
 ghost use Rattle.cube_report.specs.Stated.{IsWrittenBy};
@@ -52,6 +52,10 @@ where
     ensures outcome { IfOk result (λ some. IfSome some (λ outcome. (bundle : List ℕ)
         × Gives (D.held store.old) path.now (Some bundle)
         × IsOutcome bundle draws outcome.text.items outcome.map.items outcome.refuted)) }
+    // Where it says refuted, the formula of a text that one reading of the file handed over has no
+    // model.
+    ensures handed { IfOk result (λ some. IfSome some (λ outcome. outcome.refuted ≡ true
+        → (text : List ℕ) × D.hands path.now text × IsUnsatisfiable text)) }
     // No fault of the input is told.
     ensures fault { IfErr result (λ fault. ¬ IsInputFault fault) }
     // The device is at fault exactly where a read failed.

@@ -12,9 +12,9 @@ ghost use Rattle.case_core.specs.Dimacs.{greatest_of, IsDimacs};
 ghost use Rattle.case_core.specs.Bundle.{icnf_text};
 ghost use Rattle.case_core.specs.Sections.{IsCaseOf};
 ghost use Rattle.cube_report.specs.Faults.{IsInputFault};
-ghost use Rattle.bundle_files.specs.Files.{IsUnread, StaysAllowed};
+ghost use Rattle.bundle_files.specs.Files.{IsUnread, StaysAllowed, lies_in};
 ghost use Rattle.bundle_files.specs.Formula.{header_over, IsFormulaFault, IsOverwritten, IsReadBy};
-ghost use Rattle.bundle_files.specs.Formula.{IsUnderFormula, IsUnreadFrom};
+ghost use Rattle.bundle_files.specs.Formula.{IsBundleBy, IsUnder, IsUnderFormula, IsUnreadFrom};
 ghost use Rattle.bundle_files.specs.Inner.Formula.{HasProblem, IsAppended, IsFirstLine};
 ghost use Rattle.bundle_files.specs.Inner.Formula.{IsFaultyFormula, IsFormulaRead, IsOtherCount};
 ghost use Rattle.bundle_files.specs.Inner.Formula.{IsUnreadFormula};
@@ -101,8 +101,9 @@ fn read_formula<D: Store>(
     requires { D.failures store.old < 2 ^ 64 - 1 }
     ensures held { D.held store.new ≡ D.held store.old }
     ensures allowed { StaysAllowed (D.allows store.old) (D.allows store.new) }
-    ensures read { IfOk result (λ read. IsFormulaRead (D.held store.old) path.now read.0.items
-        read.1) }
+    ensures read { IfOk result (λ read. IsFormulaRead (lies_in (D.held store.old)) path.now
+        read.0.items read.1) }
+    ensures handed { IfOk result (λ read. IsFormulaRead D.hands path.now read.0.items read.1) }
     ensures fault { IfErr result (λ fault. IsInputFault fault
         → IsFaultyFormula (D.held store.old) path.now fault) }
     ensures ok { OnOk result (D.failures store.new ≡ D.failures store.old) }
@@ -215,6 +216,8 @@ fn read_under<D: Store, I: Source>(
     ensures allowed { StaysAllowed (D.allows store.old) (D.allows store.new) }
     ensures bundle { IfOk result (λ read. IsUnderFormula (D.held store.old) path.now
         (option_map (λ path. path.now) file.entry) (I.remaining input.old) read.bundle.items) }
+    ensures handed { IfOk result (λ read. IsUnder D.hands path.now
+        (option_map (λ path. path.now) file.entry) (I.remaining input.old) read.bundle.items) }
     ensures case { IfOk result (λ read. IfSome read.case (IsCaseOf read.bundle.items)) }
     ensures fault { IfErr result (λ fault. IsInputFault fault → IsFormulaFault (D.held store.old)
         (Some path.now) (option_map (λ path. path.now) file.entry) (I.remaining input.old)
@@ -261,6 +264,10 @@ pub fn read_from<D: Store, I: Source>(
     ensures allowed { StaysAllowed (D.allows store.old) (D.allows store.new) }
     // The bundle is that of the files or of the input.
     ensures bundle { IfOk result (λ read. IsReadBy (D.held store.old)
+        (option_map (λ path. path.now) formula.entry) (option_map (λ path. path.now) file.entry)
+        (I.remaining input.old) read.bundle.items) }
+    // It is made of what one reading of each file handed over.
+    ensures handed { IfOk result (λ read. IsBundleBy D.hands
         (option_map (λ path. path.now) formula.entry) (option_map (λ path. path.now) file.entry)
         (I.remaining input.old) read.bundle.items) }
     // A case that is handed on is the bundle's.

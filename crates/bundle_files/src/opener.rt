@@ -5,6 +5,8 @@ ghost use Rattle.std.specs.Prelude.{IfErr, OnOk};
 ghost use Rattle.std.specs.IoError.{error_kind};
 ghost use Rattle.bundle_files.specs.Files.{IsOpened, IsOpenedAt};
 
+use crate::inputs::{FileId, Inputs, Spared};
+use crate::system::{file_at, files_to_spare, is_one, make_anew};
 use std::alloc::{AllocError, Global};
 use std::io::{ErrorKind, Read, Seek, SeekFrom, Write};
 use std::rt::Files;
@@ -47,9 +49,10 @@ pub trait Opener {
         ensures opened { IfOk result (λ file. knows self.old ≡ true
             → IsOpenedAt (files self.old path.now) place (Self.Opened.remaining file)) };
 
-    /// Makes the file at this path anew, with no bytes yet; no other file changes. A fault of the
-    /// kind `OutOfMemory` says that memory was refused, and then nothing changes.
-    fn create(&mut self, path: &str) -> io::Result<Self::Made>
+    /// Makes the file at this path anew, with no bytes yet; no other file changes. It fails where
+    /// the path names one of the spared files, and then nothing changes. A fault of the kind
+    /// `OutOfMemory` says that memory was refused, and then nothing changes either.
+    fn create(&mut self, path: &str, spared: &Spared) -> io::Result<Self::Made>
         ensures knows { knows self.new ≡ knows self.old }
         ensures elsewhere { (other : List ℕ) → other ≢ path.now
             → files self.new other ≡ files self.old other }
@@ -76,6 +79,18 @@ pub trait Opener {
     /// How long the file at this path is, where that can be told without reading it. No clause ties
     /// the length to the file's bytes.
     fn length(&self, path: &str) -> Option<u64>;
+
+    /// Which plain file this path names; `None` where it names none, or where that can't be told.
+    /// Links are followed. What names a file is known to no contract.
+    fn file_at(&self, path: &str) -> Option<FileId>;
+
+    /// Whether two paths name one plain file, be it there or not.
+    fn is_one(&self, one: &str, other: &str) -> bool;
+
+    /// The plain files that a run has to spare which is asked for these: the formula's own file,
+    /// FILE or the program's input, each file of the folder whose name ends in `.lrat`, and the one
+    /// to which the program's output goes. `AllocError` where a growth was refused.
+    fn files_to_spare(&self, alloc: Global, inputs: &Inputs<'_>) -> Result<Spared, AllocError>;
 }
 
 /// The files of a system. What they hold is not known to a contract.
@@ -93,7 +108,7 @@ impl<'a, R> SystemFiles<'a, R> {
     }
 }
 
-impl<'a, R: Files> Opener for SystemFiles<'a, R> {
+impl<'a, R: Files + AllocGlobal + Clone + Drop> Opener for SystemFiles<'a, R> {
     type Opened = R::File;
 
     type Made = R::File;
@@ -116,8 +131,8 @@ impl<'a, R: Files> Opener for SystemFiles<'a, R> {
         Ok(file)
     }
 
-    fn create(&mut self, path: &str) -> io::Result<R::File> {
-        fs::create(self.files, path)
+    fn create(&mut self, path: &str, spared: &Spared) -> io::Result<R::File> {
+        make_anew(self.files, path, spared)
     }
 
     fn close(&mut self, _path: &str, _file: R::File) {}
@@ -130,5 +145,17 @@ impl<'a, R: Files> Opener for SystemFiles<'a, R> {
         fs::metadata(self.files, path)
             .ok()
             .map(|metadata| metadata.len())
+    }
+
+    fn file_at(&self, path: &str) -> Option<FileId> {
+        file_at(self.files, path)
+    }
+
+    fn is_one(&self, one: &str, other: &str) -> bool {
+        is_one(self.files, one, other)
+    }
+
+    fn files_to_spare(&self, alloc: Global, inputs: &Inputs<'_>) -> Result<Spared, AllocError> {
+        files_to_spare(self.files, alloc, inputs)
     }
 }

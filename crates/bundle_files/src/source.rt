@@ -1,7 +1,7 @@
 //! The bundle that is read: that of a file or of the program's input.
 ghost use Rattle.std.specs.Prelude.{◌≡◌, ◌<◌, ◌^◌, ◌-◌, ◌+◌, option_map, IfSome, IfOk};
 ghost use Rattle.std.specs.Prelude.{IfErr, OnOk};
-ghost use Rattle.bundle_files.specs.Files.{IsRead, IsUnread, StaysAllowed};
+ghost use Rattle.bundle_files.specs.Files.{IsRead, IsTextAt, IsUnread, StaysAllowed, lies_in};
 ghost use Rattle.bundle_files.specs.Inner.Formula.{IsAppended};
 
 use crate::store::Store;
@@ -25,6 +25,9 @@ pub fn read_given<D: Store, I: Source>(
     ensures bundle { IfOk result (λ bundle.
         IsRead (D.held store.old) (option_map (λ path. path.now) file.entry)
         (I.remaining input.old) bundle.items) }
+    // It is what one reading of the file handed over.
+    ensures handed { IfOk result (λ bundle. IsTextAt D.hands
+        (option_map (λ path. path.now) file.entry) (I.remaining input.old) bundle.items) }
     ensures ok { OnOk result
         ((D.failures store.new ≡ D.failures store.old) ×
         (I.failures input.new ≡ I.failures input.old)) }
@@ -52,8 +55,11 @@ pub(crate) fn append_given<D: Store, I: Source>(
     ensures held { D.held store.new ≡ D.held store.old }
     ensures allowed { StaysAllowed (D.allows store.old) (D.allows store.new) }
     ensures appended { OnOk result
-        (IsAppended (D.held store.old) (option_map (λ path. path.now) file.entry)
+        (IsAppended (lies_in (D.held store.old)) (option_map (λ path. path.now) file.entry)
         (I.remaining input.old) bytes.old.items bytes.new.items) }
+    ensures handed { OnOk result
+        (IsAppended D.hands (option_map (λ path. path.now) file.entry) (I.remaining input.old)
+        bytes.old.items bytes.new.items) }
     ensures ok { OnOk result
         ((D.failures store.new ≡ D.failures store.old) ×
         (I.failures input.new ≡ I.failures input.old)) }

@@ -4,12 +4,15 @@ ghost use Rattle.std.specs.Prelude.{IfOk, IfErr, IfSome, length};
 ghost use Rattle.std.specs.Prelude.{OnOk, OnErr};
 ghost use Rattle.case_core.specs.Leaf.{Leaf};
 ghost use Rattle.cube_report.specs.Device.{IsDeviceFault};
-ghost use Rattle.bundle_files.specs.Files.{Gives, IsFound, StaysAllowed, StaysAllowedBeside};
+ghost use Rattle.bundle_files.specs.Files.{Gives, IsFound, IsHanded, StaysAllowed};
+ghost use Rattle.bundle_files.specs.Files.{StaysAllowedBeside};
+ghost use Rattle.case_core.specs.Outline.{IsOutlineOf};
 ghost use Rattle.bundle_files.specs.Files.{held_if};
 ghost use Rattle.bundle_files.specs.Laws.{held_for};
 ghost use Rattle.bundle_files.specs.Parts.{IsOutlined, IsPart, held_in};
 
 use crate::blocks::{fill, outline_of};
+use crate::inputs::{Inputs, Spared, is_clash, is_none_written};
 use crate::opener::Opener;
 use crate::reader::FolderReader;
 use crate::sections::SectionReader;
@@ -33,6 +36,10 @@ pub trait Store {
     // Which bytes may be written at which path.
     ghost allows: { Self → List ℕ → List ℕ → Type 0 };
 
+    // Which texts readings of a path hand over: of a store that isn't known to hold anything, too,
+    // and of a path at which another text lies with each reading.
+    ghost hands: { List ℕ → List ℕ → Type 0 };
+
     /// What a worker reads a folder's proofs by.
     type Reader: LeafProofs + Send + Drop;
 
@@ -48,7 +55,29 @@ pub trait Store {
         ensures allowed { StaysAllowed (allows self.old) (allows self.new) }
         ensures found { IfOk result
             (λ there. IsFound (held self.old path.now) bytes.old.items bytes.new.items there) }
+        ensures handed { IfOk result
+            (λ there. IsHanded (hands path.now) bytes.old.items bytes.new.items there) }
         ensures ok { OnOk result (failures self.new ≡ failures self.old) }
+        ensures err { IfErr result
+            (λ fault. IsDeviceFault (failures self.old) (failures self.new) fault) };
+
+    /// The files that a run has to spare which reads these and writes at these paths; none where it
+    /// writes nothing. It is called before anything is made. Then nothing changes.
+    ///
+    /// `Device` where one of the paths names a file to be spared, or two of them one file, however
+    /// they are called; `Memory` where a growth was refused. The count of failed calls, which has
+    /// to be below its greatest value, rises by one exactly with `Device`. What names a file is
+    /// known to no contract.
+    fn spare(
+        &mut self,
+        alloc: Global,
+        inputs: &Inputs<'_>,
+        written: &[Option<&str>],
+    ) -> Result<Spared, Fault>
+        requires { failures self.old < 2 ^ 64 - 1 }
+        ensures same { OnOk result (self.new ≡ self.old) }
+        ensures held { held self.new ≡ held self.old }
+        ensures allowed { StaysAllowed (allows self.old) (allows self.new) }
         ensures err { IfErr result
             (λ fault. IsDeviceFault (failures self.old) (failures self.new) fault) };
 
@@ -57,9 +86,10 @@ pub trait Store {
     /// at this one.
     ///
     /// `Device` where it can't be made or written, and then a beginning of the bytes may lie there;
-    /// `Memory` where a growth was refused, and then nothing changes. The count of failed calls,
-    /// which has to be below its greatest value, rises by one exactly with `Device`.
-    fn write(&mut self, path: &str, bytes: &[u8]) -> Result<(), Fault>
+    /// also where the path names a file to be spared, and then nothing changes. `Memory` where a
+    /// growth was refused, and then nothing changes. The count of failed calls, which has to be
+    /// below its greatest value, rises by one exactly with `Device`.
+    fn write(&mut self, path: &str, bytes: &[u8], spared: &Spared) -> Result<(), Fault>
         requires count { failures self.old < 2 ^ 64 - 1 }
         requires allowed { allows self.old path.now bytes.now }
         ensures written { OnOk result (Gives (held self.new) path.now (Some bytes.now)) }
@@ -76,7 +106,7 @@ pub trait Store {
     /// The same for a file that is written when another one may have been: then `Memory` would say
     /// that nothing changed. So a growth that was refused counts as a failed call, too, and each
     /// fault is `Device`.
-    fn write_counted(&mut self, path: &str, bytes: &[u8]) -> Result<(), Fault>
+    fn write_counted(&mut self, path: &str, bytes: &[u8], spared: &Spared) -> Result<(), Fault>
         requires count { failures self.old < 2 ^ 64 - 1 }
         requires allowed { allows self.old path.now bytes.now }
         ensures written { OnOk result (Gives (held self.new) path.now (Some bytes.now)) }
@@ -114,6 +144,8 @@ pub trait Store {
         ensures allowed { StaysAllowed (allows self.old) (allows self.new) }
         ensures outline { IfOk result
             (λ some. IfSome some (λ outline. IsOutlined (held self.old path.now) outline)) }
+        ensures handed { IfOk result (λ some. IfSome some (λ outline. (text : List ℕ)
+            × hands path.now text × IsOutlineOf outline text)) }
         ensures ok { OnOk result (failures self.new ≡ failures self.old) }
         ensures err { IfErr result
             (λ fault. IsDeviceFault (failures self.old) (failures self.new) fault) };
@@ -224,6 +256,8 @@ impl<F: Opener> FileStore<F> {
         ensures outline { IfOk result (λ some. IfSome some (λ outline.
             IsOutlined (held_if (F.knows self.old.opener) (F.files self.old.opener path.now))
             outline)) }
+        ensures read { IfOk result (λ some. IfSome some (λ outline.
+            (text : List ℕ) × IsOutlineOf outline text)) }
         ensures ok { OnOk result (self.new.failed ≡ self.old.failed) }
         ensures err { IfErr result (λ fault. IsDeviceFault self.old.failed self.new.failed fault) }
     {
@@ -290,12 +324,30 @@ impl<F: Opener + Send + Drop> Store for FileStore<F> {
 
     ghost allows = { λ _ _ _. Unit {0} };
 
+    ghost hands = { λ _ _. Unit {0} };
+
     fn read(&mut self, path: &str, bytes: &mut Vec<u8>) -> Result<bool, Fault> {
         self.read_file(path, bytes)
     }
 
-    fn write(&mut self, path: &str, bytes: &[u8]) -> Result<(), Fault> {
-        match self.opener.create(path) {
+    fn spare(
+        &mut self,
+        alloc: Global,
+        inputs: &Inputs<'_>,
+        written: &[Option<&str>],
+    ) -> Result<Spared, Fault> {
+        if is_none_written(written) {
+            return Ok(Spared::none(alloc));
+        }
+        let spared = self.opener.files_to_spare(alloc, inputs)?;
+        if is_clash(&self.opener, &spared, written) {
+            return Err(self.broken());
+        }
+        Ok(spared)
+    }
+
+    fn write(&mut self, path: &str, bytes: &[u8], spared: &Spared) -> Result<(), Fault> {
+        match self.opener.create(path, spared) {
             Ok(file) => {
                 let mut made = Counted::new(file);
                 let result = write_all(&mut made, bytes);
@@ -312,8 +364,13 @@ impl<F: Opener + Send + Drop> Store for FileStore<F> {
         }
     }
 
-    fn write_counted(&mut self, path: &str, bytes: &[u8]) -> Result<(), Fault> {
-        match self.write(path, bytes) {
+    fn write_counted(
+        &mut self,
+        path: &str,
+        bytes: &[u8],
+        spared: &Spared,
+    ) -> Result<(), Fault> {
+        match self.write(path, bytes, spared) {
             Ok(()) => Ok(()),
             Err(Fault::Memory) => Err(self.broken()),
             Err(fault) => Err(fault),

@@ -4,7 +4,7 @@ use Rattle.std.proofs.Common.{[], Option, None, Some, ◌++◌}
 use Rattle.std.specs.Prelude.{IfSome, is_some, option_map, if◌then◌else◌}
 use Rattle.std.proofs.Common.{Result, Ok, Err, IfOk, IfErr, OnErr, MatchResult, inl, inr, arith}
 use Rattle.std.specs.Io.KnownBytes.{Appends, Keeps}
-use Rattle.bundle_files.specs.Files.{Held, Gives, IsJudgedOf}
+use Rattle.bundle_files.specs.Files.{Held, Gives, IsJudgedOf, lies_in}
 use Rattle.bundle_files.specs.Formula.{IsReadBy, IsReadFrom}
 use Rattle.bundle_files.proofs.FormulaText.{published}
 use Rattle.bundle_files.specs.Judging.{IsRefusedOf}
@@ -255,6 +255,20 @@ sound_run held later asked input out_old out_new (Err fault) status Same old new
 sound_run held later asked input out_old out_new (Err fault) status Same old new before after
     (inr told) report is = let four : status ≡ 4 = told.1 in absurd (omega arith)
 
+-- what a run that says refuted promises holds with status 0
+pub handed_run : (X : Type 0) (run : Result Bool Fault) (status : ℕ) (Same : Type 0)
+    (old new : Option (List ℕ)) (before after : ℕ)
+    → ToldRun run status Same old new before after
+    → IfOk run (λ refuted. refuted ≡ true → X) → status ≡ 0 → X
+handed_run X (Ok true) status Same old new before after told promised is = promised refl
+handed_run X (Ok false) status Same old new before after told promised is =
+    let one : status ≡ 1 = told.0 in absurd (omega arith)
+handed_run X (Err fault) status Same old new before after (inl told) promised is =
+    let above : 2 < status_of fault = above_two fault in
+    let has : status ≡ status_of fault = told.0 in absurd (omega arith)
+handed_run X (Err fault) status Same old new before after (inr told) promised is =
+    let four : status ≡ 4 = told.1 in absurd (omega arith)
+
 -- status 0, where the formula has a file of its own
 abbrev pub IsPublishedAt : Held → List ℕ → Type 0
 IsPublishedAt held path =
@@ -267,7 +281,7 @@ published_by : (held later : Held) (asked : Asked) (input out_old out_new : Opti
     → IfSome formula (IsPublishedAt held)
 published_by held later asked input out_old out_new None same report = tt
 published_by held later asked input out_old out_new (Some path) same report =
-    published held path asked.file input asked.folder report.read report.whole report.correct.case
+    published (lies_in held) held path asked.file input asked.folder report.read report.whole report.correct.case
     (subst (λ (f : Option (List ℕ)). IsReadBy held f asked.file input report.read) same
     report.bundle.is_read) report.bundle.is_judged report.correct.judged.case_is
     (report.sound refl)

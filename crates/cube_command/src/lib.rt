@@ -13,10 +13,10 @@ mod telling;
 mod watched;
 mod words;
 
-pub use bundle_files::{FileStore, Opener, Store, SystemFiles};
+pub use bundle_files::{FileId, FileStore, Inputs, Opener, Spared, Store, SystemFiles};
 pub use cube_report::{Counted, Found, Gate, NoGate, Sink, Source};
 pub use explain::{Asked, Explain, NoExplain};
-pub use log::{Log, NoLog, SystemLog};
+pub use log::{Lines, Log, NoLog, SystemLines, SystemLog};
 pub use program::command;
 pub use progress::Progress;
 pub use reading::{Meter, Metered, MeteredFiles, Watch};

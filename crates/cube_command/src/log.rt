@@ -3,20 +3,27 @@
 ghost use Rattle.std.specs.Prelude.{◌≡◌};
 ghost use Rattle.cube_report.specs.Report.{IsLineOf};
 
+use bundle_files::{Spared, make_anew};
 use cube_report::Found;
-use std::fs;
-use std::fs::{Files, OpenOptions};
+use std::fs::{Files, OpenFile};
 use std::io::Write;
 
-/// What keeps the log of a run, in a file that is asked for.
+/// What begins the log of a run, in a file that is asked for.
 pub trait Log {
-    /// Before anything is read: makes the file at this path anew. Answers whether it could be made.
-    fn begin(&self, path: &str) -> bool;
+    /// A log that was begun.
+    type Lines: Lines + Sync + Drop;
 
+    /// Before anything is read: makes the file at this path anew, unless it is one to be spared.
+    /// `None` where it wasn't made.
+    fn begin(&self, path: &str, spared: &Spared) -> Option<Self::Lines>;
+}
+
+/// A log that was begun, in which lines are kept.
+pub trait Lines {
     /// Keeps a line, which ends with a line feed, of what was found: the one that the report has of
     /// this target where it is judged so. Workers call it side by side. What can't be kept is left
     /// out.
-    fn keep(&self, path: &str, found: &Found<'_>, line: &[u8])
+    fn keep(&self, found: &Found<'_>, line: &[u8])
         requires line { IsLineOf found.now.case.now.tree found.now.target found.now.judged
             line.now };
 }
@@ -26,15 +33,19 @@ pub trait Log {
 pub struct NoLog;
 
 impl Log for NoLog {
-    fn begin(&self, _path: &str) -> bool {
-        true
-    }
+    type Lines = NoLog;
 
-    fn keep(&self, _path: &str, _found: &Found<'_>, _line: &[u8]) {}
+    fn begin(&self, _path: &str, _spared: &Spared) -> Option<NoLog> {
+        Some(NoLog)
+    }
 }
 
-/// A log among the files of a system. The file is opened for each line, and written at its end by
-/// one call, so that lines of several workers stand one below the other.
+impl Lines for NoLog {
+    fn keep(&self, _found: &Found<'_>, _line: &[u8]) {}
+}
+
+/// A log among the files of a system. The file is opened once, and each line is written at its end
+/// by one call, so that lines of several workers stand one below the other.
 #[derive(Clone, Copy)]
 pub struct SystemLog<'a, R> {
     files: &'a R,
@@ -49,13 +60,29 @@ impl<'a, R> SystemLog<'a, R> {
     }
 }
 
-impl<'a, R: Files> Log for SystemLog<'a, R> {
-    fn begin(&self, path: &str) -> bool {
-        fs::create(self.files, path).is_ok()
-    }
+impl<'a, R: Files> Log for SystemLog<'a, R>
+where
+    R::File: Sync,
+{
+    type Lines = SystemLines<R::File>;
 
-    fn keep(&self, path: &str, _found: &Found<'_>, line: &[u8]) {
-        if let Ok(mut file) = OpenOptions::new().append(true).open(self.files, path) {
+    fn begin(&self, path: &str, spared: &Spared) -> Option<SystemLines<R::File>> {
+        match make_anew(self.files, path, spared) {
+            Ok(file) => Some(SystemLines { file }),
+            Err(_) => None,
+        }
+    }
+}
+
+/// The file of a log, which is written at its end.
+#[derive(Drop)]
+pub struct SystemLines<F> {
+    file: F,
+}
+
+impl<F: Write + OpenFile + Drop> Lines for SystemLines<F> {
+    fn keep(&self, _found: &Found<'_>, line: &[u8]) {
+        if let Ok(mut file) = self.file.try_clone() {
             let _ = file.write_all(line);
         }
     }

@@ -11,7 +11,8 @@ ghost use Rattle.bundle_files.specs.Formula.{IsOneAbsent, IsUnreadFrom};
 ghost use Rattle.bundle_files.specs.Judging.{IsOutcomeOf, IsRefusedOf, IsJudgingFault};
 ghost use Rattle.bundle_files.specs.Sections.{IsCaseOf};
 ghost use Rattle.cube_report.specs.Faults.{IsInputFault};
-ghost use Rattle.cube_command.specs.Headline.{IsPublished, IsSound};
+ghost use Rattle.cube_command.specs.Headline.{IsPublished, IsRefutedAsHanded, IsSound};
+ghost use Rattle.cube_command.specs.Headline.{IsSoundAsHanded};
 ghost use Rattle.cube_command.specs.Words.{AreApart, AreTaken, asked_of, IsElsewhere, IsInput};
 ghost use Rattle.cube_command.specs.Words.{nothing_asked, sources_of};
 ghost use Rattle.cube_command.specs.Record.{record_text};
@@ -28,9 +29,9 @@ use crate::log::Log;
 use crate::reading::Watch;
 use crate::record::{begin_record, end_record};
 use crate::telling::{tell_fault, tell_run};
-use crate::watched::Watched;
+use crate::watched::Beside;
 use crate::words::{Request, request_of};
-use bundle_files::{ReadBundle, Store, judge_by_section, judge_given, read_from};
+use bundle_files::{Inputs, ReadBundle, Spared, Store, judge_by_section, judge_given, read_from};
 use clap::Error as WordsError;
 use clap::error::ErrorKind as WordsFault;
 use cube_report::{Fault, Gate, Outcome, Sink, Source, write_all};
@@ -120,6 +121,10 @@ where
     // Status 0: the formula of the bundle that was read has no model.
     ensures sound { IsSound result (D.held store.old) (asked_of (map S.text words.now))
         (I.remaining input.old) }
+    // So it is of what readings handed over, one of each file, whether or not it is known what lies
+    // there: of the bundle's formula, and with `--formula` of that of the DIMACS text.
+    ensures handed { IsSoundAsHanded result D.hands (asked_of (map S.text words.now))
+        (I.remaining input.old) }
     // With `--formula` the text of that file is a DIMACS text of a formula that has no model.
     ensures published { IsPublished result (D.held store.old) (asked_of (map S.text words.now)) }
 
@@ -174,8 +179,8 @@ where
         ⊎ IsLineWritten (E.contents errors.old) (E.contents errors.new) (E.failures errors.old)
         (E.failures errors.new) (fault_line Fault.Thread) }
     // Status 5: a device failed, and this is told. It stands where a call failed that reads or
-    // writes the report, and only there, where a file that is asked for isn't there, or where a log
-    // is asked for, whose file may be one that can't be made.
+    // writes the report, and only there, where a file that is asked for isn't there, or where the
+    // file for a log that is asked for wasn't made: then nothing was read or written.
     ensures device { result ≡ 5 →
         IsLineWritten (E.contents errors.old) (E.contents errors.new) (E.failures errors.old)
         (E.failures errors.new) (fault_line Fault.Device) }
@@ -185,17 +190,17 @@ where
         (D.failures store.old + I.failures input.old + O.failures output.old
         < D.failures store.new + I.failures input.new + O.failures output.new)
         ⊎ IsOneAbsent (D.held store.old) (sources_of (asked_of (map S.text words.now)))
-        ⊎ ((asked_of (map S.text words.now)).log ≢ None) }
+        ⊎ (((asked_of (map S.text words.now)).log ≢ None)
+        × (store.new ≡ store.old) × (input.new ≡ input.old)) }
 {
     match request_of(rt.alloc(), words) {
         Ok(request) => {
-            let gates = Watched {
+            let beside = Beside {
                 alloc: rt.alloc(),
                 gate,
                 watch,
                 is_asked: request.progress,
                 log,
-                logged: request.log,
             };
             let mut bundle = Vec::new(rt.alloc());
             let telling = Telling {
@@ -203,18 +208,18 @@ where
                 asked: asked_in(&request),
                 is_asked: request.explain,
             };
-            gates.begins_to_read();
+            beside.begins_to_read();
             let run = run_request(
                 rt,
                 store,
                 &request,
                 input,
                 output,
-                &gates,
+                &beside,
                 &telling,
                 &mut bundle,
             );
-            gates.is_over();
+            beside.is_over();
             let fault = fault_in(&run);
             let status = tell_run(rt.alloc(), errors, run);
             telling.tell_fault(rt.alloc(), &bundle, fault);
@@ -232,7 +237,7 @@ fn run_request<R, D, I, O, G, W, X, L>(
     request: &Request<'_>,
     input: &mut I,
     output: &mut O,
-    gates: &Watched<'_, G, W, L>,
+    beside: &Beside<'_, G, W, L>,
     telling: &Telling<'_, X>,
     bundle: &mut Vec<u8>,
 ) -> Result<bool, Fault>
@@ -271,6 +276,8 @@ where
         ⊎ ((O.failures output.old < O.failures output.new)
         × IsBegun (D.held store.old) (asked_in request.now) (I.remaining input.old)
         (O.contents output.old) (O.contents output.new))) }
+    ensures handed { IfOk result (λ refuted. refuted ≡ true → IsRefutedAsHanded D.hands
+        (asked_in request.now) (I.remaining input.old)) }
     ensures failed { D.failures store.old + I.failures input.old + O.failures output.old
         < D.failures store.new + I.failures input.new + O.failures output.new
         → IsErrOf result Fault.Device }
@@ -278,13 +285,89 @@ where
         (D.failures store.old + I.failures input.old + O.failures output.old
         < D.failures store.new + I.failures input.new + O.failures output.new)
         ⊎ IsOneAbsent (D.held store.old) (sources_of (asked_in request.now))
-        ⊎ (gates.now.logged ≢ None) }
+        ⊎ (((asked_in request.now).log ≢ None)
+        × (store.new ≡ store.old) × (input.new ≡ input.old)) }
 {
-    gates.begins_log()?;
-    let made = judge_request(rt, store, request, input, gates, telling, bundle)?;
+    let spared = store.spare(
+        rt.alloc(),
+        &inputs_of(request),
+        &[request.map, request.out, request.log],
+    )?;
+    let lines = beside.begins_log(request.log, &spared)?;
+    let gates = beside.with_lines(lines.as_ref());
+    run_sparing(
+        rt, store, request, input, output, &gates, telling, bundle, &spared,
+    )
+}
+
+/// The same where the log was begun, if one is asked for, writing over no file that is to be spared.
+fn run_sparing<R, D, I, O, G, X>(
+    rt: &R,
+    store: &mut D,
+    request: &Request<'_>,
+    input: &mut I,
+    output: &mut O,
+    gate: &G,
+    telling: &Telling<'_, X>,
+    bundle: &mut Vec<u8>,
+    spared: &Spared,
+) -> Result<bool, Fault>
+where
+    R: AllocGlobal + Threads + Wait + Sync,
+    D: Store,
+    I: Source,
+    O: Sink,
+    G: Gate + Sync,
+    X: Explain,
+    requires store { D.failures store.old < 2 ^ 64 - 1 }
+    requires input { I.failures input.old < 2 ^ 64 - 1 }
+    requires output { O.failures output.old < 2 ^ 64 - 1 }
+    requires reports { AllowsReportsFor (O.allows output.old) (D.held store.old)
+        (asked_in request.now) (I.remaining input.old) }
+    requires pictures { AllowsPicturesFor (D.allows store.old) (D.held store.old)
+        (asked_in request.now) (I.remaining input.old) }
+    requires records { AllowsRecordsFor (D.allows store.old) (D.held store.old)
+        (asked_in request.now) (I.remaining input.old) }
+    requires apart { AreApart (asked_in request.now).picture (asked_in request.now).out }
+    ensures report { IfOk result
+        (IsReported (D.held store.old) (D.held store.new) (asked_in request.now)
+        (I.remaining input.old) (O.contents output.old) (O.contents output.new)) }
+    ensures elsewhere { (path : List ℕ) → IsElsewhere (asked_in request.now) path
+        → D.held store.new path ≡ D.held store.old path }
+    ensures undrawn { IfErr result
+        (λ fault. fault ≢ Fault.Device → D.held store.new ≡ D.held store.old) }
+    ensures fault { IfErr result
+        (λ fault. IsInputFault fault → IsRefused (D.held store.old) (asked_in request.now)
+        (I.remaining input.old) fault) }
+    ensures nothing { IfErr result
+        (λ fault. fault ≢ Fault.Device → Keeps (O.contents output.old) (O.contents output.new)) }
+    ensures beginning { OnErr result (Keeps (O.contents output.old) (O.contents output.new)
+        ⊎ ((O.failures output.old < O.failures output.new)
+        × IsBegun (D.held store.old) (asked_in request.now) (I.remaining input.old)
+        (O.contents output.old) (O.contents output.new))) }
+    ensures handed { IfOk result (λ refuted. refuted ≡ true → IsRefutedAsHanded D.hands
+        (asked_in request.now) (I.remaining input.old)) }
+    ensures failed { D.failures store.old + I.failures input.old + O.failures output.old
+        < D.failures store.new + I.failures input.new + O.failures output.new
+        → IsErrOf result Fault.Device }
+    ensures broken { IsErrOf result Fault.Device →
+        (D.failures store.old + I.failures input.old + O.failures output.old
+        < D.failures store.new + I.failures input.new + O.failures output.new)
+        ⊎ IsOneAbsent (D.held store.old) (sources_of (asked_in request.now)) }
+{
+    let made = judge_request(rt, store, request, input, gate, telling, bundle)?;
+    write_outcome(store, output, request, &made.outcome, &made.bytes, spared)?;
     telling.tell_report(rt.alloc(), bundle, &made.outcome.text);
-    write_outcome(store, output, request, &made.outcome, &made.bytes)?;
     Ok(made.outcome.refuted)
+}
+
+/// The files that a request has read.
+fn inputs_of<'a>(request: &Request<'a>) -> Inputs<'a> {
+    Inputs {
+        formula: request.formula,
+        file: request.file,
+        proofs: request.proofs,
+    }
 }
 
 /// What is said of a bundle, and the record of it where a file for that is asked for.
@@ -319,6 +402,8 @@ where
     ensures made { IfOk result (λ made. IsRecordedFor (D.held store.old) (asked_in request.now)
         (I.remaining input.old) made.outcome.text.items made.outcome.map.items
         made.outcome.refuted made.bytes.items) }
+    ensures handed { IfOk result (λ made. made.outcome.refuted ≡ true → IsRefutedAsHanded D.hands
+        (asked_in request.now) (I.remaining input.old)) }
     ensures fault { IfErr result (λ fault. IsInputFault fault → IsRefused (D.held store.old)
         (asked_in request.now) (I.remaining input.old) fault) }
     ensures ok { OnOk result ((D.failures store.new ≡ D.failures store.old)
@@ -352,6 +437,8 @@ where
     ensures outcome { IfOk result (λ some. IfSome some (λ outcome. (input : Option (List ℕ))
         → IsRecordedFor (D.held store.old) (asked_in request.now) input outcome.text.items
         outcome.map.items outcome.refuted [])) }
+    ensures handed { IfOk result (λ some. IfSome some (λ outcome. outcome.refuted ≡ true
+        → (input : Option (List ℕ)) → IsRefutedAsHanded D.hands (asked_in request.now) input)) }
     ensures fault { IfErr result (λ fault. ¬ IsInputFault fault) }
     ensures ok { OnOk result (D.failures store.new ≡ D.failures store.old) }
     ensures err { IfErr result (IsJudgingFault (D.failures store.old) (D.failures store.new)) }
@@ -402,6 +489,8 @@ where
     ensures made { IfOk result (λ made. IsRecordedFor (D.held store.old) (asked_in request.now)
         (I.remaining input.old) made.outcome.text.items made.outcome.map.items
         made.outcome.refuted made.bytes.items) }
+    ensures handed { IfOk result (λ made. made.outcome.refuted ≡ true → IsRefutedAsHanded D.hands
+        (asked_in request.now) (I.remaining input.old)) }
     ensures fault { IfErr result (λ fault. IsInputFault fault → IsRefused (D.held store.old)
         (asked_in request.now) (I.remaining input.old) fault) }
     ensures ok { OnOk result ((D.failures store.new ≡ D.failures store.old)
@@ -475,6 +564,7 @@ fn write_outcome<D: Store, O: Sink>(
     request: &Request<'_>,
     outcome: &Outcome,
     made: &[u8],
+    spared: &Spared,
 ) -> Result<(), Fault>
     requires store { D.failures store.old < 2 ^ 64 - 1 }
     requires output { O.failures output.old < 2 ^ 64 - 1 }
@@ -506,13 +596,18 @@ fn write_outcome<D: Store, O: Sink>(
         (D.failures store.old + O.failures output.old)
         (D.failures store.new + O.failures output.new) fault) }
 {
-    write_picture(store, request.map, &outcome.map)?;
-    write_record(store, request.out, made)?;
+    write_picture(store, request.map, &outcome.map, spared)?;
+    write_record(store, request.out, made, spared)?;
     write_all(output, &outcome.text)
 }
 
 /// Writes the picture, where a file for it is asked for.
-fn write_picture<D: Store>(store: &mut D, path: Option<&str>, picture: &[u8]) -> Result<(), Fault>
+fn write_picture<D: Store>(
+    store: &mut D,
+    path: Option<&str>,
+    picture: &[u8],
+    spared: &Spared,
+) -> Result<(), Fault>
     requires store { D.failures store.old < 2 ^ 64 - 1 }
     requires picture { (at : List ℕ) → option_map (λ path. path.now) path ≡ Some at
         → D.allows store.old at picture.now }
@@ -530,14 +625,19 @@ fn write_picture<D: Store>(store: &mut D, path: Option<&str>, picture: &[u8]) ->
         (λ fault. IsDeviceFault (D.failures store.old) (D.failures store.new) fault) }
 {
     match path {
-        Some(path) => store.write(path, picture),
+        Some(path) => store.write(path, picture, spared),
         None => Ok(()),
     }
 }
 
 /// Writes the record, where a file for it is asked for. The picture may lie in its file by now, so
 /// each failure is one of the device.
-fn write_record<D: Store>(store: &mut D, path: Option<&str>, made: &[u8]) -> Result<(), Fault>
+fn write_record<D: Store>(
+    store: &mut D,
+    path: Option<&str>,
+    made: &[u8],
+    spared: &Spared,
+) -> Result<(), Fault>
     requires store { D.failures store.old < 2 ^ 64 - 1 }
     requires recorded { (at : List ℕ) → option_map (λ path. path.now) path ≡ Some at
         → D.allows store.old at made.now }
@@ -550,7 +650,7 @@ fn write_record<D: Store>(store: &mut D, path: Option<&str>, made: &[u8]) -> Res
     ensures failed { OnErr result (D.failures store.new ≡ D.failures store.old + 1) }
 {
     match path {
-        Some(path) => store.write_counted(path, made),
+        Some(path) => store.write_counted(path, made, spared),
         None => Ok(()),
     }
 }

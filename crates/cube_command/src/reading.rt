@@ -2,7 +2,7 @@
 
 ghost use Rattle.std.specs.Prelude.{◌≡◌};
 
-use bundle_files::Opener;
+use bundle_files::{FileId, Inputs, Opener, Spared};
 use cube_report::NoGate;
 use std::alloc::{AllocError, Global};
 use std::io;
@@ -92,8 +92,8 @@ impl<'a, F: Opener, M: Meter> Opener for MeteredFiles<'a, F, M> {
         Ok(Metered::new(file, self.meter))
     }
 
-    fn create(&mut self, path: &str) -> io::Result<F::Made> {
-        self.files.create(path)
+    fn create(&mut self, path: &str, spared: &Spared) -> io::Result<F::Made> {
+        self.files.create(path, spared)
     }
 
     fn close(&mut self, path: &str, file: F::Made) {
@@ -106,5 +106,17 @@ impl<'a, F: Opener, M: Meter> Opener for MeteredFiles<'a, F, M> {
 
     fn length(&self, path: &str) -> Option<u64> {
         self.files.length(path)
+    }
+
+    fn file_at(&self, path: &str) -> Option<FileId> {
+        self.files.file_at(path)
+    }
+
+    fn is_one(&self, one: &str, other: &str) -> bool {
+        self.files.is_one(one, other)
+    }
+
+    fn files_to_spare(&self, alloc: Global, inputs: &Inputs<'_>) -> Result<Spared, AllocError> {
+        self.files.files_to_spare(alloc, inputs)
     }
 }

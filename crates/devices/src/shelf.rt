@@ -6,7 +6,7 @@ ghost use Rattle.std.specs.IoError.{error_kind};
 ghost use Rattle.bundle_files.specs.Files.{IsOpenedAt};
 ghost use Rattle.devices.specs.Shelf.{bytes_at, lies_at};
 
-use bundle_files::Opener;
+use bundle_files::{FileId, Inputs, Opener, Spared};
 use cube_report::Fault;
 use std::alloc::{AllocError, Global};
 use std::io;
@@ -263,7 +263,7 @@ impl<'t> Opener for Shelf<'t> {
         self.pages_of(path, place as usize)
     }
 
-    fn create(&mut self, path: &str) -> io::Result<Vec<u8>> {
+    fn create(&mut self, path: &str, _spared: &Spared) -> io::Result<Vec<u8>> {
         if self.fails() {
             return Err(io::Error::from(match self.fault {
                 Fault::Memory => ErrorKind::OutOfMemory,
@@ -312,5 +312,17 @@ impl<'t> Opener for Shelf<'t> {
             Some(bytes) => Some(bytes.len() as u64),
             None => None,
         }
+    }
+
+    fn file_at(&self, _path: &str) -> Option<FileId> {
+        None
+    }
+
+    fn is_one(&self, one: &str, other: &str) -> bool {
+        one == other
+    }
+
+    fn files_to_spare(&self, alloc: Global, _inputs: &Inputs<'_>) -> Result<Spared, AllocError> {
+        Ok(Spared::none(alloc))
     }
 }

@@ -9,16 +9,16 @@ use Rattle.cube_report.specs.declared.fault.Fault.TheVariants.{ProofTwice, Devic
 use Rattle.cube_report.specs.declared.fault.Fault.TheVariants.{NoProblem, Counts}
 use Rattle.cube_report.specs.Faults.{IsInputFault}
 use Rattle.bundle_files.specs.Files.{Held}
-use Rattle.bundle_files.specs.Formula.{AddsClauses, HasDimacsFault, IsFormulaFault, IsReadBy}
+use Rattle.bundle_files.specs.Formula.{AddsClauses, HasDimacsFault, IsBundleBy, IsFormulaFault}
 use Rattle.bundle_files.specs.Formula.{IsUnreadFrom, sources_by}
 use Rattle.join_command.specs.Inner.Files.{IsUnreadBundle}
 
 -- where FILE is there, what is read doesn't depend on an input
-pub read_anyhow : (held : Held) (formula : Option (List ℕ)) (file : List ℕ)
-    (input other : Option (List ℕ)) (read : List ℕ) → IsReadBy held formula (Some file) input read →
-    IsReadBy held formula (Some file) other read
-read_anyhow held None file input other read is = is
-read_anyhow held (Some path) file input other read is = record {
+pub read_anyhow : (has : List ℕ → List ℕ → Type 0) (formula : Option (List ℕ)) (file : List ℕ)
+    (input other : Option (List ℕ)) (read : List ℕ)
+    → IsBundleBy has formula (Some file) input read → IsBundleBy has formula (Some file) other read
+read_anyhow has None file input other read is = is
+read_anyhow has (Some path) file input other read is = record {
   text = is.text;
   given = is.given;
   formula = is.formula;

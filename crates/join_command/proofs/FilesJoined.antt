@@ -10,8 +10,8 @@ use Rattle.cube_join.specs.Joined.{IsJoinedSoFar, IsStranger, IsToldBy, joined}
 use Rattle.cube_join.proofs.JoinedAll.{so_far_more}
 use Rattle.join_command.specs.declared.fault.JoinFault.{JoinFault}
 use Rattle.join_command.specs.declared.fault.JoinFault.TheVariants.{Run, Stranger}
-use Rattle.join_command.specs.Program.{AreFiles, IsAbsentAmong, behind_each}
-use Rattle.join_command.specs.Inner.Files.{AreNotAdded, IsNotAdded}
+use Rattle.join_command.specs.Program.{AreFiles, AreTextsAt, IsAbsentAmong, behind_each}
+use Rattle.join_command.specs.Inner.Files.{AreNotAdded, IsNotAdded, lies_handed}
 
 take_last : (texts : List (List ℕ)) (i : ℕ) → i < length texts →
     take (i + 1) texts ≡ take i texts ++ get_or texts i [] ∷ []
@@ -21,14 +21,33 @@ take_last (t ∷ texts) (suc i) l =
     let q : suc i + 1 ≡ suc (i + 1) = omega arith in
     rw q (ap (λ (xs : List (List ℕ)). t ∷ xs) (take_last texts i (omega (arith, l))))
 
-files_last : (held : Held) (paths texts : List (List ℕ)) (path text : List ℕ) →
-    AreFiles held paths texts → Gives held path (Some text) →
-    AreFiles held (paths ++ path ∷ []) (texts ++ text ∷ [])
-files_last held [] [] path text h g = (g, tt)
-files_last held [] (t ∷ texts) path text h g = absurd h
-files_last held (p ∷ paths) [] path text h g = absurd h
-files_last held (p ∷ paths) (t ∷ texts) path text h g =
-    (h.0, files_last held paths texts path text h.1 g)
+files_last : (has : List ℕ → List ℕ → Type 0) (paths texts : List (List ℕ)) (path text : List ℕ) →
+    AreTextsAt has paths texts → has path text →
+    AreTextsAt has (paths ++ path ∷ []) (texts ++ text ∷ [])
+files_last has [] [] path text h g = (g, tt)
+files_last has [] (t ∷ texts) path text h g = absurd h
+files_last has (p ∷ paths) [] path text h g = absurd h
+files_last has (p ∷ paths) (t ∷ texts) path text h g =
+    (h.0, files_last has paths texts path text h.1 g)
+
+-- texts that lie there and were handed over lie there
+pub texts_known : (held : Held) (hands : List ℕ → List ℕ → Type 0) (paths texts : List (List ℕ)) →
+    AreTextsAt (lies_handed held hands) paths texts → AreFiles held paths texts
+texts_known held hands [] [] h = tt
+texts_known held hands [] (t ∷ texts) h = absurd h
+texts_known held hands (p ∷ paths) [] h = absurd h
+texts_known held hands (p ∷ paths) (t ∷ texts) h =
+    (h.0.0, texts_known held hands paths texts h.1)
+
+-- and they were handed over
+pub texts_handed : (held : Held) (hands : List ℕ → List ℕ → Type 0)
+    (paths texts : List (List ℕ)) →
+    AreTextsAt (lies_handed held hands) paths texts → AreTextsAt hands paths texts
+texts_handed held hands [] [] h = tt
+texts_handed held hands [] (t ∷ texts) h = absurd h
+texts_handed held hands (p ∷ paths) [] h = absurd h
+texts_handed held hands (p ∷ paths) (t ∷ texts) h =
+    (h.0.1, texts_handed held hands paths texts h.1)
 
 -- a file that isn't there is one of these
 absent_among : (held : Held) (paths : List (List ℕ)) (i : ℕ) → i < length paths →
@@ -38,47 +57,49 @@ absent_among held (p ∷ paths) zero l g = inl g
 absent_among held (p ∷ paths) (suc i) l g = inr (absent_among held paths i (omega (arith, l)) g)
 
 -- the reports that were joined before, behind the line in the first of these files, so many
-abbrev pub AreJoined : Held → List ℕ → SplitTree → List (List ℕ) → ℕ → List Mark → Type 0
-AreJoined held line tree paths index marks =
-    (reports : List (List ℕ)) × AreFiles held (take index paths) (behind_each line reports)
+abbrev pub AreJoined : (List ℕ → List ℕ → Type 0) → List ℕ → SplitTree → List (List ℕ) → ℕ →
+    List Mark → Type 0
+AreJoined has line tree paths index marks =
+    (reports : List (List ℕ)) × AreTextsAt has (take index paths) (behind_each line reports)
     × IsJoinedSoFar tree reports marks
 
 -- one more file
-pub more_files : (held : Held) (line : List ℕ) (tree : SplitTree) (paths : List (List ℕ))
-    (index : ℕ) (marks next : List Mark) → index < length paths →
-    AreJoined held line tree paths index marks →
-    (report : List ℕ) × Gives held (get_or paths index []) (Some (line ++ report))
+pub more_files : (has : List ℕ → List ℕ → Type 0) (line : List ℕ) (tree : SplitTree)
+    (paths : List (List ℕ)) (index : ℕ) (marks next : List Mark) → index < length paths →
+    AreJoined has line tree paths index marks →
+    (report : List ℕ) × has (get_or paths index []) (line ++ report)
     × (told : List Mark) × IsToldBy tree report told × (next ≡ joined marks told) →
-    AreJoined held line tree paths (index + 1) next
-more_files held line tree paths index marks next l h one = (
+    AreJoined has line tree paths (index + 1) next
+more_files has line tree paths index marks next l h one = (
   h.0 ++ one.0 ∷ [],
   rw (take_last paths index l, map-append (λ (report : List ℕ). line ++ report) h.0 (one.0 ∷ []))
-      (files_last held (take index paths) (behind_each line h.0) (get_or paths index [])
+      (files_last has (take index paths) (behind_each line h.0) (get_or paths index [])
       (line ++ one.0) h.1 one.1),
   so_far_more tree h.0 marks next one.2 one.0 h.2 one.3 one.4,
 )
 
 -- why one of them wasn't joined is why they weren't
-pub one_not_added : (held : Held) (line : List ℕ) (tree : SplitTree) (paths : List (List ℕ))
+pub one_not_added : (held : Held) (hands : List ℕ → List ℕ → Type 0) (line : List ℕ)
+    (tree : SplitTree) (paths : List (List ℕ))
     (index before after : ℕ) (marks : List Mark) (fault : JoinFault) → index < length paths →
-    AreJoined held line tree paths index marks →
+    AreJoined (lies_handed held hands) line tree paths index marks →
     IsNotAdded held line tree (get_or paths index []) (index + 1) before after fault →
     AreNotAdded held line tree paths before after fault
-one_not_added held line tree paths index before after marks (Run fault) l h (inl memory) =
+one_not_added held hands line tree paths index before after marks (Run fault) l h (inl memory) =
     inl memory
-one_not_added held line tree paths index before after marks (Run fault) l h
+one_not_added held hands line tree paths index before after marks (Run fault) l h
     (inr (device, inl grew)) = inr (device, inl grew)
-one_not_added held line tree paths index before after marks (Run fault) l h
+one_not_added held hands line tree paths index before after marks (Run fault) l h
     (inr (device, inr absent)) =
     inr (device, inr (absent.0, absent_among held paths index l absent.1))
-one_not_added held line tree paths index before after marks (Stranger number) l h why = (
+one_not_added held hands line tree paths index before after marks (Stranger number) l h why = (
   why.1,
   record {
     index = index;
     is_number = why.0;
     inside = l;
     before = h.0;
-    files = h.1;
+    files = texts_known held hands (take index paths) (behind_each line h.0) h.1;
     marks = marks;
     reports = h.2;
     text = why.2.0;

@@ -19,10 +19,13 @@ use Rattle.cube_join.proofs.JoinedAll.{is_joined}
 use Rattle.join_command.specs.declared.fault.JoinFault.{JoinFault}
 use Rattle.join_command.specs.declared.fault.JoinFault.TheVariants.{Run, Stranger}
 use Rattle.join_command.specs.Words.{Asked, sources_of}
-use Rattle.join_command.specs.Program.{AreFiles, AreRead, IsJoinBegun, IsJoinOf, IsJoinWritten}
+use Rattle.join_command.specs.Program.{AreFiles, AreRead, AreTextsAt, IsJoinBegun, IsJoinOf}
+use Rattle.join_command.specs.Program.{IsJoinWritten}
 use Rattle.join_command.specs.Program.{IsStrangerAt, behind_each, line_before}
 use Rattle.cube_report.specs.Device.{AppendsBeginning}
 use Rattle.join_command.specs.Inner.Files.{AreNotAdded, IsUnjoined, IsUnreadBundle, IsUnwritten}
+use Rattle.join_command.specs.Inner.Files.{lies_handed}
+use Rattle.join_command.proofs.FilesJoined.{texts_known}
 use Rattle.cube_report.specs.declared.fault.Fault.{Fault}
 use Rattle.cube_report.specs.declared.fault.Fault.TheVariants.{Memory}
 use Rattle.join_command.proofs.RecordsTold.{reports_told}
@@ -101,15 +104,15 @@ memory_fault held bundle front paths before after result same told =
     (inr (inl (refl, same))) told
 
 -- the joined report, on the bundle's case
-pub joined_on : (held : Held) (paths : List (List ℕ)) (line bundle : List ℕ) (case : CaseOf)
+pub joined_on : (has : List ℕ → List ℕ → Type 0) (paths : List (List ℕ)) (line bundle : List ℕ) (case : CaseOf)
     (tree : SplitTree) (marks : List Mark) (text : List ℕ) (answer : Bool) →
     IsCaseOf bundle case → tree ≡ case.tree →
-    (reports : List (List ℕ)) × AreFiles held paths (behind_each line reports)
+    (reports : List (List ℕ)) × AreTextsAt has paths (behind_each line reports)
     × IsJoinedSoFar tree reports marks →
     text ≡ report_text tree marks → answer ≡ marked (refuted_by marks) 0 tree →
-    (reports : List (List ℕ)) × AreFiles held paths (behind_each line reports)
+    (reports : List (List ℕ)) × AreTextsAt has paths (behind_each line reports)
     × IsJoined bundle reports text answer
-joined_on held paths line bundle case tree marks text answer is same far t a = (
+joined_on has paths line bundle case tree marks text answer is same far t a = (
   far.0,
   far.1,
   is_joined bundle case far.0 marks text answer is
@@ -117,6 +120,17 @@ joined_on held paths line bundle case tree marks text answer is same far t a = (
       (t ∙ ap (λ (x : SplitTree). report_text x marks) same)
       (a ∙ ap (λ (x : SplitTree). marked (refuted_by marks) 0 x) same),
 )
+
+-- of texts that lie there and were handed over, they lie there
+pub far_known : (held : Held) (hands : List ℕ → List ℕ → Type 0) (paths : List (List ℕ))
+    (line bundle text : List ℕ) (answer : Bool)
+    → (reports : List (List ℕ))
+    × AreTextsAt (lies_handed held hands) paths (behind_each line reports)
+    × IsJoined bundle reports text answer
+    → (reports : List (List ℕ)) × AreFiles held paths (behind_each line reports)
+    × IsJoined bundle reports text answer
+far_known held hands paths line bundle text answer far =
+    (far.0, texts_known held hands paths (behind_each line far.0) far.1, far.2)
 
 -- what was read, and what a join of it promises
 pub join_of : (held : Held) (asked : Asked) (bundle line text : List ℕ) (answer : Bool) →

@@ -11,8 +11,10 @@ use Rattle.case_core.specs.Bundle.{icnf_text}
 use Rattle.case_core.specs.Case.{CaseOf}
 use Rattle.case_core.specs.Sections.{IsCaseOf}
 use Rattle.case_core.proofs.IcnfUnique.{one_text_of, text_of}
-use Rattle.bundle_files.specs.Files.{Held, Gives}
-use Rattle.bundle_files.specs.Formula.{IsReadBy, IsUnderFormula}
+use Rattle.bundle_files.specs.Files.{Held, Gives, lies_in}
+use Rattle.bundle_files.specs.Formula.{IsBundleBy, IsHandedFrom, IsReadBy, IsUnder}
+use Rattle.bundle_files.specs.Formula.{IsUnderFormula}
+use Rattle.cube_join.specs.Joined.{IsJoined}
 use Rattle.bundle_files.proofs.FormulaText.{bundle_formula}
 use Rattle.cube_report.specs.declared.fault.Fault.{Fault}
 use Rattle.cube_report.specs.declared.fault.Fault.TheVariants.{Header, Token, Unfinished, TooLarge}
@@ -27,7 +29,12 @@ use Rattle.join_command.specs.declared.fault.JoinFault.{JoinFault}
 use Rattle.join_command.specs.declared.fault.JoinFault.TheVariants.{Run, Stranger}
 use Rattle.join_command.specs.Program.{AllowsJoinFaults, AreRead, AreTrusted, IsAskedAbsent}
 use Rattle.join_command.specs.Program.{IsJoinWritten, IsReadingFault, IsRefused, join_fault_line}
-use Rattle.join_command.specs.Words.{Asked}
+use Rattle.join_command.specs.Headline.{IsJoinedAsHanded}
+use Rattle.join_command.specs.Program.{AreTextsAt, behind_each, line_before}
+use Rattle.join_command.specs.Inner.Files.{lies_handed}
+use Rattle.join_command.specs.Words.{Asked, sources_of}
+use Rattle.join_command.proofs.FilesJoined.{texts_handed}
+use Rattle.join_command.proofs.RecordsTold.{reports_told}
 use Rattle.join_command.specs.Inner.Files.{IsUnwritten}
 use Rattle.join_command.specs.Inner.Telling.{IsFaultWritten, status_of, status_of_answer}
 use Rattle.join_command.specs.Inner.Telling.{status_of_run}
@@ -150,10 +157,10 @@ IsPublished held asked path =
     × (AreTrusted asked.unbound bundle texts → HasNoModel formula)
 
 -- where the bundle has no model, the formula of that file has none
-no_model_under : (held : Held) (path : List ℕ) (file input : Option (List ℕ)) (read : List ℕ)
-    (case : CaseOf) (under : IsUnderFormula held path file input read) → IsCaseOf read case →
+no_model_under : (has : List ℕ → List ℕ → Type 0) (path : List ℕ) (file input : Option (List ℕ))
+    (read : List ℕ) (case : CaseOf) (under : IsUnder has path file input read) → IsCaseOf read case →
     IsUnsatisfiable read → HasNoModel under.formula
-no_model_under held path file input read case under is none =
+no_model_under has path file input read case under is none =
     let same : clauses_of is.items ≡ under.formula =
     bundle_formula under.text under.over under.rest under.formula is.items under.dimacs
     under.overwritten
@@ -180,7 +187,7 @@ published_by held asked (Some path) old new same join =
       under.formula,
       under.dimacs,
       λ are.
-          no_model_under held path (Some asked.file) None join.bundle join.joined.2.case under
+          no_model_under (lies_in held) path (Some asked.file) None join.bundle join.joined.2.case under
           join.joined.2.case_is (join.sound are refl),
     )
 
@@ -393,3 +400,59 @@ pub memory_allowed : (texts : List ℕ → Type 0) (held : Held) (asked : Asked)
     AllowsJoinFaults texts held asked →
     texts (join_fault_line (Run Memory))
 memory_allowed texts held asked may = may (Run Memory) (λ read. absurd (read.0 refl))
+
+-- ---- status 0, of what readings handed over
+
+-- the formula of the file of its own
+formula_handed : (hands : List ℕ → List ℕ → Type 0) (formula : Option (List ℕ)) (file : List ℕ)
+    (bundle : List ℕ) (case : CaseOf) (Premise : Type 0)
+    → IsBundleBy hands formula (Some file) None bundle → IsCaseOf bundle case
+    → (Premise → IsUnsatisfiable bundle)
+    → IfSome formula (λ path. (text : List ℕ) × hands path text
+    × (formula : List (List Literal)) × IsDimacs text formula × (Premise → HasNoModel formula))
+formula_handed hands None file bundle case Premise is case_is none = tt
+formula_handed hands (Some path) file bundle case Premise under case_is none = (
+  under.text,
+  under.given,
+  under.formula,
+  under.dimacs,
+  λ are. no_model_under hands path (Some file) None bundle case under case_is (none are),
+)
+
+-- a join that says refuted, of texts that were handed over
+pub join_handed : (held : Held) (hands : List ℕ → List ℕ → Type 0) (asked : Asked)
+    (bundle line text : List ℕ) (answer : Bool)
+    → IsHandedFrom hands (sources_of asked) None bundle
+    → line ≡ line_before asked.unbound bundle
+    → (reports : List (List ℕ))
+    × AreTextsAt (lies_handed held hands) asked.records (behind_each line reports)
+    × IsJoined bundle reports text answer
+    → answer ≡ true → IsJoinedAsHanded hands asked
+join_handed held hands asked bundle line text answer there is far says =
+    let sound : AreTrusted asked.unbound bundle (behind_each line far.0) → IsUnsatisfiable bundle =
+    λ are. far.2.sound
+    (reports_told asked.unbound bundle (behind_each line far.0) far.0 far.2.case far.2.case_is
+    (ap (λ (before : List ℕ). behind_each before far.0) is) are) says in
+    record {
+      bundle = bundle;
+      of_file = there;
+      texts = behind_each line far.0;
+      of_records = texts_handed held hands asked.records (behind_each line far.0) far.1;
+      none = sound;
+      formula =
+          formula_handed hands asked.formula asked.file bundle far.2.case
+          (AreTrusted asked.unbound bundle (behind_each line far.0)) there far.2.case_is sound;
+    }
+
+pub handed_join : (X : Type 0) (run : Result Bool JoinFault) (status : ℕ) (Same : Type 0)
+    (old new : Option (List ℕ)) (before after : ℕ)
+    → ToldRun run status Same old new before after
+    → IfOk run (λ refuted. refuted ≡ true → X) → status ≡ 0 → X
+handed_join X (Ok true) status Same old new before after told promised is = promised refl
+handed_join X (Ok false) status Same old new before after told promised is =
+    let one : status ≡ 1 = told.0 in absurd (omega arith)
+handed_join X (Err fault) status Same old new before after (inl told) promised is =
+    let above : 2 < status_of fault = above_two fault in
+    let has : status ≡ status_of fault = told.0 in absurd (omega arith)
+handed_join X (Err fault) status Same old new before after (inr told) promised is =
+    let four : status ≡ 4 = told.1 in absurd (omega arith)

@@ -11,7 +11,7 @@ use Rattle.cube_report.specs.Faults.{IsInputFault, fault_text}
 use Rattle.cube_report.specs.Device.{AppendsBeginning}
 use Rattle.cube_report.specs.Bundle.{icnf_text}
 use Rattle.cube_report.specs.Correct.{IsFaultOn, IsUnsatisfiable}
-use Rattle.bundle_files.specs.Files.{Held, Gives, IsJudgedOf}
+use Rattle.bundle_files.specs.Files.{Held, Gives, IsJudgedOf, lies_in}
 use Rattle.bundle_files.specs.Formula.{IsFormulaFault, IsOneAbsent, IsReadFrom}
 use Rattle.cube_join.specs.Joined.{AreReportsWith, IsJoined, IsJoinedSoFar, IsStranger}
 use Rattle.cube_command.specs.Record.{IsRecordOn, digest_line}
@@ -21,13 +21,16 @@ use Rattle.join_command.specs.declared.fault.JoinFault.TheVariants.{Run, Strange
 
 -- ---- what is read
 
+-- each path has its text
+abbrev pub AreTextsAt : (List ℕ → List ℕ → Type 0) → List (List ℕ) → List (List ℕ) → Type 0
+AreTextsAt has [] [] = Unit {0}
+AreTextsAt has [] (text ∷ texts) = ⊥
+AreTextsAt has (path ∷ paths) [] = ⊥
+AreTextsAt has (path ∷ paths) (text ∷ texts) = has path text × AreTextsAt has paths texts
+
 -- at each path lies its text, as far as is known
 abbrev pub AreFiles : Held → List (List ℕ) → List (List ℕ) → Type 0
-AreFiles held [] [] = Unit {0}
-AreFiles held [] (text ∷ texts) = ⊥
-AreFiles held (path ∷ paths) [] = ⊥
-AreFiles held (path ∷ paths) (text ∷ texts) =
-    Gives held path (Some text) × AreFiles held paths texts
+AreFiles held paths texts = AreTextsAt (lies_in held) paths texts
 
 -- the bundle of FILE, under the formula that has a file of its own, and the bytes of each RECORD
 pub record AreRead (held : Held) (asked : Asked) (bundle : List ℕ) (texts : List (List ℕ))

@@ -4,11 +4,12 @@ ghost use Rattle.std.specs.Prelude.{◌≡◌, ◌≢◌, ◌<◌, ◌^◌, ◌-
 ghost use Rattle.std.specs.Prelude.{IfOk, IfErr, MatchOption, OnOk, option_map};
 ghost use Rattle.cube_report.specs.Mark.{Mark};
 ghost use Rattle.bundle_files.specs.Files.{Gives, IsUnread};
-ghost use Rattle.bundle_files.specs.Formula.{IsReadFrom, sources_by};
+ghost use Rattle.bundle_files.specs.Formula.{IsHandedFrom, IsReadFrom, sources_by};
 ghost use Rattle.cube_join.specs.Joined.{IsJoinedSoFar, IsLegible, IsToldBy, joined};
 ghost use Rattle.cube_join.specs.Joined.{none_marked};
-ghost use Rattle.join_command.specs.Program.{AreFiles, behind_each, line_before};
+ghost use Rattle.join_command.specs.Program.{AreTextsAt, behind_each, line_before};
 ghost use Rattle.join_command.specs.Inner.Files.{AreNotAdded, IsNotAdded, IsUnreadBundle};
+ghost use Rattle.join_command.specs.Inner.Files.{lies_handed};
 
 use crate::fault::JoinFault;
 use bundle_files::{Store, read_from};
@@ -30,6 +31,9 @@ pub(crate) fn read_bundle<D: Store>(
     requires store { D.failures store.old < 2 ^ 64 - 1 }
     ensures held { D.held store.new ≡ D.held store.old }
     ensures bundle { IfOk result (λ bundle. IsReadFrom (D.held store.old)
+        (sources_by (option_map (λ path. path.now) formula.entry) (Some file.now)) None
+        bundle.items) }
+    ensures handed { IfOk result (λ bundle. IsHandedFrom D.hands
         (sources_by (option_map (λ path. path.now) formula.entry) (Some file.now)) None
         bundle.items) }
     ensures ok { OnOk result (D.failures store.new ≡ D.failures store.old) }
@@ -66,6 +70,7 @@ pub(crate) fn read_whole<D: Store>(
     requires store { D.failures store.old < 2 ^ 64 - 1 }
     ensures held { D.held store.new ≡ D.held store.old }
     ensures text { IfOk result (λ text. Gives (D.held store.old) path.now (Some text.items)) }
+    ensures handed { IfOk result (λ text. D.hands path.now text.items) }
     ensures ok { OnOk result (D.failures store.new ≡ D.failures store.old) }
     ensures err { IfErr result (IsUnread (D.held store.old) (Some path.now)
         (D.failures store.old) (D.failures store.new)) }
@@ -116,7 +121,7 @@ fn join_file<D: Store>(
     ensures held { D.held store.new ≡ D.held store.old }
     ensures tree { join.new.tree ≡ join.old.tree }
     ensures joined { OnOk result ((report : List ℕ)
-        × Gives (D.held store.old) path.now (Some (line.now ++ report))
+        × lies_handed (D.held store.old) D.hands path.now (line.now ++ report)
         × (told : List Mark) × IsToldBy join.old.tree report told
         × (join.new.marks ≡ joined join.old.marks told)) }
     ensures ok { OnOk result (D.failures store.new ≡ D.failures store.old) }
@@ -148,7 +153,7 @@ pub(crate) fn join_files<D: Store>(
     ensures held { D.held store.new ≡ D.held store.old }
     ensures tree { join.new.tree ≡ join.old.tree }
     ensures joined { OnOk result ((reports : List (List ℕ))
-        × AreFiles (D.held store.old) (map (λ path. path.now) paths.now)
+        × AreTextsAt (lies_handed (D.held store.old) D.hands) (map (λ path. path.now) paths.now)
         (behind_each line.now reports)
         × IsJoinedSoFar join.old.tree reports join.new.marks) }
     ensures ok { OnOk result (D.failures store.new ≡ D.failures store.old) }

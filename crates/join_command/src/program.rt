@@ -8,12 +8,13 @@ ghost use Rattle.cube_report.specs.declared.fault.Fault.TheVariants.{Memory, Dev
 ghost use Rattle.cube_join.specs.Joined.{IsJoined};
 ghost use Rattle.cube_command.specs.Program.{IsLineWritten, IsStatus};
 ghost use Rattle.join_command.specs.Words.{AreTaken, asked_of};
-ghost use Rattle.join_command.specs.Headline.{IsPublishedJoin, IsSoundJoin};
-ghost use Rattle.join_command.specs.Program.{AllowsJoinFaults, AreFiles, AreRead};
+ghost use Rattle.join_command.specs.Headline.{IsJoinedAsHanded, IsPublishedJoin, IsSoundJoin};
+ghost use Rattle.join_command.specs.Headline.{IsSoundJoinAsHanded};
+ghost use Rattle.join_command.specs.Program.{AllowsJoinFaults, AreRead, AreTextsAt};
 ghost use Rattle.join_command.specs.Program.{IsAskedAbsent, IsJoinBegun, IsJoinOn, IsJoinWritten};
 ghost use Rattle.join_command.specs.Program.{IsReadingFault, IsRefused, behind_each};
 ghost use Rattle.join_command.specs.Program.{join_fault_line};
-ghost use Rattle.join_command.specs.Inner.Files.{IsUnjoined, IsUnwritten};
+ghost use Rattle.join_command.specs.Inner.Files.{IsUnjoined, IsUnwritten, lies_handed};
 ghost use Rattle.join_command.specs.Inner.Words.{asked_in};
 
 use crate::fault::JoinFault;
@@ -77,6 +78,9 @@ where
     // wrote them and that no digest collides, or with `--unbound` that they are reports on the
     // bundle's formula and cubes, the formula of the bundle that was read has no model.
     ensures sound { IsSoundJoin result (D.held store.old) (asked_of (map S.text words.now)) }
+    // So it is of what readings handed over, one of each file, whether or not it is known what lies
+    // there: a RECORD's digest and its report are those of one text.
+    ensures handed { IsSoundJoinAsHanded result D.hands (asked_of (map S.text words.now)) }
     // With `--formula` the text of that file is a DIMACS text of a formula that by the same premise
     // has no model.
     ensures published { IsPublishedJoin result (D.held store.old)
@@ -156,6 +160,8 @@ fn run_request<D: Store, O: Sink>(
     ensures held { D.held store.new ≡ D.held store.old }
     ensures written { IfOk result (IsJoinWritten (D.held store.old) (asked_in request.now)
         (O.contents output.old) (O.contents output.new)) }
+    ensures handed { IfOk result (λ refuted. refuted ≡ true
+        → IsJoinedAsHanded D.hands (asked_in request.now)) }
     ensures ok { OnOk result ((D.failures store.new ≡ D.failures store.old)
         × (O.failures output.new ≡ O.failures output.old)) }
     ensures nothing { IfErr result (λ fault. fault ≢ JoinFault.Run Device
@@ -186,7 +192,7 @@ fn join_all<D: Store>(
     requires store { D.failures store.old < 2 ^ 64 - 1 }
     ensures held { D.held store.new ≡ D.held store.old }
     ensures joined { IfOk result (λ joined. (reports : List (List ℕ))
-        × AreFiles (D.held store.old) (map (λ path. path.now) paths.now)
+        × AreTextsAt (lies_handed (D.held store.old) D.hands) (map (λ path. path.now) paths.now)
         (behind_each line.now reports)
         × IsJoined bundle.items reports joined.text.items joined.refuted) }
     ensures ok { OnOk result (D.failures store.new ≡ D.failures store.old) }

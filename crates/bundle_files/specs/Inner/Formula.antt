@@ -10,7 +10,7 @@ use Rattle.case_core.specs.Icnf.{Item, StandsFor, clauses_of}
 use Rattle.case_core.specs.Bundle.{lines_of, icnf_text}
 use Rattle.cube_report.specs.declared.fault.Fault.{Fault}
 use Rattle.cube_report.specs.declared.fault.Fault.TheVariants.{Counts, Device, Memory}
-use Rattle.bundle_files.specs.Files.{Held, Gives, IsRead}
+use Rattle.bundle_files.specs.Files.{Held, Gives, IsTextAt}
 use Rattle.bundle_files.specs.Formula.{HasDimacsFault, IsOverwritten}
 
 -- a problem line is there
@@ -37,18 +37,20 @@ pub record IsFirstLine (text : List ℕ) (start count : ℕ) : Type 0 where
       lines_of (front ++ (other ++ tail)) ≡ before ++ other ∷ after
 
 -- the text of a formula's file, with a header over its problem line, and what that line says
-pub record IsFormulaRead (held : Held) (path over : List ℕ) (said : code.Problem) : Type 0 where
+pub record IsFormulaRead (has : List ℕ → List ℕ → Type 0) (path over : List ℕ)
+    (said : code.Problem) : Type 0 where
   pub text : List ℕ
-  pub given : Gives held path (Some text)
+  pub given : has path text
   pub formula : List (List Literal)
   pub dimacs : IsDimacs text formula
   pub said_is : said ≡ told_problem dimacs.problem
   pub overwritten : IsOverwritten text over
 
 -- bytes grew by the text of the file, or of the input where no file is asked for
-abbrev pub IsAppended : Held → Option (List ℕ) → Option (List ℕ) → List ℕ → List ℕ → Type 0
-IsAppended held file input old new =
-    (rest : List ℕ) × IsRead held file input rest × (new ≡ old ++ rest)
+abbrev pub IsAppended : (List ℕ → List ℕ → Type 0) → Option (List ℕ) → Option (List ℕ) →
+    List ℕ → List ℕ → Type 0
+IsAppended has file input old new =
+    (rest : List ℕ) × IsTextAt has file input rest × (new ≡ old ++ rest)
 
 -- the text of the formula's file has this fault
 abbrev pub IsFaultyFormula : Held → List ℕ → Fault → Type 0

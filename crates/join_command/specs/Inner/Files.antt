@@ -15,6 +15,10 @@ use Rattle.join_command.specs.declared.fault.JoinFault.TheVariants.{Run, Strange
 use Rattle.join_command.specs.Program.{IsAbsentAmong, IsAskedAbsent, IsRefused, IsStrangerAt}
 use Rattle.join_command.specs.Words.{Asked}
 
+-- a text that lies at a path, as far as is known, and that one reading of it handed over
+abbrev pub lies_handed : Held → (List ℕ → List ℕ → Type 0) → List ℕ → List ℕ → Type 0
+lies_handed held hands path text = Gives held path (Some text) × hands path text
+
 -- Why a file wasn't read, where so many calls had failed and have: want of memory, without a failed
 -- call; or a fault of the device, where a call failed or a file is absent.
 abbrev pub IsUnreadWhere : Type 0 → ℕ → ℕ → Fault → Type 0

@@ -1,6 +1,6 @@
 use Rattle.std.proofs.Common.{◌≡◌, ◌<◌, ap, subst, List, ℕ, ◌++◌, length, take, rules}
 use Rattle.case_core.specs.Outline.{IsOutlineOf}
-use Rattle.bundle_files.proofs.BlocksLines.{more_read, all_read}
+use Rattle.bundle_files.proofs.BlocksLines.{more_read, all_read, all_handed}
 use Rattle.bundle_files.proofs.blocks.outline_of.Goals as goal
 
 pub loop-count-preserved : goal.loop-count-preserved
@@ -25,5 +25,12 @@ returns-then-count-eq0-clause-outline g c =
     (take c.in-Ok.count c.read.new.buffer) c.loop-count.invariant.read
     c.in-Ok.ensures.bytes.0 (ap (λ (n : ℕ). take n c.read.new.buffer) none)
     (c.in-Ok.ensures.bytes.1 none some)
+    (λ text whole is. subst (λ (block : List ℕ). IsOutlineOf c.add.new.self (text ++ block))
+    c.deref.ensures.value (c.in_ok-add.ensures.ok text whole is))
+
+pub returns-then-count-eq0-clause-read : goal.returns-then-count-eq0-clause-read
+returns-then-count-eq0-clause-read g c =
+    all_handed (g.S.Source.remaining c.args.source.now) (g.S.Source.remaining c.loop-count.source)
+    c.loop-count.outline c.add.new.self c.loop-count.begun.items c.loop-count.invariant.read
     (λ text whole is. subst (λ (block : List ℕ). IsOutlineOf c.add.new.self (text ++ block))
     c.deref.ensures.value (c.in_ok-add.ensures.ok text whole is))

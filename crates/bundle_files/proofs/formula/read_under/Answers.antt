@@ -1,5 +1,6 @@
 use Rattle.std.proofs.Common.{List, ℕ, option_map, Bor, Some, inl, refl}
 use Rattle.cube_report.specs.Faults.{IsInputFault}
+use Rattle.bundle_files.specs.Files.{lies_in}
 use Rattle.bundle_files.specs.Formula.{IsFormulaFault}
 use Rattle.bundle_files.proofs.FormulaReading.{adds_clauses, handed_on, under_formula}
 use Rattle.bundle_files.proofs.formula.read_under.Goals as goal
@@ -31,9 +32,18 @@ returns-in_err-case-clause-fault g c =
 
 pub returns-clause-bundle : goal.returns-clause-bundle
 returns-clause-bundle g c =
-    under_formula (g.D.Store.held c.args.store.now) (g.D.Store.held c.read_formula.new.store)
+    under_formula (lies_in (g.D.Store.held c.args.store.now))
     c.args.path.now _ _ c.in_ok-bundle.bundle.items c.push.new.self.items
     c.append_given.new.bytes.items c.append_given.new.bytes.items c.in_ok-bundle.said
-    c.in_ok-bundle.ensures.read c.in_ok-bundle.ensures.held c.in_ok-push.ensures.items
-    c.in_ok-append_given.ensures.appended refl
+    c.in_ok-bundle.ensures.read c.in_ok-push.ensures.items
+    (rw c.in_ok-bundle.ensures.held at c.in_ok-append_given.ensures.appended) refl
+    (rw c.deref.ensures.value at c.in_ok-case.ensures.ok)
+
+pub returns-clause-handed : goal.returns-clause-handed
+returns-clause-handed g c =
+    under_formula g.D.Store.hands
+    c.args.path.now _ _ c.in_ok-bundle.bundle.items c.push.new.self.items
+    c.append_given.new.bytes.items c.append_given.new.bytes.items c.in_ok-bundle.said
+    c.in_ok-bundle.ensures.handed c.in_ok-push.ensures.items
+    c.in_ok-append_given.ensures.handed refl
     (rw c.deref.ensures.value at c.in_ok-case.ensures.ok)

@@ -1,10 +1,11 @@
 use Rattle.std.proofs.Common.{◌≡◌, arith, map, subst, sym}
 use Rattle.cube_command.specs.Words.{AreApart, Asked, asked_of, IsElsewhere}
+use Rattle.cube_command.specs.Headline.{IsRefutedAsHanded}
 use Rattle.cube_command.specs.Program.{AllowsPicturesFor, AllowsRecordsFor, AllowsReportsFor}
 use Rattle.cube_command.proofs.WordsPaths.{input_apart}
 use Rattle.cube_command.proofs.WordsRequests.{none_asked, nothing_taken}
 use Rattle.cube_command.proofs.ProgramRuns.{device_run, fault_run, memory_run, sound_run}
-use Rattle.cube_command.proofs.ProgramRuns.{fault_asked, memory_asked, published_run}
+use Rattle.cube_command.proofs.ProgramRuns.{fault_asked, handed_run, memory_asked, published_run}
 use Rattle.cube_command.proofs.program.command.Goals as goal
 
 pub run_request-run-requires-clause-reports : goal.run_request-run-requires-clause-reports
@@ -110,3 +111,12 @@ returns-in-Err-clause-none g c = λ empty.
     let four : c.refused.result ≡ 4 =
     c.refused.ensures.usage (c.in-Err.ensures.refused (nothing_taken _ _ empty)) in
     (λ two. omega (arith, four, two), none_asked g.S.AsStr.text c.args.words.now empty)
+
+pub returns-in-Ok-clause-handed : goal.returns-in-Ok-clause-handed
+returns-in-Ok-clause-handed g c = λ zero.
+    handed_run (IsRefutedAsHanded g.D.Store.hands (asked_of (map g.S.AsStr.text c.args.words.now))
+    (g.I.Source.remaining c.args.input.now)) c.run_request-run.result c.tell_run-status.result _
+    (g.E.Sink.contents c.args.errors.now) (g.E.Sink.contents c.tell_run-status.new.errors)
+    (g.E.Sink.failures c.args.errors.now) (g.E.Sink.failures c.tell_run-status.new.errors)
+    c.tell_run-status.ensures.told
+    (rw c.in-Ok.ensures.asked at c.run_request-run.ensures.handed) zero

@@ -2,7 +2,7 @@ use Rattle.std.proofs.Common.{List, ℕ, Bor, inr}
 use Rattle.cube_report.specs.Faults.{IsInputFault}
 use Rattle.cube_command.specs.Program.{IsRefused}
 use Rattle.cube_command.specs.Inner.Words.{asked_in}
-use Rattle.cube_command.proofs.ProgramMade.{made_of}
+use Rattle.cube_command.proofs.ProgramMade.{handed_read, made_of}
 use Rattle.cube_command.proofs.ProgramRuns.{some_mapped}
 use Rattle.cube_command.proofs.WordsRequests.{handed_on}
 use Rattle.cube_command.proofs.program.judge_read.Goals as goal
@@ -24,3 +24,10 @@ returns-clause-made g c =
     c.is_some.ensures)
     (rw c.in_ok-read.ensures.held at c.judge_recorded.ensures.outcome)
     c.judge_recorded.ensures.record
+
+pub returns-clause-handed : goal.returns-clause-handed
+returns-clause-handed g c =
+    handed_read c.judge_recorded.result g.D.Store.hands (g.D.Store.held c.args.store.now)
+    (asked_in c.args.request.now) (g.I.Source.remaining c.args.input.now)
+    c.in_ok-read.read.bundle.items c.is_some.result c.in_ok-read.ensures.handed
+    (rw c.in_ok-read.ensures.held at c.judge_recorded.ensures.outcome)

@@ -1,4 +1,4 @@
-use Rattle.std.proofs.Common.{◌∙◌, refl, sym}
+use Rattle.std.proofs.Common.{◌∙◌, List, ℕ, refl, subst, sym}
 use Rattle.join_command.proofs.FilesJoined.{stranger_behind}
 use Rattle.join_command.proofs.files.join_file.Goals as goal
 
@@ -30,7 +30,11 @@ pub returns-clause-joined : goal.returns-clause-joined
 returns-clause-joined g c =
     let joined = c.in_ok-is_report.ensures.joined c.if-not-is_report.false in (
       c.in-Some.report.now,
-      rw (sym c.deref.ensures.value ∙ c.in-Some.ensures) at c.in_ok-text.ensures.text,
+      (
+        rw (sym c.deref.ensures.value ∙ c.in-Some.ensures) at c.in_ok-text.ensures.text,
+        subst (λ (text : List ℕ). g.D.Store.hands c.args.path.now text)
+            (sym c.deref.ensures.value ∙ c.in-Some.ensures) c.in_ok-text.ensures.handed,
+      ),
       joined.0,
       joined.1,
       joined.2,

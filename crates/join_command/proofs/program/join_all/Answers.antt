@@ -1,5 +1,6 @@
 use Rattle.std.proofs.Common.{◌∙◌, List, ℕ, map, Bor}
 use Rattle.cube_join.proofs.JoinedLegible.{legible_in}
+use Rattle.join_command.specs.Inner.Files.{lies_handed}
 use Rattle.join_command.proofs.ProgramFiles.{bundle_fault, joined_on, memory_fault}
 use Rattle.join_command.proofs.ProgramFiles.{records_fault}
 use Rattle.join_command.proofs.program.join_all.Goals as goal
@@ -18,7 +19,7 @@ join_files-requires-clause-legible g c = λ κs within.
 
 pub returns-clause-joined : goal.returns-clause-joined
 returns-clause-joined g c =
-    joined_on (g.D.Store.held c.args.store.now)
+    joined_on (lies_handed (g.D.Store.held c.args.store.now) g.D.Store.hands)
     (map {A = Bor (List ℕ)} {B = List ℕ} (λ path. path.now) c.args.paths.now) c.args.line.now
     c.args.bundle.items
     c.in_ok-case.case c.join_files.new.join.tree c.join_files.new.join.marks

@@ -1,7 +1,8 @@
 use Rattle.std.proofs.Common.{map}
+use Rattle.join_command.specs.Headline.{IsJoinedAsHanded}
 use Rattle.join_command.specs.Words.{asked_of}
 use Rattle.join_command.proofs.ProgramRuns.{device_join, fault_join, memory_allowed, memory_join}
-use Rattle.join_command.proofs.ProgramRuns.{published_join, sound_join}
+use Rattle.join_command.proofs.ProgramRuns.{handed_join, published_join, sound_join}
 use Rattle.join_command.proofs.program.join_command.Goals as goal
 
 pub tell_join-requires-clause-memory : goal.tell_join-requires-clause-memory
@@ -53,3 +54,11 @@ returns-in-Ok-clause-device g c = λ five.
     (g.E.Sink.contents c.args.errors.now) (g.E.Sink.contents c.tell_join.new.errors)
     (g.E.Sink.failures c.args.errors.now) (g.E.Sink.failures c.tell_join.new.errors) _ _
     c.tell_join.ensures.told c.run_request-run.ensures.err five
+
+pub returns-in-Ok-clause-handed : goal.returns-in-Ok-clause-handed
+returns-in-Ok-clause-handed g c = λ zero.
+    handed_join (IsJoinedAsHanded g.D.Store.hands (asked_of (map g.S.AsStr.text c.args.words.now)))
+    c.run_request-run.result c.tell_join.result _
+    (g.E.Sink.contents c.args.errors.now) (g.E.Sink.contents c.tell_join.new.errors)
+    (g.E.Sink.failures c.args.errors.now) (g.E.Sink.failures c.tell_join.new.errors)
+    c.tell_join.ensures.told (rw c.in-Ok.ensures.asked at c.run_request-run.ensures.handed) zero

@@ -3,7 +3,7 @@ use Rattle.std.specs.Prelude.{is_some}
 use Rattle.cube_command.specs.Inner.Words.{asked_in}
 use Rattle.cube_report.proofs.CorrectReports.{report_on}
 use Rattle.cube_command.proofs.ProgramRuns.{picture_on, reported, begun_of}
-use Rattle.cube_command.proofs.program.run_request.Goals as goal
+use Rattle.cube_command.proofs.program.run_sparing.Goals as goal
 
 pub write_outcome-requires-clause-report : goal.write_outcome-requires-clause-report
 write_outcome-requires-clause-report g c = λ _ _.
@@ -25,11 +25,11 @@ write_outcome-requires-clause-picture g c = λ _ _ path is.
 pub write_outcome-requires-clause-recorded : goal.write_outcome-requires-clause-recorded
 write_outcome-requires-clause-recorded g c = λ _ _ path is.
     let made = c.in_ok-made.ensures.made in
-    c.in_ok-made.ensures.allowed path c.deref-3.result.now
-    (c.requires.records path made.read made.whole is made.bundle c.deref-3.result.now (
+    c.in_ok-made.ensures.allowed path c.deref.result.now
+    (c.requires.records path made.read made.whole is made.bundle c.deref.result.now (
       c.in_ok-made.made.outcome.text.items,
       report_on _ _ _ made.outcome.correct,
-      c.deref-3.ensures.value ∙ made.recorded path is,
+      c.deref.ensures.value ∙ made.recorded path is,
     ))
 
 pub returns-in_err-write_outcome-clause-beginning :
@@ -52,8 +52,11 @@ returns-clause-report g c =
     (g.O.Sink.contents c.args.output.now)
     (g.O.Sink.contents c.write_outcome.new.output) made.read made.whole
     c.in_ok-made.made.outcome.text.items c.in_ok-made.made.outcome.map.items
-    c.deref-3.result.now (is_some (asked_in c.args.request.now).picture)
+    c.deref.result.now (is_some (asked_in c.args.request.now).picture)
     c.in_ok-made.made.outcome.refuted made.bundle made.outcome refl
-    (λ path is. c.deref-3.ensures.value ∙ made.recorded path is)
+    (λ path is. c.deref.ensures.value ∙ made.recorded path is)
     c.in_ok-write_outcome.ensures.written c.in_ok-write_outcome.ensures.drawn
     c.in_ok-write_outcome.ensures.recorded
+
+pub returns-clause-handed : goal.returns-clause-handed
+returns-clause-handed g c = c.in_ok-made.ensures.handed
