@@ -35,11 +35,21 @@ pub(crate) fn labels_in(alloc: Global, bundle: &[u8]) -> Result<Vec<Label<'_>>, 
     Ok(labels)
 }
 
-/// Whether two texts have the same words.
+/// A word's letter or sign, if it begins with one, and its digits without the zeros in front.
+fn plain(word: &[u8]) -> (&[u8], &[u8]) {
+    let signs = usize::from(word.starts_with(b"m") || word.starts_with(b"-"));
+    let sign = word.get(..signs).unwrap_or(&[]);
+    let digits = word.get(signs..).unwrap_or(&[]);
+    let zeros = digits.iter().position(|digit| *digit != b'0');
+    let rest = digits.get(zeros.unwrap_or(digits.len())..);
+    (sign, rest.unwrap_or(&[]))
+}
+
+/// Whether two texts have the same words, where zeros in front of a number don't count.
 fn have_same_words(one: &[u8], other: &[u8]) -> bool {
     let mut others = other.split(is_blank).filter(|word| !word.is_empty());
     for word in one.split(is_blank).filter(|word| !word.is_empty()) {
-        if others.next() != Some(word) {
+        if others.next().map(plain) != Some(plain(word)) {
             return false;
         }
     }

@@ -9,7 +9,7 @@ pub(crate) fn is_line_end(byte: &u8) -> bool {
 
 /// Whether a byte stands between the words of a line.
 pub(crate) fn is_blank(byte: &u8) -> bool {
-    matches!(*byte, b' ' | b'\t' | b'\r' | 0x0b | 0x0c)
+    matches!(*byte, b' ' | b'\t' | b'\r')
 }
 
 /// A line of a text, with its number.
@@ -69,14 +69,33 @@ pub(crate) fn last_line(text: &[u8]) -> Option<Line<'_>> {
     last
 }
 
-/// The first line that begins with another word than `a`, before the first that begins with `l`.
+/// Whether a word is an end mark: a number of value zero.
+pub(crate) fn is_end_mark(word: &[u8]) -> bool {
+    !word.is_empty() && word.iter().all(|digit| *digit == b'0')
+}
+
+/// Goes past a line of cubes: whether a clause begins on it, where `is_inside` says whether the
+/// line begins inside a cube, and then whether the line below does.
+fn begins_clause(line: &[u8], is_inside: &mut bool) -> bool {
+    for word in line.split(is_blank).filter(|word| !word.is_empty()) {
+        if *is_inside {
+            *is_inside = !is_end_mark(word);
+        } else if word == b"a".as_slice() {
+            *is_inside = true;
+        } else {
+            return true;
+        }
+    }
+    false
+}
+
+/// The line on which the first clause begins, in a text without a header that has cubes and
+/// clauses.
 pub(crate) fn first_clause(text: &[u8]) -> Option<Line<'_>> {
+    let mut is_inside = false;
     for (place, line) in text.split(is_line_end).enumerate() {
-        match first_word(line) {
-            Some((b"l", _)) => return None,
-            Some((b"a", _)) => {}
-            Some(_) if !is_comment(line) => return Some(line_in(place, line)),
-            _ => {}
+        if has_words(line) && begins_clause(line, &mut is_inside) {
+            return Some(line_in(place, line));
         }
     }
     None
@@ -96,8 +115,11 @@ pub(crate) fn cube_line(text: &[u8], cube: u32) -> Option<Line<'_>> {
     None
 }
 
-/// How many cubes begin on a line.
+/// How many cubes begin on a line. None does on a header, whose other words are ignored.
 fn cubes_on(line: &[u8]) -> u64 {
+    if matches!(first_word(line), Some((b"p", _))) {
+        return 0;
+    }
     line.split(is_blank)
         .filter(|word| *word == b"a".as_slice())
         .count() as u64

@@ -23,7 +23,7 @@ pub(crate) enum Looks {
 impl fmt::Display for Looks {
     fn fmt<W: fmt::Write>(&self, f: &mut fmt::Formatter<W>) -> fmt::Result {
         f.write_str(match self {
-            Looks::Empty => "it is empty",
+            Looks::Empty => "it is empty, or has only blanks and comments",
             Looks::Gzip => "it looks like gzip: unpack it first",
             Looks::Xz => "it looks like xz: unpack it first",
             Looks::Zstandard => "it looks like zstd: unpack it first",

@@ -1,6 +1,6 @@
 //! Where the steps of a text LRAT proof (CADE 2017) begin.
 
-use crate::lines::{Line, has_words, is_blank, is_line_end, line_in};
+use crate::lines::{Line, has_words, is_blank, is_end_mark, is_line_end, line_in};
 
 /// What the next word of a proof is to its steps.
 #[derive(Clone, Copy, PartialEq, Eq)]
@@ -25,7 +25,7 @@ struct Walk {
 impl Walk {
     /// Goes past a word.
     fn pass(&mut self, word: &[u8]) {
-        let ends = word == b"0".as_slice();
+        let ends = is_end_mark(word);
         match self.due {
             Due::Id => {
                 self.begun = self.begun.saturating_add(1);

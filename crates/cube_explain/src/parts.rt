@@ -1,0 +1,97 @@
+//! Which lines of a bundle are the lines of which file.
+
+use crate::files::{ReadFiles, Unread, read_again, tell_unread};
+use crate::lines::{is_line_end, line_count};
+use crate::run::Run;
+use std::io;
+use std::io::Eprint;
+
+/// What lines are told to be of where it isn't known on which line the second file begins.
+pub(crate) const BUNDLE: &str = "the bundle";
+
+/// The part of a bundle that the file with the cubes gave.
+#[derive(Clone, Copy)]
+pub(crate) struct Part<'t> {
+    /// What its lines are told to be of.
+    pub(crate) from: &'t str,
+    /// Its bytes.
+    pub(crate) text: &'t [u8],
+    /// How many lines of the bundle stand above it.
+    pub(crate) above: u64,
+}
+
+/// The part of a run's bundle that the file with the cubes gave. Where the formula has a file of
+/// its own, that file, or else the other one, is read again to see where it ends. Where neither can
+/// be, that is told, and the part is the whole bundle, by that name.
+pub(crate) fn file_part<'r, R: Eprint + ReadFiles>(run: &Run<'r, R>) -> io::Result<Part<'r>> {
+    let Some(path) = run.asked.formula else {
+        return Ok(part_of(run.file(), run.bundle, run.bundle));
+    };
+    match text_below(run, path) {
+        Ok(text) => Ok(part_of(run.file(), text, run.bundle)),
+        Err(unread) => {
+            tell_unread(run.device, path, &unread)?;
+            Ok(part_of(BUNDLE, run.bundle, run.bundle))
+        }
+    }
+}
+
+/// The part of a bundle that is this text, at the bundle's end.
+fn part_of<'t>(from: &'t str, text: &'t [u8], bundle: &[u8]) -> Part<'t> {
+    Part {
+        from,
+        text,
+        above: line_count(bundle).saturating_sub(line_count(text)),
+    }
+}
+
+/// What stands in the bundle below the text of the formula's file, which has this path, or why that
+/// file doesn't say where it ends.
+fn text_below<'r, R: ReadFiles>(run: &Run<'r, R>, path: &str) -> Result<&'r [u8], Unread> {
+    let unread = match read_again(run.device, run.alloc, path) {
+        Ok(formula) => match behind_formula(run.bundle, &formula) {
+            Some(text) => return Ok(text),
+            None => Unread::Changed,
+        },
+        Err(unread) => unread,
+    };
+    match text_of_file(run) {
+        Some(text) => Ok(text),
+        None => Err(unread),
+    }
+}
+
+/// What the bundle ends with, where that is what the file with the cubes has when it is read again.
+fn text_of_file<'r, R: ReadFiles>(run: &Run<'r, R>) -> Option<&'r [u8]> {
+    let file = read_again(run.device, run.alloc, run.asked.file?).ok()?;
+    let front = run.bundle.strip_suffix(file.as_slice())?;
+    if front.ends_with(b"\n") {
+        run.bundle.get(front.len()..)
+    } else {
+        None
+    }
+}
+
+/// What stands in a bundle below this formula and a line end, where the bundle begins with it but
+/// for its problem line.
+fn behind_formula<'b>(bundle: &'b [u8], formula: &[u8]) -> Option<&'b [u8]> {
+    let front = bundle.get(..formula.len())?;
+    let text = bundle.get(formula.len()..)?.strip_prefix(b"\n")?;
+    if differ_in_one_line(front, formula) {
+        Some(text)
+    } else {
+        None
+    }
+}
+
+/// Whether two texts have as many lines, of which one differs.
+fn differ_in_one_line(one: &[u8], other: &[u8]) -> bool {
+    let mut others = other.split(is_line_end);
+    let mut different = 0u64;
+    for line in one.split(is_line_end) {
+        if others.next() != Some(line) {
+            different = different.saturating_add(1);
+        }
+    }
+    different == 1 && others.next().is_none()
+}
