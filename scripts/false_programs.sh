@@ -7,7 +7,8 @@
 #   status and with the picture that goes with it;
 # - `faulty` refuses every bundle by the line of a fault;
 # - `first`, in the place of `cubejoin` alone, looks at no record but the first, and writes the report that stands in it.
-# The last line counts: a claim for each script and each false program.
+# Then scripts/files.sh has to fail with each stand-in of scripts/stand_in.c: the true program, but for what it does with files. Without a C compiler they
+# are skipped. The last line counts: a claim for each script and each false program, and one for each stand-in.
 root=$(CDPATH= cd -- "$(dirname -- "$0")/.." && pwd) || exit 1
 . "$root/scripts/runs.sh"
 programs="silent done open refuted faulty"
@@ -82,6 +83,26 @@ try_all() {
     done
 }
 
+# The stand-ins, side by side.
+stand_ins() {
+    for program in $1; do
+        printf '%s\n' '#!/bin/sh' "STAND_IN=$program LD_PRELOAD='$here/stand_in.so' exec '$built' \"\$@\"" > "$here/$program"
+        chmod 755 "$here/$program"
+        try files "$program" CUBEBOARD_PROGRAM &
+    done
+    wait
+    for program in $1; do
+        fails=$(cat "$here/files.$program.fails")
+        count "files.sh fails with the stand-in $program" "$fails"
+        [ "$fails" -eq 0 ] || tail -n 3 "$here/files.$program"
+    done
+}
+
 for program in $programs; do try_all "$program" CUBEBOARD_PROGRAM build_program program; done
 for program in $programs first; do try_all "$program" CUBEJOIN_PROGRAM build_join cubejoin; done
+if preload stand_in "the stand-ins"; then
+    # (indented, so that this script isn't one of those above)
+    build_program
+    stand_ins "twice late lengths empties apart"
+fi
 finish
