@@ -16,6 +16,14 @@ to say of its function that a goal of its own isn't proved. That it calls one th
 a name that the edit took away; `rt ci` counts each refusal of the crate. The libraries below are those of the launchers, which are built first where a
 source has changed: a refusal says something only where the right bodies are proved.
 
+A refusal is either `by an open goal`, where all that proofs/ has of the function still fits, or `at a written answer`, where some of it doesn't: with an
+answer written anew, such a body might be proved. So an edit that is refused at a written answer has to have a line
+
+    # forbidden by: CLAUSE - WHY
+
+which names what rules out the body itself, whatever proof is written: a clause of its function's contract, one that a function which it calls requires,
+or a type. Whether that is so is for a reader to judge: the line stands in the verdict. Without it the edit fails.
+
 The last line tells how many were refused; the status is 0 where all of them were.
 """
 import concurrent.futures
@@ -42,10 +50,10 @@ BEFORE = ("#[", "///")
 
 
 class Edit:
-    """A wrong body: its function, and the texts that change places in files of the crate."""
+    """A wrong body: its function, what forbids it where that is told, and the texts that change places in files of the crate."""
 
     def __init__(self, file):
-        self.name, self.function, self.changes = file.stem, "", []
+        self.name, self.function, self.forbidden, self.changes = file.stem, "", "", []
         path = old = ""
         for line in file.read_text().splitlines():
             word, _, rest = line.removeprefix("# ").partition(":")
@@ -53,6 +61,8 @@ class Edit:
                 path = rest.strip()
             elif word == "function":
                 self.function = rest.strip()
+            elif word == "forbidden by":
+                self.forbidden = rest.strip()
             elif word == "old":
                 old = rest[1:]
             elif word == "new":
@@ -129,21 +139,22 @@ class Answer:
                 here = [it for it in notes if function_at(folder, it) == name.split("::")[-1]]
                 self.verdicts[name], self.reasons[name], notes = found[2], here, []
 
-    def refusal(self, function):
-        """Whether the check refuses the function for a goal of its own, and what it says of it."""
-        verdict, notes = self.verdicts.get(function), self.reasons.get(function)
+    def refusal(self, edit):
+        """Whether the check refuses the function of a wrong body for a goal of its own, and what is told of it."""
+        verdict, told = self.verdicts.get(edit.function), self.by_proof.get(edit.function, [])
         if verdict is None:
-            return False, "the check says nothing of the function"
+            return False, "FAILED: the check says nothing of the function"
         if verdict.startswith(("proved", "no proof: it calls", "could not tell")):
-            return False, f"NOT REFUSED: {verdict}"
-        if notes:
-            return True, notes[0]
-        if "did not prove" in verdict:
-            return True, verdict
-        told = self.by_proof.get(function, [])
-        if open_goals := [it for it in told if not NAMES.search(it)]:
-            return True, open_goals[0]
-        return False, f"refused by a name alone, which shows nothing of a contract: {(told or [verdict])[0]}"
+            return False, f"FAILED: NOT REFUSED: {verdict}"
+        goals = [*self.reasons[edit.function], *([verdict] if "did not prove" in verdict else [])]
+        if goals and not told:
+            return True, f"refused, as it must be, by an open goal: {goals[0]}"
+        goals += [it for it in told if not NAMES.search(it)]
+        if not goals:
+            return False, f"FAILED: refused by a name alone, which shows nothing of a contract: {(told or [verdict])[0]}"
+        if not edit.forbidden:
+            return False, f"FAILED: refused at a written answer, and no line `# forbidden by:` says what rules out the body itself: {goals[0]}"
+        return True, f"refused, as it must be, at a written answer; forbidden by {edit.forbidden}"
 
 
 class Tries:
@@ -176,21 +187,20 @@ class Tries:
         answer = self.check(edits, texts)
         if answer.verdicts or len(edits) == 1:
             lost = "" if answer.verdicts else "; ".join(it for it in answer.said.splitlines() if "error" in it)[:300]
-            return [(it, *((False, f"BAD: {lost}") if lost else answer.refusal(it.function))) for it in edits]
+            return [(it, *((False, f"FAILED: BAD: {lost}") if lost else answer.refusal(it))) for it in edits]
         return [told for alone, text in rounds_of(edits, self.crate.folder, True) for told in self.round(alone, text)]
 
 
 def try_crate(kit, kept, crate, edits, room, is_each):
     """Tries the edits of a crate, and answers for each whether it is refused, with a line to print."""
-    faults = [(it, False, f"BAD: {why}") for it in edits if (why := it.fault(crate.folder))]
+    faults = [(it, False, f"FAILED: BAD: {why}") for it in edits if (why := it.fault(crate.folder))]
     bad = {it for it, _, _ in faults}
     tries, told = Tries(kit, kept, crate, room), faults
     for taken, texts in rounds_of([it for it in edits if it not in bad], crate.folder, is_each):
         told = [*told, *tries.round(taken, texts)]
     shutil.rmtree(tries.room)
-    for edit, is_refused, why in told:
-        how = "refused, as it must be" if is_refused else "FAILED"
-        print(f"wrong body {crate.name}/{edit.name}: {how}: {' '.join(why.split())[:160]}", flush=True)
+    for edit, _, why in told:
+        print(f"wrong body {crate.name}/{edit.name}: {' '.join(why.split())[:200]}", flush=True)
     return [is_refused for _, is_refused, _ in told]
 
 

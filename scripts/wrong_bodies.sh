@@ -1,6 +1,7 @@
 #!/bin/sh
 # Tries scripts/wrong_bodies.py on the crates of tests/wrong-bodies, where each file of a wrong body says in its line `# told:` how the line begins that
-# has to be told of it: of wrong bodies that are refused, of right ones, which mustn't count, and of those that can't be tried. The last line counts.
+# has to be told of it: of wrong bodies that are refused, of right ones, which mustn't count, of a right and a wrong one that are refused at a written
+# answer, which counts only with the line that says what forbids the body, and of those that can't be tried. The last line counts.
 root=$(CDPATH= cd -- "$(dirname -- "$0")/.." && pwd) || exit 1
 . "$root/scripts/runs.sh"
 cp -R "$root/tests/wrong-bodies/." "$here/run/" && mkdir "$here/run/scripts" || exit 1
@@ -19,6 +20,6 @@ for crate in numbers lost; do
         count "$crate/$name: it is told as its file says" $? || cat "$here/$crate"
     done
 done
-grep -q '^wrong_bodies: 2 passed, 6 failed$' "$here/numbers" && grep -q '^wrong_bodies: 1 passed, 1 failed$' "$here/lost"
+grep -q '^wrong_bodies: 3 passed, 8 failed$' "$here/numbers" && grep -q '^wrong_bodies: 1 passed, 1 failed$' "$here/lost"
 count "the last lines count" $?
 finish
