@@ -364,12 +364,7 @@ impl<F: Opener + Send + Drop> Store for FileStore<F> {
         }
     }
 
-    fn write_counted(
-        &mut self,
-        path: &str,
-        bytes: &[u8],
-        spared: &Spared,
-    ) -> Result<(), Fault> {
+    fn write_counted(&mut self, path: &str, bytes: &[u8], spared: &Spared) -> Result<(), Fault> {
         match self.write(path, bytes, spared) {
             Ok(()) => Ok(()),
             Err(Fault::Memory) => Err(self.broken()),

@@ -11,7 +11,9 @@ use std::{fs, io};
 
 /// The program's input, output and error output by their paths.
 const INPUT: &str = "/dev/stdin";
+
 const OUTPUT: &str = "/dev/stdout";
+
 const ERRORS: &str = "/dev/stderr";
 
 /// Which file this is, where it is a plain one.
@@ -35,18 +37,46 @@ pub(crate) fn file_at<R: Files>(files: &R, path: &str) -> Option<FileId> {
 }
 
 /// Whether two paths name one plain file, be it there or not: the same file; or none is there yet,
-/// and they are the same name in one folder.
-pub(crate) fn is_one<R: Files>(files: &R, one: &str, other: &str) -> bool {
+/// and they lead to the same name in one folder. Where memory is refused for that, they may.
+pub(crate) fn is_one<R: Files + AllocGlobal>(files: &R, one: &str, other: &str) -> bool {
     match (fs::metadata(files, one), fs::metadata(files, other)) {
         (Ok(first), Ok(second)) => {
             plain_file(&first).is_some() && plain_file(&first) == plain_file(&second)
         }
-        (Err(_), Err(_)) => {
-            Path::new(one).file_name() == Path::new(other).file_name()
-                && is_one_folder(files, folder_of(one), folder_of(other))
-        }
+        (Err(_), Err(_)) => match (end_of(files, one), end_of(files, other)) {
+            (Ok(first), Ok(second)) => is_one_place(files, first.as_str(), second.as_str()),
+            _ => true,
+        },
         _ => false,
     }
+}
+
+/// Whether two paths are the same name in one folder.
+fn is_one_place<R: Files>(files: &R, one: &str, other: &str) -> bool {
+    Path::new(one).file_name() == Path::new(other).file_name()
+        && is_one_folder(files, folder_of(one), folder_of(other))
+}
+
+/// The most links that are followed from a path to the file that it names.
+const MOST_LINKS: u32 = 40;
+
+/// Where a path leads: itself, or what stands in the link that it names, and so on.
+fn end_of<R: Files + AllocGlobal>(files: &R, path: &str) -> Result<String, AllocError> {
+    let alloc = files.alloc();
+    let mut end = String::from_str(alloc, path)?;
+    for _ in 0..MOST_LINKS {
+        let Ok(link) = fs::read_link(files, end.as_str()) else {
+            return Ok(end);
+        };
+        let target = link.as_str();
+        end = if target.starts_with('/') {
+            String::from_str(alloc, target)?
+        } else {
+            let folder = folder_of(end.as_str());
+            format!(in alloc; "{folder}/{target}")?
+        };
+    }
+    Ok(end)
 }
 
 /// The folder in which a path names a file.
