@@ -71,7 +71,7 @@ static int opened(opening *real, int folder, const char *path, int flags, int mo
     if (flags & (O_DIRECTORY | O_PATH)) return real(folder, path, flags, mode);
     if ((flags & O_ACCMODE) == O_RDONLY) return read_by(real, folder, path, flags, mode);
     int file = real(folder, path, flags, mode);
-    if (file < 0 || !is("late") || flags & O_APPEND) return file;
+    if (file < 0 || !is("late") || !(flags & O_CREAT)) return file;
     ssize_t taken = write(file, "s REFUTED\n", 10);
     int anew = taken < 0 ? -1 : real(folder, path, flags, mode);
     close(file);
