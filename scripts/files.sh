@@ -164,16 +164,20 @@ for word in --record --map; do
     count "$word at the file of the standard output" $?
 done
 
-# Two outputs at one file: how they name it, the words, and whether the file is there before.
+# Two outputs at one file, which isn't there yet, and which is: how they name it, and the words.
 at_one_file() {
     what=$1
     shift
     for old in "" old; do
+        # (there is no hard link of a file that isn't there)
+        [ "$what$old" != "a hard link" ] || continue
         lay_inputs
         rm -f "$here/run/one"
         [ -z "$old" ] || cp "$here/old" "$here/run/one"
-        [ "$what" != "a symbolic link" ] || ln -s one "$here/run/other"
-        [ "$what" != "a hard link" ] || { cp "$here/old" "$here/run/one" && ln "$here/run/one" "$here/run/other"; }
+        case $what in
+            "a symbolic link") ln -s one "$here/run/other" ;;
+            "a hard link") ln "$here/run/one" "$here/run/other" ;;
+        esac
         run "$here/none" "$@" --workers 1 --proofs proofs case.icnf
         is_device && is_whole "$here/run/one"
         count "$1 and $3 at one file by $what${old:+, which is there}" $?
