@@ -163,6 +163,11 @@ four_jobs() {
     join case.icnf 0.record 1.record 2.record 3.record
     is_whole
     count "four jobs, joined, give the report of one run" $?
+    # A RECORD that can be read once only.
+    (cd "$folder" && cat 3.record | exec timeout 20 "$join" case.icnf 0.record 1.record 2.record /dev/stdin) > "$here/out" 2> "$here/err"
+    echo $? > "$here/status"
+    is_whole
+    count "a record from a pipe, joined" $?
     join case.icnf 3.record 1.record 1.record 0.record 2.record
     is_whole
     count "so they do in another order and with one of them twice" $?

@@ -474,10 +474,13 @@ last_told "a folder in the place of a proof" 'proofs/2.lrat: Is a directory (os 
 run "$here/none" --explain --proofs case.icnf case.icnf
 last_told "a file in the place of the folder" 'case.icnf/1.lrat: Not a directory (os error 20)'
 with_bundle "$tree"
+no_cause='no cause is seen: a file may be read-only, a disk full, a call failed in its middle, or a file to be written is also read, by another name'
+run "$here/none" --explain --record ./case.icnf case.icnf
+last_told "a record over what is read" "$no_cause"
 if [ -c /dev/full ]; then
     run "$here/none" --explain --record /dev/full case.icnf
     last_told "a full device" \
-        'no cause is seen: a file may be read-only, a disk full, or a call failed in its middle'
+        "$no_cause"
 else
     skip "a full device" "there is none here"
 fi

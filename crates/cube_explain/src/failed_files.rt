@@ -26,8 +26,8 @@ pub(crate) fn tell_device<R: Eprint + ReadFiles>(run: &Run<'_, R>) -> io::Result
     }
     tell_first(run, Wanted::Unknown)?;
     eprintln!(run.device;
-        "explain: no cause is seen: a file may be read-only, a disk full, or a call failed in its \
-         middle"
+        "explain: no cause is seen: a file may be read-only, a disk full, a call failed in its \
+         middle, or a file to be written is also read, by another name"
     )
 }
 
