@@ -32,6 +32,18 @@ of the libraries `SaysRefuted` (`Correct`).""",
       "cube_report/engine.rt run_one sound",
       "cube_report/engine.rt run sound",
       "cube_report/engine.rt run_io sound"]),
+    ("It is said of what was read", """
+Where the program ends with status 0, the formula has no model that it has by one reading of FILE, or by
+its input, and so has the DIMACS text that one reading of CNF gave (`handed`). The clauses above say
+this of files of which it is known what they hold. This one needs no such knowledge, and a path may
+hold another text at each reading. `hands` is a relation of the store: which texts the readings of a
+path hand over. `command` is proved for each store and each such relation that holds of what `read`
+and `outline` answer. The code of a store doesn't depend on it. So take for it, for the built program
+and one call, exactly the texts that its readings of each path gave. Proofs of leaves have no part in
+it: they may be read at any time, and are trusted for nothing.""",
+     ["cube_command/program.rt command handed",
+      "bundle_files/store.rt Store::read handed",
+      "bundle_files/store.rt Store::outline handed"]),
     ("With `--formula` the formula of a published file has no model", """
 Where the program ends with status 0 and `--formula CNF` is asked for, the text of that file is a DIMACS text of a formula of which no assignment makes all clauses true. What a bundle is, how the
 file and FILE become one, and what a cube or a label line is, has no part in it.""",
@@ -64,10 +76,12 @@ SHA-256 gives two texts one digest. `refuted` and `open` say it beside the repor
     ("Streams and status", """
 What the program and `run_io` have written where something fails, which files they leave as they are, which lines go to
 standard error, and which status comes when. Of `command`: 2 stands exactly where the words can't be taken, unless
-memory is refused (`usage`, `taken`); with 4, standard error gets the line of F6 or of F14 (`memory`); 5 stands where a
-call that reads or writes failed, and otherwise only where FILE isn't there (`failed`, `broken`), with the line of F13
-(`device`), after nothing or, where a write failed, a beginning of the report (`beginning`). No file that is read changes
-(`kept`): not CNF, not FILE, and none of DIR that ends in `.lrat`, as their paths are written.""",
+memory is refused (`usage`, `taken`); with 4, standard error gets the line of F6 or of F14 (`memory`). 5 stands where a
+call that reads or writes failed. Otherwise it stands only where CNF or FILE isn't there, or where LOG couldn't be made,
+and then nothing was read or written (`failed`, `broken`). It comes with the line of F13 (`device`), after nothing or,
+where a write failed, a beginning of the report (`beginning`). The store changes no file that is read (`kept`): not CNF,
+not FILE, and none of DIR that ends in `.lrat`, as their paths are written. These clauses speak of the store. Of LOG,
+which has a device of its own, and of what names one file by two paths they say nothing: scripts/files.sh tries both.""",
      ["cube_command/program.rt command status quiet elsewhere undrawn kept nothing beginning usage unread taken none memory device failed broken",
       "cube_command/telling.rt own_words ok err",
       "cube_report/engine.rt run_io nothing beginning device"]),
@@ -78,7 +92,10 @@ the report on the bundle that is judged, its picture at the path of `--map` and 
 nowhere else, the line of a fault that this bundle has, the lines of want of memory, of a thread or of a device, which
 are allowed at any time, and where the words can't be taken the parser's text. Whatever they write is one of these,
 before they end or never ending, since each `write` of `Sink` and `Store` asks for that; and after a report nothing is
-known to be allowed. That the program's own outlets allow each text changes nothing: `command` can't ask which they are.""",
+known to be allowed. That the program's own outlets allow each text changes nothing: `command` can't ask which they are.
+This is said of `output`, `errors` and `store`. Four more devices are lent to `command`, of which no clause says what
+they write: `gate`, `watch` (for `--progress`, standard error), `log` (LOG), and `explain` (standard error; its type
+reads files and can't write any).""",
      ["cube_command/program.rt command reports pictures records faults words",
       "cube_command/telling.rt own_words words memory",
       "cube_report/engine.rt run_io allowed",
@@ -96,8 +113,11 @@ the premise is that each is the report on FILE's formula and cubes with some pro
 joined marks, where a node is refuted that some RECORD refutes. It is a report again, so it can be joined with others;
 where two runs split the sections between them, the joined marks of what they found are those of the one run; and no
 true record or report is refused. With `--formula CNF` the premise is of the bundle that CNF and FILE make, and the text
-of CNF is a DIMACS text of a formula of which then no assignment makes all clauses true.""",
+of CNF is a DIMACS text of a formula of which then no assignment makes all clauses true. `handed` says the same of what
+one reading of CNF, of FILE and of each RECORD gave, whatever lies there: a RECORD's digest and its marks are those of
+one text.""",
      ["join_command/program.rt join_command sound published refuted open",
+      "join_command/program.rt join_command handed",
       "join_command/program.rt join_command status quiet held nothing beginning usage unread taken fault memory device failed broken",
       "join_command/program.rt join_command reports faults words",
       "cube_join/joining.rt Join::new tree none",
@@ -110,8 +130,9 @@ of CNF is a DIMACS text of a formula of which then no assignment makes all claus
     ("bundle_files: the bundle that is judged", """
 It is the file's or the input's, with the proofs of a folder added for the leaves of its tree, in order and each under its own label. What a run says that reads each of
 these proofs when a worker comes to its leaf is what a run on this bundle promises.""",
-     ["bundle_files/source.rt read_given held bundle ok err kept",
-      "bundle_files/formula.rt read_from held bundle case fault ok err kept",
+     ["bundle_files/source.rt read_given held bundle handed ok err kept",
+      "bundle_files/formula.rt read_from held bundle handed case fault ok err kept",
+      "bundle_files/by_section.rt judge_by_section held outcome handed fault ok err",
       "bundle_files/judge.rt judge_given held outcome fault ok err",
       "bundle_files/folder.rt add_proofs held whole ok err",
       "bundle_files/store.rt Store::read held found ok err",

@@ -281,7 +281,8 @@ published_by : (held later : Held) (asked : Asked) (input out_old out_new : Opti
     → IfSome formula (IsPublishedAt held)
 published_by held later asked input out_old out_new None same report = tt
 published_by held later asked input out_old out_new (Some path) same report =
-    published (lies_in held) held path asked.file input asked.folder report.read report.whole report.correct.case
+    published (lies_in held) held path asked.file input asked.folder report.read report.whole
+    report.correct.case
     (subst (λ (f : Option (List ℕ)). IsReadBy held f asked.file input report.read) same
     report.bundle.is_read) report.bundle.is_judged report.correct.judged.case_is
     (report.sound refl)

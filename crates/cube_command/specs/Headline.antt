@@ -38,7 +38,7 @@ pub record IsRefutedAsHanded (hands : List ℕ → List ℕ → Type 0) (asked :
   pub none : IsUnsatisfiable read
   pub formula : IfSome asked.formula (IsFormulaRefuted hands)
 
--- status 0: so it is, also where nothing is known of what the files hold, or where with each reading
--- another text lies at a path
+-- status 0: so it is, also where nothing is known of what the files hold, or where with each
+-- reading another text lies at a path
 abbrev pub IsSoundAsHanded : ℕ → (List ℕ → List ℕ → Type 0) → Asked → Option (List ℕ) → Type 0
 IsSoundAsHanded status hands asked input = status ≡ 0 → IsRefutedAsHanded hands asked input

@@ -300,7 +300,8 @@ where
     )
 }
 
-/// The same where the log was begun, if one is asked for, writing over no file that is to be spared.
+/// The same where the log was begun, if one is asked for, writing over no file that is to be
+/// spared.
 fn run_sparing<R, D, I, O, G, X>(
     rt: &R,
     store: &mut D,

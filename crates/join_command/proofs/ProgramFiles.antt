@@ -104,7 +104,8 @@ memory_fault held bundle front paths before after result same told =
     (inr (inl (refl, same))) told
 
 -- the joined report, on the bundle's case
-pub joined_on : (has : List ℕ → List ℕ → Type 0) (paths : List (List ℕ)) (line bundle : List ℕ) (case : CaseOf)
+pub joined_on : (has : List ℕ → List ℕ → Type 0) (paths : List (List ℕ))
+    (line bundle : List ℕ) (case : CaseOf)
     (tree : SplitTree) (marks : List Mark) (text : List ℕ) (answer : Bool) →
     IsCaseOf bundle case → tree ≡ case.tree →
     (reports : List (List ℕ)) × AreTextsAt has paths (behind_each line reports)

@@ -158,8 +158,8 @@ IsPublished held asked path =
 
 -- where the bundle has no model, the formula of that file has none
 no_model_under : (has : List ℕ → List ℕ → Type 0) (path : List ℕ) (file input : Option (List ℕ))
-    (read : List ℕ) (case : CaseOf) (under : IsUnder has path file input read) → IsCaseOf read case →
-    IsUnsatisfiable read → HasNoModel under.formula
+    (read : List ℕ) (case : CaseOf) (under : IsUnder has path file input read)
+    → IsCaseOf read case → IsUnsatisfiable read → HasNoModel under.formula
 no_model_under has path file input read case under is none =
     let same : clauses_of is.items ≡ under.formula =
     bundle_formula under.text under.over under.rest under.formula is.items under.dimacs
@@ -187,7 +187,8 @@ published_by held asked (Some path) old new same join =
       under.formula,
       under.dimacs,
       λ are.
-          no_model_under (lies_in held) path (Some asked.file) None join.bundle join.joined.2.case under
+          no_model_under (lies_in held) path (Some asked.file) None join.bundle
+          join.joined.2.case under
           join.joined.2.case_is (join.sound are refl),
     )
 

@@ -40,7 +40,7 @@ pub record IsJoinedAsHanded (hands : List ℕ → List ℕ → Type 0) (asked : 
       × (formula : List (List Literal)) × IsDimacs text formula
       × (AreTrusted asked.unbound bundle texts → HasNoModel formula))
 
--- status 0: so it is, also where nothing is known of what the files hold, or where with each reading
--- another text lies at a path
+-- status 0: so it is, also where nothing is known of what the files hold, or where with each
+-- reading another text lies at a path
 abbrev pub IsSoundJoinAsHanded : ℕ → (List ℕ → List ℕ → Type 0) → Asked → Type 0
 IsSoundJoinAsHanded status hands asked = status ≡ 0 → IsJoinedAsHanded hands asked

@@ -13,7 +13,8 @@ returns-in_err-join_file-clause-err g c =
     (AreNotAdded (g.D.Store.held c.args.store.now) c.args.line.now c.args.join.now.tree paths
     (g.D.Store.failures c.args.store.now) (g.D.Store.failures c.join_file.new.store))
     c.in_err-join_file.field-0.0
-    (one_not_added (g.D.Store.held c.args.store.now) g.D.Store.hands c.args.line.now c.args.join.now.tree paths
+    (one_not_added (g.D.Store.held c.args.store.now) g.D.Store.hands c.args.line.now
+    c.args.join.now.tree paths
     c.loop-index.index _ _ c.loop-index.join.marks c.in_err-join_file.field-0.0 inside
     c.loop-index.invariant.files
     (rw (
