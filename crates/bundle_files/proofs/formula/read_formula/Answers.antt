@@ -17,7 +17,8 @@ returns-clause-handed g c =
     formula_handed g.D.Store.hands c.args.path.now c.new-text.result.items
     c.read.new.bytes.items c.deref.result.now c.deref_mut.result.now c.overwrite_header.new.text _
     c.in_ok-read.field-0 c.in_ok-problem.problem c.in_ok-read.ensures.handed
-    c.new-text.ensures.items c.if-not-branch.false c.deref.ensures.value c.in_ok-problem.ensures.ok c.deref_mut.ensures.value
+    c.new-text.ensures.items c.if-not-branch.false c.deref.ensures.value
+    c.in_ok-problem.ensures.ok c.deref_mut.ensures.value
     c.overwrite_header.ensures
     (in_place c.overwrite_header.new.text _ _
     (c.overwrite_header.auto.text ∙ c.deref_mut.ensures.len))
