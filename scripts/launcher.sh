@@ -31,6 +31,9 @@ right() {
     copy_folder
     begin
     claims_of_two_programs
+    copy_folder
+    begin
+    claims_of_looks
 }
 
 # Wrong launchers: the name, what `sed` makes of build.py, which claims have to refuse it where those of one program needn't, and what else than
@@ -77,6 +80,16 @@ wrong_ones() {
     wrong "what changes while it is proved taken as proved" 's/ and crate.sum() == crate.own//'
     wrong "small pages" 's/^        os.environ.setdefault("GLIBC_TUNABLES".*/        pass/'
     wrong "words that are lost" 's/, \*words\[2:\]\])/])/'
+    looks=claims_of_looks
+    wrong "files that are as they were where they have their size and number" 's/ %C@ / 0 /' "$looks" scripts/seen.sh
+    wrong "files that are as they were where they have their time" 's/%C@/%T@/' "$looks" scripts/seen.sh
+    wrong "files that aren't looked for" 's/ "$out\/built" crates / "$out\/built" crates.txt /' "$looks" scripts/seen.sh
+    wrong "a program that isn't looked at" 's/ "$out\/$1" "$out\/built"/ "$out\/built"/' "$looks" scripts/seen.sh
+    wrong "what is noted looked at behind the sums" 's/^    elif build(crates, kept, sums) and seen:/    elif build(crates, kept, sums) and seen and (seen := Seen(crates[-1])):/' "$looks"
+    wrong "young files noted" 's/^    YOUNGEST = 2/    YOUNGEST = -10/' "$looks"
+    wrong "nothing noted" 's/^        seen.note()/        pass/' "$looks"
+    wrong "small pages without python" 's/^    export GLIBC_TUNABLES=.*/    :/' "$looks" "cubeboard cubejoin"
+    wrong "words that are lost without python" 's/^    exec "$out\/$name" "$@"/    exec "$out\/$name" $@/' "$looks" "cubeboard cubejoin"
     two=claims_of_two_programs
     wrong "libraries of its own for each program" 's/self.libraries = SHARED /self.libraries = self.out /' "$two"
     wrong "what was proved over another build taken as proved" 's/^        for name in above(crate.name):/        for name in ():/' "$two"

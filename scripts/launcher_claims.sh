@@ -318,6 +318,108 @@ call_until_slow() {
     until grep -q "$SLOW" "$here/notes" || [ "$tries" -gt 100 ]; do sleep 0.1; tries=$((tries + 1)); done
 }
 
+# Notes each call of python3 in a file of its own, and makes it.
+note_python() {
+    rm -f "$here/bin/python3"
+    hash -r
+    python=$(command -v python3)
+    printf '#!/bin/sh\necho >> "%s"\nexec "%s" "$@"\n' "$here/pythons" "$python" > "$here/bin/python3"
+    chmod +x "$here/bin/python3"
+    : > "$here/pythons"
+}
+
+# Waits until no file is young, and calls once more, which sums the sources and finds the program built from them.
+settle() {
+    sleep 2.2
+    call "$1: the program is there" 7 ""
+    [ -f "$here/copy/crates/$program/out/seen" ]
+    count "$1: what it has seen is noted" $?
+    : > "$here/pythons"
+}
+
+# What a launcher sees that looks at the files and doesn't sum them: nothing has changed, or something has, also where size and time are as they were.
+claims_of_looks() {
+    note_python
+    call "the program is built to be looked at" 7 "$(reach below cubeboard)"
+    call "again at once" 7 ""
+    [ ! -e "$here/copy/crates/cubeboard/out/seen" ]
+    count "files that are young aren't noted" $?
+    settle "when they are older"
+    call "with nothing changed" 7 "" --workers 2 "a  b"
+    [ ! -s "$here/pythons" ] && [ "$(cat "$here/out")" = "cubeboard --workers 2 a  b" ] && [ ! -s "$here/err" ]
+    count "the program runs at once, on its words, without python" $?
+    pages glibc.malloc.hugetlb=1
+    count "it is to ask for huge pages then, too" $?
+    (GLIBC_TUNABLES=glibc.malloc.perturb=1 && export GLIBC_TUNABLES && "$here/copy/$program" < /dev/null > /dev/null 2>&1)
+    pages glibc.malloc.perturb=1
+    count "unless the caller says something else" $?
+    claims_of_changes
+    rm -rf "$here"/copy/crates/*/out "$here/bin/python3"
+}
+
+# Changes of one file, of which each has to be seen.
+claims_of_changes() {
+    file=$here/copy/crates/mark_board/src/lib.rt
+    cp -p "$file" "$here/kept"
+    printf X | dd of="$file" bs=1 seek=3 conv=notrunc 2> /dev/null
+    touch -r "$here/kept" "$file"
+    [ "$(stat -c '%s %Y' "$file")" = "$(stat -c '%s %Y' "$here/kept")" ]
+    count "the file has its size and its time" $?
+    call "another byte, with the file's old time" 7 "$(reach above mark_board | of_program)"
+    cp -p "$here/kept" "$here/copy/crates/mark_board/src/kept"
+    mv "$here/copy/crates/mark_board/src/kept" "$file"
+    call "an older file in its place" 7 "$(reach above mark_board | of_program)"
+    settle "with the older file"
+    echo "//" > "$here/copy/crates/mark_board/src/more.rt"
+    call "a file more" 7 "$(reach above mark_board | of_program)"
+    settle "with a file more"
+    rm "$here/copy/crates/mark_board/src/more.rt"
+    call "a file less" 7 "$(reach above mark_board | of_program)"
+    settle "with a file less"
+    printf '#!/bin/sh\nexit 7\n' > "$here/copy/crates/cubeboard/out/other"
+    chmod +x "$here/copy/crates/cubeboard/out/other"
+    mv "$here/copy/crates/cubeboard/out/other" "$here/copy/crates/cubeboard/out/cubeboard"
+    call "another program in its place" 7 ""
+    [ -s "$here/pythons" ]
+    count "the sources are summed then" $?
+    claims_of_a_late_change
+}
+
+# A file changes when its sum is made and others' aren't: python waits before it opens a file of mark_board, as long as there is a file `block`.
+claims_of_a_late_change() {
+    mkdir -p "$here/site"
+    cat > "$here/site/sitecustomize.py" << 'PYTHON'
+import builtins
+import os
+import pathlib
+import time
+
+at, plain = os.environ.get("HERE", ""), builtins.open
+
+
+def waiting(file, *words, **more):
+    if str(file).endswith("mark_board/src/lib.rt") and os.path.exists(f"{at}/block"):
+        pathlib.Path(f"{at}/waits").touch()
+        while os.path.exists(f"{at}/block"):
+            time.sleep(0.05)
+    return plain(file, *words, **more)
+
+
+builtins.open = waiting
+PYTHON
+    sleep 2.2
+    rm -f "$here/copy/crates/cubeboard/out/seen" "$here/waits"
+    : > "$here/block"
+    PYTHONPATH=$here/site "$here/copy/cubeboard" > /dev/null 2>&1 < /dev/null &
+    tries=0
+    until [ -e "$here/waits" ] || [ "$tries" -gt 100 ]; do sleep 0.1; tries=$((tries + 1)); done
+    echo "// late" >> "$here/copy/crates/cnf_text/src/lib.rt"
+    sleep 2.3
+    rm "$here/block"
+    wait $!
+    call "a change behind its sum is seen by the next call" 7 "$(reach above cnf_text | of_program)"
+}
+
 # What the stand-in begins with, and which program is called.
 begin() {
     REFUSED=
