@@ -1,9 +1,9 @@
 -- Clauses as blocks of falsifiers.
-use Rattle.std.proofs.Common.{◌≡◌, ◌==◌, ◌+◌, ◌-◌, ◌*◌, ◌/◌, ◌%◌, ◌<◌, ◌≤◌, ℕ, zero, suc, Bool}
+use Rattle.std.proofs.Common.{◌≡◌, ◌==◌, ◌+◌, ◌*◌, ◌/◌, ◌%◌, ◌<◌, ◌≤◌, ℕ, zero, suc, Bool}
 use Rattle.std.proofs.Common.{true, false}
-use Rattle.std.proofs.Common.{Option, Some, None, List, [], ◌∷◌, ◌++◌, length, drop, take, get_or}
+use Rattle.std.proofs.Common.{Option, Some, None, List, [], ◌∷◌, ◌++◌, length}
 use Rattle.std.proofs.Common.{not, refl, sym, ap, ◌∙◌, subst, arith, inl, inr}
-use Rattle.std.specs.Prelude.{nat_lt, if◌then◌else◌, slice_range}
+use Rattle.std.specs.Prelude.{nat_lt, if◌then◌else◌}
 use Rattle.std.specs.List.{slice_get}
 use mir.Val.{bool_byte}
 use Rattle.std.specs.Option.{unwrap_or}
@@ -13,7 +13,7 @@ use Rattle.cnf_text.specs.Literal.{Literal, IsVariable, negation, literal_number
 use Rattle.hint_check.specs.declared.block.Falsifier.{Falsifier}
 use Rattle.hint_check.specs.declared.block.Block.{Block}
 use Rattle.hint_check.specs.Inner.Blocks.{falsified_by, in_front, kept, with_block, clause_of}
-use Rattle.hint_check.specs.Inner.Blocks.{BlockWithin, Within}
+use Rattle.hint_check.specs.Inner.Blocks.{Within}
 
 -- ---- numbers and literals
 
@@ -123,51 +123,12 @@ clause_of-push (a ∷ blocks) b rest =
 -- a greater reach is one, too
 pub Within-more : (blocks : List Block) (low high : ℕ) → low ≤ high → Within blocks low →
     Within blocks high
-unfolding Within
-Within-more [] low high less h = tt
-Within-more (b ∷ blocks) low high less h = (
-  (
-    (let x = h.0.0.0 in omega (arith, less, x), let x = h.0.0.1 in omega (arith, less, x)),
-    (let x = h.0.1.0 in omega (arith, less, x), let x = h.0.1.1 in omega (arith, less, x)),
-  ),
-  Within-more blocks low high less h.1,
-)
-
--- one block more
-pub Within-push : (blocks : List Block) (b : Block) (reach : ℕ) → Within blocks reach →
-    BlockWithin b reach → Within (blocks ++ b ∷ []) reach
-unfolding Within
-Within-push [] b reach h k = (k, tt)
-Within-push (a ∷ blocks) b reach h k = (h.0, Within-push blocks b reach h.1 k)
-
--- the block in a place
-pub Within-at : (blocks : List Block) (reach i : ℕ) (d : Block) → Within blocks reach →
-    i < length blocks → BlockWithin (get_or blocks i d) reach
-unfolding Within
-Within-at [] reach i d h within = absurd (omega arith)
-Within-at (b ∷ blocks) reach zero d h within = h.0
-Within-at (b ∷ blocks) reach (suc i) d h within = Within-at blocks reach i d h.1 (omega arith)
-
-Within-drop : (i : ℕ) (blocks : List Block) (reach : ℕ) → Within blocks reach →
-    Within (drop i blocks) reach
-unfolding Within
-Within-drop zero blocks reach h = h
-Within-drop (suc i) [] reach h = tt
-Within-drop (suc i) (b ∷ blocks) reach h = Within-drop i blocks reach h.1
-
--- the first blocks
-pub Within-take : (i : ℕ) (blocks : List Block) (reach : ℕ) → Within blocks reach →
-    Within (take i blocks) reach
-unfolding Within
-Within-take zero blocks reach h = tt
-Within-take (suc i) [] reach h = tt
-Within-take (suc i) (b ∷ blocks) reach h = (h.0, Within-take i blocks reach h.1)
-
--- some blocks of a row
-pub Within-range : (blocks : List Block) (from to reach : ℕ) → Within blocks reach →
-    Within (slice_range blocks from to) reach
-Within-range blocks from to reach h = Within-take (to - from) (drop from blocks) reach
-    (Within-drop from blocks reach h)
+Within-more blocks low high less h = λ k d below.
+    let was = h k d below in ((
+      (let x = was.0.0 in omega (arith, less, x), let x = was.0.1 in omega (arith, less, x)),
+      (let x = was.1.0 in omega (arith, less, x), let x = was.1.1 in omega (arith, less, x)),
+    )
+    )
 
 -- ---- blocks of a list
 

@@ -6,7 +6,7 @@ use Rattle.std.specs.FinMap as fin
 use Rattle.cnf_text.specs.Literal.{Literal}
 use Rattle.hint_check.specs.declared.block.Block.{Block}
 use Rattle.hint_check.specs.declared.slots.Slot.{Slot}
-use Rattle.hint_check.specs.Inner.Blocks.{clause_of, Within}
+use Rattle.hint_check.specs.Inner.Blocks.{clause_of}
 use Rattle.hint_check.specs.Inner.Table.{no_slot, slot_at, slot_clause, entry_of, near_entries}
 use Rattle.hint_check.specs.Inner.Table.{clauses_in, SlotsEndBy, SetsSlot}
 use Rattle.hint_check.specs.Live.{Live}
@@ -121,11 +121,6 @@ pub ends-none : (slots : List Slot) (count : ℕ) → slots ≡ no_slot ∷ [] �
 unfolding SlotsEndBy
 ends-none slots count is place =
     subst (λ ss. (slot_at ss place).end ≤ count) (sym is) (one_end place count)
-
--- no block has a number above any
-pub within-none : (blocks : List Block) (reach : ℕ) → blocks ≡ [] → Within blocks reach
-unfolding Within
-within-none blocks reach none = subst (λ bs. Within bs reach) (sym none) tt
 
 -- the next slot is set behind the others
 pub SetsSlot-push : (slots slots' : List Slot) (slot : Slot) → slots' ≡ slots ++ slot ∷ [] →

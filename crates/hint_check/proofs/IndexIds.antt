@@ -1,17 +1,18 @@
 -- The ids listed for each literal.
 use Rattle.std.proofs.Common.{◌≡◌, ◌==◌, ◌||◌, ◌&&◌, ℕ, Bool, true, false, cond, nat_eq, Option}
-use Rattle.std.proofs.Common.{◌+◌, map, Some, None, List, [], ◌∷◌, ◌++◌, refl, sym, ap, ◌∙◌, inl}
-use Rattle.std.proofs.Common.{inr, subst}
+use Rattle.std.proofs.Common.{◌+◌, ◌<◌, suc, Some, None, List, [], ◌∷◌, ◌++◌, length}
+use Rattle.std.proofs.Common.{get_or, refl, sym, ap, ◌∙◌, inl, inr, subst, arith}
+use Rattle.std.proofs.lemmas.List.{get_or-map, length-map}
 use Rattle.std.specs.Prelude.{if◌then◌else◌}
 use Rattle.std.specs.Option.{IfSome}
 use Rattle.std.specs.FinMap as fin
 use Rattle.std.specs.Ordering.{nat_cmp, eq_by_cmp}
 use Rattle.hint_check.proofs.LiveMaps.{same_key}
 use Rattle.hint_check.proofs.LiveParts.{find-lookup, IfSome-weaker}
-use Rattle.hint_check.specs.declared.holders.Holders.{Holders}
-use Rattle.hint_check.specs.Inner.Holders.{IsListed, NamesEach}
+use Rattle.hint_check.specs.declared.holders.Holder.{Holder}
+use Rattle.hint_check.specs.Inner.Holders.{holder_of, NamesEach}
 use Rattle.hint_check.specs.Inner.Live.{IsIndexOf}
-use Rattle.std.specs.List.{list_any, enumerate_from}
+use Rattle.std.specs.List.{Contains, list_any, enumerate_from}
 use Rattle.std.specs.Map.{lookup}
 use Rattle.std.proofs.lemmas.Bool.{false≢true, or_cases, or_left, or_right, and_parts, and_from}
 use Rattle.std.proofs.lemmas.Bool.{eqb-true, eq-eqb, cond-true, cond-false}
@@ -273,33 +274,42 @@ pub part-whole : (clause : List Literal) → is_tautology clause ≡ false →
 unfolding indexed_part
 part-whole clause clear = cond-false (is_tautology clause) [] clause clear
 
--- what is said of what a formula's clauses show is said of the clauses
-pub parts-named : (n : ℕ) (clauses : List (List Literal)) (q : ℕ) (P : List Literal → Type 0) →
-    IfSome (fin.find nat_cmp q (enumerate_from n (map indexed_part clauses))) P →
-    IfSome (fin.find nat_cmp q (enumerate_from n clauses)) (λ clause. P (indexed_part clause))
-parts-named n [] q P = λ _. tt
-parts-named n (clause ∷ clauses) q P =
+-- what is true of each clause that shows a literal, by its place, is true by its id
+shown-named : (n : ℕ) (clauses : List (List Literal)) (l : Literal) (Named : ℕ → Type 0) →
+    ((k : ℕ) → k < length clauses → shows (get_or clauses k []) l ≡ true → Named (n + k)) →
+    (q : ℕ) →
+    IfSome (fin.find nat_cmp q (enumerate_from n clauses))
+    (λ clause. shows clause l ≡ true → Named q)
+shown-named n [] l Named named q = tt
+shown-named n (clause ∷ clauses) l Named named q =
     elim (eq_by_cmp nat_cmp q n) as
-    (λ b. IfSome (cond b (Some (indexed_part clause))
-    (fin.find nat_cmp q (enumerate_from (n + 1) (map indexed_part clauses)))) P →
+    (λ b. eq_by_cmp nat_cmp q n ≡ b →
     IfSome (cond b (Some clause) (fin.find nat_cmp q (enumerate_from (n + 1) clauses)))
-    (λ c. P (indexed_part c))) [
-      | true ↦ λ h. h
-      | false ↦ parts-named (n + 1) clauses q P
-    ]
+    (λ clause. shows clause l ≡ true → Named q)) [
+      | true ↦ λ here holds.
+          subst Named (let e : n + 0 ≡ q = omega (arith, same_key q n here) in e)
+          (named 0 (omega arith) holds)
+      | false ↦ λ apart. shown-named (n + 1) clauses l Named
+          (λ k below holds.
+          subst Named (let e : n + suc k ≡ n + 1 + k = omega arith in e)
+          (named (suc k) (omega (arith, below)) holds)) q
+    ] refl
 
 -- what an index of these clauses lists names each of them that shows the literal
-pub index-adds : (holders : Holders) (clauses : List (List Literal)) (lit : Literal)
+pub index-adds : (holders : List Holder) (clauses : List (List Literal)) (lit : Literal)
     (before after : List ℕ) → IsIndexOf holders clauses →
     ((more : List ℕ) × (after ≡ before ++ more)
-    × ((id : ℕ) → IsListed holders lit id → list_any (λ named. named == id) more ≡ true)) →
+    × ((id : ℕ) → Contains holders (holder_of (literal_number lit) id)
+    → list_any (λ named. named == id) more ≡ true)) →
     AddsHolders (enumerate_from 1 clauses) lit before after
 unfolding AddsHolders NamesEntries NamesEach
 index-adds holders clauses lit before after is listed = (
   listed.0,
   listed.1,
-  λ q. parts-named 1 clauses q
-      (λ part. has part lit ≡ true → list_any (λ named. named == q) listed.0 ≡ true)
-      (IfSome-weaker (fin.find nat_cmp q (enumerate_from 1 (map indexed_part clauses)))
-      (is.names lit q) (λ clause names holds. listed.2 q (names holds))),
+  shown-named 1 clauses lit (λ q. list_any (λ named. named == q) listed.0 ≡ true)
+      (λ k below holds. listed.2 (1 + k)
+      (subst (λ q. Contains holders (holder_of (literal_number lit) q))
+      (let e : k + 1 ≡ 1 + k = omega arith in e)
+      (is k lit (omega (arith, length-map clauses indexed_part, below))
+      (ap (λ clause. has clause lit) (get_or-map indexed_part clauses k [] [] below) ∙ holds)))),
 )

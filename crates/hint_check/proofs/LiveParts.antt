@@ -1,7 +1,7 @@
 -- The clauses of a base and others, seen as a finite map.
 use Rattle.std.proofs.Common.{◌≡◌, ◌==◌, ℕ, Bool, true, false}
-use Rattle.std.proofs.Common.{cond, nat_eq, Option, Some, None, List, [], ◌∷◌, ◌++◌, length}
-use Rattle.std.proofs.Common.{refl, sym, ap, ◌∙◌, subst, arith, inl, inr}
+use Rattle.std.proofs.Common.{cond, nat_eq, Option, Some, None, List, [], ◌∷◌, ◌++◌}
+use Rattle.std.proofs.Common.{refl, sym, ap, ◌∙◌, subst, inl, inr}
 use Rattle.std.specs.Prelude.{◌⊎◌}
 use Rattle.std.specs.Option.{IfSome, option_or}
 use Rattle.std.specs.List.{list_any, enumerate_from}
@@ -76,16 +76,6 @@ removed before after id is q =
     ∙ fin.get-remove nat_cmp_total before id q
     ∙ ap (λ b. cond b None (fin.get before q)) (sym (same_test_back id q))
     ∙ ap (cond (nat_eq id q) None) (sym (lookup-entries before q))
-
-none_long : {A : Type 0} (xs : List A) → length xs ≡ 0 → xs ≡ []
-none_long [] none = refl
-none_long (x ∷ xs) none = absurd (omega arith)
-
--- the empty map has no entries
-pub no_entries : (m : Live) → m ≡ fin.empty → fin.entries m ≡ []
-no_entries m is =
-    none_long (fin.entries m)
-    (sym (fin.len-entries m) ∙ ap fin.len is ∙ fin.len-empty nat_cmp (List Literal))
 
 -- what holds of a value where there is one may be weakened
 pub IfSome-weaker : {A : Type 0} {P Q : A → Type 0} (o : Option A) → IfSome o P →

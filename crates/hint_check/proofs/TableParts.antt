@@ -16,12 +16,12 @@ use Rattle.hint_check.specs.Inner.Stamps.{is_named}
 use Rattle.hint_check.specs.Inner.Table.{no_slot, slot_at, clauses_in, Tabled, tabled, front_alone}
 use Rattle.hint_check.specs.Inner.Table.{with_clause, without_clause, SlotsEndBy, SpansEndBy}
 use Rattle.hint_check.specs.Inner.Table.{SetsSlot, KeepsFront, IsTable}
-use Rattle.hint_check.specs.Inner.Blocks.{Within}
+use Rattle.hint_check.specs.Inner.Blocks.{BlockWithin, Within}
 use Rattle.hint_check.specs.declared.table.Ahead.{Ahead}
 use Rattle.std.proofs.lemmas.List.{take-append-le, length-append}
 use Rattle.hint_check.proofs.TableEntries.{SpansEndBy-more, SpansEndBy-none, SlotsEndBy-cleared}
 use Rattle.hint_check.proofs.TableEntries.{SlotsEndBy-alike}
-use Rattle.hint_check.proofs.BlockRuns.{Within-take}
+use Rattle.std.proofs.lemmas.List.Elements.{All-take}
 use Rattle.hint_check.proofs.TableEntries.{table-same, table-insert-near, table-insert-far}
 use Rattle.hint_check.proofs.TableEntries.{table-remove, table-none, table-slots, slot-drop, past}
 use Rattle.hint_check.proofs.TableEntries.{SetsFrom-all, SetsFrom-behind, SlotsEndBy-drop}
@@ -362,7 +362,7 @@ module _ (blocks : List Block) (slots : List Slot) (far : List (ℕ × Span)) (f
     front_ends = subst (λ ss. SlotsEndBy ss front.blocks) (sym same)
         (subst (SlotsEndBy slots) (sym count) ends);
     front_blocks = omega (arith, count);
-    front_within = Within-take front.blocks blocks front.reach
+    front_within = All-take (λ block. BlockWithin block front.reach) front.blocks blocks
         (subst (λ r. Within blocks r) (sym low) within);
     front_slots = let e = ap length same in omega (arith, e);
     kept = KeepsFront-all slots front.slots.items emptied (λ i. ap (λ ss. slot_at ss i) (sym same));

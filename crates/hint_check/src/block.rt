@@ -131,46 +131,54 @@ pub fn push_clause(blocks: &mut Vec<Block>, reach: &mut u32, lits: &[Lit]) -> Re
     Ok(())
 }
 
+/// Blocks, and a number that no falsifier in them is above. What looks at clauses holds them by
+/// value.
+#[derive(Clone, Copy)]
+pub struct Blocks<'b> {
+    pub list: &'b [Block],
+    pub reach: u32,
+    ghost within: { Within list.now reach },
+}
+
 /// A clause in its blocks. To a contract it is the list of its literals.
 #[derive(Drop)]
 pub struct Run<'r> {
-    blocks: &'r [Block],
-    /// No falsifier in them has a greater number.
-    reach: u32,
+    blocks: Blocks<'r>,
 }
 
 impl<'r> Model for Run<'r> {
     ghost use Rattle.std.specs.Prelude.{List};
     ghost use Rattle.cnf_text.specs.Literal.{Literal};
-    ghost use Rattle.hint_check.specs.Inner.Blocks.{clause_of, Within};
+    ghost use Rattle.hint_check.specs.Inner.Blocks.{clause_of};
 
     ghost Value = { List Literal };
 
-    ghost view = { λ run. clause_of run.blocks.now };
-
-    ghost invariant = { λ run. Within run.blocks.now run.reach };
+    ghost view = { λ run. clause_of run.blocks.list.now };
 }
 
 impl<'r> Run<'r> {
-    ghost use Rattle.std.specs.Prelude.{◌≡◌, ◌++◌, OnOk};
-    ghost use Rattle.hint_check.specs.Inner.Blocks.{clause_of, Within};
+    ghost use Rattle.std.specs.Prelude.{◌≡◌, ◌≤◌, ◌++◌, OnOk, length, slice_range};
+    ghost use Rattle.hint_check.specs.Inner.Blocks.{clause_of};
 
-    /// The clause in these blocks.
+    /// The clause in the blocks from a place up to another.
     #[inline(always)]
-    pub fn new(blocks: &'r [Block], reach: u32) -> Run<'r>
-        requires { Within blocks.now reach }
-        ensures { result ≡ clause_of blocks.now }
+    pub fn new(blocks: Blocks<'r>, start: usize, end: usize) -> Run<'r>
+        requires { (start ≤ end) × (end ≤ length blocks.list.now) }
+        ensures { result ≡ clause_of (slice_range blocks.entry.list.now start end) }
     {
-        Run { blocks, reach }
+        let list = &blocks.list[start..end];
+        let reach = blocks.reach;
+        Run {
+            blocks: Blocks { list, reach },
+        }
     }
 
-    /// Its blocks, and a number that no falsifier in them is above.
+    /// Its blocks.
     #[inline(always)]
-    pub fn parts(&self) -> (&'r [Block], u32)
-        ensures clause { clause_of result.0.now ≡ self.now }
-        ensures within { Within result.0.now result.1 }
+    pub fn blocks(&self) -> Blocks<'r>
+        ensures { clause_of result.list.now ≡ self.now }
     {
-        (self.blocks, self.reach)
+        self.blocks
     }
 
     /// Puts its literals in the place of those of a list.
@@ -178,7 +186,7 @@ impl<'r> Run<'r> {
         ensures { OnOk result (lits.new.items ≡ self.now) }
     {
         lits.clear();
-        for block in self.blocks {
+        for block in self.blocks.list {
             push_literal(block.first, lits)?;
             push_literal(block.second, lits)?;
             push_literal(block.third, lits)?;

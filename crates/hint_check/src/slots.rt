@@ -2,13 +2,12 @@
 ghost use Rattle.std.specs.Prelude.{◌≡◌, ℕ, ◌<◌, ◌≤◌, ◌+◌, ◌^◌, nat_eq, cond, length, max, true};
 ghost use Rattle.std.specs.Prelude.{None, Some, IfSome, IfOk, OnOk, OnErr, if◌then◌else◌};
 ghost use Rattle.std.specs.Map.{lookup};
-ghost use Rattle.hint_check.specs.Inner.Blocks.{Within};
 ghost use Rattle.hint_check.specs.Inner.Stamps.{is_named};
-ghost use Rattle.hint_check.specs.Inner.Table.{no_slot, slot_at, far_at, slot_clause, span_clause};
+ghost use Rattle.hint_check.specs.Inner.Table.{no_slot, slot_at, far_at, slot_clause};
 ghost use Rattle.hint_check.specs.Inner.Table.{SlotsEndBy, SpansEndBy, SetsSlot};
 
-use crate::block::{Block, Run};
-use crate::far::{Far, Span};
+use crate::block::{Blocks, Run};
+use crate::far::Far;
 use std::alloc::AllocError;
 
 /// Where the blocks of a near id's clause stand: from the start up to the end. There is no clause
@@ -35,14 +34,12 @@ fn slot_at(slots: &[Slot], place: usize) -> Slot
 
 /// The clause that stands where a slot says.
 #[inline(always)]
-pub fn slot_clause(blocks: &[Block], reach: u32, slot: Slot) -> Option<Run<'_>>
-    requires ends { slot.end ≤ length blocks.now }
-    requires within { Within blocks.now reach }
-    ensures { result ≡ slot_clause blocks.now slot }
+pub fn slot_clause(blocks: Blocks<'_>, slot: Slot) -> Option<Run<'_>>
+    requires { slot.end ≤ length blocks.list.now }
+    ensures { result ≡ slot_clause blocks.entry.list.now slot }
 {
     if slot.start <= slot.end {
-        let run = &blocks[slot.start as usize..slot.end as usize];
-        Some(Run::new(run, reach))
+        Some(Run::new(blocks, slot.start as usize, slot.end as usize))
     } else {
         None
     }
@@ -50,12 +47,11 @@ pub fn slot_clause(blocks: &[Block], reach: u32, slot: Slot) -> Option<Run<'_>>
 
 /// The clause of a near id.
 #[inline(always)]
-pub fn near_clause<'l>(blocks: &'l [Block], reach: u32, slots: &[Slot], id: u64) -> Option<Run<'l>>
-    requires ends { SlotsEndBy slots.now (length blocks.now) }
-    requires within { Within blocks.now reach }
-    ensures { result ≡ slot_clause blocks.now (slot_at slots.now id) }
+pub fn near_clause<'l>(blocks: Blocks<'l>, slots: &[Slot], id: u64) -> Option<Run<'l>>
+    requires { SlotsEndBy slots.now (length blocks.list.now) }
+    ensures { result ≡ slot_clause blocks.entry.list.now (slot_at slots.now id) }
 {
-    slot_clause(blocks, reach, slot_at(slots, id as usize))
+    slot_clause(blocks, slot_at(slots, id as usize))
 }
 
 /// How many blocks stand where a slot says.
@@ -63,28 +59,17 @@ fn slot_len(slot: Slot) -> usize {
     slot.end.saturating_sub(slot.start) as usize
 }
 
-/// The clause that stands where a span says.
-#[inline(always)]
-pub fn span_clause(blocks: &[Block], reach: u32, span: Span) -> Run<'_>
-    requires ends { (span.start ≤ span.end) × (span.end ≤ length blocks.now) }
-    requires within { Within blocks.now reach }
-    ensures { result ≡ span_clause blocks.now span }
-{
-    Run::new(&blocks[span.start..span.end], reach)
-}
-
 /// The clause of a far id.
 #[inline(always)]
-pub fn far_clause<'l>(blocks: &'l [Block], reach: u32, far: &Far, id: u64) -> Option<Run<'l>>
-    requires ends { SpansEndBy far.now (length blocks.now) }
-    requires within { Within blocks.now reach }
-    ensures { result ≡ far_at blocks.now far.now id }
+pub fn far_clause<'l>(blocks: Blocks<'l>, far: &Far, id: u64) -> Option<Run<'l>>
+    requires { SpansEndBy far.now (length blocks.list.now) }
+    ensures { result ≡ far_at blocks.entry.list.now far.now id }
 {
     if far.is_empty() {
         return None;
     }
     match far.span_of(id) {
-        Some(span) => Some(span_clause(blocks, reach, span)),
+        Some(span) => Some(Run::new(blocks, span.start, span.end)),
         None => None,
     }
 }

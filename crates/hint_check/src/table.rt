@@ -2,21 +2,18 @@
 //! before it, and at its front those of a formula, to which it goes back.
 ghost use Rattle.std.specs.Prelude.{◌≡◌, ℕ, ◌≤◌, ◌<◌, ◌+◌, ◌^◌, length, drop, true};
 ghost use Rattle.std.specs.Prelude.{IfSome, IfOk, OnOk};
-ghost use Rattle.hint_check.specs.Inner.Blocks.{Within};
 ghost use Rattle.hint_check.specs.Inner.Far.{placed};
 ghost use Rattle.hint_check.specs.Inner.Index.{Lists, indexed_part};
 ghost use Rattle.hint_check.specs.Inner.Stamps.{is_named};
 ghost use Rattle.hint_check.specs.Inner.Table.{SlotsEndBy, SpansEndBy, near_entries, far_entries};
 ghost use Rattle.hint_check.specs.Inner.Table.{ListsAll};
 
-use crate::block::{Block, Run, push_clause};
+use crate::block::{Block, Blocks, Run, push_clause};
 use crate::far::{Far, Known, Span, put_far, take_far};
 use crate::front::Front;
 use crate::index::Index;
 use crate::scratch::ClauseScratch;
-use crate::slots::{
-    Slot, empty_slot, far_clause, near_clause, put_back, put_slot, slot_clause, span_clause,
-};
+use crate::slots::{Slot, empty_slot, far_clause, near_clause, put_back, put_slot, slot_clause};
 use crate::tautology::indexed_part;
 use cnf_text::literal::Lit;
 use std::alloc::{AllocError, Global};
@@ -126,8 +123,10 @@ impl Table {
         ensures { result ≡ self.now.live }
     {
         TableView {
-            blocks: &self.blocks,
-            reach: self.reach,
+            blocks: Blocks {
+                list: &self.blocks,
+                reach: self.reach,
+            },
             slots: &self.slots,
             far: &self.far,
         }
@@ -193,15 +192,12 @@ impl Table {
     {
         let first = self.front.slots.len();
         let behind = slots_from(&self.slots, first);
-        list_near(
-            index,
-            scratch,
-            &self.blocks,
-            self.reach,
-            behind,
-            first as u64,
-        )?;
-        list_far(index, scratch, &self.blocks, self.reach, &self.far)?;
+        let blocks = Blocks {
+            list: &self.blocks,
+            reach: self.reach,
+        };
+        list_near(index, scratch, blocks, behind, first as u64)?;
+        list_far(index, scratch, blocks, &self.far)?;
         Ok(())
     }
 }
@@ -209,8 +205,7 @@ impl Table {
 /// The clauses of a table as they stand. To a contract they are a finite map from ids.
 #[derive(Drop)]
 pub struct TableView<'t> {
-    blocks: &'t [Block],
-    reach: u32,
+    blocks: Blocks<'t>,
     slots: &'t [Slot],
     far: &'t Far,
 }
@@ -221,18 +216,16 @@ impl<'t> Model for TableView<'t> {
     ghost use Rattle.std.specs.FinMap as map;
     ghost use Rattle.cnf_text.specs.Literal.{Literal, literal_code};
     ghost use Rattle.std.specs.Coded.{coded_ℕ, coded_list};
-    ghost use Rattle.hint_check.specs.Inner.Blocks.{Within};
     ghost use Rattle.hint_check.specs.Inner.Table.{clauses_in, SlotsEndBy, SpansEndBy};
 
     ghost Value = { map.FinMap nat_cmp (List Literal) };
 
     ghost coded = { map.code coded_ℕ (coded_list literal_code) };
 
-    ghost view = { λ t. clauses_in t.blocks.now 0 t.slots.now t.far.now };
+    ghost view = { λ t. clauses_in t.blocks.list.now 0 t.slots.now t.far.now };
 
-    ghost invariant = { λ t. (SlotsEndBy t.slots.now (length t.blocks.now)
-        × SpansEndBy t.far.now (length t.blocks.now))
-        × Within t.blocks.now t.reach };
+    ghost invariant = { λ t. SlotsEndBy t.slots.now (length t.blocks.list.now)
+        × SpansEndBy t.far.now (length t.blocks.list.now) };
 }
 
 impl<'t> TableView<'t> {
@@ -244,16 +237,16 @@ impl<'t> TableView<'t> {
     pub fn get(&self, id: u64) -> Option<Run<'t>>
         ensures { result ≡ map.get self.now id }
     {
-        match near_clause(self.blocks, self.reach, self.slots, id) {
+        match near_clause(self.blocks, self.slots, id) {
             Some(clause) => Some(clause),
-            None => far_clause(self.blocks, self.reach, self.far, id),
+            None => far_clause(self.blocks, self.far, id),
         }
     }
 
     /// A number that no falsifier of its clauses is above.
     #[inline(always)]
     pub fn reach(&self) -> u32 {
-        self.reach
+        self.blocks.reach
     }
 }
 
@@ -326,19 +319,17 @@ fn list_clause(
 fn list_near(
     index: &mut Index,
     scratch: &mut ClauseScratch,
-    blocks: &[Block],
-    reach: u32,
+    blocks: Blocks<'_>,
     slots: &[Slot],
     first: u64,
 ) -> Result<(), AllocError>
-    requires ends { SlotsEndBy slots.now (length blocks.now) }
-    requires within { Within blocks.now reach }
+    requires ends { SlotsEndBy slots.now (length blocks.list.now) }
     requires fits { first + length slots.now ≤ 2 ^ 64 }
     ensures { OnOk result
-        (ListsAll index.old index.new (near_entries blocks.now first slots.now)) }
+        (ListsAll index.old index.new (near_entries blocks.entry.list.now first slots.now)) }
 {
     for (place, slot) in slots.iter().enumerate() {
-        if let Some(clause) = slot_clause(blocks, reach, *slot) {
+        if let Some(clause) = slot_clause(blocks, *slot) {
             list_clause(index, scratch, &clause, first + place as u64)?;
         }
     }
@@ -349,35 +340,32 @@ fn list_near(
 fn list_far(
     index: &mut Index,
     scratch: &mut ClauseScratch,
-    blocks: &[Block],
-    reach: u32,
+    blocks: Blocks<'_>,
     far: &Far,
 ) -> Result<(), AllocError>
-    requires ends { SpansEndBy far.now (length blocks.now) }
-    requires within { Within blocks.now reach }
-    ensures { OnOk result (ListsAll index.old index.new (far_entries blocks.now far.now)) }
+    requires { SpansEndBy far.now (length blocks.list.now) }
+    ensures { OnOk result
+        (ListsAll index.old index.new (far_entries blocks.entry.list.now far.now)) }
 {
     let (known, map) = far.parts();
-    list_known(index, scratch, blocks, reach, known)?;
-    list_spans(index, scratch, blocks, reach, map)
+    list_known(index, scratch, blocks, known)?;
+    list_spans(index, scratch, blocks, map)
 }
 
 /// Lists the far ids that stand in seats.
 fn list_known(
     index: &mut Index,
     scratch: &mut ClauseScratch,
-    blocks: &[Block],
-    reach: u32,
+    blocks: Blocks<'_>,
     known: &[Known],
 ) -> Result<(), AllocError>
-    requires ends { SpansEndBy (placed known.now) (length blocks.now) }
-    requires within { Within blocks.now reach }
+    requires { SpansEndBy (placed known.now) (length blocks.list.now) }
     ensures { OnOk result
-        (ListsAll index.old index.new (far_entries blocks.now (placed known.now))) }
+        (ListsAll index.old index.new (far_entries blocks.entry.list.now (placed known.now))) }
 {
     for one in known {
         if one.span.start <= one.span.end {
-            let clause = span_clause(blocks, reach, one.span);
+            let clause = Run::new(blocks, one.span.start, one.span.end);
             list_clause(index, scratch, &clause, one.id)?;
         }
     }
@@ -388,17 +376,16 @@ fn list_known(
 fn list_spans(
     index: &mut Index,
     scratch: &mut ClauseScratch,
-    blocks: &[Block],
-    reach: u32,
+    blocks: Blocks<'_>,
     map: &BTreeMap<u64, Span>,
 ) -> Result<(), AllocError>
-    requires ends { SpansEndBy map.now.entries (length blocks.now) }
-    requires within { Within blocks.now reach }
+    requires { SpansEndBy map.now.entries (length blocks.list.now) }
     ensures { OnOk result
-        (ListsAll index.old index.new (far_entries blocks.now map.now.entries)) }
+        (ListsAll index.old index.new (far_entries blocks.entry.list.now map.now.entries)) }
 {
     for (id, span) in map {
-        list_clause(index, scratch, &span_clause(blocks, reach, *span), *id)?;
+        let clause = Run::new(blocks, span.start, span.end);
+        list_clause(index, scratch, &clause, *id)?;
     }
     Ok(())
 }

@@ -2,6 +2,7 @@
 -- functions.
 use Rattle.std.specs.Prelude.{◌≡◌, ℕ, ◌≤◌, ◌/◌, ◌%◌, ◌==◌, nat_lt, if◌then◌else◌, Option, None}
 use Rattle.std.specs.Prelude.{Some}
+use Rattle.std.specs.List.{All}
 use Rattle.std.specs.Prelude.{List, [], ◌∷◌, ◌++◌}
 use Rattle.cnf_text.specs.Literal.{Literal}
 use Rattle.hint_check.specs.declared.block.Falsifier.{Falsifier}
@@ -38,9 +39,8 @@ BlockWithin b reach =
     × ((b.third.number ≤ reach) × (b.fourth.number ≤ reach))
 
 -- none of these blocks has one with a greater number
-unfoldable pub Within : List Block → ℕ → Type 0
-Within [] reach = Unit {0}
-Within (b ∷ blocks) reach = BlockWithin b reach × Within blocks reach
+abbrev pub Within : List Block → ℕ → Type 0
+Within blocks reach = All (λ block. BlockWithin block reach) blocks
 
 -- the later blocks are the earlier ones and, behind them, blocks with this property
 abbrev pub Grows : List Block → List Block → (List Block → Type 0) → Type 0

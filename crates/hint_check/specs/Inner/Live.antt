@@ -1,11 +1,11 @@
 -- The live clauses as those of a base and others, for the contracts of private functions.
 use Rattle.std.specs.Prelude.{◌≡◌, ℕ, ◌⊎◌, Some, true, ◌==◌, List, map as map_list}
 use Rattle.std.specs.Option.{IfSome}
-use Rattle.std.specs.List.{list_any, enumerate_from}
+use Rattle.std.specs.List.{list_any}
 use Rattle.std.specs.FinMap as map
 use Rattle.cnf_text.specs.Literal.{Literal}
-use Rattle.hint_check.specs.declared.holders.Holders.{Holders}
-use Rattle.hint_check.specs.Inner.Holders.{IsWhole, NamesEach}
+use Rattle.hint_check.specs.declared.holders.Holder.{Holder}
+use Rattle.hint_check.specs.Inner.Holders.{NamesEach}
 use Rattle.hint_check.specs.Inner.Index.{shows, indexed_part}
 use Rattle.hint_check.specs.Live.{Live}
 
@@ -22,6 +22,5 @@ AreParts live front own =
     (λ clause. (map.get front id ≡ Some clause) ⊎ (map.get own id ≡ Some clause))
 
 -- the holders name each of these clauses, whose ids count from 1, for the literals that it shows
-pub record IsIndexOf (holders : Holders) (clauses : List (List Literal)) : Type 0 where
-  pub whole : IsWhole holders
-  pub names : NamesEach holders (enumerate_from 1 (map_list indexed_part clauses))
+abbrev pub IsIndexOf : List Holder → List (List Literal) → Type 0
+IsIndexOf holders clauses = NamesEach holders (map_list indexed_part clauses)

@@ -1,7 +1,8 @@
 use Rattle.std.proofs.Common.{◌∷◌, [], ◌++◌, sym, ap, ◌∙◌, subst}
 use Rattle.std.proofs.Common.{append_assoc}
-use Rattle.hint_check.specs.Inner.Blocks.{clause_of, with_block, Within}
-use Rattle.hint_check.proofs.BlockRuns.{clause_of-push, Within-more, Within-push}
+use Rattle.hint_check.specs.Inner.Blocks.{clause_of, with_block, BlockWithin, Within}
+use Rattle.std.proofs.lemmas.List.Elements.{All-push}
+use Rattle.hint_check.proofs.BlockRuns.{clause_of-push, Within-more}
 use Rattle.hint_check.proofs.block.push_clause.Goals as goal
 
 pub returns-in_err-push-clause-within : goal.returns-in_err-push-clause-within
@@ -25,7 +26,7 @@ loop-rest-preserved c =
       );
       within = λ h.
           subst (λ blocks. Within blocks c.reach.result) (sym c.in_ok-push.ensures.items)
-          (Within-push c.loop-rest.blocks.items b c.reach.result
+          (All-push (λ block. BlockWithin block c.reach.result) c.loop-rest.blocks.items b
           (Within-more c.loop-rest.blocks.items c.loop-rest.reach c.reach.result
           c.reach.ensures.more (c.loop-rest.invariant.within h))
           c.reach.ensures.within);

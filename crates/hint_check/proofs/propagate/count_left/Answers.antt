@@ -1,16 +1,14 @@
-use Rattle.std.proofs.Common.{◌-◌, length, sym, ap, ◌∙◌, arith}
+use Rattle.std.proofs.Common.{sym, ap, ◌∙◌, arith}
 use Rattle.std.proofs.lemmas.List.{at_drop_all}
 use Rattle.hint_check.specs.Propagation.{unfalsified}
 use Rattle.hint_check.specs.Inner.Stamps.{is_shown}
 use Rattle.hint_check.specs.Inner.Blocks.{clause_of, kept}
-use Rattle.hint_check.proofs.BlockRuns.{Within-at}
 use Rattle.hint_check.proofs.PropagationSteps.{unfalsified-none}
 use Rattle.hint_check.proofs.propagate.count_left.Goals as goal
 
 pub count_block-tally-requires-clause-within : goal.count_block-tally-requires-clause-within
 count_block-tally-requires-clause-within c =
-    Within-at c.args.blocks.now (length c.args.at_hand.stamps.now - 1) c.loop-block.block-index _
-    c.requires.within c.loop-block-test.true
+    c.requires.within c.loop-block.block-index _ c.loop-block-test.true
 
 pub returns-clause-none : goal.returns-clause-none
 returns-clause-none c = λ none.

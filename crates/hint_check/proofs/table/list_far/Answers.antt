@@ -7,23 +7,23 @@ use Rattle.hint_check.proofs.LiveParts.{OnOk-weaker}
 use Rattle.hint_check.proofs.TableEntries.{ListsAll-both}
 use Rattle.hint_check.proofs.table.list_far.Goals as goal
 
-pub list_known-requires-clause-ends : goal.list_known-requires-clause-ends
-list_known-requires-clause-ends c =
-    let count = length c.args.blocks.now in
+pub list_known-requires : goal.list_known-requires
+list_known-requires c =
+    let count = length c.args.blocks.list.now in
     (SpansEndBy-parts (placed c.parts.result.0.now) c.parts.result.1.now.entries count
     (subst (λ (es : List (ℕ × Span)). SpansEndBy es count) (sym c.parts.ensures)
-    c.requires.ends)).0
+    c.requires)).0
 
-pub list_spans-requires-clause-ends : goal.list_spans-requires-clause-ends
-list_spans-requires-clause-ends c =
-    let count = length c.args.blocks.now in
+pub list_spans-requires : goal.list_spans-requires
+list_spans-requires c =
+    let count = length c.args.blocks.list.now in
     (SpansEndBy-parts (placed c.parts.result.0.now) c.parts.result.1.now.entries count
     (subst (λ (es : List (ℕ × Span)). SpansEndBy es count) (sym c.parts.ensures)
-    c.requires.ends)).1
+    c.requires)).1
 
 pub returns : goal.returns
 returns c =
-    let blocks = c.args.blocks.now in
+    let blocks = c.args.blocks.list.now in
     let known = placed c.parts.result.0.now in
     let entries = c.parts.result.1.now.entries in
     let middle = c.list_known.new.index in

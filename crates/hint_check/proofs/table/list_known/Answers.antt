@@ -17,12 +17,12 @@ use Rattle.hint_check.proofs.table.list_known.Goals.{then-one+in_ok-list_clause,
 abbrev none : Known
 none = record { id = 0; span = record { start = 0; end = 0 } }
 
-pub span_clause-clause-requires-clause-ends : goal.span_clause-clause-requires-clause-ends
-span_clause-clause-requires-clause-ends c =
+pub new-clause-requires : goal.new-clause-requires
+new-clause-requires c =
     let known = c.args.known.now in
     let i = c.loop-one.one-index in
     let one = get_or known i none in
-    let count = length c.args.blocks.now in
+    let count = length c.args.blocks.list.now in
     let ordered = c.if-one.true in (
       ordered,
       (ends-split one (placed (drop (i + 1) known)) count
@@ -32,7 +32,7 @@ span_clause-clause-requires-clause-ends c =
 
 pub loop-one-preserved : goal.loop-one-preserved
 loop-one-preserved c =
-    let blocks = c.args.blocks.now in
+    let blocks = c.args.blocks.list.now in
     let known = c.args.known.now in
     let i = c.loop-one.one-index in
     let one = get_or known i none in
@@ -58,7 +58,7 @@ loop-one-preserved c =
                 (le-leb one.span.start one.span.end w.if-one.true) was)
                 (subst (λ (part : List Literal).
                 Lists before w.list_clause.new.index part one.id)
-                (ap indexed_part w.span_clause-clause.ensures) w.in_ok-list_clause.ensures))
+                (ap indexed_part w.new-clause.ensures) w.in_ok-list_clause.ensures))
             | else-one w ↦
                 subst (λ rows. Awaits rows (far_entries blocks behind ++ rest) all)
                 (sym w.index-is)
@@ -70,7 +70,7 @@ loop-one-preserved c =
 
 pub returns : goal.returns
 returns c =
-    let blocks = c.args.blocks.now in
+    let blocks = c.args.blocks.list.now in
     let known = c.args.known.now in
     ListsAll-end c.args.index.now c.loop-one.index (far_entries blocks (placed known))
     (λ rest all h. subst

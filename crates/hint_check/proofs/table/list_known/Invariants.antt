@@ -7,8 +7,9 @@ use Rattle.hint_check.proofs.table.list_known.Given as goal
 
 abbrev pub invariant-loop-one : goal.invariant-loop-one
 invariant-loop-one l = record {
-  ends : SpansEndBy (placed (drop l.one-index l.known)) (length l.blocks);
+  ends : SpansEndBy (placed (drop l.one-index l.known)) (length l.blocks.list.now);
   listed : (rest all : List (ℕ × List Literal))
-      → Awaits l.fn.index (far_entries l.blocks (placed l.known) ++ rest) all
-      → Awaits l.index (far_entries l.blocks (placed (drop l.one-index l.known)) ++ rest) all;
+      → Awaits l.fn.index (far_entries l.blocks.list.now (placed l.known) ++ rest) all
+      → Awaits l.index
+      (far_entries l.blocks.list.now (placed (drop l.one-index l.known)) ++ rest) all;
 }

@@ -10,17 +10,17 @@ use Rattle.hint_check.proofs.table.list_near.Goals.{in-Some+in_ok-list_clause, i
 pub loop-place-init : goal.loop-place-init
 loop-place-init c rest all h =
     subst (λ id.
-    Awaits c.args.index.now (near_entries c.args.blocks.now id c.args.slots.now ++ rest) all)
+    Awaits c.args.index.now (near_entries c.args.blocks.list.now id c.args.slots.now ++ rest) all)
     (let e : c.args.first ≡ c.args.first + 0 = omega arith in e) h
 
-pub slot_clause-requires-clause-ends : goal.slot_clause-requires-clause-ends
-slot_clause-requires-clause-ends c =
+pub slot_clause-requires : goal.slot_clause-requires
+slot_clause-requires c =
     slot-within c.args.slots.now _ c.loop-place.place _ c.requires.ends
     (any_default c.args.slots.now c.loop-place.place _ no_slot c.loop-place-test.true)
 
 pub loop-place-preserved : goal.loop-place-preserved
 loop-place-preserved c rest all h =
-    let blocks = c.args.blocks.now in
+    let blocks = c.args.blocks.list.now in
     let slots = c.args.slots.now in
     let i = c.loop-place.place in
     let id = c.args.first + i in
@@ -49,7 +49,7 @@ loop-place-preserved c rest all h =
 
 pub returns : goal.returns
 returns c =
-    let blocks = c.args.blocks.now in
+    let blocks = c.args.blocks.list.now in
     let i = c.loop-place.place in
     ListsAll-end c.args.index.now c.loop-place.index
     (near_entries blocks c.args.first c.args.slots.now)

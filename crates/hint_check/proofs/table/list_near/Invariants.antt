@@ -7,5 +7,6 @@ use Rattle.hint_check.proofs.table.list_near.Given as goal
 abbrev pub invariant-loop-place : goal.invariant-loop-place
 invariant-loop-place l =
     (rest all : List (ℕ × List Literal)) →
-    Awaits l.fn.index (near_entries l.blocks l.first l.slots ++ rest) all
-    → Awaits l.index (near_entries l.blocks (l.first + l.place) (drop l.place l.slots) ++ rest) all
+    Awaits l.fn.index (near_entries l.blocks.list.now l.first l.slots ++ rest) all
+    → Awaits l.index
+    (near_entries l.blocks.list.now (l.first + l.place) (drop l.place l.slots) ++ rest) all

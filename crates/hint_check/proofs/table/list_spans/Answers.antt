@@ -9,26 +9,26 @@ use Rattle.hint_check.proofs.table.list_spans.Goals as goal
 
 pub loop-id-init : goal.loop-id-init
 loop-id-init c =
-    let blocks = c.args.blocks.now in
+    let blocks = c.args.blocks.list.now in
     let same : c.into_iter-id-iterator.result ≡ c.args.map.now.entries =
     c.into_iter-id-iterator.ensures.into_iter_gives.0 in
     record {
-      ends = subst (λ far. SpansEndBy far (length blocks)) (sym same) c.requires.ends;
+      ends = subst (λ far. SpansEndBy far (length blocks)) (sym same) c.requires;
       listed =
           λ rest all h.
           subst (λ far. Awaits c.args.index.now (far_entries blocks far ++ rest) all) (sym same) h;
     }
 
-pub span_clause-requires-clause-ends : goal.span_clause-requires-clause-ends
-span_clause-requires-clause-ends c =
+pub new-clause-requires : goal.new-clause-requires
+new-clause-requires c =
     SpansEndBy-head (c.in-Some.id.now, c.in-Some.span.now) c.next.new.self
-    (length c.args.blocks.now)
-    (subst (λ far. SpansEndBy far (length c.args.blocks.now)) c.in-Some.ensures.steps
+    (length c.args.blocks.list.now)
+    (subst (λ far. SpansEndBy far (length c.args.blocks.list.now)) c.in-Some.ensures.steps
     c.loop-id.invariant.ends)
 
 pub loop-id-preserved : goal.loop-id-preserved
 loop-id-preserved c =
-    let blocks = c.args.blocks.now in
+    let blocks = c.args.blocks.list.now in
     let e : ℕ × Span = (c.in-Some.id.now, c.in-Some.span.now) in
     let before = c.loop-id.index in
     let after = c.list_clause.new.index in
@@ -42,13 +42,13 @@ loop-id-preserved c =
           (subst (λ far. Awaits before (far_entries blocks far ++ rest) all) c.in-Some.ensures.steps
           (c.loop-id.invariant.listed rest all h))
           (subst (λ (part : List Literal). Lists before after part e.0)
-          (ap indexed_part c.span_clause.ensures)
+          (ap indexed_part c.new-clause.ensures)
           c.in_ok-list_clause.ensures);
     }
 
 pub returns : goal.returns
 returns c =
-    let blocks = c.args.blocks.now in
+    let blocks = c.args.blocks.list.now in
     ListsAll-end c.args.index.now c.loop-id.index (far_entries blocks c.args.map.now.entries)
     (λ rest all h. subst
     (λ far. Awaits c.loop-id.index (far_entries blocks far ++ rest) all) c.in-None.ensures.steps.0

@@ -6,8 +6,8 @@ use Rattle.hint_check.proofs.table.list_spans.Given as goal
 
 abbrev pub invariant-loop-id : goal.invariant-loop-id
 invariant-loop-id l = record {
-  ends : SpansEndBy l.id-iterator (length l.blocks);
+  ends : SpansEndBy l.id-iterator (length l.blocks.list.now);
   listed : (rest all : List (ℕ × List Literal))
-      → Awaits l.fn.index (far_entries l.blocks l.fn.map.entries ++ rest) all
-      → Awaits l.index (far_entries l.blocks l.id-iterator ++ rest) all;
+      → Awaits l.fn.index (far_entries l.blocks.list.now l.fn.map.entries ++ rest) all
+      → Awaits l.index (far_entries l.blocks.list.now l.id-iterator ++ rest) all;
 }

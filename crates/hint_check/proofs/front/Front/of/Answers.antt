@@ -6,7 +6,7 @@ use Rattle.hint_check.specs.Inner.Blocks.{clause_of}
 use Rattle.hint_check.specs.Inner.Table.{no_slot, near_entries, SlotsEndBy}
 use Rattle.hint_check.proofs.TableEntries.{SlotsEndBy-set}
 use Rattle.hint_check.proofs.FrontEntries.{IsRow, row-none, row-push, front-clauses, ends-none}
-use Rattle.hint_check.proofs.FrontEntries.{SetsSlot-push, within-none}
+use Rattle.hint_check.proofs.FrontEntries.{SetsSlot-push}
 use Rattle.hint_check.specs.Inner.Alike.{SameLiterals}
 use Rattle.hint_check.proofs.front.Front.of.Goals as goal
 
@@ -18,7 +18,7 @@ loop-clause-init c =
     record {
       entries = row-none c.new-blocks.result.items c.push.new.self.items one;
       ends = ends-none c.push.new.self.items (length c.new-blocks.result.items) one;
-      within = within-none c.new-blocks.result.items 0 c.new-blocks.ensures.items;
+      within = λ k d below. absurd (omega (arith, ap length c.new-blocks.ensures.items, below));
       long = ap length one;
     }
 

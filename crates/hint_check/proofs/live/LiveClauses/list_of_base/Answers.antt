@@ -1,7 +1,8 @@
 use Rattle.std.proofs.Common.{◌≡◌, ◌==◌, ◌++◌, subst, List, ℕ, true}
-use Rattle.std.specs.List.{enumerate_from, list_any}
+use Rattle.std.specs.List.{Contains, enumerate_from, list_any}
 use Rattle.std.specs.Result.{OnOk}
-use Rattle.hint_check.specs.Inner.Holders.{IsListed}
+use Rattle.cnf_text.specs.Literal.{literal_number}
+use Rattle.hint_check.specs.Inner.Holders.{holder_of}
 use Rattle.hint_check.specs.Inner.Index.{AddsHolders}
 use Rattle.hint_check.proofs.IndexIds.{index-adds}
 use Rattle.hint_check.proofs.LiveParts.{OnOk-weaker}
@@ -16,7 +17,7 @@ returns-in-Some-clause-listed c =
     (AddsHolders (enumerate_from 1 live.1) c.args.lit before after)) c.self.view_is
     (OnOk-weaker c.list.result
     ((more : List ℕ) × (after ≡ before ++ more)
-    × ((id : ℕ) → IsListed c.in-Some.holders c.args.lit id
+    × ((id : ℕ) → Contains c.in-Some.holders (holder_of (literal_number c.args.lit) id)
     → list_any (λ named. named == id) more ≡ true))
     (AddsHolders (enumerate_from 1 base) c.args.lit before after)
     (index-adds c.in-Some.holders base c.args.lit before after

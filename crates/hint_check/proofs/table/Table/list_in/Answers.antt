@@ -35,6 +35,6 @@ returns c =
     c.in_ok-list_near.ensures)) in
     let beyond : ListsAll middle rows (far_entries blocks far) =
     subst (λ bs. ListsAll middle rows (far_entries bs far))
-    c.deref-3.ensures.value c.in_ok-list_far.ensures in
+    c.deref-2.ensures.value c.in_ok-list_far.ensures in
     subst (λ t. Indexes rows (fin.entries t.own)) c.self.view_is
     (table-Indexes start middle rows blocks count (drop count slots) far near beyond)

@@ -1,6 +1,0 @@
-use Rattle.std.proofs.Common.{◌≡◌, ◌++◌, map, take}
-use Rattle.hint_check.proofs.holders.push_far_ids.Given as goal
-
-abbrev pub invariant-loop-holder : goal.invariant-loop-holder
-invariant-loop-holder l =
-    l.ids.items ≡ l.initial.ids.items ++ map (λ holder. holder.id) (take l.holder-index l.run)
