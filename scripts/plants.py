@@ -11,7 +11,7 @@ ROOT = os.path.dirname(os.path.dirname(os.path.abspath(__file__)))
 DOCUMENT = f"{ROOT}/docs/PROOFS.md"
 BEGIN, END = "<!-- plants: begin -->", "<!-- plants: end -->"
 COLUMNS = ("refused", "same", "proves", "elsewhere", "not-judged", "not-source", "not-run", "planted-in", "untested")
-SUITES = ("suite", "thread_suite", "report_suite", "program_suite", "beside_suite", "join_suite")
+SUITES = ("suite", "thread_suite", "program_suite", "beside_suite", "join_suite")
 WITHOUT = ("cubeboard", "cubejoin", "fixtures", "devices", *SUITES)
 
 

@@ -1,14 +1,9 @@
-//! The tests of what `cubeboard` writes and tells beside its report: pictures, records, logs,
-//! progress.
+//! The tests of what `cubeboard` writes and tells beside its report: pictures, records, progress.
 #![tactic(auto)]
 
 #[cfg(test)]
 mod calls;
 #[cfg(test)]
-mod log_tests;
-#[cfg(test)]
-mod map_tests;
+mod made_tests;
 #[cfg(test)]
 mod progress_tests;
-#[cfg(test)]
-mod record_tests;

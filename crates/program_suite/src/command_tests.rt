@@ -3,22 +3,15 @@
 ghost use Rattle.std.specs.Prelude.{◌<◌, ◌^◌, ◌-◌, ℕ, List};
 
 use cube_command::{
-    Counted, FileStore, Gate, NoExplain, NoGate, NoLog, Sink, Source, Store, SystemFiles, command,
+    Counted, FileStore, Gate, NoExplain, NoGate, NoLog, Sink, Source, Store, command,
 };
 use cube_report::Fault;
 use devices::{Broken, File, Narrow, Shelf};
-use fixtures::bundles::{BOTH_CUBES, OPEN, OPEN_REPORT, REFUTED, REFUTED_REPORT};
-use fixtures::four;
-use std::alloc::Global;
-use std::fs;
+use fixtures::bundles::{REFUTED, REFUTED_REPORT};
 use std::process::Abort;
 use std::sync::Wait;
 use std::test::Fail;
 use std::thread::Threads;
-
-const BUNDLE: &[u8] = b"p inccnf\n1 2 0\n1 -2 0\n-1 2 0\n-1 -2 0\na 0\n";
-
-const PROOF: &[u8] = b"5 1 0 1 2 0\n6 0 5 3 4 0\n";
 
 const HEADER: &[u8] = b"cubeboard: F1 header\n";
 
@@ -70,21 +63,6 @@ m 1 1 -2 0 open\nm 2 -1 -2 0 open\no 0\nw 1152921504606846976\ns OPEN\n";
 /// Bundles with a fault, and the lines that tell them.
 pub(crate) const FAULTS: &[(&[u8], &[u8])] = &[
     (b"p cnf 2 4\n", HEADER),
-    (b"", HEADER),
-    (b"p inccnf\n1 x 0\n", b"cubeboard: F2 token, line 2\n"),
-    (b"p inccnf\n1\n", b"cubeboard: F3 unfinished\n"),
-    (
-        b"p inccnf\n268435456 0\n",
-        b"cubeboard: F4 too large, line 2\n",
-    ),
-    (
-        b"p inccnf\na 1 0\na -1 0\na 1 0\n",
-        b"cubeboard: F7 cube 3 repeats\n",
-    ),
-    (
-        b"p inccnf\na 1 0\na 2 0\n",
-        b"cubeboard: F8 cubes 1 and 2 are not of one tree\n",
-    ),
     (
         b"p inccnf\na 1 2 0\na 1 0\n",
         b"cubeboard: F9 cubes 1 and 2 overlap\n",
@@ -92,10 +70,6 @@ pub(crate) const FAULTS: &[(&[u8], &[u8])] = &[
     (
         b"p inccnf\na 0\nl one\n",
         b"cubeboard: F10 bad label, line 3\n",
-    ),
-    (
-        b"p inccnf\na 1 0\nl 2\n",
-        b"cubeboard: F11 no such leaf, line 3\n",
     ),
     (
         b"p inccnf\na 1 0\nl 1\nl 1\n",
@@ -209,89 +183,6 @@ fn asks_for<R: AllocGlobal + Abort + Threads + Wait + Sync>(
     )
 }
 
-#[test]
-fn statuses(rt: HostRuntime) -> Result<(), Fail> {
-    asks_for(&rt, ALL_FILES, &[], REFUTED, (0, REFUTED_REPORT, b""), b"")?;
-    asks_for(&rt, ALL_FILES, &[], OPEN, (1, OPEN_REPORT, b""), b"")
-}
-
-#[test]
-fn faults(rt: HostRuntime) -> Result<(), Fail> {
-    for (bundle, line) in FAULTS {
-        asks_for(&rt, ALL_FILES, &[], bundle, (3, b"", line), b"")?;
-    }
-    Ok(())
-}
-
-/// A bundle with a fault is refused by this line, as the input and as FILE, and no proof is looked
-/// for.
-fn is_at_fault<R: AllocGlobal + Abort + Threads + Wait + Sync>(
-    rt: &R,
-    bundle: &[u8],
-    line: &[u8],
-) -> Result<(), Fail> {
-    let ending = (3, b"".as_slice(), line);
-    asks_for(rt, ALL_FILES, &["--proofs", "D"], bundle, ending, b"")?;
-    let files = [("FILE", bundle), ("D/1.lrat", b"x".as_slice())];
-    let words = ["--proofs", "D", "FILE"];
-    asks_for(rt, &files, &words, REFUTED, ending, b"FILE\n")
-}
-
-// A bundle with a fault has no leaves, so no proof is looked for.
-#[test]
-fn faults_with_a_folder(rt: HostRuntime) -> Result<(), Fail> {
-    for (bundle, line) in FAULTS {
-        is_at_fault(&rt, bundle, line)?;
-    }
-    Ok(())
-}
-
-/// A bundle with a cube of so many literals.
-fn bundle_of(alloc: Global, count: u32) -> Result<Vec<u8>, Fail> {
-    let mut bundle = Vec::new(alloc);
-    bundle.extend_from_slice(b"p inccnf\na")?;
-    for _ in 0..count {
-        bundle.extend_from_slice(b" 1")?;
-    }
-    bundle.extend_from_slice(b" 0\n")?;
-    Ok(bundle)
-}
-
-// A cube of 4,097 literals is above the limit.
-#[test]
-fn a_limit(rt: HostRuntime) -> Result<(), Fail> {
-    let bundle = bundle_of(rt.alloc(), 4_097)?;
-    let ending = (3, b"".as_slice(), b"cubeboard: F5 limit\n".as_slice());
-    asks_for(&rt, ALL_FILES, &["--proofs", "D"], &bundle, ending, b"")
-}
-
-// The words name files and folders of the system.
-#[test]
-fn files(rt: HostRuntime) -> Result<(), Fail> {
-    fs::create_dir_all(&rt, "files_test/proofs")?;
-    fs::create_dir_all(&rt, "files_test/unreadable/1.lrat")?;
-    fs::write(&rt, "files_test/case.icnf", BUNDLE)?;
-    fs::write(&rt, "files_test/proofs/1.lrat", PROOF)?;
-    let proofs = ["--proofs", "files_test/proofs"];
-    let both = ["--proofs=files_test/proofs", "files_test/case.icnf"];
-    let unreadable = ["--proofs", "files_test/unreadable"];
-    let no_file = ["files_test/no_such_file"];
-    let folder = ["files_test"];
-    for (words, input, status, report, line) in [
-        (proofs.as_slice(), BUNDLE, 0, REFUTED_REPORT, b"".as_slice()),
-        (both.as_slice(), b"", 0, REFUTED_REPORT, b""),
-        (unreadable.as_slice(), BUNDLE, 5, b"", DEVICE),
-        (no_file.as_slice(), BUNDLE, 5, b"", DEVICE),
-        (folder.as_slice(), BUNDLE, 5, b"", DEVICE),
-    ] {
-        let mut store = FileStore::new(SystemFiles::new(&rt));
-        let input = &mut Counted::new(input);
-        ends_with(&rt, &mut store, words, input, (status, report, line));
-    }
-    fs::remove_dir_all(&rt, "files_test")?;
-    Ok(())
-}
-
 /// The words for one worker and the proofs of the folder D, and those for FILE in front of them.
 /// One worker asks for the leaves' files in their order, where nobody knows how long they are.
 const ALONE: &[&str] = &["--workers", "1", "--proofs", "D"];
@@ -322,83 +213,6 @@ fn no_folder(rt: HostRuntime) -> Result<(), Fail> {
     let ending = (1, BARE_REPORT, b"".as_slice());
     asks_for(&rt, ALL_FILES, &[], MIXED, ending, b"")?;
     asks_for(&rt, ALL_FILES, &["FILE"], b"", ending, b"FILE\n")
-}
-
-// A folder's proofs begin on lines of their own: also where the bundle's last line, or a proof's,
-// has no end.
-#[test]
-fn lines_without_an_end(rt: HostRuntime) -> Result<(), Fail> {
-    let files = [
-        ("D/1.lrat", b"6 0 5 3 4 0".as_slice()),
-        ("D/2.lrat", b"6 0 5 1 2 0".as_slice()),
-    ];
-    let report: &[u8] = b"t 2 0 1152921504606846976\na 1 refuted\na 2 refuted\nw 0\ns REFUTED\n";
-    let ending = (0, report, b"".as_slice());
-    let paths = b"D/1.lrat\nD/2.lrat\n";
-    let bare = four!("a 1 0\na -1 0").as_bytes();
-    asks_for(&rt, &files, ALONE, bare, ending, paths)?;
-    let commented = four!("a 1 0\na -1 0\nc a comment").as_bytes();
-    asks_for(&rt, &files, ALONE, commented, ending, paths)
-}
-
-// A leaf with a proof in the bundle and one in the folder has two: the second one's label stands
-// behind the bundle's last line and an empty one. All files are read again then, one by one.
-#[test]
-fn a_proof_in_both_places(rt: HostRuntime) -> Result<(), Fail> {
-    let line: &[u8] = b"cubeboard: F12 second proof, line 13\n";
-    let files = [("D/2.lrat", b"6 0 5 1 2 0\n".as_slice())];
-    let paths = b"D/1.lrat\nD/2.lrat\nD/1.lrat\nD/2.lrat\n";
-    let input = BOTH_CUBES.as_bytes();
-    asks_for(&rt, &files, ALONE, input, (3, b"", line), paths)
-}
-
-/// The second file of a folder, with a faulty label line, and the line that tells it.
-const BAD_LABELS: &[(&[u8], &[u8])] = &[
-    (
-        b"7 0 5 6 2 0\nc\nl x\n",
-        b"cubeboard: F10 bad label, line 15\n",
-    ),
-    (
-        b"7 0 5 6 2 0\nc\nl 3\n",
-        b"cubeboard: F11 no such leaf, line 15\n",
-    ),
-    (
-        b"7 0 5 6 2 0\nc\nl 1\n",
-        b"cubeboard: F12 second proof, line 15\n",
-    ),
-    // The label of the next leaf, whose own label stands behind this file and an empty line.
-    (
-        b"7 0 5 6 2 0\nl m1\n7 0 5 6 3 0\n",
-        b"cubeboard: F12 second proof, line 17\n",
-    ),
-];
-
-/// A folder with this second file is refused by this line.
-fn is_bad_label<R: AllocGlobal + Abort + Threads + Wait + Sync>(
-    rt: &R,
-    second: &[u8],
-    line: &[u8],
-) -> Result<(), Fail> {
-    let files = [
-        ("D/1.lrat", b"7 0 5 6 4 0\n".as_slice()),
-        ("D/2.lrat", second),
-        ("D/m1.lrat", b"7 0 5 6 3 0\nl y\n"),
-        ("D/m2.lrat", b"7 0 5 6 1 0\n"),
-    ];
-    let paths = b"D/1.lrat\nD/2.lrat\nD/1.lrat\nD/2.lrat\nD/m1.lrat\nD/m2.lrat\n";
-    asks_for(rt, &files, ALONE, MIXED, (3, b"", line), paths)
-}
-
-// A faulty label line is told by its line in the bundle with all proofs: behind the bundle's last
-// line stands an empty one, then the first leaf's label line and its proof, then another empty
-// line, the second leaf's label line, and the file whose third line it is. No worker goes on behind
-// that file, but all are read again, also those behind the fault.
-#[test]
-fn a_bad_label_among_files(rt: HostRuntime) -> Result<(), Fail> {
-    for (second, line) in BAD_LABELS {
-        is_bad_label(&rt, second, line)?;
-    }
-    Ok(())
 }
 
 /// A read that fails so behind the first fault ends the program so.
@@ -450,33 +264,6 @@ pub(crate) fn leaves_input<R: AllocGlobal + Abort + Threads + Wait + Sync>(
     ends_with(rt, &mut store, words, &mut input, ending);
     assert!(rt; input.calls == 0, "{words:?}");
     has_asked(rt, &store, words, paths)
-}
-
-// FILE is asked for first, and the input isn't read.
-#[test]
-fn a_file_in_place_of_the_input(rt: HostRuntime) -> Result<(), Fail> {
-    let all_paths = b"FILE\nD/1.lrat\nD/2.lrat\nD/m1.lrat\nD/m2.lrat\n".as_slice();
-    let bare = (1, BARE_REPORT, b"".as_slice());
-    let all = (0, ALL_REPORT, b"".as_slice());
-    for (words, ending, paths) in [
-        (["FILE"].as_slice(), bare, b"FILE\n".as_slice()),
-        (FILE_ALONE, all, all_paths),
-        (&["--workers=1", "--proofs=D", "FILE"], all, all_paths),
-    ] {
-        let shelf = Shelf::new(rt.alloc(), ALL_FILES)?;
-        leaves_input(&rt, shelf, words, ending, paths)?;
-    }
-    Ok(())
-}
-
-// Where FILE isn't there, the input isn't read in its place, and no proof is looked for.
-#[test]
-fn no_file(rt: HostRuntime) -> Result<(), Fail> {
-    for words in [["FILE"].as_slice(), &["--proofs", "D", "FILE"]] {
-        let shelf = Shelf::new(rt.alloc(), WITHOUT_M1)?;
-        leaves_input(&rt, shelf, words, (5, b"", DEVICE), b"FILE\n")?;
-    }
-    Ok(())
 }
 
 /// The program, with files whose call at this number fails so, ends so after it has asked for these
@@ -591,87 +378,12 @@ fn errors_fail<R: AllocGlobal + Abort + Threads + Wait + Sync>(
     Ok(())
 }
 
-// A line that can't be written doesn't change the status.
+// A line that can't be written doesn't change the status, nor does the text on words that can't be
+// taken, as two names of a file.
 #[test]
 fn the_errors_fail(rt: HostRuntime) -> Result<(), Fail> {
     errors_fail(&rt, &[], b"p cnf 2 4\n", 3, HEADER)?;
     errors_fail(&rt, &["FILE"], REFUTED, 5, DEVICE)?;
+    ends_narrow(&rt, &["FILE", "FILE"], REFUTED, (0, 1), (2, b"", b""))?;
     ends_narrow(&rt, &["--help"], REFUTED, (0, 1), (2, b"", b""))
-}
-
-/// The program on these words, files and this input ends with status 2, no report and a text of
-/// errors.
-fn ends_refused<R: AllocGlobal + Abort + Threads + Wait + Sync>(
-    rt: &R,
-    store: &mut FileStore<Shelf<'_>>,
-    words: &[&str],
-    input: &mut Broken<'_>,
-)
-    requires store { store.old.failed < 2 ^ 64 - 1 }
-    requires input { input.old.failed < 2 ^ 64 - 1 }
-{
-    let mut report = Vec::new(rt.alloc());
-    let mut text = Vec::new(rt.alloc());
-    let output = &mut Counted::new(&mut report);
-    let errors = &mut Counted::new(&mut text);
-    let status = status_of(rt, store, words, input, output, errors, &NoGate);
-    assert!(rt;
-        status == 2 && report.is_empty() && !text.is_empty(),
-        "{status} on {words:?}"
-    );
-}
-
-/// The program on these words ends with status 2, no report and a text of errors, and reads
-/// nothing.
-fn is_refused<R: AllocGlobal + Abort + Threads + Wait + Sync>(
-    rt: &R,
-    words: &[&str],
-) -> Result<(), Fail> {
-    let mut store = FileStore::new(Shelf::new(rt.alloc(), ALL_FILES)?);
-    let mut input = Broken::new(REFUTED, 0);
-    ends_refused(rt, &mut store, words, &mut input);
-    assert!(rt; input.calls == 0, "{words:?}");
-    has_asked(rt, &store, words, b"")
-}
-
-/// Words that are refused, or ask for help or the version.
-const REFUSED_WORDS: &[&[&str]] = &[
-    &["--help"],
-    &["-h"],
-    &["--version"],
-    &["-V"],
-    &["--proofs"],
-    &["--workers"],
-    &["--cut"],
-    &["--nothing"],
-    &["--workers", "0"],
-    &["--workers", "33"],
-    &["--workers", "x"],
-    &["--workers", ""],
-    &["--workers", "4294967297"],
-    &["--cut", "7"],
-    &["--cut", "x"],
-    &["--cut", ""],
-    &["--proofs", ""],
-    &["FILE", "FILE"],
-    &["FILE", "--help"],
-    &["--workers=1", "--workers=1"],
-];
-
-#[test]
-fn other_words(rt: HostRuntime) -> Result<(), Fail> {
-    for words in REFUSED_WORDS {
-        is_refused(&rt, words)?;
-    }
-    Ok(())
-}
-
-// The least and the greatest numbers are taken.
-#[test]
-fn ends_of_the_ranges(rt: HostRuntime) -> Result<(), Fail> {
-    let ending = (0, REFUTED_REPORT, b"".as_slice());
-    let least = ["--workers", "1", "--cut", "0"];
-    asks_for(&rt, ALL_FILES, &least, REFUTED, ending, b"")?;
-    let greatest = ["--cut", "6", "--workers", "32"];
-    asks_for(&rt, ALL_FILES, &greatest, REFUTED, ending, b"")
 }

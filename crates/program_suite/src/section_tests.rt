@@ -115,9 +115,6 @@ fn a_proof_of_an_inner_node(rt: HostRuntime) -> Result<(), Fail> {
 #[test]
 fn faults(rt: HostRuntime) -> Result<(), Fail> {
     for (bundle, line) in FAULTS {
-        if bundle.is_empty() {
-            continue;
-        }
         ends_opened(&rt, &["FILE"], bundle, NEVER, (3, b"", line), 2)?;
     }
     Ok(())

@@ -1,18 +1,21 @@
-//! All boards of a cut together, before and after findings are posted on them.
-ghost use Rattle.std.specs.Prelude.{◌≤◌};
+//! Boards, one of a cut and all of them together, before and after findings are posted on them. The
+//! weights and the open branches are worked out by hand.
+ghost use Rattle.std.specs.Prelude.{◌≡◌, ◌≤◌, IfSome};
+ghost use Rattle.mark_board.specs.Posting.{IsPostedOn};
+ghost use Rattle.mark_board.specs.declared.place.Place.TheVariants.{Top};
 
 use crate::cases::{case, finding_of};
-use case_core::{Case, Reason, Target};
-use fixtures::bundles::{BOTH_CUBES, HALF, ONE_CUBE, QUARTER, ROOT, WHOLE};
+use case_core::{Case, Leaf, Reason, Target};
+use fixtures::bundles::{BOTH_CUBES, HALF, QUARTER};
 use fixtures::four;
-use fixtures::targets::{cube, has_target, inner, missing};
-use mark_board::{Boards, Mark};
+use fixtures::targets::{cube, has_target, inner};
+use mark_board::{Board, Boards, Mark, PartPosted, PartVerdict, Place, Posted};
 use std::alloc::Global;
 use std::process::Abort;
 
 /// The cubes of both variables, and proofs for the inner node with the path `1` and for the third
 /// cube.
-const BRANCH: &str = four!(
+pub const BRANCH: &str = four!(
     "a 1 2 0\na 1 -2 0\na -1 2 0\na -1 -2 0\nl n 1 0\n6 0 5 3 4 0\nl 3\n7 0 5 6 2 0\n"
 );
 
@@ -21,35 +24,6 @@ const NO_CONFLICT: &str = four!(
     "a 1 2 0\na 1 -2 0\na -1 2 0\na -1 -2 0\nl n 1 0\n6 0 5 0\nl 3\n7 0 5 6 2 0\n"
 );
 
-/// How all boards stand: the marks of some targets, whether the root is marked, the open weight and
-/// the open branches.
-#[derive(Clone, Copy)]
-struct Stand<'a> {
-    marks: &'a [(Target, Mark)],
-    root: bool,
-    open: u64,
-    branches: &'a [Target],
-}
-
-/// Posts the findings of targets one after another, and says whether each was answered as it is to
-/// be.
-fn all_answered(
-    rt: &impl Abort,
-    alloc: Global,
-    boards: &mut Boards,
-    posts: &[(Target, bool)],
-) -> bool {
-    for (target, answer) in posts {
-        let Some(finding) = finding_of(rt, alloc, boards.case(), *target) else {
-            return false;
-        };
-        if boards.post(finding) != *answer {
-            return false;
-        }
-    }
-    true
-}
-
 /// What is posted of a target of the tree.
 fn mark_of(rt: &impl Abort, boards: &Boards, target: Target) -> Mark {
     let asked = target;
@@ -57,10 +31,20 @@ fn mark_of(rt: &impl Abort, boards: &Boards, target: Target) -> Mark {
     boards.mark_of(target)
 }
 
-/// Whether each of these targets has its mark.
-fn all_marked(rt: &impl Abort, boards: &Boards, marks: &[(Target, Mark)]) -> bool {
-    for (target, mark) in marks {
-        if mark_of(rt, boards, *target) != *mark {
+/// Posts the findings of targets one after another. Whether each target gets its mark, or had one
+/// where none is given.
+fn are_posted(
+    rt: &impl Abort,
+    alloc: Global,
+    boards: &mut Boards,
+    findings: &[(Target, Option<Mark>)],
+) -> bool {
+    for (target, mark) in findings {
+        let Some(finding) = finding_of(rt, alloc, boards.case(), *target) else {
+            return false;
+        };
+        let is_new = boards.post(finding);
+        if is_new != mark.is_some() || is_new && Some(mark_of(rt, boards, *target)) != *mark {
             return false;
         }
     }
@@ -75,167 +59,162 @@ fn has_branches(alloc: Global, boards: &Boards, branches: &[Target]) -> bool {
     }
 }
 
-/// Whether all boards stand so.
-fn are_so(rt: &impl Abort, alloc: Global, boards: &Boards, stand: &Stand) -> bool {
-    all_marked(rt, boards, stand.marks)
-        && boards.root_marked() == stand.root
-        && boards.open_weight() == stand.open
-        && has_branches(alloc, boards, stand.branches)
-}
-
-/// Whether they stand so after these posts, and each was answered as it is to be.
-fn are_so_after(
-    rt: &impl Abort,
-    alloc: Global,
-    boards: &mut Boards,
-    posts: &[(Target, bool)],
-    stand: &Stand,
-) -> bool {
-    all_answered(rt, alloc, boards, posts) && are_so(rt, alloc, boards, stand)
-}
-
-/// Whether all boards of a cut stand so after these posts.
-fn stands_at(
+/// Whether so much is open under these branches on all boards of a cut, after these posts.
+fn stand_at(
     rt: &impl Abort,
     alloc: Global,
     case: &Case,
     cut: u32,
-    posts: &[(Target, bool)],
-    stand: &Stand,
+    findings: &[(Target, Option<Mark>)],
+    open: u64,
+    branches: &[Target],
 ) -> bool
     requires { cut ≤ 6 }
 {
     let mut boards = Boards::new(alloc, case, cut).expect(rt, "memory");
-    are_so_after(rt, alloc, &mut boards, posts, stand)
+    are_posted(rt, alloc, &mut boards, findings)
+        && boards.root_marked() == (open == 0)
+        && boards.open_weight() == open
+        && has_branches(alloc, &boards, branches)
 }
 
-/// Whether the boards stand so at cut 0, where the whole tree is one part, at cut 1, where its
-/// branches are, and at cut 6, where every leaf is.
-fn stands(
+/// Ends the test where it isn't so at cut 0, where the whole tree is one part, at cut 1, where its
+/// branches are, or at cut 6, where every leaf is.
+fn need(
     rt: &impl Abort,
     alloc: Global,
     bundle: &str,
-    posts: &[(Target, bool)],
-    stand: &Stand,
-) -> bool {
+    findings: &[(Target, Option<Mark>)],
+    open: u64,
+    branches: &[Target],
+) {
     let case = case(rt, alloc, bundle);
-    stands_at(rt, alloc, &case, 0, posts, stand)
-        && stands_at(rt, alloc, &case, 1, posts, stand)
-        && stands_at(rt, alloc, &case, 6, posts, stand)
+    assert!(rt; stand_at(rt, alloc, &case, 0, findings, open, branches));
+    assert!(rt; stand_at(rt, alloc, &case, 1, findings, open, branches));
+    assert!(rt; stand_at(rt, alloc, &case, 6, findings, open, branches));
 }
 
-// Two refuted leaves refute the tree, in either order, and a second finding of a leaf is none and
-// changes nothing.
+// A second finding of a target changes nothing. A refuted inner node covers the leaves under it, a
+// rejected one stays open, and one branch stands for the leaves under it.
 #[test]
-fn both_cubes(rt: HostRuntime) {
-    let stand = Stand {
-        marks: &[(cube(1), Mark::Refuted), (cube(2), Mark::Refuted)],
-        root: true,
-        open: 0,
-        branches: &[],
-    };
-    for posts in [
-        [(cube(1), true), (cube(2), true)].as_slice(),
-        [(cube(2), true), (cube(1), true)].as_slice(),
-        [(cube(1), true), (cube(2), true), (cube(1), false)].as_slice(),
-    ] {
-        assert!(rt; stands(&rt, rt.alloc(), BOTH_CUBES, posts, &stand));
-    }
-}
-
-// With no finding the root is the only open branch, whatever the tree.
-#[test]
-fn nothing_posted(rt: HostRuntime) {
-    let whole = Stand {
-        marks: &[(cube(1), Mark::Open), (inner(0), Mark::Open)],
-        root: false,
-        open: WHOLE,
-        branches: &[inner(0)],
-    };
-    for bundle in [BOTH_CUBES, ONE_CUBE, ROOT, BRANCH, NO_CONFLICT] {
-        assert!(rt; stands(&rt, rt.alloc(), bundle, &[], &whole));
-    }
-}
-
-// A tree without cubes is one missing leaf at the root.
-#[test]
-fn no_cubes(rt: HostRuntime) {
-    let stand = Stand {
-        marks: &[(missing(1), Mark::Open)],
-        root: false,
-        open: WHOLE,
-        branches: &[missing(1)],
-    };
-    assert!(rt; stands(&rt, rt.alloc(), "p inccnf\n", &[], &stand));
-}
-
-// A missing leaf stays open beside a refuted one.
-#[test]
-fn one_cube(rt: HostRuntime) {
-    let stand = Stand {
-        marks: &[(cube(1), Mark::Refuted), (missing(1), Mark::Open)],
-        root: false,
-        open: HALF,
-        branches: &[missing(1)],
-    };
-    for posts in [
-        [(cube(1), true)].as_slice(),
-        [(cube(1), true), (cube(1), false)].as_slice(),
-    ] {
-        assert!(rt; stands(&rt, rt.alloc(), ONE_CUBE, posts, &stand));
-    }
-}
-
-// A refuted root leaves nothing open, and is no finding of the leaves under it.
-#[test]
-fn root_alone(rt: HostRuntime) {
-    let stand = Stand {
-        marks: &[
-            (inner(0), Mark::Refuted),
-            (cube(1), Mark::Open),
-            (cube(2), Mark::Open),
-        ],
-        root: true,
-        open: 0,
-        branches: &[],
-    };
-    assert!(rt; stands(&rt, rt.alloc(), ROOT, &[(inner(0), true)], &stand));
-}
-
-// A refuted inner node covers the leaves under it; of its sibling's two leaves the refuted one is
-// no open branch.
-#[test]
-fn branch_and_leaf(rt: HostRuntime) {
-    let stand = Stand {
-        marks: &[
-            (inner(0), Mark::Open),
-            (inner(1), Mark::Refuted),
-            (cube(1), Mark::Open),
-            (cube(2), Mark::Open),
-            (cube(3), Mark::Refuted),
-            (cube(4), Mark::Open),
-        ],
-        root: false,
-        open: QUARTER,
-        branches: &[cube(4)],
-    };
-    let posts = [(inner(1), true), (cube(3), true), (inner(1), false)];
-    assert!(rt; stands(&rt, rt.alloc(), BRANCH, &posts, &stand));
-}
-
-// A rejected inner node is open, and so is one branch for the leaves under it.
-#[test]
-fn rejected_branch(rt: HostRuntime) {
-    let rejected = Mark::Rejected {
+fn what_stays_open(rt: HostRuntime) {
+    let alloc = rt.alloc();
+    let refuted = Some(Mark::Refuted);
+    let rejected = Some(Mark::Rejected {
         step: 1,
         reason: Reason::Empty,
+    });
+    need(&rt, alloc, BOTH_CUBES, &[], 2 * HALF, &[inner(0)]);
+    let leaves = [(cube(2), refuted), (cube(1), refuted), (cube(2), None)];
+    need(&rt, alloc, BOTH_CUBES, &leaves, 0, &[]);
+    let covered = [(inner(1), refuted), (cube(3), refuted), (inner(1), None)];
+    need(&rt, alloc, BRANCH, &covered, QUARTER, &[cube(4)]);
+    let left = [(inner(1), rejected), (cube(3), refuted), (inner(1), None)];
+    let branches = [inner(1), cube(4)];
+    need(&rt, alloc, NO_CONFLICT, &left, HALF + QUARTER, &branches);
+}
+
+/// The board of a part, if the cut has it, after it was stored.
+fn part_board<'c>(
+    rt: &impl Abort,
+    alloc: Global,
+    case: &'c Case,
+    cut: u32,
+    part: u32,
+) -> Option<Board<'c>>
+    requires { cut ≤ 6 }
+    ensures { IfSome result (λ board. (board.case ≡ case.now) × (board.cut ≡ cut)) }
+{
+    let Ok(parts) = case.tree().parts(alloc, cut) else {
+        panic!(rt; "memory");
     };
-    let stand = Stand {
-        marks: &[(inner(1), rejected), (cube(3), Mark::Refuted)],
-        root: false,
-        open: HALF + QUARTER,
-        branches: &[inner(1), cube(4)],
-    };
-    let posts = [(inner(1), true), (cube(3), true), (inner(1), false)];
-    assert!(rt; stands(&rt, rt.alloc(), NO_CONFLICT, &posts, &stand));
+    if part as usize >= parts.len() {
+        return None;
+    }
+    let board = Board::new(alloc, case, cut, Place::Part(part)).expect(rt, "memory");
+    Some(Board::bind(case, board.unbind()))
+}
+
+/// Posts the finding of a cube's leaf, where the board takes it.
+fn post_one<'c>(
+    rt: &impl Abort,
+    alloc: Global,
+    board: &mut Board<'c>,
+    number: u32,
+) -> Option<Posted<'c>>
+    ensures { IfSome result (λ posted. IsPostedOn board.old posted) }
+{
+    let finding = finding_of(rt, alloc, board.case(), cube(number))?;
+    if !board.takes(finding.node()) {
+        return None;
+    }
+    Some(board.post(finding))
+}
+
+/// What is posted of a cube's leaf, where the board takes it.
+fn leaf_mark(board: &Board, number: u32) -> Option<Mark> {
+    let leaf = Leaf::Cube(number);
+    let tree = board.case().tree();
+    if !tree.has_leaf(leaf) || !board.takes(tree.node_of_leaf(leaf)) {
+        return None;
+    }
+    Some(board.mark_of(Target::Leaf(leaf)))
+}
+
+/// The verdict of a part of cut 1 that a cube's finding makes; the leaf is marked then.
+fn verdict_of<'c>(
+    rt: &impl Abort,
+    alloc: Global,
+    case: &'c Case,
+    part: u32,
+    number: u32,
+) -> Option<PartVerdict<'c>>
+    ensures { IfSome result (λ verdict. (verdict.case.now ≡ case.now) × (verdict.cut ≡ 1)) }
+{
+    let mut board = part_board(rt, alloc, case, 1, part)?;
+    let posted = post_one(rt, alloc, &mut board, number)?;
+    let marked = leaf_mark(&board, number) == Some(Mark::Refuted);
+    match posted {
+        Posted::RootMarked(verdict) if marked && board.open_weight() == 0 => Some(verdict),
+        _ => None,
+    }
+}
+
+/// Posts a part's verdict on the top board of cut 1: how much is open then, or that the part had
+/// one. The part's leaf is the cube of the next number.
+fn open_after(rt: &impl Abort, alloc: Global, above: &mut Board, part: u32) -> Option<u64>
+    requires top { above.old.place ≡ Top }
+    requires cut { above.old.cut ≡ 1 }
+    ensures same { (above.new.place ≡ above.old.place) × (above.new.cut ≡ above.old.cut) }
+{
+    let number = part.wrapping_add(1);
+    let verdict = verdict_of(rt, alloc, above.case(), part, number).expect(rt, "no verdict");
+    assert_eq!(rt; verdict.part(), part);
+    match above.post_part(verdict) {
+        PartPosted::Already(_) => None,
+        _ => Some(above.open_weight()),
+    }
+}
+
+/// Whether the first part's verdict takes half and a second one of it nothing, and the other part's
+/// verdict takes the rest and marks the root.
+fn takes_verdicts(rt: &impl Abort, alloc: Global, above: &mut Board) -> bool
+    requires top { above.old.place ≡ Top }
+    requires cut { above.old.cut ≡ 1 }
+{
+    let root = above.case().tree().root();
+    open_after(rt, alloc, above, 0) == Some(HALF)
+        && open_after(rt, alloc, above, 0) == None
+        && open_after(rt, alloc, above, 1) == Some(0)
+        && above.takes(root)
+        && above.node_marked(root)
+}
+
+// At cut 1 each leaf is a part, and one of another part isn't taken.
+#[test]
+fn verdicts_on_top(rt: HostRuntime) {
+    let case = case(&rt, rt.alloc(), BOTH_CUBES);
+    let mut above = Board::new(rt.alloc(), &case, 1, Place::Top).expect(&rt, "memory");
+    assert!(rt; takes_verdicts(&rt, rt.alloc(), &mut above));
+    assert!(rt; verdict_of(&rt, rt.alloc(), &case, 0, 2).is_none());
 }

@@ -2,8 +2,6 @@
 #![tactic(auto)]
 
 #[cfg(test)]
-mod board_tests;
-#[cfg(test)]
 mod boards_tests;
 #[cfg(test)]
 mod case_tests;

@@ -72,33 +72,6 @@ fn reads(alloc: Global, text: &[u8], answers: &[Wanted]) -> bool {
     true
 }
 
-#[test]
-fn additions(rt: HostRuntime) {
-    let answers = [Wanted::Addition(6, &[-3, 1], &[], &[]), Wanted::End];
-    assert!(rt; reads(rt.alloc(), b"6 -3\nc note\n1 0 0\n", &answers));
-}
-
-#[test]
-fn groups(rt: HostRuntime) {
-    let answers = [Wanted::Addition(7, &[3], &[], &[(6, &[1, 2])])];
-    assert!(rt; reads(rt.alloc(), b"7 3 0 -6 1 2 0", &answers));
-}
-
-#[test]
-fn deletions(rt: HostRuntime) {
-    let answers = [Wanted::Deletion(&[3]), Wanted::Deletion(&[])];
-    assert!(rt; reads(rt.alloc(), b"0 d 3 0 5 d 0", &answers));
-}
-
-#[test]
-fn unreadable(rt: HostRuntime) {
-    let alloc = rt.alloc();
-    assert!(rt; reads(alloc, b"0 1 0 0", &[Wanted::Unreadable, Wanted::Unreadable]));
-    let largest = Wanted::Addition(4_611_686_018_427_387_904, &[1], &[], &[]);
-    assert!(rt; reads(alloc, b"4611686018427387904 1 0 0", &[largest]));
-    assert!(rt; reads(alloc, b"4611686018427387905 1 0 0", &[Wanted::Unreadable]));
-}
-
 /// A refused call changes nothing: the next one gives the step that it would have given.
 /// scripts/refused.sh runs this test with each of its requests for memory refused.
 #[test]
@@ -115,4 +88,16 @@ fn step_after_refused_memory(rt: HostRuntime) {
             &answers
         )
     );
+}
+
+/// The greatest id is 2^62. What is unreadable stays so.
+#[test]
+fn the_greatest_id(rt: HostRuntime) {
+    let answers = [
+        Wanted::Addition(4_611_686_018_427_387_904, &[1], &[], &[]),
+        Wanted::Unreadable,
+        Wanted::Unreadable,
+    ];
+    let text = b"4611686018427387904 1 0 0\nc note\n4611686018427387905 1 0 0";
+    assert!(rt; reads(rt.alloc(), text, &answers));
 }

@@ -3,12 +3,12 @@
 ghost use Rattle.std.specs.Prelude.{◌≡◌, All, vec_len};
 
 use crate::cases::{case, need_count};
-use case_core::{Case, Leaf, Target};
-use check_crew::{Elsewhere, Found, Gate, LeafProofs, NoGate, ReadFault, Settings};
-use cube_report::{Fault, Outcome, judge_apart, run_one};
+use crate::gates::{Told, cube_number, need_each_once, one_of};
+use case_core::{Case, Leaf};
+use check_crew::{Gate, LeafProofs, NoGate, ReadFault, Settings};
+use cube_report::{Fault, Outcome, judge_apart};
 use fixtures::bundles::FOUR_CUBES_REPORT;
 use fixtures::four;
-use std::alloc::{AllocError, Global};
 use std::process::Abort;
 use std::sync::Wait;
 use std::sync::atomic::{AtomicU64, Ordering};
@@ -36,6 +36,14 @@ const WITHOUT_SECOND: &[Option<&[u8]>] = &[
     Some(b"7 0 5 6 1 0\n"),
 ];
 
+/// The same with one of the second that ends before the empty clause.
+const SHORT_SECOND: &[Option<&[u8]>] = &[
+    Some(b"7 0 5 6 4 0\n"),
+    Some(b"7 d 1 0\n"),
+    Some(b"7 d 1 0\n8 d 3 0\n9 0 5 6 2 0\n"),
+    Some(b"7 0 5 6 1 0\n"),
+];
+
 /// Proofs for the first and third cube, the third's with a label line of the second behind it.
 const LABELLED: &[Option<&[u8]>] = &[
     Some(b"7 0 5 6 4 0\n"),
@@ -44,28 +52,14 @@ const LABELLED: &[Option<&[u8]>] = &[
     None,
 ];
 
-/// A proof that ends before the empty clause.
-const ENDS_EARLY: &[u8] = b"7 d 1 0\n";
-
-/// The label lines of the four cubes.
-const LABELS: &[&[u8]] = &[b"l 1\n", b"l 2\n", b"l 3\n", b"l 4\n"];
-
 /// The report where the second cube has no proof.
 const OPEN_SECOND_REPORT: &[u8] = b"t 4 0 1152921504606846976\n\
 a 1 refuted\na 2 open\na 3 refuted\na 4 refuted\no 1 -2 0\nw 288230376151711744\ns OPEN\n";
 
-/// The number of the cube whose leaf this is, or 0.
-fn cube_number(leaf: Leaf) -> u32 {
-    match leaf {
-        Leaf::Cube(number) => number,
-        Leaf::Missing(_) => 0,
-    }
-}
-
-/// One in the four bits of a cube.
-fn one_of(cube: u32) -> u64 {
-    1u64.wrapping_shl(cube.wrapping_mul(4))
-}
+/// The report where its proof ends too early: after one step there is no other.
+const SHORT_SECOND_REPORT: &[u8] = b"t 4 0 1152921504606846976\n\
+a 1 refuted\na 2 rejected 2 end\na 3 refuted\na 4 refuted\no 1 -2 0\nw 288230376151711744\n\
+s OPEN\n";
 
 /// Proofs in memory, by the numbers of their cubes. It counts how often each is read, four bits for
 /// each cube, and fails at one of them.
@@ -136,86 +130,6 @@ fn readers<'t>(
     all
 }
 
-/// Counts the calls of a gate: four bits for each cube. It keeps the cubes in the order in which
-/// they were examined, as decimal digits.
-#[derive(Drop)]
-struct Told {
-    started: AtomicU64,
-    elsewhere: AtomicU64,
-    bytes: AtomicU64,
-    bytes_after: AtomicU64,
-    before: AtomicU64,
-    after: AtomicU64,
-    order: AtomicU64,
-    fell_back: AtomicU64,
-    ended: AtomicU64,
-}
-
-impl Told {
-    fn new() -> Told {
-        Told {
-            started: AtomicU64::new(0),
-            elsewhere: AtomicU64::new(0),
-            bytes: AtomicU64::new(0),
-            bytes_after: AtomicU64::new(0),
-            before: AtomicU64::new(0),
-            after: AtomicU64::new(0),
-            order: AtomicU64::new(0),
-            fell_back: AtomicU64::new(0),
-            ended: AtomicU64::new(0),
-        }
-    }
-}
-
-/// The number of the cube whose target this is, or 0.
-fn cube_of(target: Target) -> u32 {
-    match target {
-        Target::Leaf(leaf) => cube_number(leaf),
-        Target::Node(_) => 0,
-    }
-}
-
-impl Gate for Told {
-    fn start(
-        &self,
-        _alloc: Global,
-        _case: &Case,
-        _cut: u32,
-        elsewhere: Elsewhere,
-    ) -> Result<(), AllocError> {
-        self.started.fetch_add(1, Ordering::SeqCst);
-        self.elsewhere.store(elsewhere.proofs, Ordering::SeqCst);
-        self.bytes.store(elsewhere.bytes, Ordering::SeqCst);
-        Ok(())
-    }
-
-    fn before(&self, _worker: u32, target: Target) {
-        let cube = cube_of(target);
-        let was = self.order.load(Ordering::SeqCst);
-        self.order.store(
-            was.wrapping_mul(10).wrapping_add(u64::from(cube)),
-            Ordering::SeqCst,
-        );
-        self.before.fetch_add(one_of(cube), Ordering::SeqCst);
-    }
-
-    fn after(&self, _worker: u32, found: &Found<'_>) {
-        self.after
-            .fetch_add(one_of(cube_of(found.target)), Ordering::SeqCst);
-        self.bytes_after
-            .fetch_add(found.length as u64, Ordering::SeqCst);
-    }
-
-    fn falls_back(&self, leaf: Leaf) {
-        self.fell_back
-            .fetch_add(one_of(cube_number(leaf)), Ordering::SeqCst);
-    }
-
-    fn end(&self) {
-        self.ended.fetch_add(1, Ordering::SeqCst);
-    }
-}
-
 /// What a run says of a bundle with these proofs: its report, nothing where all have to be in one
 /// bundle, or that a read failed.
 #[derive(Drop)]
@@ -280,20 +194,9 @@ fn is_report(said: Said, wanted: &[u8]) -> bool {
     }
 }
 
-/// Ends the test where a gate wasn't told of all four proofs, once, between a start and an end.
-fn need_all_told(rt: &impl Abort, gate: &Told) {
-    need_count(rt, "elsewhere", &gate.elsewhere, 4);
-    need_count(rt, "bytes", &gate.bytes, 72);
-    need_count(rt, "bytes after", &gate.bytes_after, 72);
-    need_count(rt, "started", &gate.started, 1);
-    need_count(rt, "before", &gate.before, 0x11110);
-    need_count(rt, "after", &gate.after, 0x11110);
-    need_count(rt, "fell back", &gate.fell_back, 0);
-    need_count(rt, "ended", &gate.ended, 1);
-}
-
 // Whatever the number of workers, each proof is read once, judged once and told once, between one
-// start and one end, and the report is that on the bundle with all of them.
+// start and one end, and the report is that on the bundle with all of them. One worker takes the
+// longest first, and those of equal length in the order of the cubes.
 #[test]
 fn each_proof_is_read_once(rt: HostRuntime) {
     for workers in [1, 2, 4, 32] {
@@ -303,22 +206,28 @@ fn each_proof_is_read_once(rt: HostRuntime) {
             let told = run_apart(&rt, CUBES, (workers, cut), &gate, ALL, &reads, 0);
             assert!(rt; is_report(told, FOUR_CUBES_REPORT));
             need_count(&rt, "reads", &reads, 0x11110);
-            need_all_told(&rt, &gate);
+            need_count(&rt, "elsewhere", &gate.elsewhere, 4);
+            need_count(&rt, "bytes", &gate.bytes, 72);
+            need_count(&rt, "bytes after", &gate.bytes_after, 72);
+            need_each_once(&rt, &gate, 0x11110);
+            assert!(rt; workers > 1 || gate.order.load(Ordering::SeqCst) == 3214);
         }
     }
 }
 
-// A leaf without a proof is open, or has the mark of its section.
+// A leaf without a proof is open, or has the mark of its section; one whose proof is rejected is
+// no cause to give the run up.
 #[test]
-fn a_leaf_has_no_proof_elsewhere(rt: HostRuntime) {
+fn a_leaf_is_left_open(rt: HostRuntime) {
     for workers in [1, 2, 4, 32] {
-        for (bundle, report, told) in [
-            (CUBES, OPEN_SECOND_REPORT, 0x11010),
-            (SECOND, FOUR_CUBES_REPORT, 0x11110),
+        for (bundle, proofs, report, told) in [
+            (CUBES, WITHOUT_SECOND, OPEN_SECOND_REPORT, 0x11010),
+            (SECOND, WITHOUT_SECOND, FOUR_CUBES_REPORT, 0x11110),
+            (CUBES, SHORT_SECOND, SHORT_SECOND_REPORT, 0x11110),
         ] {
             let gate = Told::new();
             let reads = AtomicU64::new(0);
-            let said = run_apart(&rt, bundle, (workers, 1), &gate, WITHOUT_SECOND, &reads, 0);
+            let said = run_apart(&rt, bundle, (workers, 1), &gate, proofs, &reads, 0);
             assert!(rt; is_report(said, report));
             need_count(&rt, "reads", &reads, 0x11110);
             need_count(&rt, "after", &gate.after, told);
@@ -356,82 +265,5 @@ fn a_read_fails(rt: HostRuntime) {
             let told = run_apart(&rt, CUBES, (workers, 1), &NoGate, proofs, &reads, fails_at);
             assert!(rt; matches!(told, Said::Unread(1)), "{fails_at}");
         }
-    }
-}
-
-// One worker takes the leaves of longer proofs first, and those of equal length in the order of the
-// cubes.
-#[test]
-fn long_proofs_are_read_first(rt: HostRuntime) {
-    let gate = Told::new();
-    let reads = AtomicU64::new(0);
-    let told = run_apart(&rt, CUBES, (1, 2), &gate, ALL, &reads, 0);
-    assert!(rt; is_report(told, FOUR_CUBES_REPORT));
-    need_count(&rt, "order", &gate.order, 3214);
-}
-
-/// For each cube what a digit of the number to base 3 says, from the lowest on: no proof, its own,
-/// or one that ends too early.
-fn proofs_by<'t>(rt: &(impl Abort + AllocGlobal), digits: u32) -> Vec<Option<&'t [u8]>> {
-    let mut proofs = Vec::new(rt.alloc());
-    let mut left = digits;
-    for proof in ALL {
-        let chosen = match left % 3 {
-            0 => None,
-            1 => *proof,
-            _ => Some(ENDS_EARLY),
-        };
-        proofs.push(chosen).expect(rt, "memory");
-        left /= 3;
-    }
-    proofs
-}
-
-/// Puts bytes behind a text.
-fn push(rt: &impl Abort, text: &mut Vec<u8>, bytes: &[u8]) {
-    text.extend_from_slice(bytes).expect(rt, "memory");
-}
-
-/// The bundle of the cubes with these proofs as their sections.
-fn bundle_of(rt: &(impl Abort + AllocGlobal), proofs: &[Option<&[u8]>]) -> Vec<u8> {
-    let mut bundle = Vec::new(rt.alloc());
-    push(rt, &mut bundle, CUBES.as_bytes());
-    for (label, proof) in LABELS.iter().zip(proofs) {
-        if let Some(text) = proof {
-            push(rt, &mut bundle, label);
-            push(rt, &mut bundle, text);
-        }
-    }
-    bundle
-}
-
-/// The report on that bundle by one thread.
-fn report_on(rt: &(impl Abort + AllocGlobal), proofs: &[Option<&[u8]>]) -> Vec<u8> {
-    let bundle = bundle_of(rt, proofs);
-    run_one(rt.alloc(), &bundle).expect(rt, "no report")
-}
-
-/// Ends the test where the report is another with these proofs beside the cubes, or a leaf's isn't
-/// read once.
-fn need_report<R: Abort + AllocGlobal + Threads + Wait + Sync>(
-    rt: &R,
-    digits: u32,
-    proofs: &[Option<&[u8]>],
-    wanted: &[u8],
-) {
-    let reads = AtomicU64::new(0);
-    let numbers = (1 + digits % 5, digits % 3);
-    let told = run_apart(rt, CUBES, numbers, &NoGate, proofs, &reads, 0);
-    assert!(rt; is_report(told, wanted), "{digits}");
-    assert_eq!(rt; reads.load(Ordering::SeqCst), 0x11110, "{digits}");
-}
-
-// Whatever lies there for the four cubes, the report is that on the bundle with it as sections.
-#[test]
-fn as_sections_of_the_bundle(rt: HostRuntime) {
-    for digits in 0..81 {
-        let proofs = proofs_by(&rt, digits);
-        let alone = report_on(&rt, &proofs);
-        need_report(&rt, digits, &proofs, &alone);
     }
 }

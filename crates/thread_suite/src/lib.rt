@@ -6,6 +6,8 @@ mod cases;
 #[cfg(test)]
 mod crew_tests;
 #[cfg(test)]
+mod gates;
+#[cfg(test)]
 mod hall_tests;
 #[cfg(test)]
 mod hall_thread_tests;

@@ -1,7 +1,7 @@
 use Rattle.std.proofs.Common.{◌∙◌, ap, arith}
 use Rattle.split_tree.specs.Parts.{part_nodes}
 use Rattle.mark_board.proofs.BoardsGathered.{part_listed}
-use Rattle.suite.proofs.board_tests.part_board.Goals as goal
+use Rattle.suite.proofs.boards_tests.part_board.Goals as goal
 
 pub new-requires-clause-place : goal.new-requires-clause-place
 new-requires-clause-place g c =

@@ -1,5 +1,5 @@
-//! Reports and faults of bundles, and runs over streams in memory: each expected report is written
-//! by hand from the formats.
+//! Reports of bundles, and runs over streams that fail: each expected report is written by hand
+//! from the formats.
 
 ghost use Rattle.std.specs.Prelude.{◌<◌, ◌^◌, ◌-◌, ℕ, List};
 
@@ -31,51 +31,6 @@ fn run_by_two<R: Abort + Threads + Wait + Sync, I: Source, O: Sink>(
 fn reports(rt: HostRuntime) -> Result<(), Fail> {
     assert_eq!(rt; run_one(rt.alloc(), REFUTED)?.as_slice(), REFUTED_REPORT);
     assert_eq!(rt; run_one(rt.alloc(), OPEN)?.as_slice(), OPEN_REPORT);
-    Ok(())
-}
-
-#[test]
-fn faults(rt: HostRuntime) -> Result<(), Fail> {
-    for (bundle, fault) in [
-        (b"p cnf 2 4\n".as_slice(), Fault::Header),
-        (b"".as_slice(), Fault::Header),
-        (b"p inccnf\n1 2\n".as_slice(), Fault::Unfinished),
-        (b"p inccnf\n1 x 0\n".as_slice(), Fault::Token { line: 2 }),
-        (b"p inccnf\n1 -0 0\n".as_slice(), Fault::Token { line: 2 }),
-        (
-            b"p inccnf\n268435456 0\n".as_slice(),
-            Fault::TooLarge { line: 2 },
-        ),
-        (
-            b"p inccnf\na 1 0\na -1 0\na 1 0\n".as_slice(),
-            Fault::Repeats { cube: 3 },
-        ),
-        (
-            b"p inccnf\na 1 0\na 2 0\n".as_slice(),
-            Fault::NotATree {
-                first: 1,
-                second: 2,
-            },
-        ),
-        (
-            b"p inccnf\na 1 2 0\na 1 0\n".as_slice(),
-            Fault::Overlap {
-                first: 1,
-                second: 2,
-            },
-        ),
-        (
-            b"p inccnf\na 0\nl one\n".as_slice(),
-            Fault::BadLabel { line: 3 },
-        ),
-        (b"p inccnf\nl 1\n".as_slice(), Fault::NoSuchLeaf { line: 2 }),
-        (
-            b"p inccnf\na 0\nl 1\nl 1\n".as_slice(),
-            Fault::ProofTwice { line: 4 },
-        ),
-    ] {
-        assert!(rt; run_one(rt.alloc(), bundle) == Err(fault), "{fault}");
-    }
     Ok(())
 }
 

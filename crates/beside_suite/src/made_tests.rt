@@ -1,0 +1,119 @@
+//! The files for a picture and for a record, and what comes of a run where one can't be written, or
+//! the report can't. The digest was taken from `sha256sum`, of the text that is told beside it.
+ghost use Rattle.std.specs.Prelude.{◌<◌, ◌^◌, ◌-◌};
+
+use crate::calls::{DEVICE, Ending, ends_with};
+use cube_command::FileStore;
+use cube_report::Fault;
+use devices::Shelf;
+use fixtures::bundles::{BOTH_CUBES, BOTH_CUBES_REPORT};
+use std::process::Abort;
+use std::sync::Wait;
+use std::test::Fail;
+use std::thread::Threads;
+
+const MEMORY: &[u8] = b"cubeboard: F6 memory\n";
+
+/// What `sha256sum` prints of `BOTH_CUBES` up to the end of the line `a -1 0`.
+const BOTH_CUBES_LINE: &[u8] =
+    b"i 45dd5c0c9e58e87a639e58bc96c763a8b1a3c6488a3c2db51b76f2d159c47ebc\n";
+
+/// The words for a picture, and those for a record.
+const MAP: &[&str] = &["--map", "tree.svg"];
+
+const RECORD: &[&str] = &["--record", "a.record"];
+
+/// How the program ends where it reports.
+const REPORTED: Ending<'static> = (0, BOTH_CUBES_REPORT, b"");
+
+/// How it ends where a device fails before it reports.
+const UNREPORTED: Ending<'static> = (5, b"", DEVICE);
+
+/// What lies there in the end: no file that was made, a picture at `tree.svg`, or at `a.record` the
+/// line with the digest and the report.
+#[derive(Clone, Copy, PartialEq, Eq, Debug)]
+enum Left {
+    Nothing,
+    Picture,
+    Record,
+    Other,
+}
+
+/// What lies on a shelf.
+fn left_on(store: &FileStore<Shelf<'_>>) -> Left {
+    match store.opener().made() {
+        None => Left::Nothing,
+        Some(("tree.svg", bytes)) if bytes.starts_with(b"<svg ") => Left::Picture,
+        Some(("a.record", bytes)) => match bytes.split_at_checked(BOTH_CUBES_LINE.len()) {
+            Some((line, rest)) if line == BOTH_CUBES_LINE && rest == BOTH_CUBES_REPORT => {
+                Left::Record
+            }
+            _ => Left::Other,
+        },
+        Some(_) => Left::Other,
+    }
+}
+
+/// The program on these words and two refuted cubes, with files and an output that fail at these
+/// calls, ends so, and leaves this.
+fn leaves<R: AllocGlobal + Abort + Threads + Wait + Sync>(
+    rt: &R,
+    words: &[&str],
+    failing: (u64, Fault, u64),
+    ending: Ending<'_>,
+    left: Left,
+) -> Result<(), Fail> {
+    let (file_at, fault, output_at) = failing;
+    let mut store = FileStore::new(Shelf::failing(rt.alloc(), &[], file_at, fault)?);
+    ends_with(
+        rt,
+        &mut store,
+        words,
+        BOTH_CUBES.as_bytes(),
+        output_at,
+        ending,
+    );
+    assert!(rt; left_on(&store) == left, "{words:?}");
+    Ok(())
+}
+
+/// No call fails.
+const NEVER: (u64, Fault, u64) = (0, Fault::Device, 0);
+
+// The file lies at the path that the words say. Without a word none is made.
+#[test]
+fn a_file_is_made(rt: HostRuntime) -> Result<(), Fail> {
+    leaves(&rt, MAP, NEVER, REPORTED, Left::Picture)?;
+    leaves(&rt, RECORD, NEVER, REPORTED, Left::Record)?;
+    leaves(&rt, &[], NEVER, REPORTED, Left::Nothing)
+}
+
+// Where the file can't be written there is no report. For a record the device is at fault, also
+// where it was memory that was refused.
+#[test]
+fn no_file_is_made(rt: HostRuntime) -> Result<(), Fail> {
+    let memory = (4, b"".as_slice(), MEMORY);
+    leaves(&rt, MAP, (1, Fault::Device, 0), UNREPORTED, Left::Nothing)?;
+    leaves(&rt, MAP, (1, Fault::Memory, 0), memory, Left::Nothing)?;
+    leaves(
+        &rt,
+        RECORD,
+        (1, Fault::Device, 0),
+        UNREPORTED,
+        Left::Nothing,
+    )?;
+    leaves(
+        &rt,
+        RECORD,
+        (1, Fault::Memory, 0),
+        UNREPORTED,
+        Left::Nothing,
+    )
+}
+
+// Both are written before the report: they are there where the report can't be written.
+#[test]
+fn a_file_without_a_report(rt: HostRuntime) -> Result<(), Fail> {
+    leaves(&rt, MAP, (0, Fault::Device, 1), UNREPORTED, Left::Picture)?;
+    leaves(&rt, RECORD, (0, Fault::Device, 1), UNREPORTED, Left::Record)
+}
