@@ -11,7 +11,7 @@ use Rattle.split_tree.specs.SplitTree.{SplitTree, size, path_at}
 use Rattle.split_tree.specs.Leaves.{IsTargetAt}
 use Rattle.split_tree.specs.declared.node.Target.{Target}
 use Rattle.case_core.specs.Case.{CaseOf}
-use Rattle.case_core.specs.Finding.{IsFinding, HasSection, MayBeFound, IsSound, target_of}
+use Rattle.case_core.specs.Finding.{IsFinding, HasSection, MayBeFound, IsSoundFinding, target_of}
 use Rattle.case_core.specs.declared.finding.Finding.{Finding}
 use Rattle.mark_board.specs.declared.mark.Mark.{Mark}
 use Rattle.mark_board.specs.declared.mark.Mark.TheVariants.{Open, Refuted, Rejected}
@@ -219,7 +219,7 @@ pub finding_post : (k : CutCase) (b row node : ℕ) (target : Target) (judged : 
     (case : CaseOf) → case ≡ k.case → IsHome k node b row → IsTargetAt case.tree node target →
     MayBeFound case target → (k.elsewhere ≡ false → HasSection case target)
     → IsFinding case target judged
-    → IsSound case target judged → IsFindingPost k record { board = b; row = row; judged = judged }
+    → IsSoundFinding case target judged → IsFindingPost k record { board = b; row = row; judged = judged }
 finding_post k b row node target judged case e home here may section is sound =
     let there : IsTargetAt k.case.tree (node_of k b row) target =
     subst (λ (p : CaseOf × ℕ). IsTargetAt p.0.tree p.1 target) (λ i. (e i, sym home.is_row.here i))
@@ -235,7 +235,7 @@ finding_post k b row node target judged case e home here may section is sound =
       };
       is = subst (λ c. IsFinding c target judged) e is;
       sound =
-          λ refuted. subst (λ c. IsSound c target judged) e sound refuted
+          λ refuted. subst (λ c. IsSoundFinding c target judged) e sound refuted
           (path_at k.case.tree (node_of k b row)) (node_of k b row, there, refl);
     }
 
@@ -278,7 +278,7 @@ finding_held k known old new found post node answer is inside case section here 
       real =
           finding_post k post.board post.row found.node target post.judged found.case.now case home
           found.here found.may_be section finding
-          (subst (IsSound found.case.now target) (sym said) found.sound);
+          (subst (IsSoundFinding found.case.now target) (sym said) found.sound);
       answers =
           posted_of old new found.node node post.row found.judged post.judged answer here said
           row.is_row same marks already root;

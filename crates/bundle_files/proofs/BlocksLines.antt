@@ -1,10 +1,10 @@
 -- Blocks of whole lines that are handed over one after the other.
-use Rattle.std.proofs.Common.{◌≡◌, ◌∙◌, ap, sym, refl, subst, ℕ, ◌+◌, ◌-◌, List, [], ◌∷◌, ◌++◌}
-use Rattle.std.proofs.Common.{length, take, drop, Option, Some, None, inr, inl, arith, append_assoc}
+use Rattle.std.proofs.Common.{◌≡◌, ◌∙◌, ap, sym, subst, ℕ, ◌+◌, ◌-◌, List, [], ◌∷◌, ◌++◌}
+use Rattle.std.proofs.Common.{length, take, drop, Option, Some, None, inr, arith, append_assoc}
 use Rattle.std.proofs.Common.{append-nil, IfSome}
 use Rattle.std.proofs.lemmas.Bool.{eqb-true}
 use Rattle.std.proofs.lemmas.List.{take-append-drop, take_more, take_all, length-drop}
-use Rattle.std.proofs.KnownBytes.{Consumes-nil, Consumes-trans}
+use Rattle.std.proofs.KnownBytes.{Consumes-trans}
 use Rattle.std.specs.Io.KnownBytes.{Consumes, IsAtEnd}
 use Rattle.memchr.specs.Find.{IsLastByte, is_byte}
 use Rattle.case_core.specs.Outline.{OutlineOf, IsOutlineOf, AreWholeLines}
@@ -57,14 +57,6 @@ pub record OutlinesSoFar (first now : Option (List ℕ)) (outline : OutlineOf)
   pub read : List ℕ
   pub handed : IsHandedOver outline begun read
   pub lost : Consumes first now read
-
-pub nothing_read : (now : Option (List ℕ)) (outline : OutlineOf) → IsOutlineOf outline [] →
-    OutlinesSoFar now now outline []
-nothing_read now outline is = record {
-  read = [];
-  handed = record { lines = []; whole = inl refl; is = is; parts = refl };
-  lost = Consumes-nil now;
-}
 
 -- a step of it
 pub more_read : (first now next : Option (List ℕ)) (old new : OutlineOf)

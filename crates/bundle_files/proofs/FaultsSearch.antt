@@ -15,7 +15,7 @@ use Rattle.case_core.specs.declared.fault.CaseFault.TheVariants as case
 use Rattle.cube_report.specs.declared.fault.Fault.TheVariants.{Device}
 use Rattle.cube_report.specs.Faults.{fault_of_case}
 use Rattle.bundle_files.specs.Files.{AreAdded, Gives, Held, IsFound, IsWithProofs, names_from}
-use Rattle.bundle_files.specs.Files.{proof_path}
+use Rattle.proof_folder.specs.Added.{proof_path}
 use Rattle.bundle_files.specs.Inner.Faults.{IsSearched, IsFoundIn}
 use Rattle.bundle_files.specs.Judging.{IsRefusedOf}
 use Rattle.bundle_files.proofs.FilesFormula.{first_label}

@@ -19,7 +19,8 @@ use Rattle.proof_folder.specs.Given.{HasFewLeaves, MayBeGiven, AreMarksBy, AreFo
 use Rattle.proof_folder.proofs.GivenFound.{all_given, given_is_held, may_be_given, marks_by_given}
 use Rattle.proof_folder.proofs.GivenLeaves.{IsOfTree, cubes_of_case, leaves_of_tree}
 use Rattle.proof_folder.proofs.GivenFindings.{judged_with_given}
-use Rattle.bundle_files.specs.Files.{AreAdded, Gives, Held, leaf_names, names_from, proof_path}
+use Rattle.bundle_files.specs.Files.{AreAdded, Gives, Held, leaf_names, names_from}
+use Rattle.proof_folder.specs.Added.{proof_path}
 use Rattle.bundle_files.specs.Laws.{IsJudgedApart, held_for}
 
 abbrev named : Given → Leaf → List ℕ × Option (List ℕ)

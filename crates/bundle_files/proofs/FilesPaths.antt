@@ -1,6 +1,6 @@
 -- The path of a leaf's proof.
 use Rattle.std.proofs.Common.{◌≡◌, ◌∙◌, sym, append_assoc, List, ℕ, ◌++◌, codes}
-use Rattle.bundle_files.specs.Files.{proof_path}
+use Rattle.proof_folder.specs.Added.{proof_path}
 
 -- its parts, written one behind the other
 pub path_parts : (folder name : List ℕ)

@@ -13,7 +13,7 @@ use Rattle.std.proofs.Math.Seq.{take-append_seam}
 use Rattle.bundle_files.specs.Files.{AreAdded, AreLeavesOf, Gives, Held, IsFound, IsWithProofs}
 use Rattle.bundle_files.specs.Files.{names_from}
 use Rattle.proof_folder.specs.Added.{section_text}
-use Rattle.bundle_files.specs.Files.{proof_path}
+use Rattle.proof_folder.specs.Added.{proof_path}
 
 abbrev Leaf : Type 0
 Leaf = List ℕ × Option (List ℕ)

@@ -7,16 +7,16 @@ use Rattle.case_core.specs.Leaf.{Leaf}
 use Rattle.case_core.specs.Target.TheVariants.{Leaf as Named}
 use Rattle.case_core.specs.Case.{part_in, section_in, proof_for}
 use Rattle.case_core.specs.declared.case.Section.{Section}
-use Rattle.check_crew.specs.LeafProofs.{IsRead}
-use Rattle.case_core.specs.declared.outline.Place.{Place}
+use Rattle.check_crew.specs.LeafProofs.{IsProofRead}
+use Rattle.case_core.specs.declared.outline.Stretch.{Stretch}
 use Rattle.bundle_files.specs.Parts.{IsPart, held_in}
 
 -- the part of the file at the place of a leaf's section is what lies there for the leaf
 pub part_is_read : (known : Option (Option (List ℕ))) (sections : List Section) (leaf : Leaf)
-    (place : Place) (bytes : List ℕ)
+    (place : Stretch) (bytes : List ℕ)
     → ((text : List ℕ) → proof_for (map (section_in text) sections) (Named leaf)
     ≡ Some (part_in text place.start place.length))
-    → IsPart known place.start place.length bytes → IsRead (held_in known sections leaf) bytes true
+    → IsPart known place.start place.length bytes → IsProofRead (held_in known sections leaf) bytes true
 part_is_read None sections leaf place bytes at part = (Some bytes, tt, refl, refl)
 part_is_read (Some None) sections leaf place bytes at part = (Some bytes, tt, refl, refl)
 part_is_read (Some (Some text)) sections leaf place bytes at (other, lies, is) =
@@ -31,10 +31,10 @@ part_is_read (Some (Some text)) sections leaf place bytes at (other, lies, is) =
 
 -- of a part of no length there is nothing to read
 pub empty_is_read : (known : Option (Option (List ℕ))) (sections : List Section) (leaf : Leaf)
-    (place : Place) (bytes : List ℕ)
+    (place : Stretch) (bytes : List ℕ)
     → ((text : List ℕ) → proof_for (map (section_in text) sections) (Named leaf)
     ≡ Some (part_in text place.start place.length))
-    → place.length ≡ 0 → bytes ≡ [] → IsRead (held_in known sections leaf) bytes true
+    → place.length ≡ 0 → bytes ≡ [] → IsProofRead (held_in known sections leaf) bytes true
 empty_is_read None sections leaf place bytes at none is = (Some bytes, tt, refl, refl)
 empty_is_read (Some None) sections leaf place bytes at none is = (Some bytes, tt, refl, refl)
 empty_is_read (Some (Some text)) sections leaf place bytes at none is =

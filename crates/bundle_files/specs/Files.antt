@@ -9,7 +9,7 @@ use Rattle.case_core.specs.Leaves.{missing_nodes, cube_count}
 use Rattle.case_core.specs.Case.{CaseOf}
 use Rattle.case_core.specs.Sections.{IsCaseOf, IsFaultOf}
 use Rattle.case_core.specs.declared.fault.CaseFault.{CaseFault}
-use Rattle.proof_folder.specs.Added.{section_text}
+use Rattle.proof_folder.specs.Added.{proof_path, section_text}
 use Rattle.cube_report.specs.declared.fault.Fault.{Fault}
 use Rattle.cube_report.specs.declared.fault.Fault.TheVariants.{Memory, Device}
 
@@ -64,10 +64,6 @@ abbrev pub AreLeavesOf : List ℕ → List (List ℕ) → Type 0
 AreLeavesOf bundle names =
     ((case : CaseOf) × IsCaseOf bundle case × (names ≡ leaf_names case.tree))
     ⊎ ((fault : CaseFault) × IsFaultOf bundle fault × (names ≡ []))
-
--- the path of a leaf's proof
-abbrev pub proof_path : List ℕ → List ℕ → List ℕ
-proof_path folder name = folder ++ codes "/" ++ name ++ codes ".lrat"
 
 -- Leaves with these names were added, in this order: each whose file is there, with the file's
 -- bytes as its proof.

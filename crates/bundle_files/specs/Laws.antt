@@ -9,7 +9,8 @@ use Rattle.cube_report.specs.Report.{report_text}
 use Rattle.cube_report.specs.Correct.{IsJudged, IsOutcome}
 use Rattle.cube_report.specs.Stated.{IsWrittenBy}
 use Rattle.proof_folder.specs.Given.{name_of, HasFewLeaves, AreFoundApart}
-use Rattle.bundle_files.specs.Files.{Held, proof_path, IsWithProofs}
+use Rattle.bundle_files.specs.Files.{Held, IsWithProofs}
+use Rattle.proof_folder.specs.Added.{proof_path}
 
 -- what is known to lie at the path of a leaf's proof
 abbrev pub held_for : Held → List ℕ → Leaf → Option (Option (List ℕ))

@@ -3,7 +3,8 @@ ghost use Rattle.std.specs.Prelude.{◌≡◌, ◌<◌, ◌^◌, ◌-◌, ◌++�
 ghost use Rattle.std.specs.String.{string_bytes};
 ghost use Rattle.cube_report.specs.Device.{IsDeviceFault};
 ghost use Rattle.bundle_files.specs.Files.{IsWithProofs, AreLeavesOf, AreAdded, names_from};
-ghost use Rattle.bundle_files.specs.Files.{proof_path, StaysAllowed};
+ghost use Rattle.bundle_files.specs.Files.{StaysAllowed};
+ghost use Rattle.proof_folder.specs.Added.{proof_path};
 
 use crate::store::Store;
 use case_core::{CaseFault, read_tree};

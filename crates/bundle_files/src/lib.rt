@@ -18,7 +18,7 @@ mod store;
 mod system;
 
 pub use by_section::judge_by_section;
-pub use case_core::{Outline, OutlinedCase, Place};
+pub use case_core::{Outline, OutlinedCase, Stretch};
 pub use check_crew::{LeafProofs, ReadFault};
 pub use folder::add_proofs;
 pub use formula::{ReadBundle, read_from};

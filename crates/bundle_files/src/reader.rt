@@ -2,7 +2,7 @@
 ghost use Rattle.std.specs.Prelude.{◌≡◌, IfOk};
 ghost use Rattle.std.specs.String.{string_bytes};
 ghost use Rattle.proof_folder.specs.Given.{name_of};
-ghost use Rattle.bundle_files.specs.Files.{proof_path};
+ghost use Rattle.proof_folder.specs.Added.{proof_path};
 
 use crate::opener::Opener;
 use crate::store::FileStore;

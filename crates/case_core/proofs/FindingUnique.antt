@@ -18,7 +18,7 @@ use Rattle.split_tree.specs.SplitTree.{SplitTree, path_at}
 use Rattle.split_tree.specs.declared.node.Target.{Target}
 use Rattle.case_core.specs.Case.{CaseOf, proof_for}
 use Rattle.case_core.specs.Inner.Finding.{IsJudgement}
-use Rattle.case_core.specs.Finding.{IsFinding, IsSound, HasSection}
+use Rattle.case_core.specs.Finding.{IsFinding, IsSoundFinding, HasSection}
 
 -- what a judge over the formula answers of the path and the proof is the judgement of the proof
 pub is_judged : {E : Type 0} (r : Result Judged E) (case : CaseOf) (target : Target)
@@ -51,7 +51,7 @@ some_text a b e = cc
 pub is_found : (case : CaseOf) (target : Target) (text : List ℕ) (judged : Judged)
     → ((i j : ℕ) → IsTargetAt case.tree i target → IsTargetAt case.tree j target → i ≡ j)
     → proof_for case.sections target ≡ Some text → IsJudgement case target text judged
-    → HasSection case target × IsFinding case target judged × IsSound case target judged
+    → HasSection case target × IsFinding case target judged × IsSoundFinding case target judged
 is_found case target text judged once found j = (
   λ none. let clash : Some text ≡ None = sym found ∙ none in cc,
   λ path other proof of is of_text.
@@ -72,14 +72,14 @@ stands_there a b node number target tree is here =
 
 -- what is found of a target, of the same target otherwise named
 pub found_of : (case : CaseOf) (target other : Target) (node : ℕ) (judged : Judged) → other ≡ target
-    → HasSection case target × IsFinding case target judged × IsSound case target judged →
+    → HasSection case target × IsFinding case target judged × IsSoundFinding case target judged →
     IsTargetAt case.tree node target
     →
     IsTargetAt case.tree node other × HasSection case other × IsFinding case other judged
-    × IsSound case other judged
+    × IsSoundFinding case other judged
 found_of case target other node judged same found here =
     subst (λ (t : Target). IsTargetAt case.tree node t × HasSection case t × IsFinding case t judged
-    × IsSound case t judged) (sym same)
+    × IsSoundFinding case t judged) (sym same)
     (here, found.0, found.1, found.2)
 
 -- a target that stands at one node of one tree does so under its other name and in the same tree
@@ -111,7 +111,7 @@ once_there case target node only i j a b = only i a ∙ sym (only j b)
 -- the judgement of a text from a target's path is what is found by that text
 pub found_by : (case : CaseOf) (target : Target) (text : List ℕ) (judged : Judged) (node : ℕ)
     → ((i : ℕ) → IsTargetAt case.tree i target → i ≡ node) → IsJudgement case target text judged
-    → IsFoundBy case target text judged × IsSound case target judged
+    → IsFoundBy case target text judged × IsSoundFinding case target judged
 found_by case target text judged node only j = (
   λ path proof of of_text.
       j.is proof of_text

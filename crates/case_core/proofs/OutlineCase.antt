@@ -14,7 +14,7 @@ use Rattle.split_tree.specs.declared.node.Leaf.TheVariants.{Cube}
 use Rattle.split_tree.specs.declared.node.Target.{Target}
 use Rattle.split_tree.specs.declared.node.Target.TheVariants.{Leaf as Named, Node}
 use Rattle.case_core.specs.declared.case.Section.{Section}
-use Rattle.case_core.specs.declared.outline.Place.{Place}
+use Rattle.case_core.specs.declared.outline.Stretch.{Stretch}
 use Rattle.case_core.specs.Bundle.{icnf_text, Labelled, labels_of}
 use Rattle.case_core.specs.Case.{CaseOf, SectionOf, section_in, part_in, proof_for, section_at}
 use Rattle.case_core.specs.Case.{same_target, AreSections}
@@ -30,8 +30,8 @@ use Rattle.case_core.proofs.ScanLabels.{AreAlike, alike_apart, alike_long, alike
 
 -- ---- sections that are moved, one after the other
 
-moved_last : (sections : List Section) (places : List Place) (news : List Section)
-    (section : Section) (place : Place) (new : Section) (leaf : Leaf) →
+moved_last : (sections : List Section) (places : List Stretch) (news : List Section)
+    (section : Section) (place : Stretch) (new : Section) (leaf : Leaf) →
     AreMoved sections places news → new ≡ moved section place → section.target ≡ Named leaf
     → AreMoved (sections ++ section ∷ []) (places ++ place ∷ []) (news ++ new ∷ [])
 moved_last [] [] [] section place new leaf are is for = (is, (leaf, for), tt)
@@ -42,8 +42,8 @@ moved_last (head ∷ sections) (first ∷ places) [] section place new leaf are 
 moved_last (head ∷ sections) (first ∷ places) (one ∷ news) section place new leaf are is for =
     (are.0, are.1, moved_last sections places news section place new leaf are.2 is for)
 
-pub moved_on : (sections : List Section) (places : List Place) (news more : List Section)
-    (i : ℕ) (d : Section) (e : Place) (leaf : Leaf) →
+pub moved_on : (sections : List Section) (places : List Stretch) (news more : List Section)
+    (i : ℕ) (d : Section) (e : Stretch) (leaf : Leaf) →
     AreMoved (take i sections) (take i places) news → i < length sections → i < length places
     → (get_or sections i d).target ≡ Named leaf
     → more ≡ news ++ record {
@@ -53,7 +53,7 @@ pub moved_on : (sections : List Section) (places : List Place) (news more : List
     } ∷ []
     → AreMoved (take (i + 1) sections) (take (i + 1) places) more
 moved_on sections places news more i d e leaf are inside within for pushed =
-    let place : Place = get_or places i e in
+    let place : Stretch = get_or places i e in
     rw (take_more sections i d inside, take_more places i e within, pushed)
     (moved_last (take i sections) (take i places) news (get_or sections i d) place
     (record { target = Named leaf; start = place.start; length = place.length }) leaf are
@@ -61,7 +61,7 @@ moved_on sections places news more i d e leaf are inside within for pushed =
     (sym for)) for)
 
 -- they have the same targets
-moved_alike : (text other : List ℕ) (sections : List Section) (places : List Place)
+moved_alike : (text other : List ℕ) (sections : List Section) (places : List Stretch)
     (news : List Section) → AreMoved sections places news
     → AreAlike (map (section_in text) sections) (map (section_in other) news)
 moved_alike text other [] [] [] are = tt
@@ -131,7 +131,7 @@ tabled_alike tree one other places alike are tabled =
     }
 
 -- moved sections keep the table
-pub moved_kept : (tree : SplitTree) (text : List ℕ) (sections : List Section) (places : List Place)
+pub moved_kept : (tree : SplitTree) (text : List ℕ) (sections : List Section) (places : List Stretch)
     (news : List Section) (table : List ℕ) → AreMoved sections places news
     → IsCaseKept tree (map (section_in text) sections) table → IsOutlinedKept tree news table
 moved_kept tree text sections places news table are kept other =
@@ -148,7 +148,7 @@ moved_kept tree text sections places news table are kept other =
 -- ---- the case
 
 moved_labelled : (tree : SplitTree) (bundle text : List ℕ) (bares labels : List Labelled)
-    (places : List Place) (sections news : List Section) → AreOutlined text bares labels places
+    (places : List Stretch) (sections news : List Section) → AreOutlined text bares labels places
     → AreMoved sections places news → AreLabelled tree bares (map (section_in bundle) sections)
     → AreLabelled tree labels (map (section_in text) news)
 moved_labelled tree bundle text [] [] [] [] [] outlined are labelled = tt
@@ -186,7 +186,7 @@ other_than_leaf : (target : Target) (leaf : Leaf) (node : ℕ) → target ≡ Na
 other_than_leaf target leaf node is = rw is refl
 
 -- no moved section is for an inner node
-moved_leaves : (text : List ℕ) (sections : List Section) (places : List Place)
+moved_leaves : (text : List ℕ) (sections : List Section) (places : List Stretch)
     (news : List Section) (node : ℕ) → AreMoved sections places news →
     proof_for (map (section_in text) news) (Node node) ≡ None
 moved_leaves text [] [] [] node are = refl

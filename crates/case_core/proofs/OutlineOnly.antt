@@ -9,7 +9,7 @@ use Rattle.split_tree.specs.declared.node.Target.{Target}
 use Rattle.split_tree.specs.declared.node.Target.TheVariants.{Node}
 use Rattle.case_core.specs.declared.case.Section.{Section}
 use Rattle.case_core.specs.declared.fault.CaseFault.{CaseFault}
-use Rattle.case_core.specs.declared.outline.Place.{Place}
+use Rattle.case_core.specs.declared.outline.Stretch.{Stretch}
 use Rattle.case_core.specs.Bundle.{Labelled, labels_of}
 use Rattle.case_core.specs.Case.{CaseOf, SectionOf, section_in, proof_for, same_target}
 use Rattle.case_core.specs.Label.{label_name, IsTargetOf}
@@ -29,7 +29,7 @@ record Relabelled (tree : SplitTree) (bares : List Labelled) (sections : List Se
   alike : AreAlike sections own
 
 relabelled : (tree : SplitTree) (text : List ℕ) (bares labels : List Labelled)
-    (places : List Place) (sections : List SectionOf) → AreOutlined text bares labels places
+    (places : List Stretch) (sections : List SectionOf) → AreOutlined text bares labels places
     → AreLabelled tree labels sections → Relabelled tree bares sections
 relabelled tree text [] [] [] [] outlined are =
     record { own = []; labelled = tt; alike = tt }
@@ -89,7 +89,7 @@ no_fault outline text case fault broken outlined is =
 
 -- ---- as many sections as places
 
-outlined_long : (text : List ℕ) (bares labels : List Labelled) (places : List Place) →
+outlined_long : (text : List ℕ) (bares labels : List Labelled) (places : List Stretch) →
     AreOutlined text bares labels places → length bares ≡ length places
 outlined_long text [] [] [] outlined = refl
 outlined_long text [] [] (place ∷ places) outlined = absurd outlined

@@ -5,7 +5,7 @@ use Rattle.std.proofs.Common.{length, arith, take, drop, get_or, length-append, 
 use Rattle.std.proofs.Common.{MatchOption, None, Some}
 use Rattle.std.specs.Prelude.{slice_set as set, IfSome}
 use Rattle.std.proofs.lemmas.List.{take-append-le, drop-append-le, take_all, length-drop}
-use Rattle.case_core.specs.declared.outline.Place.{Place}
+use Rattle.case_core.specs.declared.outline.Stretch.{Stretch}
 use Rattle.case_core.specs.Bundle.{lines_of, is_label, text_before, icnf_text, Labelled, labelled}
 use Rattle.case_core.specs.Bundle.{labels_of, BeginsWithLabel}
 use Rattle.case_core.specs.Case.{part_in}
@@ -38,15 +38,12 @@ part_longer text more start size e =
 
 -- ---- places whose last one goes on
 
-abbrev pub longer : List Place → ℕ → List Place
+abbrev pub longer : List Stretch → ℕ → List Stretch
 longer [] more = []
 longer (place ∷ []) more = record { start = place.start; length = place.length + more } ∷ []
 longer (place ∷ next ∷ places) more = place ∷ longer (next ∷ places) more
 
-no_place : Place
-no_place = record { start = 0; length = 0 }
-
-pub set_longer : (places : List Place) (last more start size : ℕ) (d : Place) →
+pub set_longer : (places : List Stretch) (last more start size : ℕ) (d : Stretch) →
     suc last ≡ length places → start ≡ (get_or places last d).start
     → size ≡ (get_or places last d).length + more →
     set places last (record { start = start; length = size }) ≡ longer places more
@@ -55,10 +52,10 @@ set_longer (place ∷ []) zero more start size d long s l = rw (s, l) refl
 set_longer (place ∷ []) (suc last) more start size d long s l = absurd (omega arith)
 set_longer (place ∷ next ∷ places) zero more start size d long s l = absurd (omega arith)
 set_longer (place ∷ next ∷ places) (suc last) more start size d long s l =
-    ap (λ (p : List Place). place ∷ p)
+    ap (λ (p : List Stretch). place ∷ p)
     (set_longer (next ∷ places) last more start size d (omega arith) s l)
 
-longer_within : (whole more : ℕ) (places : List Place) → AreWithin whole places →
+longer_within : (whole more : ℕ) (places : List Stretch) → AreWithin whole places →
     AreWithin (whole + more) (longer places more)
 longer_within whole more [] h = tt
 longer_within whole more (place ∷ []) h = omega arith
@@ -67,7 +64,7 @@ longer_within whole more (place ∷ next ∷ []) h =
 longer_within whole more (place ∷ next ∷ third ∷ places) h =
     (omega arith, longer_within whole more (next ∷ third ∷ places) h.1)
 
-pushed_within : (whole more : ℕ) (places : List Place) → AreWithin whole places →
+pushed_within : (whole more : ℕ) (places : List Stretch) → AreWithin whole places →
     AreWithin (whole + more) (places ++ record { start = whole + more; length = 0 } ∷ [])
 pushed_within whole more [] h = omega arith
 pushed_within whole more (place ∷ []) h = (omega arith, omega arith)
@@ -93,7 +90,7 @@ record First (labels : List Labelled) : Type 0 where
   pub others : List Labelled
   pub is : labels ≡ label ∷ others
 
-some_labelled : (text : List ℕ) (bares labels : List Labelled) (places : List Place) →
+some_labelled : (text : List ℕ) (bares labels : List Labelled) (places : List Stretch) →
     (places ≡ [] → ⊥) → AreOutlined text bares labels places → First labels
 some_labelled text [] [] [] some are = absurd (some refl)
 some_labelled text [] [] (place ∷ places) some are = absurd are
@@ -102,7 +99,7 @@ some_labelled text (bare ∷ bares) [] places some are = absurd are
 some_labelled text (bare ∷ bares) (label ∷ labels) places some are =
     record { label = label; others = labels; is = refl }
 
-outlined_plain : (text more : List ℕ) (bares labels : List Labelled) (places : List Place) →
+outlined_plain : (text more : List ℕ) (bares labels : List Labelled) (places : List Stretch) →
     AreWithin (length text) places → AreOutlined text bares labels places
     → AreOutlined (text ++ more) bares (with_more labels more) (longer places (length more))
 outlined_plain text more [] [] [] within are = tt
@@ -130,18 +127,18 @@ outlined_plain text more (bare ∷ second ∷ bares) (label ∷ next ∷ labels)
       outlined_plain text more (second ∷ bares) (next ∷ labels) (third ∷ places) within.1 are.2,
     )
 
-first_within : (whole : ℕ) (first : Place) (places : List Place) →
+first_within : (whole : ℕ) (first : Stretch) (places : List Stretch) →
     AreWithin whole (first ∷ places) → first.start + first.length ≤ whole
 first_within whole first [] h = omega arith
 first_within whole first (next ∷ places) h = h.0
 
-others_within : (whole : ℕ) (first : Place) (places : List Place) →
+others_within : (whole : ℕ) (first : Stretch) (places : List Stretch) →
     AreWithin whole (first ∷ places) → AreWithin whole places
 others_within whole first [] h = tt
 others_within whole first (next ∷ places) h = h.1
 
-outlined_label : (text more : List ℕ) (bares labels : List Labelled) (places : List Place)
-    (bare label : Labelled) (place : Place) → AreWithin (length text) places →
+outlined_label : (text more : List ℕ) (bares labels : List Labelled) (places : List Stretch)
+    (bare label : Labelled) (place : Stretch) → AreWithin (length text) places →
     AreOutlined text bares labels places → bare.label ≡ label.label
     → label.section ≡ part_in (text ++ more) place.start place.length
     → AreOutlined (text ++ more) (bares ++ bare ∷ []) (labels ++ label ∷ []) (places ++ place ∷ [])
@@ -171,7 +168,7 @@ pub same_text : (outline : OutlineOf) (text : List ℕ) → IsOutlineOf outline 
     outline.places ≡ [] → outline.text ≡ text
 same_text outline text is none =
     let are : AreOutlined text (labels_of outline.text) (labels_of text) [] =
-    subst (λ (p : List Place). AreOutlined text (labels_of outline.text) (labels_of text) p) none
+    subst (λ (p : List Stretch). AreOutlined text (labels_of outline.text) (labels_of text) p) none
     is.labels in
     sym (plain_text 1 outline.text (none_bare text _ _ are)) ∙ is.icnf
     ∙ plain_text 1 text (none_labelled text _ _ are)
@@ -207,7 +204,7 @@ plain_front old new more plain none text places counted whole whole_is is =
     text ∙ ap (λ (t : List ℕ). t ++ more) (same_text old whole is none) in
     let at = whole_lines whole whole_is in
     let are : AreOutlined whole (labels_of old.text) (labels_of whole) [] =
-    subst (λ (p : List Place). AreOutlined whole (labels_of old.text) (labels_of whole) p) none
+    subst (λ (p : List Stretch). AreOutlined whole (labels_of old.text) (labels_of whole) p) none
     is.labels in
     let nothing : labels_of (whole ++ more) ≡ [] =
     ap (labelled 1) (at.more more) ∙ labels_plain 1 at.base more plain
@@ -218,11 +215,11 @@ plain_front old new more plain none text places counted whole whole_is is =
       labels =
           subst (λ (t : List ℕ). AreOutlined (whole ++ more) (labels_of t)
           (labels_of (whole ++ more)) new.places) (sym same)
-          (subst (λ (p : List Place). AreOutlined (whole ++ more) (labels_of (whole ++ more))
+          (subst (λ (p : List Stretch). AreOutlined (whole ++ more) (labels_of (whole ++ more))
           (labels_of (whole ++ more)) p) (sym places)
           (subst (λ (l : List Labelled). AreOutlined (whole ++ more) l l []) (sym nothing) tt));
       length = counted ∙ ap (λ (n : ℕ). n + length more) is.length ∙ sym (length-append whole more);
-      within = subst (λ (p : List Place). AreWithin new.length p) (sym places) tt;
+      within = subst (λ (p : List Stretch). AreWithin new.length p) (sym places) tt;
       whole = inl places;
     }
 

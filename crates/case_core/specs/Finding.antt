@@ -42,7 +42,7 @@ IsFoundBy case target text judged =
 
 -- where the target is judged refuted, the formula has no model together with the literals of its
 -- path
-abbrev pub IsSound : CaseOf → Target → Judged → Type 0
-IsSound case target judged =
+abbrev pub IsSoundFinding : CaseOf → Target → Judged → Type 0
+IsSoundFinding case target judged =
     judged ≡ Refuted → (path : List Literal) → IsPathOf case.tree target path
     → IsRefuted case.formula path

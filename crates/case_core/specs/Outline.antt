@@ -5,7 +5,7 @@ use Rattle.std.specs.Coded.{Coded, code_by, coded×, coded_ℕ, coded_list}
 use Rattle.split_tree.specs.declared.node.Target.{Target}
 use Rattle.split_tree.specs.declared.node.Target.TheVariants.{Node}
 use Rattle.case_core.specs.declared.case.Section.{Section}
-use Rattle.case_core.specs.declared.outline.Place.{Place}
+use Rattle.case_core.specs.declared.outline.Stretch.{Stretch}
 use Rattle.case_core.specs.Bundle.{Labelled, icnf_text, labels_of}
 use Rattle.case_core.specs.Case.{CaseOf, SectionOf, part_in, section_in, proof_for}
 use Rattle.case_core.specs.CaseCode.{target_code, case_code}
@@ -21,17 +21,17 @@ pub record OutlinedOf : Type 0 where
 -- sections stand, and how long it is
 pub record OutlineOf : Type 0 where
   pub text : List ℕ
-  pub places : List Place
+  pub places : List Stretch
   pub length : ℕ
 
-abbrev pub place_code : Coded Place
+abbrev pub place_code : Coded Stretch
 place_code =
     code_by (ℕ × ℕ) (coded× coded_ℕ coded_ℕ) (λ p. (p.start, p.length))
     (λ p. record { start = p.0; length = p.1 }) (λ _. refl)
 
 abbrev pub outline_code : Coded OutlineOf
 outline_code =
-    code_by (List ℕ × (List Place × ℕ))
+    code_by (List ℕ × (List Stretch × ℕ))
     (coded× (coded_list coded_ℕ) (coded× (coded_list place_code) coded_ℕ))
     (λ o. (o.text, (o.places, o.length)))
     (λ p. record { text = p.0; places = p.1.0; length = p.1.1 }) (λ _. refl)
@@ -52,7 +52,7 @@ abbrev pub AreWholeLines : List ℕ → Type 0
 AreWholeLines text = (text ≡ []) ⊎ ((lines : List ℕ) × (text ≡ lines ++ 10 ∷ []))
 
 -- these label lines have the same words as the text's, whose sections are the parts at these places
-abbrev pub AreOutlined : List ℕ → List Labelled → List Labelled → List Place → Type 0
+abbrev pub AreOutlined : List ℕ → List Labelled → List Labelled → List Stretch → Type 0
 AreOutlined text [] [] [] = Unit {0}
 AreOutlined text (bare ∷ bares) (label ∷ labels) (place ∷ places) =
     (bare.label ≡ label.label) × (label.section ≡ part_in text place.start place.length)
@@ -63,7 +63,7 @@ AreOutlined text (bare ∷ bares) [] places = ⊥
 AreOutlined text (bare ∷ bares) (label ∷ labels) [] = ⊥
 
 -- no place goes beyond the end of a text of this length, and the last one ends with it
-abbrev pub AreWithin : ℕ → List Place → Type 0
+abbrev pub AreWithin : ℕ → List Stretch → Type 0
 AreWithin whole [] = Unit {0}
 AreWithin whole (place ∷ []) = place.start + place.length ≡ whole
 AreWithin whole (place ∷ next ∷ places) =

@@ -4,7 +4,7 @@ ghost use Rattle.std.specs.Prelude.{◌≡◌, ℕ, IfOk, MatchOption, None};
 ghost use Rattle.split_tree.specs.Leaves.{HasTarget, IsTargetAt};
 ghost use Rattle.split_tree.specs.SplitTree.{SplitTree};
 ghost use Rattle.case_core.specs.Case.{proof_for};
-ghost use Rattle.case_core.specs.Finding.{IsFinding, HasSection, IsFoundBy, IsSound, target_of};
+ghost use Rattle.case_core.specs.Finding.{IsFinding, HasSection, IsFoundBy, IsSoundFinding, target_of};
 ghost use Rattle.case_core.specs.Inner.Finding.{IsJudgement};
 
 use crate::case::Case;
@@ -109,7 +109,7 @@ impl<'c> Examiner<'c> {
         ensures found { IfOk result
             (λ found. MatchOption found (proof_for self.old.sections target ≡ None)
             (λ judged. HasSection self.old target × IsFinding self.old target judged
-            × IsSound self.old target judged)) }
+            × IsSoundFinding self.old target judged)) }
         ensures same { self.new ≡ self.old }
     {
         let case = self.case;

@@ -2,7 +2,7 @@
 
 ghost use Rattle.std.specs.Prelude.{◌≡◌, ℕ};
 ghost use Rattle.split_tree.specs.Leaves.{IsTargetAt};
-ghost use Rattle.case_core.specs.Finding.{IsFinding, MayBeFound, IsSound, target_of};
+ghost use Rattle.case_core.specs.Finding.{IsFinding, MayBeFound, IsSoundFinding, target_of};
 ghost use Rattle.case_core.specs.Inner.Finding.{IsTargetAt-prop};
 
 use crate::case::Case;
@@ -27,7 +27,7 @@ pub struct Finding<'c> {
     pub ghost only: { (i : ℕ) → IsTargetAt case.now.tree i (target_of leaf node) → i ≡ node },
     pub ghost may_be: { MayBeFound case.now (target_of leaf node) },
     pub ghost is: { IsFinding case.now (target_of leaf node) judged },
-    pub ghost sound: { IsSound case.now (target_of leaf node) judged },
+    pub ghost sound: { IsSoundFinding case.now (target_of leaf node) judged },
 }
 
 impl<'c> Finding<'c> {

@@ -18,7 +18,7 @@ use std::marker::Model;
 
 /// A place in a text: where a proof begins, and how long it is.
 #[derive(Clone, Copy, PartialEq, Eq, Debug)]
-pub struct Place {
+pub struct Stretch {
     /// How many bytes of the text stand before it.
     pub start: usize,
     /// The number of its bytes.
@@ -32,7 +32,7 @@ pub struct Outline {
     /// The iCNF text and the label lines, each with a line end.
     text: Vec<u8>,
     /// Where the section of each label line stands.
-    places: Vec<Place>,
+    places: Vec<Stretch>,
     /// The number of the bytes so far.
     length: usize,
 }
@@ -134,7 +134,7 @@ impl Outline {
         };
         self.text.extend_from_slice(line)?;
         self.text.push(b'\n')?;
-        self.places.push(Place { start, length: 0 })?;
+        self.places.push(Stretch { start, length: 0 })?;
         self.length = start;
         Ok(())
     }
@@ -159,7 +159,7 @@ impl Outline {
         let Some(length) = last.length.checked_add(lines.len()) else {
             return Err(CaseFault::Memory);
         };
-        self.places[sections - 1] = Place {
+        self.places[sections - 1] = Stretch {
             start: last.start,
             length,
         };
@@ -227,7 +227,7 @@ fn want_of_memory(fault: CaseFault) -> Result<Option<OutlinedCase>, CaseFault>
 fn move_sections(
     alloc: Global,
     sections: &[Section],
-    places: &[Place],
+    places: &[Stretch],
 ) -> Result<Option<Vec<Section>>, AllocError>
     ensures moved { IfOk result
         (λ some. IfSome some (λ moved. AreMoved sections.now places.now moved.items)) }
@@ -308,7 +308,7 @@ impl OutlinedCase {
     }
 
     /// Where the proof of a leaf stands, or `None` where it has no section.
-    pub fn place_of(&self, leaf: Leaf) -> Option<Place>
+    pub fn place_of(&self, leaf: Leaf) -> Option<Stretch>
         // In each text, that part is the proof of the leaf's section.
         ensures { (text : List ℕ)
             → proof_for (map (section_in text) self.now.sections) (Target.Leaf leaf)
@@ -324,7 +324,7 @@ impl OutlinedCase {
             return None;
         }
         let section = &self.sections[place - 1];
-        Some(Place {
+        Some(Stretch {
             start: section.start,
             length: section.length,
         })

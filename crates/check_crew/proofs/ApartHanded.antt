@@ -1,16 +1,14 @@
 -- What the workers over leaves hand back, all together.
 use Rattle.std.proofs.Common.{◌≡◌, ℕ, List, [], ◌∷◌, ◌++◌, Option, None, Some, refl}
-use Rattle.std.proofs.Common.{ap, subst, false, is_some, inl, inr}
-use Rattle.std.specs.Prelude.{MatchOption}
+use Rattle.std.proofs.Common.{ap, subst, false, is_some}
 use Rattle.std.proofs.lemmas.List.Elements.{All-weaker, Contains-append_left}
 use Rattle.case_core.specs.Leaf.{Leaf}
 use Rattle.case_core.specs.Case.{CaseOf}
 use Rattle.board_hall.specs.declared.pass.Pass.{Pass}
 use Rattle.board_hall.specs.declared.view.CutCase.{CutCase}
 use Rattle.board_hall.specs.Halls.{HallOf, view_of}
-use Rattle.check_crew.specs.LeafProofs.{Known, IsExamined, IsReadFault}
+use Rattle.check_crew.specs.LeafProofs.{Known, IsExamined}
 use Rattle.check_crew.specs.declared.leaf_proofs.ReadFault.{ReadFault}
-use Rattle.check_crew.specs.declared.leaf_proofs.ReadFault.TheVariants.{Memory, Device}
 use Rattle.check_crew.specs.declared.leaves.ExaminedLeaf.{ExaminedLeaf}
 use Rattle.check_crew.specs.Seen.{HaveSeenSections}
 use Rattle.check_crew.specs.Inner.Apart.{IsLeafShiftOf, IsListOf}
@@ -19,15 +17,6 @@ use Rattle.check_crew.specs.Inner.Apart.{IsLeafShiftOf, IsListOf}
 pub no_fault : (fault : Option ReadFault) → is_some fault ≡ false → fault ≡ None
 no_fault None is = refl
 no_fault (Some fault) is = absurd (cc)
-
--- a fault of the device is one failed read
-pub device_failed : (fault : Option ReadFault) (failures : ℕ)
-    → MatchOption fault (failures ≡ 0) (IsReadFault 0 failures) → fault ≡ Some Device →
-    failures ≡ 1
-device_failed None failures of is = absurd (cc)
-device_failed (Some Memory) failures of is = absurd (cc)
-device_failed (Some Device) failures (inl of) is = absurd (cc)
-device_failed (Some Device) failures (inr of) is = of.1
 
 -- one pass more takes nothing away
 pub sections_more : (case : CaseOf) (passes : List Pass) (pass : Pass) →

@@ -1,6 +1,6 @@
 -- What a worker has seen after it posted the finding of a leaf's proof.
-use Rattle.std.proofs.Common.{◌≡◌, ℕ, true, List, [], ◌∷◌, ◌++◌, Option, None, Some, Bool, refl}
-use Rattle.std.proofs.Common.{sym, ap, All, ◌∙◌, subst, is_some, unwrap_or}
+use Rattle.std.proofs.Common.{◌≡◌, ℕ, false, List, [], ◌∷◌, ◌++◌, Option, None, Some, Bool, refl}
+use Rattle.std.proofs.Common.{sym, ap, All, ◌∙◌, subst, is_some}
 use Rattle.std.proofs.Common.{append_assoc, append-nil}
 use Rattle.std.specs.Prelude.{IfSome}
 use Rattle.std.proofs.lemmas.List.Elements.{All-push, All-weaker}
@@ -16,7 +16,7 @@ use Rattle.board_hall.specs.declared.view.CutCase.{CutCase}
 use Rattle.board_hall.specs.declared.view.Post.{Post}
 use Rattle.board_hall.specs.declared.view.View.{View}
 use Rattle.board_hall.specs.Clauses.{Stays}
-use Rattle.check_crew.specs.LeafProofs.{IsRead, IsGiven, HasSeenAs, IsFoundAt, IsExamined}
+use Rattle.check_crew.specs.LeafProofs.{IsProofRead, IsGiven, HasSeenAs, IsFoundAt, IsExamined}
 use Rattle.check_crew.specs.LeafProofs.{Known}
 use Rattle.check_crew.specs.declared.leaves.ExaminedLeaf.{ExaminedLeaf}
 use Rattle.check_crew.specs.declared.leaves.Examined.{Examined}
@@ -24,16 +24,15 @@ use Rattle.check_crew.specs.declared.leaves.Examined.TheVariants.{Absent, Found,
 use Rattle.check_crew.specs.Seen.{HasSeenMark}
 use Rattle.check_crew.proofs.SeenPosted.{mark_stays}
 
--- what was read, where there is a proof
-pub read_there : (known : Option (Option (List ℕ))) (bytes : List ℕ) (there : Bool) →
-    IsRead known bytes there → there ≡ true → IsGiven known (Some bytes)
-read_there known bytes there read is = of (read.0) read.1 (sym read.2 ∙ is) read.3
+-- and that there is none, where there is none
+pub read_none : (known : Option (Option (List ℕ))) (bytes : List ℕ) (there : Bool) →
+    IsProofRead known bytes there → there ≡ false → IsGiven known None
+read_none known bytes there read is = of (read.0) read.1 (sym read.2 ∙ is)
   where
-    of : (given : Option (List ℕ)) → IfSome known (λ held. given ≡ held) → is_some given ≡ true
-        → bytes ≡ unwrap_or given [] → IsGiven known (Some bytes)
-    of None given_is some text = absurd (cc)
-    of (Some proof) given_is some text =
-        subst (λ (t : List ℕ). IsGiven known (Some t)) (sym text) given_is
+    of : (given : Option (List ℕ)) → IfSome known (λ held. given ≡ held) → is_some given ≡ false
+        → IsGiven known None
+    of None given_is none = given_is
+    of (Some proof) given_is none = absurd (cc)
 
 -- a pass is its own later one
 pub stays_same : (v : View) → Stays v v

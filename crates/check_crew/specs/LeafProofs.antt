@@ -22,8 +22,8 @@ abbrev pub Known : Type 0
 Known = Leaf → Option (Option (List ℕ))
 
 -- what was read is what is known to lie there: nothing, or these bytes
-abbrev pub IsRead : Option (Option (List ℕ)) → List ℕ → Bool → Type 0
-IsRead known bytes there =
+abbrev pub IsProofRead : Option (Option (List ℕ)) → List ℕ → Bool → Type 0
+IsProofRead known bytes there =
     (given : Option (List ℕ)) × IfSome known (λ held. given ≡ held)
     × (there ≡ is_some given) × (bytes ≡ unwrap_or given [])
 

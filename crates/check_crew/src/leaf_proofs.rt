@@ -2,7 +2,7 @@
 
 ghost use Rattle.std.specs.Prelude.{◌≡◌, ℕ, List, ◌<◌, ◌^◌, ◌-◌, Option, IfOk, IfErr, OnOk};
 ghost use Rattle.case_core.specs.Leaf.{Leaf};
-ghost use Rattle.check_crew.specs.LeafProofs.{IsRead, IsReadFault};
+ghost use Rattle.check_crew.specs.LeafProofs.{IsProofRead, IsReadFault};
 
 use case_core::Leaf;
 use std::alloc::{AllocError, AllocFailed};
@@ -55,7 +55,7 @@ pub trait LeafProofs {
     fn read(&mut self, leaf: Leaf, bytes: &mut Vec<u8>) -> Result<bool, ReadFault>
         requires { failures self.old < 2 ^ 64 - 1 }
         ensures held { held self.new ≡ held self.old }
-        ensures found { IfOk result (λ there. IsRead (held self.old leaf) bytes.new.items there) }
+        ensures found { IfOk result (λ there. IsProofRead (held self.old leaf) bytes.new.items there) }
         ensures ok { OnOk result (failures self.new ≡ failures self.old) }
         ensures err { IfErr result
             (λ fault. IsReadFault (failures self.old) (failures self.new) fault) };

@@ -1,7 +1,7 @@
 //! What a worker does of leaves whose proofs don't stand in the case.
 
 ghost use Rattle.std.specs.Prelude.{◌≡◌, ◌<◌, ◌^◌, ◌-◌, [], true, None, All, IfOk, IfErr, IfSome};
-ghost use Rattle.std.specs.Prelude.{false};
+ghost use Rattle.std.specs.Prelude.{false, List, Option, Some, ℕ};
 ghost use Rattle.case_core.specs.Bundle.{labels_of};
 ghost use Rattle.case_core.specs.Case.{proof_for};
 ghost use Rattle.std.specs.Prelude.{OnOk};
@@ -9,7 +9,8 @@ ghost use Rattle.case_core.specs.Leaf.{Leaf};
 ghost use Rattle.case_core.specs.Leaves.{HasTarget};
 ghost use Rattle.board_hall.specs.Halls.{core_of, shared_of, view_of, IsPassOf, IsNewPass};
 ghost use Rattle.board_hall.specs.Clauses.{Stays};
-ghost use Rattle.check_crew.specs.LeafProofs.{IsExamined, IsReadFault};
+ghost use Rattle.board_hall.specs.declared.view.View.{View};
+ghost use Rattle.check_crew.specs.LeafProofs.{IsExamined, IsGiven, IsReadFault};
 ghost use Rattle.check_crew.specs.Inner.Apart.{IsLeafShiftOf};
 
 use crate::gate::Gate;
@@ -89,35 +90,28 @@ fn is_for_one_bundle(case: &Case, leaf: Leaf, proof: &[u8]) -> bool
     has_label_line(proof) || case.proof_for(Target::Leaf(leaf)).is_some()
 }
 
-/// Reads the proof of a leaf, judges it, and posts what is found, and then the part that is owed,
-/// if any; the gate is called beside it where there is a proof. The bytes are dropped by the next
-/// call.
-fn examine_leaf<R: Wait, G: Gate, P: LeafProofs>(
+/// Judges a proof of a leaf, which was read, and posts what is found, and then the part that is
+/// owed, if any; the gate is called beside it.
+fn examine_leaf<R: Wait, G: Gate>(
     site: LeafSite<'_, R, G>,
     worker: u32,
-    proofs: &mut P,
     examiner: &mut Examiner<'_>,
-    bytes: &mut Vec<u8>,
+    proof: &[u8],
     pass: &mut Pass,
     leaf: Leaf,
-) -> Result<Examined, ReadFault>
+) -> Result<Examined, AllocError>
     requires case { site.case.now ≡ (core_of site.core.now).case }
     requires elsewhere { (core_of site.core.now).elsewhere ≡ true }
     requires examiner { examiner.old ≡ site.case.now }
     requires leaf { HasTarget site.case.now.tree (Target.Leaf leaf) }
     requires own { IsPassOf (shared_of site.core.now) pass.old }
     requires free { (view_of pass.old).owes ≡ None }
-    requires count { P.failures proofs.old < 2 ^ 64 - 1 }
-    ensures held { P.held proofs.new ≡ P.held proofs.old }
     ensures same { examiner.new ≡ examiner.old }
     ensures own { IsPassOf (shared_of site.entry.core.now) pass.new }
     ensures owes { (view_of pass.new).owes ≡ None }
     ensures stays { Stays (view_of pass.old) (view_of pass.new) }
-    ensures examined { IfOk result
-        (IsExamined (P.held proofs.old leaf) (view_of pass.new) leaf) }
-    ensures ok { OnOk result (P.failures proofs.new ≡ P.failures proofs.old) }
-    ensures err { IfErr result
-        (λ fault. IsReadFault (P.failures proofs.old) (P.failures proofs.new) fault) }
+    ensures examined { IfOk result (λ examined. (known : Option (Option (List ℕ)))
+        → IsGiven known (Some proof.now) → IsExamined known (view_of pass.new) leaf examined) }
 {
     let LeafSite {
         rt,
@@ -127,30 +121,26 @@ fn examine_leaf<R: Wait, G: Gate, P: LeafProofs>(
         gate,
         ..
     } = site;
-    let asked = leaf;
     let placed = leaf;
     let announced = leaf;
     let told = leaf;
-    if !proofs.read(asked, bytes)? {
-        return Ok(Examined::Absent);
-    }
-    if is_for_one_bundle(case, placed, bytes) {
+    if is_for_one_bundle(case, placed, proof) {
         gate.falls_back(told);
         return Ok(Examined::Other);
     }
     gate.before(worker, Target::Leaf(announced));
-    let finding = examiner.examine_text(alloc, leaf, bytes)?;
+    let finding = examiner.examine_text(alloc, leaf, proof)?;
     let judged = finding.judged();
-    let proof = JudgedProof {
+    let judged_proof = JudgedProof {
         target: Target::Leaf(told),
         node: finding.node(),
-        length: bytes.len(),
+        length: proof.len(),
         judged,
     };
     if !post(rt, case, core, pass, finding) {
         return Ok(Examined::Other);
     }
-    tell(case, core, gate, worker, pass, proof);
+    tell(case, core, gate, worker, pass, judged_proof);
     Ok(Examined::Found(judged))
 }
 
@@ -182,48 +172,84 @@ fn end_at_other<R, G>(site: LeafSite<'_, R, G>, found: Examined) {
     }
 }
 
-/// Examines a leaf whose turn was taken. Where the run has to be made with all proofs in one
-/// bundle, nobody takes another one.
-fn take_leaf<R: Wait, G: Gate, P: LeafProofs>(
+/// Examines a leaf whose turn was taken, by its proof. Where the run has to be made with all proofs
+/// in one bundle, nobody takes another one.
+fn take_leaf<R: Wait, G: Gate>(
     site: LeafSite<'_, R, G>,
     worker: u32,
-    proofs: &mut P,
     examiner: &mut Examiner<'_>,
-    bytes: &mut Vec<u8>,
+    proof: &[u8],
     pass: &mut Pass,
     leaf: Leaf,
-) -> Result<ExaminedLeaf, ReadFault>
+) -> Result<ExaminedLeaf, AllocError>
     requires case { site.case.now ≡ (core_of site.core.now).case }
     requires elsewhere { (core_of site.core.now).elsewhere ≡ true }
     requires examiner { examiner.old ≡ site.case.now }
     requires leaf { HasTarget site.case.now.tree (Target.Leaf leaf) }
     requires own { IsPassOf (shared_of site.core.now) pass.old }
     requires free { (view_of pass.old).owes ≡ None }
-    requires count { P.failures proofs.old < 2 ^ 64 - 1 }
-    ensures held { P.held proofs.new ≡ P.held proofs.old }
     ensures same { examiner.new ≡ examiner.old }
     ensures own { IsPassOf (shared_of site.entry.core.now) pass.new }
     ensures owes { (view_of pass.new).owes ≡ None }
     ensures stays { Stays (view_of pass.old) (view_of pass.new) }
-    ensures examined { IfOk result (λ one.
-        IsExamined (P.held proofs.old one.leaf) (view_of pass.new) one.leaf one.examined) }
-    ensures ok { OnOk result (P.failures proofs.new ≡ P.failures proofs.old) }
-    ensures err { IfErr result
-        (λ fault. IsReadFault (P.failures proofs.old) (P.failures proofs.new) fault) }
+    ensures leaf { IfOk result (λ one. one.leaf ≡ leaf) }
+    ensures examined { IfOk result (λ one. (known : Option (Option (List ℕ)))
+        → IsGiven known (Some proof.now)
+        → IsExamined known (view_of pass.new) one.leaf one.examined) }
 {
     let asked = leaf;
-    let examined = examine_leaf(site, worker, proofs, examiner, bytes, pass, asked)?;
+    let examined = examine_leaf(site, worker, examiner, proof, pass, asked)?;
     end_at_other(site, examined);
     Ok(ExaminedLeaf { leaf, examined })
 }
 
-/// Examines a leaf whose turn was taken, and then those of further turns, until none is left or a
+/// Takes turns until a leaf has a proof, which is read then, and answers that leaf; those without
+/// one are noted. `None` where no turn is left. The bytes are dropped by the next call.
+fn next_proof<R: Wait, G, P: LeafProofs>(
+    site: LeafSite<'_, R, G>,
+    proofs: &mut P,
+    bytes: &mut Vec<u8>,
+    examined: &mut Vec<ExaminedLeaf>,
+) -> Result<Option<Leaf>, ReadFault>
+    requires count { P.failures proofs.old < 2 ^ 64 - 1 }
+    ensures held { P.held proofs.new ≡ P.held proofs.old }
+    ensures leaf { IfOk result (λ found. IfSome found
+        (λ leaf. HasTarget site.entry.case.now.tree (Target.Leaf leaf))) }
+    ensures given { IfOk result (λ found. IfSome found
+        (λ leaf. IsGiven (P.held proofs.old leaf) (Some bytes.new.items))) }
+    ensures absent { OnOk result ((view : View)
+        → All (λ one. IsExamined (P.held proofs.old one.leaf) view one.leaf one.examined)
+        examined.old.items
+        → All (λ one. IsExamined (P.held proofs.old one.leaf) view one.leaf one.examined)
+        examined.new.items) }
+    ensures ok { OnOk result (P.failures proofs.new ≡ P.failures proofs.old) }
+    ensures err { IfErr result
+        (λ fault. IsReadFault (P.failures proofs.old) (P.failures proofs.new) fault) }
+{
+    for _ in site.rt.forever() {
+        let Some(leaf) = next_leaf(site) else {
+            return Ok(None);
+        };
+        let asked = leaf;
+        if proofs.read(asked, bytes)? {
+            return Ok(Some(leaf));
+        }
+        examined.push(ExaminedLeaf {
+            leaf,
+            examined: Examined::Absent,
+        })?;
+    }
+    unreachable!()
+}
+
+/// Examines a leaf whose proof was read, and then those of further turns, until none is left or a
 /// fault comes, by an examiner that is lent. One proof is in memory at a time.
 fn take_leaves<R: Wait, G: Gate, P: LeafProofs>(
     site: LeafSite<'_, R, G>,
     worker: u32,
     proofs: &mut P,
     examiner: &mut Examiner<'_>,
+    bytes: &mut Vec<u8>,
     pass: &mut Pass,
     examined: &mut Vec<ExaminedLeaf>,
     first: Leaf,
@@ -232,12 +258,13 @@ fn take_leaves<R: Wait, G: Gate, P: LeafProofs>(
     requires elsewhere { (core_of site.core.now).elsewhere ≡ true }
     requires examiner { examiner.old ≡ site.case.now }
     requires first { HasTarget site.case.now.tree (Target.Leaf first) }
+    requires given { IsGiven (P.held proofs.old first) (Some bytes.old.items) }
     requires own { IsPassOf (shared_of site.core.now) pass.old }
     requires free { (view_of pass.old).owes ≡ None }
     requires count { P.failures proofs.old < 2 ^ 64 - 1 }
-    requires none { examined.old.items ≡ [] }
+    requires examined { All (λ one. IsExamined (P.held proofs.old one.leaf)
+        (view_of pass.old) one.leaf one.examined) examined.old.items }
     ensures held { P.held proofs.new ≡ P.held proofs.old }
-    ensures same { examiner.new ≡ examiner.old }
     ensures own { IsPassOf (shared_of site.entry.core.now) pass.new }
     ensures owes { (view_of pass.new).owes ≡ None }
     ensures examined { OnOk result (All (λ one. IsExamined (P.held proofs.old one.leaf)
@@ -246,12 +273,11 @@ fn take_leaves<R: Wait, G: Gate, P: LeafProofs>(
     ensures err { IfErr result
         (λ fault. IsReadFault (P.failures proofs.old) (P.failures proofs.new) fault) }
 {
-    let mut bytes = Vec::new(site.alloc);
     let mut leaf = first;
     for _ in site.rt.forever() {
-        let one = take_leaf(site, worker, proofs, examiner, &mut bytes, pass, leaf)?;
+        let one = take_leaf(site, worker, examiner, bytes, pass, leaf)?;
         examined.push(one)?;
-        let Some(following) = next_leaf(site) else {
+        let Some(following) = next_proof(site, proofs, bytes, examined)? else {
             return Ok(());
         };
         leaf = following;
@@ -260,8 +286,8 @@ fn take_leaves<R: Wait, G: Gate, P: LeafProofs>(
 }
 
 /// Takes turns until none is left or a fault comes, by an examiner of its own. That holds the
-/// formula once more, so it is made when a first turn has been taken: a worker that finds none
-/// costs nothing.
+/// formula once more, so it is made when a first proof was read: a worker that meets none costs
+/// nothing.
 fn examine_leaves<R: Wait, G: Gate, P: LeafProofs>(
     site: LeafSite<'_, R, G>,
     worker: u32,
@@ -284,11 +310,21 @@ fn examine_leaves<R: Wait, G: Gate, P: LeafProofs>(
     ensures err { IfErr result
         (λ fault. IsReadFault (P.failures proofs.old) (P.failures proofs.new) fault) }
 {
-    let Some(first) = next_leaf(site) else {
+    let mut bytes = Vec::new(site.alloc);
+    let Some(first) = next_proof(site, proofs, &mut bytes, examined)? else {
         return Ok(());
     };
     let mut examiner = Examiner::over(site.alloc, site.case)?;
-    take_leaves(site, worker, proofs, &mut examiner, pass, examined, first)
+    take_leaves(
+        site,
+        worker,
+        proofs,
+        &mut examiner,
+        &mut bytes,
+        pass,
+        examined,
+        first,
+    )
 }
 
 /// Does a worker's part of the leaves.

@@ -14,7 +14,8 @@ use Rattle.cube_report.specs.declared.engine.Outcome.{Outcome}
 use Rattle.cube_report.specs.declared.fault.Fault.{Fault}
 use Rattle.cube_command.specs.Headline.{IsFormulaRefuted, IsRefutedAsHanded}
 use Rattle.cube_command.specs.Record.{record_text}
-use Rattle.cube_command.specs.Words.{Asked, sources_of}
+use Rattle.cube_command.specs.Sources.{sources_of}
+use Rattle.cube_command.specs.Words.{Asked}
 use Rattle.cube_command.specs.Inner.Recorded.{IsRecordedFor}
 use Rattle.cube_command.specs.declared.program.Recorded.{Recorded}
 use Rattle.cube_command.proofs.ProgramRuns.{bundle_of}

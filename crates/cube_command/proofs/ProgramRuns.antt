@@ -7,7 +7,6 @@ use Rattle.std.specs.Io.KnownBytes.{Appends, Keeps}
 use Rattle.bundle_files.specs.Files.{Held, Gives, IsJudgedOf, lies_in}
 use Rattle.bundle_files.specs.Formula.{IsReadBy, IsReadFrom}
 use Rattle.bundle_files.proofs.FormulaText.{published}
-use Rattle.bundle_files.specs.Judging.{IsRefusedOf}
 use Rattle.bundle_files.proofs.FilesFormula.{judged_unsatisfiable}
 use Rattle.cube_report.specs.declared.fault.Fault.{Fault}
 use Rattle.cube_report.specs.declared.fault.Fault.TheVariants.{Header, Token, Unfinished, TooLarge}
@@ -26,7 +25,8 @@ use Rattle.cube_report.specs.Bundle.{icnf_text}
 use Rattle.cube_command.specs.Program.{IsMade, IsRefused, IsReported, IsLineWritten, fault_line}
 use Rattle.cube_command.specs.Program.{AllowsFaults, IsBegun, IsBundleFor, IsPictureOn}
 use Rattle.cube_command.specs.Record.{digest_line, record_text}
-use Rattle.cube_command.specs.Words.{Asked, sources_of}
+use Rattle.cube_command.specs.Sources.{sources_of}
+use Rattle.cube_command.specs.Words.{Asked}
 use Rattle.cube_command.specs.Inner.Telling.{IsFaultWritten, status_of, status_of_answer}
 
 -- ---- the run
@@ -53,17 +53,6 @@ bundle_of held asked input read whole is_read is_judged = record {
   is_read = is_read;
   is_judged = is_judged;
 }
-
--- its first fault is that of what is asked for
-pub refused_of : (held : Held) (asked : Asked) (input : Option (List ℕ)) (read : List ℕ)
-    (fault : Fault) → IsReadFrom held (sources_of asked) input read →
-    IsRefusedOf held asked.folder read fault → IsRefused held asked input fault
-refused_of held asked input read fault is_read refused = inl (record {
-  read = read;
-  whole = refused.whole;
-  bundle = bundle_of held asked input read refused.whole is_read refused.is_judged;
-  first = refused.first;
-})
 
 -- the report that was written, the picture and the record are those on the bundle that was asked
 -- for

@@ -6,7 +6,8 @@ use Rattle.cube_report.specs.Literal.{Literal}
 use Rattle.cube_report.specs.Dimacs.{IsDimacs}
 use Rattle.cube_report.specs.Formula.{HasNoModel}
 use Rattle.cube_report.specs.Correct.{IsUnsatisfiable}
-use Rattle.cube_command.specs.Words.{Asked, sources_of}
+use Rattle.cube_command.specs.Sources.{sources_of}
+use Rattle.cube_command.specs.Words.{Asked}
 
 -- Status 0: no assignment makes all clauses true of the bundle that was read, from the files that
 -- are asked for, which hold this, as far as that is known, or from what the input had left.

@@ -1,5 +1,6 @@
+pub use Rattle.command_words.specs.Words
+pub mod Sources
 pub mod Headline
-pub mod Words
 pub mod Record
 pub mod Program
 pub mod Inner

@@ -13,7 +13,8 @@ use Rattle.cube_report.specs.Device.{AppendsBeginning}
 use Rattle.cube_report.specs.Correct.{AllowsReports, IsCorrect, IsFaultOn, IsJudged, IsReportOn}
 use Rattle.cube_report.specs.Correct.{IsUnsatisfiable}
 use Rattle.cube_command.specs.Record.{AllowsRecords, record_text}
-use Rattle.cube_command.specs.Words.{Asked, sources_of}
+use Rattle.cube_command.specs.Sources.{sources_of}
+use Rattle.cube_command.specs.Words.{Asked}
 
 -- one of the program's statuses
 abbrev pub IsStatus : ℕ → Type 0

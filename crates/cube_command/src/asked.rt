@@ -1,8 +1,7 @@
 //! What is told beside a run where that is asked for.
 
-use crate::explain::{Asked, Explain};
-use crate::words::Request;
-use cube_report::Fault;
+use command_words::Request;
+use cube_report::{Asked, Explain, Fault};
 use std::alloc::{AllocError, Global};
 
 /// Who tells of a run, what the run was asked for, and whether it is to be told of.

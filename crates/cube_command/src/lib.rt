@@ -2,7 +2,6 @@
 #![tactic(auto)]
 
 mod asked;
-mod explain;
 mod log;
 // `command` stands here: a module can't have the name of an item beside it.
 mod program;
@@ -11,14 +10,12 @@ mod reading;
 mod record;
 mod telling;
 mod watched;
-mod words;
 
 pub use bundle_files::{FileId, FileStore, Inputs, Opener, Spared, Store, SystemFiles};
-pub use cube_report::{Counted, Found, Gate, NoGate, Sink, Source};
-pub use explain::{Asked, Explain, NoExplain};
+pub use cube_report::{Asked, Counted, Explain, Found, Gate, NoExplain, NoGate, Sink, Source};
 pub use log::{Lines, Log, NoLog, SystemLines, SystemLog};
 pub use program::command;
 pub use progress::Progress;
 pub use reading::{Meter, Metered, MeteredFiles, Watch};
 pub use record::digest_line_of;
-pub use telling::own_words;
+pub use telling::{own_words, tell, tell_refused, words_of_call};

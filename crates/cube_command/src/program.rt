@@ -5,7 +5,6 @@ ghost use Rattle.std.specs.Prelude.{option_map, true, false, None, Some, IfOk, I
 ghost use Rattle.std.specs.Prelude.{IsErrOf, IfSome, [], Option};
 ghost use Rattle.std.specs.Io.KnownBytes.{Appends, Keeps};
 ghost use Rattle.cube_report.specs.Device.{AppendsBeginning, IsDeviceFault};
-ghost use Rattle.clap.specs.Words.{kind_of};
 ghost use Rattle.bundle_files.specs.Files.{StaysAllowed};
 ghost use Rattle.bundle_files.specs.Formula.{IsOneAbsent, IsUnreadFrom};
 ghost use Rattle.bundle_files.specs.Judging.{IsOutcomeOf, IsRefusedOf, IsJudgingFault};
@@ -14,27 +13,25 @@ ghost use Rattle.cube_report.specs.Faults.{IsInputFault};
 ghost use Rattle.cube_command.specs.Headline.{IsPublished, IsRefutedAsHanded, IsSound};
 ghost use Rattle.cube_command.specs.Headline.{IsSoundAsHanded};
 ghost use Rattle.cube_command.specs.Words.{AreApart, AreTaken, asked_of, IsElsewhere, IsInput};
-ghost use Rattle.cube_command.specs.Words.{nothing_asked, sources_of};
+ghost use Rattle.cube_command.specs.Sources.{sources_of};
+ghost use Rattle.cube_command.specs.Words.{nothing_asked};
 ghost use Rattle.cube_command.specs.Record.{record_text};
 ghost use Rattle.cube_command.specs.Program.{IsStatus, IsMade, IsReported, IsRefused, IsBegun};
 ghost use Rattle.cube_command.specs.Program.{IsLineWritten, fault_line, AllowsFaults};
 ghost use Rattle.cube_command.specs.Program.{AllowsPicturesFor, AllowsRecordsFor};
 ghost use Rattle.cube_command.specs.Program.{AllowsReportsFor};
 ghost use Rattle.cube_command.specs.Inner.Recorded.{IsRecordedFor};
-ghost use Rattle.cube_command.specs.Inner.Words.{asked_in};
+ghost use Rattle.command_words.specs.Request.{asked_in};
 
 use crate::asked::{Telling, asked_in, fault_in};
-use crate::explain::Explain;
 use crate::log::Log;
 use crate::reading::Watch;
 use crate::record::{begin_record, end_record};
-use crate::telling::{tell_fault, tell_run};
+use crate::telling::{tell_refused, tell_run};
 use crate::watched::Beside;
-use crate::words::{Request, request_of};
 use bundle_files::{Inputs, ReadBundle, Spared, Store, judge_by_section, judge_given, read_from};
-use clap::Error as WordsError;
-use clap::error::ErrorKind as WordsFault;
-use cube_report::{Fault, Gate, Outcome, Sink, Source, write_all};
+use command_words::{Request, request_of};
+use cube_report::{Explain, Fault, Gate, Outcome, Sink, Source, write_all};
 use std::alloc::Global;
 use std::convert::AsStr;
 use std::sync::Wait;
@@ -225,7 +222,7 @@ where
             telling.tell_fault(rt.alloc(), &bundle, fault);
             status
         }
-        Err(error) => refused(rt.alloc(), errors, &error),
+        Err(error) => tell_refused(rt.alloc(), errors, &error, b"cubeboard: F6 memory\n"),
     }
 }
 
@@ -653,30 +650,5 @@ fn write_record<D: Store>(
     match path {
         Some(path) => store.write_counted(path, made, spared),
         None => Ok(()),
-    }
-}
-
-/// The status of words that make no request, after the parser's text, or the line that memory was
-/// refused.
-fn refused<E: Sink>(alloc: Global, errors: &mut E, error: &WordsError) -> u8
-    requires errors { E.failures errors.old < 2 ^ 64 - 1 }
-    requires memory { E.allows errors.old (fault_line Fault.Memory) }
-    requires words { kind_of error.now ≢ WordsFault.OutOfMemory
-        → (text : List ℕ) → E.allows errors.old text }
-    ensures either { (result ≡ 2) ⊎ (result ≡ 4) }
-    ensures usage { kind_of error.now ≡ WordsFault.OutOfMemory → result ≡ 4 }
-    ensures memory { result ≡ 4 →
-        IsLineWritten (E.contents errors.old) (E.contents errors.new) (E.failures errors.old)
-        (E.failures errors.new) (fault_line Fault.Memory) }
-{
-    if error.kind() == WordsFault::OutOfMemory {
-        return tell_fault(alloc, errors, Fault::Memory);
-    }
-    match format!(in alloc; "{error}") {
-        Ok(text) => {
-            let _ = write_all(errors, text.as_bytes());
-            2
-        }
-        Err(_) => tell_fault(alloc, errors, Fault::Memory),
     }
 }

@@ -1,12 +1,15 @@
 //! What went wrong, as a line and as a status.
 
-ghost use Rattle.std.specs.Prelude.{◌≡◌, ◌⊎◌, ◌<◌, ◌^◌, ◌-◌, codes, drop, OnOk, IfOk, IfErr};
-ghost use Rattle.std.specs.Prelude.{MatchResult};
+ghost use Rattle.std.specs.Prelude.{◌≡◌, ◌≢◌, ◌⊎◌, ◌<◌, ◌^◌, ◌-◌, codes, drop, List, ℕ};
+ghost use Rattle.std.specs.Prelude.{MatchResult, OnOk, IfOk, IfErr};
+ghost use Rattle.clap.specs.Words.{kind_of};
 ghost use Rattle.std.specs.String.{string_bytes};
 ghost use Rattle.cube_report.specs.Faults.{IsInputFault};
 ghost use Rattle.cube_command.specs.Program.{IsLineWritten, fault_line};
 ghost use Rattle.cube_command.specs.Inner.Telling.{IsFaultWritten, status_of, status_of_answer};
 
+use clap::Error as WordsError;
+use clap::error::ErrorKind as WordsFault;
 use cube_report::{Fault, Sink, write_all};
 use std::alloc::{AllocError, Global};
 use std::env;
@@ -62,7 +65,7 @@ fn tell_input<E: Sink>(alloc: Global, errors: &mut E, fault: Fault) -> u8
     ensures told { IsFaultWritten fault result (E.contents errors.old) (E.contents errors.new)
         (E.failures errors.old) (E.failures errors.new) }
 {
-    match line_of(alloc, fault) {
+    match fault_line(alloc, fault) {
         Ok(line) => {
             tell(errors, line.as_bytes());
             status_of(fault)
@@ -72,14 +75,14 @@ fn tell_input<E: Sink>(alloc: Global, errors: &mut E, fault: Fault) -> u8
 }
 
 /// The line that tells a fault.
-fn line_of(alloc: Global, fault: Fault) -> Result<String, AllocError>
+fn fault_line(alloc: Global, fault: Fault) -> Result<String, AllocError>
     ensures { IfOk result (λ line. string_bytes line ≡ fault_line fault) }
 {
     format!(in alloc; "cubeboard: {fault}\n")
 }
 
 /// Writes a line, as far as the device takes it.
-fn tell<E: Sink>(errors: &mut E, line: &[u8])
+pub fn tell<E: Sink>(errors: &mut E, line: &[u8])
     requires errors { E.failures errors.old < 2 ^ 64 - 1 }
     requires line { E.allows errors.old line.now }
     ensures { IsLineWritten (E.contents errors.old) (E.contents errors.new) (E.failures errors.old)
@@ -127,17 +130,50 @@ pub fn own_words<R: Env + AllocGlobal, E: Sink>(rt: &R, errors: &mut E) -> Resul
         (E.failures errors.old) (E.failures errors.new)
         (fault_line Fault.Memory))) }
 {
+    words_of_call(
+        rt,
+        errors,
+        b"cubeboard: a word is no text\n",
+        b"cubeboard: F6 memory\n",
+    )
+}
+
+/// The words of a program's call after the first one, which is its name, or the status where they
+/// can't be read: 2 after the line `unread`, where one is no text, and 4 after the line `memory`,
+/// where a growth was refused.
+pub fn words_of_call<R: Env + AllocGlobal, E: Sink>(
+    rt: &R,
+    errors: &mut E,
+    unread: &[u8],
+    memory: &[u8],
+) -> Result<Vec<String>, u8>
+    requires errors { E.failures errors.old < 2 ^ 64 - 1 }
+    requires words { E.allows errors.old unread.now }
+    requires memory { E.allows errors.old memory.now }
+    ensures ok { OnOk result (errors.new ≡ errors.old) }
+    ensures err { IfErr result (λ status.
+        ((status ≡ 2) × IsLineWritten (E.contents errors.old) (E.contents errors.new)
+        (E.failures errors.old) (E.failures errors.new) unread.now)
+        ⊎ ((status ≡ 4) × IsLineWritten (E.contents errors.old) (E.contents errors.new)
+        (E.failures errors.old) (E.failures errors.new) memory.now)) }
+{
     let words = match env::args(rt) {
         Ok(words) => words,
         Err(error) if error.kind() != ErrorKind::OutOfMemory => {
-            tell(errors, b"cubeboard: a word is no text\n");
+            tell(errors, unread);
             return Err(2);
         }
-        Err(_) => return Err(tell_memory(errors)),
+        Err(_) => {
+            tell(errors, memory);
+            return Err(4);
+        }
     };
     match words.collect(rt.alloc()) {
         Ok(words) => Ok(after_name(words)),
-        Err(_) => Err(tell_memory(errors)),
+        Err(_) => {
+            tell(errors, memory);
+            Err(4)
+        }
     }
 }
 
@@ -149,6 +185,29 @@ fn after_name(mut words: Vec<String>) -> Vec<String>
         let _name = words.remove(0);
     }
     words
+}
+
+/// The status of words that make no request: 2 after the parser's text, or 4 after the line
+/// `memory`, where a growth was refused.
+pub fn tell_refused<E: Sink>(alloc: Global, errors: &mut E, error: &WordsError, memory: &[u8]) -> u8
+    requires errors { E.failures errors.old < 2 ^ 64 - 1 }
+    requires memory { E.allows errors.old memory.now }
+    requires words { kind_of error.now ≢ WordsFault.OutOfMemory
+        → (text : List ℕ) → E.allows errors.old text }
+    ensures either { (result ≡ 2) ⊎ (result ≡ 4) }
+    ensures usage { kind_of error.now ≡ WordsFault.OutOfMemory → result ≡ 4 }
+    ensures memory { result ≡ 4 →
+        IsLineWritten (E.contents errors.old) (E.contents errors.new) (E.failures errors.old)
+        (E.failures errors.new) memory.now }
+{
+    if error.kind() != WordsFault::OutOfMemory {
+        if let Ok(text) = format!(in alloc; "{error}") {
+            tell(errors, text.as_bytes());
+            return 2;
+        }
+    }
+    tell(errors, memory);
+    4
 }
 
 /// Says that memory was refused, and answers the status.

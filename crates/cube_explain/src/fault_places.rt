@@ -1,7 +1,7 @@
 //! Where a line of a bundle stands: in which file, and on which of its lines.
 
 use crate::files::{ReadFiles, Unread, read_again, tell_unread};
-use crate::lines::{line_count, line_of};
+use crate::lines::{line_at, line_count};
 use crate::parts::{BUNDLE, file_part};
 use crate::run::Run;
 use crate::shown::Name;
@@ -159,7 +159,7 @@ fn tell_in_proof<R: Eprint>(
     if number <= 1 {
         return eprintln!(run.device; "explain: {} is a second proof for its leaf", Name(path));
     }
-    run.tell(path, line_of(proof, number.saturating_sub(1)))?;
+    run.tell(path, line_at(proof, number.saturating_sub(1)))?;
     eprintln!(run.device;
         "explain: a line that begins with l is a label line, also in a file of the folder"
     )

@@ -28,7 +28,7 @@ pub(crate) fn line_in(place: usize, text: &[u8]) -> Line<'_> {
 }
 
 /// The line of this number, if the text has it.
-pub(crate) fn line_of(text: &[u8], number: u64) -> Option<Line<'_>> {
+pub(crate) fn line_at(text: &[u8], number: u64) -> Option<Line<'_>> {
     for (place, line) in text.split(is_line_end).enumerate() {
         let line = line_in(place, line);
         if line.number == number {

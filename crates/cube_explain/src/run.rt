@@ -1,9 +1,9 @@
 //! A run that is told of.
 
 use crate::files::{ReadFiles, read_again, tell_unread};
-use crate::lines::{Line, line_of};
+use crate::lines::{Line, line_at};
 use crate::shown::{Name, Shown};
-use cube_command::Asked;
+use cube_report::Asked;
 use std::alloc::Global;
 use std::io;
 use std::io::Eprint;
@@ -55,7 +55,7 @@ impl<'r, R: Eprint> Run<'r, R> {
 
     /// Tells the line of this number, from 1, of a file's text.
     pub(crate) fn tell_numbered(&self, from: &str, text: &[u8], number: u64) -> io::Result<()> {
-        match line_of(text, number) {
+        match line_at(text, number) {
             Some(line) => self.tell(from, Some(line)),
             None => eprintln!(self.device; "explain: {} has no line {number}", Name(from)),
         }

@@ -18,9 +18,6 @@ abbrev pub IsInLine : List ℕ → ℕ → Type 0
 IsInLine text index = (line rest : List ℕ) → Lacks 10 line → text ≡ line ++ 10 ∷ rest →
     (left : List ℕ) × Lacks 10 left × (drop index text ≡ left ++ 10 ∷ rest)
 
-pub line_begins : (text : List ℕ) → IsInLine text 0
-line_begins text line rest h e = (line, h, e)
-
 next_byte : (text : List ℕ) (index byte : ℕ) → index < length text → byte ≡ get_or text index 0 →
     drop index text ≡ byte ∷ drop (index + 1) text
 next_byte text index byte l e = rw e (drop_more text index 0 l)

@@ -1,5 +1,5 @@
 -- Paths that are read off the front of a text.
-use Rattle.std.proofs.Common.{◌≡◌, ◌≢◌, ℕ, ◌+◌, ◌<◌, ◌≤◌, ◌^◌, List, [], ◌∷◌, ◌++◌}
+use Rattle.std.proofs.Common.{◌≡◌, ℕ, ◌<◌, ◌≤◌, ◌^◌, List, [], ◌∷◌, ◌++◌}
 use Rattle.std.proofs.Common.{Bool, true, false, refl, sym, ap, ◌∙◌, arith, decimal, length, codes}
 use Rattle.std.proofs.Common.{append_assoc, append-nil}
 use Rattle.std.proofs.lemmas.Fmt.{decimal_nonempty, decimal_digit}
@@ -25,19 +25,6 @@ minus_read v true text rest digits small e f =
     let minus : decimal v ++ rest ≡ 45 ∷ digits = cc in
     absurd (no_minus (decimal v) rest digits (decimal_digits v) (decimal_nonempty v small) minus)
 
-pub blank_read : (v : ℕ) (positive : Bool) (text rest digits : List ℕ) →
-    ((more : List ℕ) → text ≢ codes " -" ++ more) →
-    text ≡ literal_field (record { variable = v; positive = positive }) ++ rest →
-    text ≡ codes " " ++ digits → (true ≡ positive) × (digits ≡ decimal v ++ rest)
-blank_read v false text rest digits not e f = absurd (not (decimal v ++ rest) e)
-blank_read v true text rest digits not e f = (refl, cc)
-
-pub no_sign : (v : ℕ) (positive : Bool) (text rest : List ℕ) →
-    ((more : List ℕ) → text ≢ codes " -" ++ more) → ((more : List ℕ) → text ≢ codes " " ++ more) →
-    text ≡ literal_field (record { variable = v; positive = positive }) ++ rest → ⊥
-no_sign v false text rest not none e = not (decimal v ++ rest) e
-no_sign v true text rest not none e = none (decimal v ++ rest) e
-
 -- ---- a literal
 
 -- the end mark is written as a literal of variable 0 would be
@@ -45,9 +32,6 @@ pub zero_field : (rest : List ℕ) →
     32 ∷ 48 ∷ rest ≡ literal_field (record { variable = 0; positive = true }) ++ rest
 zero_field rest =
     ap (λ (digits : List ℕ). (codes " " ++ digits) ++ rest) (sym (decimal_digit 0 (omega arith)))
-
-pub zero_digits : (rest : List ℕ) → 48 ∷ rest ≡ decimal 0 ++ rest
-zero_digits rest = ap (λ (digits : List ℕ). digits ++ rest) (sym (decimal_digit 0 (omega arith)))
 
 -- ---- a path
 
@@ -62,9 +46,6 @@ pub record IsPathLeft (path done : List Literal) (left rest : List ℕ) : Type 0
 abbrev pub IsPathTo : List ℕ → List Literal → List ℕ → Type 0
 IsPathTo text done left = (path : List Literal) (rest : List ℕ) → AreVariables path →
     EndsNumber rest → text ≡ path_text path rest → IsPathLeft path done left rest
-
-pub path_begins : (text : List ℕ) → IsPathTo text [] text
-path_begins text path rest are ends e = record { todo = path; are = are; parts = refl; text = e }
 
 field_ends : (v : ℕ) (positive : Bool) (rest : List ℕ) →
     EndsNumber (literal_field (record { variable = v; positive = positive }) ++ rest)

@@ -1,8 +1,6 @@
 -- Reports that are joined one after the other.
-use Rattle.std.proofs.Common.{◌≡◌, ℕ, zero, suc, ◌+◌, ◌<◌, ◌≤◌, List, [], ◌∷◌, ◌++◌, length, take}
-use Rattle.std.proofs.Common.{get_or, replicate, Vec, refl, sym, ap, ◌∙◌, arith, Bool, true, false}
-use Rattle.std.proofs.Common.{subst}
-use Rattle.std.proofs.lemmas.List.{take_all}
+use Rattle.std.proofs.Common.{◌≡◌, ℕ, zero, suc, ◌+◌, List, [], ◌∷◌, ◌++◌}
+use Rattle.std.proofs.Common.{replicate, refl, sym, ap, ◌∙◌, Bool, true, false}
 use Rattle.case_core.specs.Icnf.{cubes_of}
 use Rattle.split_tree.specs.SplitTree.{SplitTree, size}
 use Rattle.split_tree.proofs.LeavesPaths.{cube_leaves}
@@ -17,7 +15,6 @@ use Rattle.cube_join.specs.Joined.{IsToldBy, joined, none_marked}
 use Rattle.cube_report.specs.Report.{report_text}
 use Rattle.cube_join.proofs.Sound.{joined_has_no_model}
 use Rattle.cube_join.proofs.Bundles.{words_in}
-use Rattle.cube_join.proofs.JoinedMarks.{long_joined}
 
 told_last : (tree : SplitTree) (reports : List (List ℕ)) (told : List (List Mark)) (report : List ℕ)
     (marks : List Mark) → AreToldBy tree reports told →
@@ -32,29 +29,6 @@ joined_last : (marks : List Mark) (told : List (List Mark)) (last : List Mark) �
     all_joined marks (told ++ last ∷ []) ≡ joined (all_joined marks told) last
 joined_last marks [] last = refl
 joined_last marks (m ∷ told) last = joined_last (joined marks m) told last
-
-all_long : (tree : SplitTree) (reports : List (List ℕ)) (told : List (List Mark))
-    (marks : List Mark) →
-    AreToldBy tree reports told → length marks ≡ size tree →
-    length (all_joined marks told) ≡ size tree
-all_long tree [] [] marks h l = l
-all_long tree [] (m ∷ told) marks h l = absurd h
-all_long tree (r ∷ reports) [] marks h l = absurd h
-all_long tree (r ∷ reports) (m ∷ told) marks h l =
-    all_long tree reports told (joined marks m) h.1 (long_joined marks m (size tree) l h.0.0)
-
-none_long : (n : ℕ) → length (replicate n Open) ≡ n
-none_long zero = refl
-none_long (suc n) = ap suc (none_long n)
-
-pub so_far_long : (tree : SplitTree) (reports : List (List ℕ)) (marks : List Mark) →
-    IsJoinedSoFar tree reports marks → length marks ≡ size tree
-so_far_long tree reports marks h =
-    ap length h.2 ∙ all_long tree reports h.0 (none_marked tree) h.1 (none_long (size tree))
-
-pub so_far_start : (tree : SplitTree) (marks : List Mark) → marks ≡ replicate (size tree) Open →
-    IsJoinedSoFar tree [] marks
-so_far_start tree marks e = ([], tt, e)
 
 -- one more report
 pub so_far_more : (tree : SplitTree) (texts : List (List ℕ)) (marks next told : List Mark)

@@ -1,5 +1,5 @@
 -- Joined reports are a report again.
-use Rattle.std.proofs.Common.{◌≡◌, ℕ, zero, suc, ◌<◌, ◌≤◌, List, [], ◌∷◌, length, replicate, None}
+use Rattle.std.proofs.Common.{◌≡◌, ℕ, zero, suc, ◌≤◌, List, [], ◌∷◌, length, replicate}
 use Rattle.std.proofs.Common.{refl, sym, ap, ◌∙◌, arith, inl, inr}
 use Rattle.std.proofs.lemmas.Bool.{cases_lt}
 use Rattle.case_core.specs.Icnf.{cubes_of}
@@ -19,7 +19,6 @@ use Rattle.cube_join.specs.Joined.{AreReportsWith, AreToldBy, IsReportWith, all_
 use Rattle.cube_join.specs.Joined.{none_marked}
 use Rattle.cube_join.proofs.Bundles.{words_in}
 use Rattle.cube_join.proofs.JoinedFindings.{case_with, joined_findings}
-use Rattle.cube_join.proofs.Lines.{status_at}
 use Rattle.cube_join.proofs.OwnReading.{AreWords}
 use Rattle.cube_join.proofs.Statuses.{SameStatuses, same_reports, statuses_joined}
 use Rattle.cube_join.proofs.Telling.{one_status}

@@ -15,13 +15,6 @@ pub record IsJoinedTo (old told : List Mark) (count : ℕ) (now : List Mark) : T
   pub before : (k : ℕ) → k < count → mark_at now k ≡ mark_at (joined old told) k
   pub after : (k : ℕ) → count ≤ k → mark_at now k ≡ mark_at old k
 
-pub join_start : (old told : List Mark) → IsJoinedTo old told 0 old
-join_start old told = record {
-  long = refl;
-  before = λ k few. absurd (omega (arith, few));
-  after = λ k many. refl;
-}
-
 pub join_more : (old told : List Mark) (count : ℕ) (now next : List Mark) (mark : Mark) →
     IsJoinedTo old told count now → count < length old →
     mark ≡ joined_mark (mark_at now count) (mark_at told count) → next ≡ set now count mark →

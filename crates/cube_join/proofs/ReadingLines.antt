@@ -3,9 +3,9 @@ use Rattle.std.proofs.Common.{◌≡◌, ◌⊎◌, ℕ, suc, ◌+◌, ◌-◌, 
 use Rattle.std.proofs.Common.{length, set, get_or, drop, sym, ap, ◌∙◌, arith, inl, inr}
 use Rattle.std.proofs.Common.{append_assoc}
 use Rattle.std.proofs.lemmas.Bool.{cases_eq}
-use Rattle.std.proofs.lemmas.List.{drop_more, drop_all}
+use Rattle.std.proofs.lemmas.List.{drop_more}
 use Rattle.case_core.specs.Literal.{Literal}
-use Rattle.split_tree.specs.SplitTree.{SplitTree, missing, cube, size, subtrees, subtree_at}
+use Rattle.split_tree.specs.SplitTree.{SplitTree, cube, size, subtrees, subtree_at}
 use Rattle.split_tree.specs.SplitTree.{path_at}
 use Rattle.split_tree.specs.Leaves.{missing_nodes, cube_count}
 use Rattle.split_tree.proofs.NodesCoding.{length-subtrees}
@@ -16,7 +16,7 @@ use Rattle.cube_join.specs.Joined.{HasSmallSteps, IsLegible}
 use Rattle.cube_join.specs.Inner.Fields.{HasSmallStep, AreVariables}
 use Rattle.cube_join.specs.Inner.Reading.{AreFound, HasCube, HasMissing}
 use Rattle.cube_join.proofs.ReadingFronts.{legible_path}
-use Rattle.cube_join.proofs.ReadingMarks.{small_step, none_found, fewer_found, one_found}
+use Rattle.cube_join.proofs.ReadingMarks.{small_step, one_found}
 use Rattle.cube_join.proofs.Telling.{cube_found}
 
 -- ---- the node of a cube's leaf
@@ -40,19 +40,6 @@ AreCubesRead tree text count left before now = (marks : List Mark) (rest : List 
     HasSmallSteps marks → text ≡ cube_lines tree marks 1 (cube_count tree) ++ rest →
     AreFound marks (HasCube tree count) before now
     × (left ≡ cube_lines tree marks (count + 1) (cube_count tree - count) ++ rest)
-
-pub cubes_begin : (tree : SplitTree) (text : List ℕ) (before : List Mark) →
-    AreCubesRead tree text 0 text before before
-cubes_begin tree text before marks rest small e =
-    let all : cube_count tree ≡ cube_count tree - 0 = omega arith in (
-      none_found marks before (HasCube tree 0)
-          (λ i is. let low : 1 ≤ is.0 = is.1 in let high : is.0 ≤ 0 = is.2 in omega (
-            arith,
-            low,
-            high,
-          )),
-      e ∙ ap (λ (n : ℕ). cube_lines tree marks 1 n ++ rest) all,
-    )
 
 first_cube : (tree : SplitTree) (marks : List Mark) (number many few : ℕ) (left rest : List ℕ) →
     many ≡ suc few → left ≡ cube_lines tree marks number many ++ rest →
@@ -117,19 +104,6 @@ cubes_stop tree text left count before now marks rest few fits none h small e =
     (small_step marks (cube_node (count + 1) 0 (subtrees tree)) small)
     (front_cube tree text left count before now marks rest few h small e)
 
-pub cubes_end : (tree : SplitTree) (text left : List ℕ) (count : ℕ) (before now marks : List Mark)
-    (rest : List ℕ) → cube_count tree ≤ count → AreCubesRead tree text count left before now →
-    HasSmallSteps marks → text ≡ cube_lines tree marks 1 (cube_count tree) ++ rest →
-    AreFound marks (HasCube tree (cube_count tree)) before now × (left ≡ rest)
-cubes_end tree text left count before now marks rest all h small e =
-    let r = h marks rest small e in
-    let none : cube_count tree - count ≡ 0 = omega (arith, all) in (
-      fewer_found marks before now (HasCube tree count) (HasCube tree (cube_count tree)) r.0
-          (λ i has. let high : has.0 ≤ cube_count tree = has.2 in
-          (has.0, has.1, omega (arith, high, all), has.3, has.4)),
-      r.1 ∙ ap (λ (n : ℕ). cube_lines tree marks (count + 1) n ++ rest) none,
-    )
-
 -- ---- missing leaves
 
 -- the lines of so many missing leaves are read, and this is left of the text
@@ -139,14 +113,6 @@ AreMissingRead tree text count left before now = (marks : List Mark) (rest : Lis
     text ≡ missing_lines tree marks 1 (missing_nodes tree) ++ rest →
     AreFound marks (HasMissing tree count) before now
     × (left ≡ missing_lines tree marks (count + 1) (drop count (missing_nodes tree)) ++ rest)
-
-pub missing_begin : (tree : SplitTree) (text : List ℕ) (before : List Mark) →
-    AreMissingRead tree text 0 text before before
-missing_begin tree text before marks rest legible small e = (
-  none_found marks before (HasMissing tree 0)
-      (λ i is. let low : is.0 < 0 = is.1 in omega (arith, low)),
-  e,
-)
 
 first_missing : (tree : SplitTree) (marks : List Mark) (number node : ℕ) (nodes more : List ℕ)
     (left rest : List ℕ) → nodes ≡ node ∷ more →
@@ -218,18 +184,3 @@ missing_stop tree text left count node before now marks rest few fits here insid
     fits
     (legible_path tree node inside legible.variables) (small_step marks node small)
     (front_missing tree text left count node before now marks rest few here h legible small e)
-
-pub missing_end : (tree : SplitTree) (text left : List ℕ) (count : ℕ)
-    (before now marks : List Mark) (rest : List ℕ) → length (missing_nodes tree) ≤ count →
-    AreMissingRead tree text count left before now → IsLegible tree → HasSmallSteps marks →
-    text ≡ missing_lines tree marks 1 (missing_nodes tree) ++ rest →
-    AreFound marks (HasMissing tree (length (missing_nodes tree))) before now × (left ≡ rest)
-missing_end tree text left count before now marks rest all h legible small e =
-    let r = h marks rest legible small e in (
-      fewer_found marks before now (HasMissing tree count)
-          (HasMissing tree (length (missing_nodes tree))) r.0
-          (λ i has. let high : has.0 < length (missing_nodes tree) = has.1 in
-          (has.0, omega (arith, high, all), has.2)),
-      r.1 ∙ ap (λ (ns : List ℕ). missing_lines tree marks (count + 1) ns ++ rest)
-          (drop_all count (missing_nodes tree) all),
-    )

@@ -1,5 +1,5 @@
 -- The lines of inner nodes, read one after the other.
-use Rattle.std.proofs.Common.{◌≡◌, ◌≢◌, ◌⊎◌, ℕ, suc, ◌+◌, ◌-◌, ◌<◌, ◌≤◌, List, [], ◌∷◌, ◌++◌}
+use Rattle.std.proofs.Common.{◌≡◌, ◌≢◌, ◌⊎◌, ℕ, suc, ◌+◌, ◌<◌, ◌≤◌, List, [], ◌∷◌, ◌++◌}
 use Rattle.std.proofs.Common.{length, set, drop, refl, sym, ap, ◌∙◌, arith, inl, inr, append_assoc}
 use Rattle.std.proofs.Common.{subst, length-drop}
 use Rattle.std.proofs.lemmas.Bool.{cases_eq, cases_lt}
@@ -16,7 +16,7 @@ use Rattle.cube_join.specs.Joined.{HasSmallSteps, IsLegible}
 use Rattle.cube_join.specs.Inner.Fields.{HasSmallStep, AreVariables}
 use Rattle.cube_join.specs.Inner.Reading.{AreFound, HasMarked, IsOther}
 use Rattle.cube_join.proofs.ReadingFronts.{legible_path}
-use Rattle.cube_join.proofs.ReadingMarks.{small_step, none_found, fewer_found, one_found}
+use Rattle.cube_join.proofs.ReadingMarks.{small_step, fewer_found, one_found}
 
 -- ---- the next line
 
@@ -147,17 +147,6 @@ AreNodesRead tree text turns left before now = (marks : List Mark) (rest : List 
     text ≡ node_lines tree marks 0 (subtrees tree) ++ rest →
     AreNodesLeft tree marks turns left rest before now
 
-pub nodes_begin : (tree : SplitTree) (text : List ℕ) (before : List Mark) →
-    AreNodesRead tree text 0 text before before
-nodes_begin tree text before marks rest legible small other e = record {
-  from = 0;
-  many = omega arith;
-  within = omega arith;
-  text = e;
-  found = none_found marks before (HasMarked tree marks 0)
-      (λ i is. let low : i < 0 = is.0 in omega (arith, low));
-}
-
 from_here : (tree : SplitTree) (marks : List Mark) (from : ℕ) (rest : List ℕ) → from ≤ size tree →
     Next tree marks from (node_lines tree marks from (drop from (subtrees tree)) ++ rest) rest
 from_here tree marks from rest within =
@@ -258,13 +247,3 @@ nodes_stop tree text left turns before now marks rest reads h legible small othe
       | inr n ↦ absurd (read_next tree marks l.from left _ rest (λ n m r. ⊥) legible small reads
           l.text n)
     ]
-
-pub nodes_end : (tree : SplitTree) (text left : List ℕ) (turns : ℕ) (before now marks : List Mark)
-    (rest : List ℕ) → size tree ≤ turns → AreNodesRead tree text turns left before now →
-    IsLegible tree → HasSmallSteps marks → IsOther rest →
-    text ≡ node_lines tree marks 0 (subtrees tree) ++ rest →
-    AreFound marks (HasMarked tree marks (size tree)) before now
-nodes_end tree text left turns before now marks rest all h legible small other e =
-    let l = h marks rest legible small other e in
-    none_after tree marks l.from before now l.found
-    (λ i late inside. absurd (omega (arith, late, inside, l.many, all)))

@@ -1,12 +1,10 @@
 -- A report is a function of its tree and of the statuses of the nodes.
-use Rattle.std.proofs.Common.{◌≡◌, ◌⊎◌, ℕ, zero, suc, ◌+◌, ◌<◌, ◌≤◌, List, [], ◌∷◌, ◌++◌, length}
-use Rattle.std.proofs.Common.{Bool, refl, sym, ap, ◌∙◌, arith, inl, inr, codes}
+use Rattle.std.proofs.Common.{◌≡◌, ℕ, zero, suc, List, [], ◌∷◌, ◌++◌, length}
+use Rattle.std.proofs.Common.{Bool, refl, sym, ap, ◌∙◌, codes}
 use mathlib.Core.Path.{fun_ext}
 use Rattle.std.specs.List.{flat_map}
-use Rattle.std.proofs.lemmas.Bool.{cases_lt}
 use Rattle.case_core.specs.Literal.{Literal}
-use Rattle.case_core.specs.Reason.{Reason}
-use Rattle.split_tree.specs.SplitTree.{SplitTree, missing, cube, split, size, subtrees, total}
+use Rattle.split_tree.specs.SplitTree.{SplitTree, missing, cube, split, subtrees, total}
 use Rattle.split_tree.specs.SplitTree.{path_at}
 use Rattle.split_tree.specs.Leaves.{missing_nodes, cube_count}
 use Rattle.mark_board.specs.declared.mark.Mark.{Mark}

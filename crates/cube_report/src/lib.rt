@@ -3,6 +3,7 @@
 
 mod device;
 mod engine;
+mod explain;
 mod fault;
 mod laws;
 mod report;
@@ -13,6 +14,7 @@ pub use device::{Counted, Sink, Source};
 pub use engine::{
     Outcome, judge_apart, judge_bundle, read_to_end, run, run_io, run_one, write_all, write_report,
 };
+pub use explain::{Asked, Explain, NoExplain};
 pub use fault::Fault;
 pub use laws::{
     a_line_for_each_section, a_short_report, one_answer, one_report, same_report, written_is_stated,

@@ -1,7 +1,7 @@
 -- Files that are read and joined one after the other.
 use Rattle.std.proofs.Common.{◌≡◌, ◌+◌, ◌<◌, ℕ, zero, suc, List, [], ◌∷◌, ◌++◌, length, take}
 use Rattle.std.proofs.Common.{get_or}
-use Rattle.std.proofs.Common.{refl, sym, subst, ap, ◌∙◌, arith, inl, inr, Some, None, map, Bor}
+use Rattle.std.proofs.Common.{refl, sym, subst, ap, ◌∙◌, arith, inl, inr, None, map, Bor}
 use Rattle.std.proofs.lemmas.List.{append_cancel_left, map-append}
 use Rattle.case_core.specs.SplitTree.{SplitTree}
 use Rattle.cube_report.specs.Mark.{Mark}

@@ -23,10 +23,9 @@ use Rattle.join_command.specs.Program.{AreFiles, AreRead, AreTextsAt, IsJoinBegu
 use Rattle.join_command.specs.Program.{IsJoinWritten}
 use Rattle.join_command.specs.Program.{IsStrangerAt, behind_each, line_before}
 use Rattle.cube_report.specs.Device.{AppendsBeginning}
-use Rattle.join_command.specs.Inner.Files.{AreNotAdded, IsUnjoined, IsUnreadBundle, IsUnwritten}
+use Rattle.join_command.specs.Inner.Files.{AreNotAdded, IsUnjoined}
 use Rattle.join_command.specs.Inner.Files.{lies_handed}
 use Rattle.join_command.proofs.FilesJoined.{texts_known}
-use Rattle.cube_report.specs.declared.fault.Fault.{Fault}
 use Rattle.cube_report.specs.declared.fault.Fault.TheVariants.{Memory}
 use Rattle.join_command.proofs.RecordsTold.{reports_told}
 use Rattle.join_command.proofs.WordsRequests.{handed_on}
@@ -192,47 +191,3 @@ join_begun (Err error) held asked bundle line text answer old new before after t
     )
 
 -- ---- why none was written
-
--- the bundle wasn't read
-pub unread_run : (held : Held) (asked : Asked) (before after out : ℕ) (fault : Fault) →
-    IsUnreadBundle held (sources_of asked) before after fault →
-    IsUnwritten held asked (before + out) (after + out) (Run fault)
-unread_run held asked before after out fault (inl refused) =
-    let same : after ≡ before = refused.1 in
-    inl (refused.0, omega arith, inr refused.2)
-unread_run held asked before after out fault (inr (inl memory)) =
-    let same : after ≡ before = memory.1 in inr (inl (memory.0, omega arith))
-unread_run held asked before after out fault (inr (inr (device, inl grew))) =
-    inr (inr (device, inl (omega (arith, grew))))
-unread_run held asked before after out fault (inr (inr (device, inr absent))) =
-    let same : after ≡ before = absent.0 in
-    inr (inr (device, inr (omega arith, inl absent.1)))
-
--- or the RECORDs weren't joined on it
-pub unjoined_run : (held : Held) (asked : Asked) (bundle line : List ℕ) (before after out : ℕ)
-    (fault : JoinFault) → IsReadFrom held (sources_of asked) None bundle →
-    line ≡ line_before asked.unbound bundle →
-    IsUnjoined held bundle line asked.records before after fault →
-    IsUnwritten held asked (before + out) (after + out) fault
-unjoined_run held asked bundle line before after out (Run fault) there is (inl first) =
-    let same : after ≡ before = first.1 in
-    inl (first.0, omega arith, inl (bundle, there, first.2))
-unjoined_run held asked bundle line before after out (Run fault) there is (inr (inl memory)) =
-    let same : after ≡ before = memory.1 in inr (inl (memory.0, omega arith))
-unjoined_run held asked bundle line before after out (Run fault) there is
-    (inr (inr (device, inl grew))) = inr (inr (device, inl (omega (arith, grew))))
-unjoined_run held asked bundle line before after out (Run fault) there is
-    (inr (inr (device, inr absent))) =
-    let same : after ≡ before = absent.0 in
-    inr (inr (device, inr (omega arith, inr absent.1)))
-unjoined_run held asked bundle line before after out (Stranger number) there is why =
-    let same : after ≡ before = why.0 in (
-      omega arith,
-      (
-        bundle,
-        there,
-        why.1.0,
-        why.1.1,
-        subst (λ (l : List ℕ). IsStrangerAt held l why.1.0.tree asked.records number) is why.1.2,
-      ),
-    )

@@ -27,7 +27,7 @@ use Rattle.cube_report.specs.Correct.{IsUnsatisfiable}
 use Rattle.cube_command.specs.Program.{IsLineWritten}
 use Rattle.join_command.specs.declared.fault.JoinFault.{JoinFault}
 use Rattle.join_command.specs.declared.fault.JoinFault.TheVariants.{Run, Stranger}
-use Rattle.join_command.specs.Program.{AllowsJoinFaults, AreRead, AreTrusted, IsAskedAbsent}
+use Rattle.join_command.specs.Program.{AllowsJoinFaults, AreRead, AreTrusted}
 use Rattle.join_command.specs.Program.{IsJoinWritten, IsReadingFault, IsRefused, join_fault_line}
 use Rattle.join_command.specs.Headline.{IsJoinedAsHanded}
 use Rattle.join_command.specs.Program.{AreTextsAt, behind_each, line_before}
@@ -309,92 +309,7 @@ device_join held asked (Err fault) status Same old new before after out_before o
     subst (λ (f : JoinFault). IsLineWritten old new before after (join_fault_line f))
     (told_five held asked fault status out_before out_after is told.0 why) told.1
 
-broke : (held : Held) (asked : Asked) (fault : JoinFault)
-    (out_before out_after : ℕ) → fault ≡ Run Device →
-    IsUnwritten held asked out_before out_after fault →
-    (out_before < out_after) ⊎ IsAskedAbsent held asked
-broke held asked (Stranger number) out_before out_after is why = cc
-broke held asked (Run fault) out_before out_after is (inl refused) =
-    let device : fault ≡ Device = cc in absurd (refused.0.1 device)
-broke held asked (Run fault) out_before out_after is (inr (inl memory)) =
-    let device : fault ≡ Device = cc in let clash : Memory ≡ Device = sym memory.0 ∙ device in cc
-broke held asked (Run fault) out_before out_after is (inr (inr (device, inl grew))) =
-    inl (omega (arith, grew))
-broke held asked (Run fault) out_before out_after is (inr (inr (device, inr absent))) =
-    inr absent.1
-
--- a status of 5 stands only where a call failed or a file isn't there
-pub broken_join : (held : Held) (asked : Asked)
-    (run : Result Bool JoinFault) (status : ℕ) (Same : Type 0) (old new : Option (List ℕ))
-    (before after out_before out_after : ℕ)
-    → ToldRun run status Same old new before after
-    → IfErr run (IsUnwritten held asked out_before out_after) → status ≡ 5
-    → (out_before < out_after) ⊎ IsAskedAbsent held asked
-broken_join held asked (Ok true) status Same old new before after out_before out_after told why
-    is = let none : status ≡ 0 = told.0 in absurd (omega arith)
-broken_join held asked (Ok false) status Same old new before after out_before out_after told
-    why is = let one : status ≡ 1 = told.0 in absurd (omega arith)
-broken_join held asked (Err fault) status Same old new before after out_before out_after
-    (inr told) why is = let four : status ≡ 4 = told.1 in absurd (omega arith)
-broken_join held asked (Err fault) status Same old new before after out_before out_after
-    (inl told) why is =
-    broke held asked fault out_before out_after
-    (told_five held asked fault status out_before out_after is told.0 why) why
-
-five_of : (held : Held) (asked : Asked) (fault : JoinFault)
-    (out_before out_after : ℕ) → IsUnwritten held asked out_before out_after fault →
-    out_before < out_after → fault ≡ Run Device
-five_of held asked (Stranger number) out_before out_after why grew =
-    let same : out_after ≡ out_before = why.0 in absurd (omega (arith, same, grew))
-five_of held asked (Run fault) out_before out_after (inl refused) grew =
-    let same : out_after ≡ out_before = refused.1 in absurd (omega (arith, same, grew))
-five_of held asked (Run fault) out_before out_after (inr (inl memory)) grew =
-    let same : out_after ≡ out_before = memory.1 in absurd (omega (arith, same, grew))
-five_of held asked (Run fault) out_before out_after (inr (inr device)) grew =
-    subst (λ (f : Fault). Run f ≡ Run Device) (sym device.0) refl
-
--- where a call failed the status is 5
-pub failed_join : (held : Held) (asked : Asked)
-    (run : Result Bool JoinFault) (status : ℕ) (Same : Type 0) (old new : Option (List ℕ))
-    (before after out_before out_after : ℕ)
-    → ToldRun run status Same old new before after
-    → IfErr run (IsUnwritten held asked out_before out_after)
-    → IfOk run (λ _. out_after ≡ out_before)
-    → out_before < out_after → status ≡ 5
-failed_join held asked (Ok answer) status Same old new before after out_before out_after told
-    why same grew = absurd (omega (arith, same, grew))
-failed_join held asked (Err fault) status Same old new before after out_before out_after
-    (inl told) why same grew =
-    told.0 ∙ subst (λ (f : JoinFault). status_of f ≡ 5)
-    (sym (five_of held asked fault out_before out_after why grew)) refl
-failed_join held asked (Err fault) status Same old new before after out_before out_after
-    (inr told) why same grew =
-    let clash : IsReadingFault (Run Device) = subst IsReadingFault
-    (five_of held asked fault out_before out_after why grew) told.0 in
-    absurd (clash.1 refl)
-
 -- ---- what may be written
-
--- the line of a fault with which a join ended
-refused_why : (held : Held) (asked : Asked) (fault : JoinFault)
-    (out_before out_after : ℕ) → IsUnwritten held asked out_before out_after fault →
-    IsReadingFault fault → IsRefused held asked fault
-refused_why held asked (Stranger number) out_before out_after why is = why.1
-refused_why held asked (Run fault) out_before out_after why is =
-    elim (kinds held asked out_before out_after fault why) [
-      | inl refused ↦ refused.1
-      | inr (inl memory) ↦ absurd (is.0 memory)
-      | inr (inr device) ↦ absurd (is.1 device)
-    ]
-
-pub fault_allowed : (texts : List ℕ → Type 0) (held : Held) (asked : Asked)
-    (run : Result Bool JoinFault) (out_before out_after : ℕ)
-    → AllowsJoinFaults texts held asked
-    → IfErr run (IsUnwritten held asked out_before out_after)
-    → IfErr run (λ fault. texts (join_fault_line fault))
-fault_allowed texts held asked (Ok answer) out_before out_after may why = tt
-fault_allowed texts held asked (Err fault) out_before out_after may why =
-    may fault (refused_why held asked fault out_before out_after why)
 
 -- want of memory may be told of any files
 pub memory_allowed : (texts : List ℕ → Type 0) (held : Held) (asked : Asked) →

@@ -1,14 +1,12 @@
 -- What the words ask for.
-use Rattle.std.proofs.Common.{◌≡◌, ◌∙◌, ap, refl, List, [], ◌∷◌, codes, true, option_map, unwrap_or}
-use Rattle.std.proofs.Common.{Result, Ok, Err, IfErr, IsErrAnd, subst, sym, inl, inr, Bor, ℕ}
+use Rattle.std.proofs.Common.{◌≡◌, ◌∙◌, ap, refl, List, [], codes, true, option_map, unwrap_or}
+use Rattle.std.proofs.Common.{Result, Ok, Err, IfErr, IsErrAnd, subst, sym, Bor, ℕ}
 use Rattle.std.proofs.Common.{Option, None, Some}
 use Rattle.clap.specs.declared.builder.command.Command.{Command}
-use Rattle.clap.specs.declared.error.Error.{Error}
-use Rattle.clap.specs.declared.error.kind.ErrorKind.TheVariants.{OutOfMemory}
 use Rattle.clap.specs.declared.parser.matches.ArgMatches.{ArgMatches}
 use Rattle.clap.specs.Words.{App, HasMatchesOf, Text, all_of, app_of, first_of, fault_of}
-use Rattle.clap.specs.Words.{first_value, found_of, is_simple, is_simple_and_free, kind_of}
-use Rattle.clap.specs.Words.{matches_of, HasKind, Kinds}
+use Rattle.clap.specs.Words.{first_value, found_of, is_simple, is_simple_and_free}
+use Rattle.clap.specs.Words.{matches_of}
 use Rattle.clap.proofs.OnLiterals.{clap_on_literals}
 use Rattle.clap.proofs.WalkLemmas.{first_value-rows, raw_values-rows}
 use Rattle.join_command.specs.Words.{AreTaken, asked_of, is_given, words_taken}
@@ -67,21 +65,6 @@ are_simple = refl
 parser_simple : (parser : Command) → app_of parser ≡ words_taken →
     is_simple_and_free (app_of parser) ≡ true
 parser_simple parser is = ap is_simple_and_free is ∙ are_simple
-
-among_none : (error : Error) (kinds : Kinds) → kinds ≡ [] → HasKind kinds error →
-    kind_of error ≡ OutOfMemory
-among_none error [] none (inl memory) = memory
-among_none error [] none (inr none_is) = elim none_is [ ]
-among_none error (kind ∷ kinds) none has = absurd (cc)
-
--- an error on words that are taken is want of memory
-pub taken_fails : (parser : Command) (words : List Text) (error : Error) →
-    app_of parser ≡ words_taken
-    → (is_simple_and_free (app_of parser) ≡ true → HasKind (fault_of (app_of parser) words) error)
-    → AreTaken words → kind_of error ≡ OutOfMemory
-taken_fails parser words error is fails taken =
-    among_none error (fault_of (app_of parser) words)
-    (ap (λ (a : App). fault_of a words) is ∙ taken) (fails (parser_simple parser is))
 
 -- words that were parsed are taken
 pub parsed_taken : (parser : Command) (words : List Text) → app_of parser ≡ words_taken

@@ -22,7 +22,7 @@ use std::io;
 /// The bundle of FILE, under the formula that has a file of its own, as `cubeboard` reads it.
 /// `Device` where a call failed or a file isn't there, `Memory` where a growth was refused; any
 /// other fault is one of the formula's file, or tells that FILE adds clauses to it.
-pub(crate) fn read_bundle<D: Store>(
+pub(crate) fn read_asked<D: Store>(
     alloc: Global,
     store: &mut D,
     formula: Option<&str>,

@@ -3,7 +3,6 @@
 ghost use Rattle.std.specs.Prelude.{◌≡◌, ◌≢◌, ◌⊎◌, ◌<◌, ◌+◌, ◌^◌, ◌-◌, List, ℕ, map, true, false};
 ghost use Rattle.std.specs.Prelude.{IfOk, IfErr, OnOk, OnErr};
 ghost use Rattle.std.specs.Io.KnownBytes.{Keeps};
-ghost use Rattle.clap.specs.Words.{kind_of};
 ghost use Rattle.cube_report.specs.declared.fault.Fault.TheVariants.{Memory, Device};
 ghost use Rattle.cube_join.specs.Joined.{IsJoined};
 ghost use Rattle.cube_command.specs.Program.{IsLineWritten, IsStatus};
@@ -18,13 +17,12 @@ ghost use Rattle.join_command.specs.Inner.Files.{IsUnjoined, IsUnwritten, lies_h
 ghost use Rattle.join_command.specs.Inner.Words.{asked_in};
 
 use crate::fault::JoinFault;
-use crate::files::{join_files, line_before, read_bundle};
-use crate::telling::{tell_join, tell_memory};
+use crate::files::{join_files, line_before, read_asked};
+use crate::telling::tell_join;
 use crate::words::{Request, request_of};
 use bundle_files::Store;
-use case_core::take_bundle;
-use clap::Error as WordsError;
-use clap::error::ErrorKind as WordsFault;
+use case_core::read_tree;
+use cube_command::tell_refused;
 use cube_join::{Join, Joined};
 use cube_report::{Sink, write_all};
 use std::alloc::Global;
@@ -140,7 +138,7 @@ where
             let run = run_request(rt.alloc(), store, &request, output);
             tell_join(rt.alloc(), errors, run)
         }
-        Err(error) => refused(rt.alloc(), errors, &error),
+        Err(error) => tell_refused(rt.alloc(), errors, &error, b"cubejoin: F6 memory\n"),
     }
 }
 
@@ -174,7 +172,7 @@ fn run_request<D: Store, O: Sink>(
         (D.failures store.old + O.failures output.old)
         (D.failures store.new + O.failures output.new)) }
 {
-    let bundle = read_bundle(alloc, store, request.formula, request.file)?;
+    let bundle = read_asked(alloc, store, request.formula, request.file)?;
     let line = line_before(alloc, request.unbound, &bundle)?;
     let joined = join_all(alloc, store, bundle, &line, &request.records)?;
     write_all(output, &joined.text)?;
@@ -199,33 +197,8 @@ fn join_all<D: Store>(
     ensures err { IfErr result (IsUnjoined (D.held store.old) bundle.items line.now
         (map (λ path. path.now) paths.now) (D.failures store.old) (D.failures store.new)) }
 {
-    let case = take_bundle(alloc, bundle)?;
-    let mut join = Join::new(alloc, case.tree())?;
+    let tree = read_tree(alloc, &bundle)?;
+    let mut join = Join::new(alloc, &tree)?;
     join_files(alloc, store, &mut join, line, paths)?;
     Ok(join.report(alloc)?)
-}
-
-/// The status of words that make no request, after the parser's text, or the line that memory was
-/// refused.
-fn refused<E: Sink>(alloc: Global, errors: &mut E, error: &WordsError) -> u8
-    requires errors { E.failures errors.old < 2 ^ 64 - 1 }
-    requires memory { E.allows errors.old (join_fault_line (JoinFault.Run Memory)) }
-    requires words { kind_of error.now ≢ WordsFault.OutOfMemory
-        → (text : List ℕ) → E.allows errors.old text }
-    ensures either { (result ≡ 2) ⊎ (result ≡ 4) }
-    ensures usage { kind_of error.now ≡ WordsFault.OutOfMemory → result ≡ 4 }
-    ensures memory { result ≡ 4 →
-        IsLineWritten (E.contents errors.old) (E.contents errors.new) (E.failures errors.old)
-        (E.failures errors.new) (join_fault_line (JoinFault.Run Memory)) }
-{
-    if error.kind() == WordsFault::OutOfMemory {
-        return tell_memory(errors);
-    }
-    match format!(in alloc; "{error}") {
-        Ok(text) => {
-            let _ = write_all(errors, text.as_bytes());
-            2
-        }
-        Err(_) => tell_memory(errors),
-    }
 }

@@ -1,6 +1,6 @@
 //! What went wrong, as a line and as a status.
 
-ghost use Rattle.std.specs.Prelude.{◌≡◌, ◌⊎◌, ◌<◌, ◌^◌, ◌-◌, codes, drop, OnOk, IfOk, IfErr};
+ghost use Rattle.std.specs.Prelude.{◌≡◌, ◌⊎◌, ◌<◌, ◌^◌, ◌-◌, codes, OnOk, IfOk, IfErr};
 ghost use Rattle.std.specs.Prelude.{MatchResult};
 ghost use Rattle.std.specs.String.{string_bytes};
 ghost use Rattle.cube_report.specs.declared.fault.Fault.TheVariants.{Memory};
@@ -10,11 +10,10 @@ ghost use Rattle.join_command.specs.Inner.Telling.{IsFaultWritten, status_of, st
 ghost use Rattle.join_command.specs.Inner.Telling.{status_of_run};
 
 use crate::fault::JoinFault;
-use cube_report::{Fault, Sink, write_all};
+use cube_command::{tell, words_of_call};
+use cube_report::{Fault, Sink};
 use std::alloc::{AllocError, Global};
-use std::env;
 use std::env::Env;
-use std::io::ErrorKind;
 
 /// The status of a join, after a line that says what went wrong, if anything did.
 pub(crate) fn tell_join<E: Sink>(alloc: Global, errors: &mut E, run: Result<bool, JoinFault>) -> u8
@@ -79,7 +78,7 @@ fn tell_read<E: Sink>(alloc: Global, errors: &mut E, fault: JoinFault) -> u8
     ensures told { IsFaultWritten fault result (E.contents errors.old) (E.contents errors.new)
         (E.failures errors.old) (E.failures errors.new) }
 {
-    match line_of(alloc, fault) {
+    match join_fault_line(alloc, fault) {
         Ok(line) => {
             tell(errors, line.as_bytes());
             status_of(fault)
@@ -89,23 +88,13 @@ fn tell_read<E: Sink>(alloc: Global, errors: &mut E, fault: JoinFault) -> u8
 }
 
 /// The line that tells a fault.
-fn line_of(alloc: Global, fault: JoinFault) -> Result<String, AllocError>
+fn join_fault_line(alloc: Global, fault: JoinFault) -> Result<String, AllocError>
     ensures { IfOk result (λ line. string_bytes line ≡ join_fault_line fault) }
 {
     match fault {
         JoinFault::Run(fault) => format!(in alloc; "cubejoin: {fault}\n"),
         JoinFault::Stranger(number) => format!(in alloc; "cubejoin: F15 report {number}\n"),
     }
-}
-
-/// Writes a line, as far as the device takes it.
-fn tell<E: Sink>(errors: &mut E, line: &[u8])
-    requires errors { E.failures errors.old < 2 ^ 64 - 1 }
-    requires line { E.allows errors.old line.now }
-    ensures { IsLineWritten (E.contents errors.old) (E.contents errors.new) (E.failures errors.old)
-        (E.failures errors.new) line.now }
-{
-    let _ = write_all(errors, line);
 }
 
 /// The status of a fault.
@@ -145,32 +134,16 @@ pub fn own_words<R: Env + AllocGlobal, E: Sink>(rt: &R, errors: &mut E) -> Resul
         (E.failures errors.old) (E.failures errors.new)
         (join_fault_line (JoinFault.Run Memory)))) }
 {
-    let words = match env::args(rt) {
-        Ok(words) => words,
-        Err(error) if error.kind() != ErrorKind::OutOfMemory => {
-            tell(errors, b"cubejoin: a word is no text\n");
-            return Err(2);
-        }
-        Err(_) => return Err(tell_memory(errors)),
-    };
-    match words.collect(rt.alloc()) {
-        Ok(words) => Ok(after_name(words)),
-        Err(_) => Err(tell_memory(errors)),
-    }
-}
-
-/// The words of a call after the first one, which is the program's name.
-fn after_name(mut words: Vec<String>) -> Vec<String>
-    ensures { result.items ≡ drop 1 words.items }
-{
-    if !words.is_empty() {
-        let _name = words.remove(0);
-    }
-    words
+    words_of_call(
+        rt,
+        errors,
+        b"cubejoin: a word is no text\n",
+        b"cubejoin: F6 memory\n",
+    )
 }
 
 /// Says that memory was refused, and answers the status.
-pub(crate) fn tell_memory<E: Sink>(errors: &mut E) -> u8
+fn tell_memory<E: Sink>(errors: &mut E) -> u8
     requires errors { E.failures errors.old < 2 ^ 64 - 1 }
     requires memory { E.allows errors.old (join_fault_line (JoinFault.Run Memory)) }
     ensures status { result ≡ 4 }

@@ -81,13 +81,6 @@ pub part_tree : (board : BoardOf) (part root : ℕ) → IsPartOn board part root
 part_tree board part root on =
     rw on.place_is (ap (subtree_at board.case.tree) on.is_root.placed)
 
--- the row of a node on a part's board is its number from the part's root on
-pub part_row : (board : BoardOf) (part root node row : ℕ) → IsPartOn board part root →
-    IsRowOn board node row → node - root ≡ row
-part_row board part root node row on at =
-    let here = (rw on.place_is at at).here in
-    omega (arith, here, on.is_root.placed)
-
 -- the part's root is a node of the tree
 pub part_inside : (board : BoardOf) (part root : ℕ) → IsPartOn board part root →
     root < size board.case.tree

@@ -1,8 +1,6 @@
 -- Marks that are given to a tree's nodes, one after the other.
 use Rattle.std.proofs.Common.{◌≡◌, ℕ, ◌+◌, ◌<◌, ◌≤◌, List, length, set, replicate}
 use Rattle.std.proofs.Common.{refl, sym, ap, ◌∙◌, arith}
-use Rattle.std.proofs.Common.{inl, inr, get_or-set_other, get_or-set_same}
-use Rattle.std.proofs.lemmas.Bool.{cases_eq}
 use Rattle.std.proofs.lemmas.List.{ext_get_or}
 use Rattle.std.proofs.Common.{◌≢◌, ◌↔◌, zero, suc, take, drop, subst, zero-add}
 use Rattle.std.proofs.lemmas.List.{take_all}
@@ -25,27 +23,6 @@ pub record IsGiven (tree : SplitTree) (marks : List Mark) (count : ℕ) (given :
   pub before : (k : ℕ) → k < count → mark_at given k ≡ mark_at marks k
   pub after : (k : ℕ) → count ≤ k → mark_at given k ≡ Open
   pub kept : AreRowsKept tree (worth_of tree) given weights
-
-pub one_given : (tree : SplitTree) (marks : List Mark) (count : ℕ) (given next : List Mark)
-    (weights after : List ℕ) → IsGiven tree marks count given weights → count < size tree →
-    next ≡ set given count (mark_at marks count) →
-    AreRowsKept tree (worth_of tree) next after → IsGiven tree marks (count + 1) next after
-one_given tree marks count given next weights after h l e kept = record {
-  before = λ k few. ap (λ (xs : List Mark). mark_at xs k) e ∙ elim (cases_eq k count) [
-    | inl same ↦
-        ap (mark_at (set given count (mark_at marks count))) same
-        ∙ (get_or-set_same given count (mark_at marks count) Open
-        (omega (arith, l, h.kept.board.long)) ∙ ap (mark_at marks) (sym same))
-    | inr other ↦
-        get_or-set_other given count k (mark_at marks count) Open other
-        ∙ h.before k (omega (arith, few, other))
-  ];
-  after = λ k many. let other : k ≡ count → ⊥ = λ same. omega (arith, many, same) in
-      ap (λ (xs : List Mark). mark_at xs k) e
-      ∙ (get_or-set_other given count k (mark_at marks count) Open other
-      ∙ h.after k (omega (arith, many)));
-  kept = kept;
-}
 
 pub all_given : (tree : SplitTree) (marks : List Mark) (count : ℕ) (given : List Mark)
     (weights : List ℕ) → IsGiven tree marks count given weights → length marks ≡ size tree →

@@ -99,9 +99,6 @@ almost_on (x ∷ a) (y ∷ b) (z ∷ c) one two = (
 
 -- ---- one file more
 
-label_of : List ℕ → List ℕ
-label_of name = 108 ∷ 32 ∷ name
-
 abbrev below : List ℕ → List ℕ → List ℕ
 below name proof = (108 ∷ 32 ∷ name) ++ 10 ∷ proof
 

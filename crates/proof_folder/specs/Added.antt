@@ -37,6 +37,10 @@ pub record LeafFile : Type 0 where
   pub target : Target
   pub proof : Option (List ℕ)
 
+-- the path of a leaf's proof
+abbrev pub proof_path : List ℕ → List ℕ → List ℕ
+proof_path folder name = folder ++ codes "/" ++ name ++ codes ".lrat"
+
 -- what a leaf adds to a bundle: nothing, or a line end, its label line, and its proof
 abbrev pub section_text : List ℕ → Option (List ℕ) → List ℕ
 section_text name None = []

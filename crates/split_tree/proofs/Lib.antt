@@ -10,6 +10,7 @@ mod SecondAlike
 pub mod NodesCoding
 mod NodesEnds
 pub mod SplitTreeLabels
+pub mod SplitTreeDepths
 pub mod NavigationSteps
 pub mod LeavesPaths
 pub mod TablesTotals

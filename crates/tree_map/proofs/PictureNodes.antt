@@ -2,22 +2,22 @@
 use Rattle.std.proofs.Common.{◌≡◌, ◌==◌, ℕ, suc, ◌+◌, ◌-◌, ◌<◌, List, [], ◌++◌, Bool, true}
 use Rattle.std.proofs.Common.{false, ◌||◌, inl, inr, refl, sym, ◌∙◌, arith}
 use Rattle.std.proofs.lemmas.Bool.{cases_eq}
-use Rattle.std.specs.Prelude.{codes, is_some}
+use Rattle.std.specs.Prelude.{codes}
 use Rattle.split_tree.specs.SplitTree.{SplitTree, missing, cube, split, size, subtree_at}
-use Rattle.split_tree.specs.SplitTree.{IsLeaf, IsSplit}
+use Rattle.split_tree.specs.SplitTree.{IsLeaf}
 use Rattle.split_tree.specs.Leaves.{IsTargetAt}
 use Rattle.split_tree.specs.declared.node.Leaf.TheVariants.{Missing as MissingLeaf}
-use Rattle.split_tree.specs.declared.node.Target.TheVariants.{Leaf as Named, Node}
+use Rattle.split_tree.specs.declared.node.Target.TheVariants.{Leaf as Named}
 use Rattle.split_tree.proofs.LeavesNodes.{missing_at}
-use Rattle.case_core.specs.Case.{CaseOf, proof_for}
+use Rattle.case_core.specs.Case.{CaseOf}
 use Rattle.mark_board.specs.declared.mark.Mark.{Mark}
 use Rattle.mark_board.specs.Marking.{marked, mark_at, open_weight, refuted_by}
 use Rattle.mark_board.specs.TopPlaces.{worth_of}
 use Rattle.mark_board.proofs.MarkingLaws.{test_same, test_other}
 use Rattle.mark_board.proofs.MarkingWalk.{zero_is_marked, some_not_marked, all_is_open}
 use Rattle.mark_board.proofs.MarkingWalk.{less_not_whole}
-use Rattle.node_fields.specs.Fields.{number_field, status_fields}
-use Rattle.tree_map.specs.Picture.{is_rejected, one_rejected, shown, colour, frame, own_status}
+use Rattle.node_fields.specs.Fields.{status_fields}
+use Rattle.tree_map.specs.Picture.{is_rejected, one_rejected, shown, colour, frame}
 use Rattle.tree_map.specs.Picture.{path_fields, told}
 
 -- ---- rejected proofs
@@ -31,15 +31,6 @@ goes_past marks number end l other =
     let r : number + 1 ≡ suc number = omega arith in
     rw (q, r, other) refl
 
-or_none : (b : Bool) → (b || false) ≡ b
-or_none true = refl
-or_none false = refl
-
--- one node alone
-pub only_one : (marks : List Mark) (node : ℕ) →
-    one_rejected marks node 1 ≡ is_rejected (mark_at marks node)
-only_one marks node = or_none (is_rejected (mark_at marks node))
-
 -- ---- what is told
 
 -- a leaf's target stands at a leaf
@@ -52,33 +43,12 @@ pub told_missing : (case : CaseOf) (marks : List Mark) (node : ℕ) (t : SplitTr
     ≡ codes "m" ++ path_fields case.tree node ++ status_fields (mark_at marks node)
 told_missing case marks node t e = rw e refl
 
-pub told_split : (case : CaseOf) (marks : List Mark) (node : ℕ) (t : SplitTree) → IsSplit t →
-    told case marks node t
-    ≡ codes "n" ++ path_fields case.tree node ++ own_status (mark_at marks node) ++ codes " w"
-    ++ number_field (open_weight (worth_of case.tree) (refuted_by marks) node t)
-told_split case marks node missing s = absurd s
-told_split case marks node (cube k) s = absurd s
-told_split case marks node (split v p n) s = refl
-
 -- ---- the class of a section
 
 pub frame_leaf : (case : CaseOf) (node : ℕ) (t : SplitTree) → IsLeaf t → frame case node t ≡ []
 frame_leaf case node missing s = refl
 frame_leaf case node (cube k) s = refl
 frame_leaf case node (split v p n) s = absurd s
-
-pub frame_split : (case : CaseOf) (node : ℕ) (t : SplitTree) → IsSplit t →
-    is_some (proof_for case.sections (Node node)) ≡ true →
-    frame case node t ≡ codes " n"
-frame_split case node missing s e = absurd s
-frame_split case node (cube k) s e = absurd s
-frame_split case node (split v p n) s e = rw e refl
-
-pub frame_none : (case : CaseOf) (node : ℕ) (t : SplitTree) →
-    is_some (proof_for case.sections (Node node)) ≡ false → frame case node t ≡ []
-frame_none case node missing e = refl
-frame_none case node (cube k) e = refl
-frame_none case node (split v p n) e = rw e refl
 
 -- ---- the class by the colour
 

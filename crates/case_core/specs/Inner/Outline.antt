@@ -4,7 +4,7 @@ use Rattle.split_tree.specs.SplitTree.{SplitTree}
 use Rattle.split_tree.specs.declared.node.Leaf.{Leaf}
 use Rattle.split_tree.specs.declared.node.Target.TheVariants.{Leaf as Named, Node}
 use Rattle.case_core.specs.declared.case.Section.{Section}
-use Rattle.case_core.specs.declared.outline.Place.{Place}
+use Rattle.case_core.specs.declared.outline.Stretch.{Stretch}
 use Rattle.case_core.specs.Case.{section_in, AreSections}
 use Rattle.case_core.specs.Inner.Case.{AreTabled}
 use Rattle.case_core.specs.Outline.{OutlineOf, AreWholeLines, IsOutlineOf}
@@ -22,12 +22,12 @@ pub record GoesTo (old new : OutlineOf) (part end : List ℕ) : Type 0 where
   pub goes : GoesOn old new front
 
 -- a section of the same target at another place
-abbrev pub moved : Section → Place → Section
+abbrev pub moved : Section → Stretch → Section
 moved section place =
     record { target = section.target; start = place.start; length = place.length }
 
 -- each section is for a leaf, and stands at its place in the one list as in the other
-abbrev pub AreMoved : List Section → List Place → List Section → Type 0
+abbrev pub AreMoved : List Section → List Stretch → List Section → Type 0
 AreMoved [] [] [] = Unit {0}
 AreMoved (section ∷ sections) (place ∷ places) (new ∷ news) =
     (new ≡ moved section place) × ((leaf : Leaf) × (section.target ≡ Named leaf))

@@ -2,7 +2,7 @@ use Rattle.std.proofs.Common.{◌∙◌, ◌++◌, ap, sym, codes, decimal}
 use Rattle.std.proofs.lemmas.Result.{IfOk-weaker}
 use Rattle.case_core.specs.Leaf.{Leaf}
 use Rattle.proof_folder.specs.Given.{name_of}
-use Rattle.bundle_files.specs.Files.{proof_path}
+use Rattle.proof_folder.specs.Added.{proof_path}
 use Rattle.bundle_files.proofs.FilesPaths.{path_parts}
 use Rattle.bundle_files.proofs.reader.leaf_path.Goals as goal
 

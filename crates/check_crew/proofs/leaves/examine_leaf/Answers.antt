@@ -10,7 +10,7 @@ use Rattle.board_hall.specs.declared.view.CutCase.{CutCase}
 use Rattle.board_hall.specs.Halls.{core_of, view_of}
 use Rattle.check_crew.specs.LeafProofs.{HasSeenAs}
 use Rattle.check_crew.specs.Seen.{HasSeenMark}
-use Rattle.check_crew.proofs.LeavesSeen.{read_there, as_stays, seen_as, found_at, stays_on}
+use Rattle.check_crew.proofs.LeavesSeen.{as_stays, seen_as, found_at, stays_on}
 use Rattle.check_crew.proofs.LeavesSeen.{stays_same}
 use Rattle.check_crew.proofs.leaves.examine_leaf.Goals as goal
 
@@ -38,20 +38,17 @@ returns-clause-examined g c =
     let leaf : Target = Named c.args.leaf in
     let finding = c.in_ok-finding.finding in
     let found = rw c.requires.examiner at c.in_ok-finding.ensures.found in
-    let bytes : List ℕ = c.read.new.bytes.items in
+    let bytes : List ℕ = c.args.proof.now in
     let judged : Judged = c.judged-judged.result in
-    let there : c.in_ok-read.field-0 ≡ true = search rules in
     let free : proof_for c.args.site.case.now.sections leaf ≡ None =
     c.is_for_one_bundle.ensures.free c.if-is_for_one_bundle.false in
     let new : c.post.result ≡ true = search rules in
     let plain : labels_of bytes ≡ [] =
-    subst (λ (t : List ℕ). labels_of t ≡ []) c.deref.ensures.value
-    (c.is_for_one_bundle.ensures.plain c.if-is_for_one_bundle.false) in
+    c.is_for_one_bundle.ensures.plain c.if-is_for_one_bundle.false in
     let by_text : IsFoundBy c.args.site.case.now leaf bytes judged =
     subst (λ (j : Judged). IsFoundBy c.args.site.case.now leaf bytes j)
     (sym c.judged-judged.ensures.value)
-    (subst (λ (t : List ℕ). IsFoundBy c.args.site.case.now leaf t finding.judged)
-    c.deref-2.ensures.value found.2) in
+    found.2 in
     let here : IsTargetAt k.case.tree finding.node leaf =
     subst (λ (t : Target). IsTargetAt k.case.tree finding.node t) found.1
     (subst (λ (z : CaseOf). IsTargetAt z.tree finding.node (target_of finding.leaf finding.node))
@@ -62,16 +59,9 @@ returns-clause-examined g c =
     let seen : HasSeenAs (view_of c.tell.new.pass) leaf judged =
     as_stays (view_of c.post.new.pass) (view_of c.tell.new.pass) leaf judged c.tell.ensures.stays
     (seen_as k (view_of c.post.new.pass) finding.node leaf judged c.post.ensures.own.1 here mark) in
-    found_at _ k c.args.site.case.now (view_of c.tell.new.pass) c.args.leaf judged
-    bytes c.tell.ensures.own.1 c.requires.case
-    (read_there _ bytes c.in_ok-read.field-0 c.in_ok-read.ensures.found there) plain free by_text
-    seen
-
-pub returns-in_err-read-clause-stays : goal.returns-in_err-read-clause-stays
-returns-in_err-read-clause-stays g c = stays_same _
-
-pub returns-then-not-branch-clause-stays : goal.returns-then-not-branch-clause-stays
-returns-then-not-branch-clause-stays g c = stays_same _
+    λ known given.
+    found_at known k c.args.site.case.now (view_of c.tell.new.pass) c.args.leaf judged
+    bytes c.tell.ensures.own.1 c.requires.case given plain free by_text seen
 
 pub returns-then-is_for_one_bundle-clause-stays : goal.returns-then-is_for_one_bundle-clause-stays
 returns-then-is_for_one_bundle-clause-stays g c = stays_same _

@@ -2,8 +2,8 @@ use Rattle.std.proofs.Common.{◌≡◌, arith, map, subst, sym}
 use Rattle.cube_command.specs.Words.{AreApart, Asked, asked_of, IsElsewhere}
 use Rattle.cube_command.specs.Headline.{IsRefutedAsHanded}
 use Rattle.cube_command.specs.Program.{AllowsPicturesFor, AllowsRecordsFor, AllowsReportsFor}
-use Rattle.cube_command.proofs.WordsPaths.{input_apart}
-use Rattle.cube_command.proofs.WordsRequests.{none_asked, nothing_taken}
+use Rattle.command_words.proofs.WordsPaths.{input_apart}
+use Rattle.command_words.proofs.WordsRequests.{none_asked, nothing_taken}
 use Rattle.cube_command.proofs.ProgramRuns.{device_run, fault_run, memory_run, sound_run}
 use Rattle.cube_command.proofs.ProgramRuns.{fault_asked, handed_run, memory_asked, published_run}
 use Rattle.cube_command.proofs.program.command.Goals as goal
@@ -45,12 +45,12 @@ pub tell_run-status-requires-clause-memory : goal.tell_run-status-requires-claus
 tell_run-status-requires-clause-memory g c =
     memory_asked (g.E.Sink.allows c.args.errors.now) _ _ _ c.requires.faults
 
-pub refused-requires-clause-memory : goal.refused-requires-clause-memory
-refused-requires-clause-memory g c =
+pub tell_refused-requires-clause-memory : goal.tell_refused-requires-clause-memory
+tell_refused-requires-clause-memory g c =
     memory_asked (g.E.Sink.allows c.args.errors.now) _ _ _ c.requires.faults
 
-pub refused-requires-clause-words : goal.refused-requires-clause-words
-refused-requires-clause-words g c =
+pub tell_refused-requires-clause-words : goal.tell_refused-requires-clause-words
+tell_refused-requires-clause-words g c =
     λ other. c.requires.words (λ taken. other (c.in-Err.ensures.refused taken))
 
 pub returns-in-Ok-clause-sound : goal.returns-in-Ok-clause-sound
@@ -108,8 +108,8 @@ returns-in-Ok-clause-kept g c = λ path input.
 
 pub returns-in-Err-clause-none : goal.returns-in-Err-clause-none
 returns-in-Err-clause-none g c = λ empty.
-    let four : c.refused.result ≡ 4 =
-    c.refused.ensures.usage (c.in-Err.ensures.refused (nothing_taken _ _ empty)) in
+    let four : c.tell_refused.result ≡ 4 =
+    c.tell_refused.ensures.usage (c.in-Err.ensures.refused (nothing_taken _ _ empty)) in
     (λ two. omega (arith, four, two), none_asked g.S.AsStr.text c.args.words.now empty)
 
 pub returns-in-Ok-clause-handed : goal.returns-in-Ok-clause-handed

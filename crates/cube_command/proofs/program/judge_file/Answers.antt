@@ -1,5 +1,5 @@
 use Rattle.std.proofs.Common.{List, ℕ, Bor}
-use Rattle.cube_command.specs.Inner.Words.{asked_in}
+use Rattle.command_words.specs.Request.{asked_in}
 use Rattle.cube_command.proofs.ProgramMade.{handed_section, made_by_section}
 use Rattle.cube_command.proofs.ProgramRuns.{some_mapped}
 use Rattle.cube_command.proofs.program.judge_file.Goals as goal

@@ -1,10 +1,10 @@
 use Rattle.std.proofs.Common.{List, ℕ, Bor, inr}
 use Rattle.cube_report.specs.Faults.{IsInputFault}
 use Rattle.cube_command.specs.Program.{IsRefused}
-use Rattle.cube_command.specs.Inner.Words.{asked_in}
+use Rattle.command_words.specs.Request.{asked_in}
 use Rattle.cube_command.proofs.ProgramMade.{handed_read, made_of}
 use Rattle.cube_command.proofs.ProgramRuns.{some_mapped}
-use Rattle.cube_command.proofs.WordsRequests.{handed_on}
+use Rattle.command_words.proofs.WordsRequests.{handed_on}
 use Rattle.cube_command.proofs.program.judge_read.Goals as goal
 
 pub returns-in_err-read-clause-fault : goal.returns-in_err-read-clause-fault

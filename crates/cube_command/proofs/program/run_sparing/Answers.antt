@@ -1,6 +1,6 @@
 use Rattle.std.proofs.Common.{◌∙◌, refl}
 use Rattle.std.specs.Prelude.{is_some}
-use Rattle.cube_command.specs.Inner.Words.{asked_in}
+use Rattle.command_words.specs.Request.{asked_in}
 use Rattle.cube_report.proofs.CorrectReports.{report_on}
 use Rattle.cube_command.proofs.ProgramRuns.{picture_on, reported, begun_of}
 use Rattle.cube_command.proofs.program.run_sparing.Goals as goal

@@ -10,8 +10,8 @@ tell_join-requires-clause-memory g c =
     memory_allowed (g.E.Sink.allows c.args.errors.now) (g.D.Store.held c.args.store.now)
     (asked_of (map g.S.AsStr.text c.args.words.now)) c.requires.faults
 
-pub refused-requires-clause-memory : goal.refused-requires-clause-memory
-refused-requires-clause-memory g c =
+pub tell_refused-requires-clause-memory : goal.tell_refused-requires-clause-memory
+tell_refused-requires-clause-memory g c =
     memory_allowed (g.E.Sink.allows c.args.errors.now) (g.D.Store.held c.args.store.now)
     (asked_of (map g.S.AsStr.text c.args.words.now)) c.requires.faults
 

@@ -12,7 +12,7 @@ write_all-requires-clause-allowed g c =
     (far_known (g.D.Store.held c.args.store.now) g.D.Store.hands
     (asked_in c.args.request.now).records c.in_ok-line.line.items
     c.in_ok-bundle.bundle.items c.in_ok-joined.joined.text.items c.in_ok-joined.joined.refuted
-    (rw (c.read_bundle.ensures.held, c.deref-2.ensures.value, c.deref-3.ensures.value) at
+    (rw (c.read_asked.ensures.held, c.deref-2.ensures.value, c.deref-3.ensures.value) at
     c.in_ok-joined.ensures.joined)) in
     rw c.deref-4.ensures.value
     (c.requires.reports c.in_ok-bundle.bundle.items parts.0 c.in_ok-joined.joined.text.items
@@ -29,7 +29,7 @@ returns-in_err-write_all-clause-beginning g c =
     (far_known (g.D.Store.held c.args.store.now) g.D.Store.hands
     (asked_in c.args.request.now).records c.in_ok-line.line.items
     c.in_ok-bundle.bundle.items c.in_ok-joined.joined.text.items c.in_ok-joined.joined.refuted
-    (rw (c.read_bundle.ensures.held, c.deref-2.ensures.value, c.deref-3.ensures.value) at
+    (rw (c.read_asked.ensures.held, c.deref-2.ensures.value, c.deref-3.ensures.value) at
     c.in_ok-joined.ensures.joined))
     (rw c.deref-4.ensures.value at c.in_err-write_all.ensures.beginning)
     c.in_err-write_all.ensures.err.1
@@ -44,7 +44,7 @@ returns-clause-written g c =
     (far_known (g.D.Store.held c.args.store.now) g.D.Store.hands
     (asked_in c.args.request.now).records c.in_ok-line.line.items
     c.in_ok-bundle.bundle.items c.in_ok-joined.joined.text.items c.in_ok-joined.joined.refuted
-    (rw (c.read_bundle.ensures.held, c.deref-2.ensures.value, c.deref-3.ensures.value) at
+    (rw (c.read_asked.ensures.held, c.deref-2.ensures.value, c.deref-3.ensures.value) at
     c.in_ok-joined.ensures.joined))
     (rw c.deref-4.ensures.value at c.in_ok-write_all.ensures.ok)
 
@@ -54,5 +54,5 @@ returns-clause-handed g c =
     c.in_ok-bundle.bundle.items c.in_ok-line.line.items c.in_ok-joined.joined.text.items
     c.in_ok-joined.joined.refuted c.in_ok-bundle.ensures.handed
     (rw c.deref.ensures.value at c.in_ok-line.ensures)
-    (rw (c.read_bundle.ensures.held, c.deref-2.ensures.value, c.deref-3.ensures.value) at
+    (rw (c.read_asked.ensures.held, c.deref-2.ensures.value, c.deref-3.ensures.value) at
     c.in_ok-joined.ensures.joined)

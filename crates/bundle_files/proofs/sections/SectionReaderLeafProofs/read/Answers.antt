@@ -1,7 +1,7 @@
 use Rattle.std.proofs.Common.{◌≡◌, ◌∙◌, ap, sym, subst, ℕ, List, Option, Some, map, length}
 use Rattle.std.proofs.Common.{◌++◌, take, drop, true, arith}
 use Rattle.std.specs.String.{string_bytes}
-use Rattle.check_crew.specs.LeafProofs.{IsRead}
+use Rattle.check_crew.specs.LeafProofs.{IsProofRead}
 use Rattle.case_core.specs.Target.TheVariants.{Leaf as Named}
 use Rattle.case_core.specs.Case.{part_in, section_in, proof_for}
 use Rattle.case_core.specs.declared.case.Section.{Section}
@@ -22,7 +22,7 @@ returns-in-Ok-clause-found g c =
     let known : List ℕ → Option (Option (List ℕ)) = λ path.
     held_if (g.F.Opener.knows c.args.self.now.files.opener)
     (g.F.Opener.files c.args.self.now.files.opener path) in
-    subst (λ (path : List ℕ). IsRead (held_in (known path)
+    subst (λ (path : List ℕ). IsProofRead (held_in (known path)
     c.args.self.now.outlined.value.sections c.args.leaf)
     (take c.resize.new.self.len
     (c.read_part.new.bytes ++ drop (length c.read_part.new.bytes) c.resize.new.self.items)) true)

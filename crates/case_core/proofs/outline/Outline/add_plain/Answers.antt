@@ -2,13 +2,13 @@ use Rattle.std.proofs.Common.{◌≡◌, ap, subst, arith, ℕ, ◌-◌, List, [
 use Rattle.std.proofs.Common.{get_or, refl, ◌∷◌}
 use Rattle.std.proofs.lemmas.List.{get_or_read}
 use Rattle.std.specs.Vec.{with_item}
-use Rattle.case_core.specs.declared.outline.Place.{Place}
+use Rattle.case_core.specs.declared.outline.Stretch.{Stretch}
 use Rattle.case_core.specs.Inner.Outline.{GoesOn}
 use Rattle.case_core.specs.Outline.{OutlineOf}
 use Rattle.case_core.proofs.OutlineSteps.{plain_front, plain_section, set_longer}
 use Rattle.case_core.proofs.outline.Outline.add_plain.Goals as goal
 
-no_places : (places : List Place) → length places ≡ 0 → places ≡ []
+no_places : (places : List Stretch) → length places ≡ 0 → places ≡ []
 no_places [] e = refl
 no_places (place ∷ places) e = absurd (omega arith)
 
@@ -38,7 +38,7 @@ returns-clause-ok c =
       places = c.self.inside.places.items;
       length = c.self.inside.length;
     } in
-    let last : Place = record {
+    let last : Stretch = record {
       start = c.index-last.result.now.start;
       length = c.in-Some-checked_add.length;
     } in
@@ -48,7 +48,7 @@ returns-clause-ok c =
       places = (with_item c.self.inside.places at last).items;
       length = c.in-Some.whole;
     } in
-    let d : Place = record { start = 0; length = 0 } in
+    let d : Stretch = record { start = 0; length = 0 } in
     let some : c.self.inside.places.items ≡ [] → ⊥ = λ none.
     let long : length c.self.inside.places.items ≡ 0 = ap length none in
     absurd (omega (arith, c.self.inside.places.ok.0, c.len-sections.ensures)) in
@@ -60,7 +60,7 @@ returns-clause-ok c =
     (plain_section old new c.args.lines.now c.requires some refl
     (set_longer c.self.inside.places.items at (length c.args.lines.now) last.start last.length d
     (omega (arith, c.self.inside.places.ok.0, c.len-sections.ensures))
-    (ap (λ (p : Place). p.start) read)
+    (ap (λ (p : Stretch). p.start) read)
     (let size : c.index-last.result.now.length ≡ (get_or c.self.inside.places.items at d).length =
-    ap (λ (p : Place). p.length) read in omega arith))
+    ap (λ (p : Stretch). p.length) read in omega arith))
     (omega arith))

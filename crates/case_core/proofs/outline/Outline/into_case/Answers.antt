@@ -2,7 +2,7 @@ use Rattle.std.proofs.Common.{◌≡◌, ◌≢◌, ◌⊎◌, sym, ap, subst, r
 use Rattle.split_tree.specs.SplitTree.{SplitTree}
 use Rattle.case_core.specs.declared.case.Section.{Section}
 use Rattle.case_core.specs.declared.fault.CaseFault.TheVariants.{Memory}
-use Rattle.case_core.specs.declared.outline.Place.{Place}
+use Rattle.case_core.specs.declared.outline.Stretch.{Stretch}
 use Rattle.case_core.specs.Bundle.{icnf_text}
 use Rattle.case_core.specs.Case.{CaseOf, section_in}
 use Rattle.case_core.specs.Sections.{IsCaseOf, IsFaultOf}
@@ -13,11 +13,11 @@ use Rattle.case_core.proofs.OutlineOnly.{no_fault, only_inner, told_only}
 use Rattle.case_core.proofs.outline.Outline.into_case.Goals as goal
 
 -- the sections that were moved are those of the text that was read
-were_moved : (sections read : List Section) (places own : List Place) (news : List Section) →
+were_moved : (sections read : List Section) (places own : List Stretch) (news : List Section) →
     read ≡ sections → own ≡ places → AreMoved read own news → AreMoved sections places news
 were_moved sections read places own news one other are =
     subst (λ (s : List Section). AreMoved s places news) one
-    (subst (λ (p : List Place). AreMoved read p news) other are)
+    (subst (λ (p : List Stretch). AreMoved read p news) other are)
 
 pub invariant_of-result : goal.invariant_of-result
 invariant_of-result c =
@@ -63,12 +63,12 @@ returns-clause-head c = (
 )
 
 -- why the sections that were read couldn't be moved
-not_moved : (sections read : List Section) (places own : List Place) → read ≡ sections
+not_moved : (sections read : List Section) (places own : List Stretch) → read ≡ sections
     → own ≡ places → ((length read ≢ length own) ⊎ HasInner read)
     → ((length sections ≢ length places) ⊎ HasInner sections)
 not_moved sections read places own one other why =
     subst (λ (s : List Section). (length s ≢ length places) ⊎ HasInner s) one
-    (subst (λ (p : List Place). (length read ≢ length p) ⊎ HasInner read) other why)
+    (subst (λ (p : List Stretch). (length read ≢ length p) ⊎ HasInner read) other why)
 
 pub returns-in_default-clause-only : goal.returns-in_default-clause-only
 returns-in_default-clause-only c =

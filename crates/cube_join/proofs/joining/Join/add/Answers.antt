@@ -1,4 +1,4 @@
-use Rattle.std.proofs.Common.{◌≡◌, ◌∙◌, ap, length}
+use Rattle.std.proofs.Common.{◌∙◌, ap, length}
 use Rattle.split_tree.specs.SplitTree.{size}
 use Rattle.cube_join.proofs.JoinedMarks.{long_joined}
 use Rattle.cube_join.proofs.joining.Join.add.Goals as goal

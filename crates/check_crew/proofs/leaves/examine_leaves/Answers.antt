@@ -1,0 +1,12 @@
+use Rattle.std.proofs.lemmas.List.Elements.{All-nil}
+use Rattle.board_hall.specs.Halls.{view_of}
+use Rattle.check_crew.proofs.leaves.examine_leaves.Goals as goal
+
+pub returns-in_default-clause-examined : goal.returns-in_default-clause-examined
+returns-in_default-clause-examined g c =
+    c.in_ok-first.ensures.absent (view_of c.args.pass.now) (rw c.requires.none (All-nil _))
+
+pub take_leaves-requires-clause-examined : goal.take_leaves-requires-clause-examined
+take_leaves-requires-clause-examined g c =
+    rw c.in_ok-first.ensures.held
+    (c.in_ok-first.ensures.absent (view_of c.args.pass.now) (rw c.requires.none (All-nil _)))

@@ -1,0 +1,2 @@
+pub mod WordsPaths
+pub mod WordsRequests

@@ -1,0 +1,125 @@
+-- Which words the program takes, and what they ask for.
+use Rattle.std.specs.Prelude.{◌≡◌, ◌≢◌, ◌⊎◌, List, [], ◌∷◌, codes, pos, true, Option, None, Some}
+use Rattle.clap.specs.Words.{App, Rule, Text, fault_of, first_of, matches_of, new_app, new_rule}
+use Rattle.clap.specs.Words.{with_rule}
+use Rattle.proof_folder.specs.Added.{proof_path}
+use Rattle.clap.specs.declared.builder.action.ArgAction.TheVariants.{SetTrue}
+use Rattle.clap.specs.declared.builder.value_parser.ValueParser.TheVariants.{Signed, NonEmptyString}
+
+-- a word of this name with one value
+abbrev pub valued : Text → Rule
+valued name = record (new_rule name) { long = Some name; value_names = 1 }
+
+-- `--workers` with a number from 1 to 32, and 4 where there is none
+abbrev pub workers_word : Rule
+workers_word = record (valued (codes "workers")) {
+  parser = Some (Signed (pos 1) (pos 32));
+  defaults = codes "4" ∷ [];
+}
+
+-- `--cut` with a number from 0 to 6, and 3 where there is none
+abbrev pub cut_word : Rule
+cut_word = record (valued (codes "cut")) {
+  parser = Some (Signed (pos 0) (pos 6));
+  defaults = codes "3" ∷ [];
+}
+
+-- a word of this name with a path, which is a text that isn't empty
+abbrev pub path_word : Text → Rule
+path_word name = record (valued name) { parser = Some NonEmptyString }
+
+-- a word of this name without a value
+abbrev pub flag_word : Text → Rule
+flag_word name = record (new_rule name) { long = Some name; action = Some SetTrue }
+
+-- one text without a name
+abbrev pub file_word : Rule
+file_word = record (new_rule (codes "file")) { value_names = 1 }
+
+-- the words come without the program's name, and `--version` may be among them
+abbrev pub with_version : App → App
+with_version parser =
+    record parser { top = record parser.top { no_binary_name = true; has_version = true } }
+
+-- the words of `cubeboard`
+abbrev pub words_taken : App
+words_taken =
+    with_rule (with_rule (with_rule (with_rule (with_rule (with_rule (with_rule (with_rule
+    (with_rule (with_rule (with_version (new_app (codes "cubeboard"))) workers_word) cut_word)
+    (path_word (codes "formula"))) (path_word (codes "proofs"))) (flag_word (codes "progress")))
+    (flag_word (codes "explain"))) (path_word (codes "map"))) (path_word (codes "record")))
+    (path_word (codes "log"))) file_word
+
+-- the value that `clap` finds in these words
+abbrev pub asked_for : Text → List Text → Option Text
+asked_for name words = first_of name (matches_of words_taken words)
+
+-- what words ask for: the formula's own file, FILE and the folder of proofs, which are read, and
+-- the files that are written, for the picture, the record and the log
+pub record Asked : Type 0 where
+  pub formula : Option Text
+  pub file : Option Text
+  pub folder : Option Text
+  pub picture : Option Text
+  pub out : Option Text
+  pub log : Option Text
+
+abbrev pub asked_of : List Text → Asked
+asked_of words = record {
+  formula = asked_for (codes "formula") words;
+  file = asked_for (codes "file") words;
+  folder = asked_for (codes "proofs") words;
+  picture = asked_for (codes "map") words;
+  out = asked_for (codes "record") words;
+  log = asked_for (codes "log") words;
+}
+
+-- no file is asked for
+abbrev pub nothing_asked : Asked
+nothing_asked = record {
+  formula = None;
+  file = None;
+  folder = None;
+  picture = None;
+  out = None;
+  log = None;
+}
+
+-- two files, where both are asked for, have two paths
+abbrev pub AreApart : Option Text → Option Text → Type 0
+AreApart one other = (path : Text) → one ≡ Some path → other ≢ Some path
+
+-- the file that is written isn't that of a proof in the folder, whichever its name is
+abbrev pub IsNoProof : Option Text → Option Text → Type 0
+IsNoProof folder written =
+    (in_folder path name : Text) → folder ≡ Some in_folder → written ≡ Some path
+    → path ≢ proof_path in_folder name
+
+-- the file that is written is none of those that are read: the formula's, FILE, and DIR's proofs
+abbrev pub SparesRead : Option Text → Asked → Type 0
+SparesRead written asked =
+    AreApart written asked.formula × AreApart written asked.file
+    × IsNoProof asked.folder written
+
+-- the picture, the record and the log have three paths, and none is that of a file that is read
+abbrev pub AreSpared : Asked → Type 0
+AreSpared asked =
+    AreApart asked.picture asked.out × SparesRead asked.picture asked × SparesRead asked.out asked
+    × AreApart asked.log asked.picture × AreApart asked.log asked.out
+    × SparesRead asked.log asked
+
+-- These words fit all that: `clap` finds no fault in them, they ask for neither help nor the
+-- version, and the files that they have written are none of those that are read, and apart.
+abbrev pub AreTaken : List Text → Type 0
+AreTaken words = (fault_of words_taken words ≡ []) × AreSpared (asked_of words)
+
+-- a file of this path is read: the formula's, FILE, or that of a proof in DIR, whichever its name
+-- is
+abbrev pub IsInput : Asked → Text → Type 0
+IsInput asked path =
+    (asked.formula ≡ Some path) ⊎ (asked.file ≡ Some path)
+    ⊎ ((folder name : Text) × (asked.folder ≡ Some folder) × (path ≡ proof_path folder name))
+
+-- the path is neither the picture's nor the record's
+abbrev pub IsElsewhere : Asked → Text → Type 0
+IsElsewhere asked path = (asked.picture ≢ Some path) × (asked.out ≢ Some path)

@@ -1,0 +1,6 @@
+//! The words of the program `cubeboard`: what they ask for, and the help.
+#![tactic(auto)]
+
+mod words;
+
+pub use words::{Request, request_of};
