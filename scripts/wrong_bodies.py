@@ -6,6 +6,8 @@ check of its own.
     python3 scripts/wrong_bodies.py CRATE [NAME ..]  tries those of a crate, or of these the ones whose names begin so
     python3 scripts/wrong_bodies.py --each [CRATE [NAME ..]]
                                                      tries each in a check of its own
+    python3 scripts/wrong_bodies.py --turn CRATE [NAME ..]
+                                                     over what scripts/turn.py has proved, beginning with what it kept of the crate
 
 Each file crates/CRATE/must-fail/NAME.edit has a line `# function: PATH`, which `rt` passes over: the function that has to be refused, as a check prints it
 below its crate.
@@ -36,6 +38,7 @@ import sys
 import tempfile
 
 import build
+import turn
 
 # How often a check that is killed, most likely for memory, is tried in all, and what a check may take, in bytes.
 TRIES = 2
@@ -157,15 +160,28 @@ class Answer:
         return True, f"refused, as it must be, at a written answer; forbidden by {edit.forbidden}"
 
 
+def linked(one, other):
+    """Copies a file that was kept, by a link where that can be made: a check replaces such a file, and changes none."""
+    try:
+        os.link(one, other)
+    except OSError:
+        shutil.copy2(one, other)
+
+
 class Tries:
     """The checks of one crate, each of which begins with what those before it have proved."""
 
     def __init__(self, kit, kept, crate, room):
         self.crate, self.room, self.kit = crate, room / crate.name, kit
-        self.words = [*build.Prover(kit, kept, None).words(crate), "--logic-built", f"{kit.folder}/logic_built", "--jobs", "1"]
+        prover = turn.Prover if isinstance(kept, turn.Kept) else build.Prover
+        self.words = [*prover(kit, kept, None).words(crate), "--logic-built", f"{kit.folder}/logic_built", "--jobs", "1"]
         self.words += ["--incremental", str(self.room / "proved")]
         shutil.copytree(crate.folder, self.room / "crate", ignore=shutil.ignore_patterns("out", "must-fail"))
-        (self.room / "proved").mkdir()
+        before = crate.folder / "out" / "incremental"
+        if isinstance(kept, turn.Kept) and before.is_dir():
+            shutil.copytree(before, self.room / "proved", copy_function=linked)
+        else:
+            (self.room / "proved").mkdir()
 
     def check(self, edits, texts):
         """What a check says of the functions of these edits where the files have these texts."""
@@ -224,13 +240,13 @@ def lane_count():
     return max(min(len(os.sched_getaffinity(0)), held), 1)
 
 
-def tried(names, is_each):
-    """Tries wrong bodies over libraries that are proved, and answers the status: names as on the command line."""
+def tried(names, is_each, is_turn=False):
+    """Tries wrong bodies over libraries that are proved, those of a turn where that is said, and answers the status: names as on the command line."""
     crates = crates_of(names)
     if not crates:
         sys.exit("wrong_bodies.py: there is no such crate with wrong bodies")
     # (all programs share their libraries)
-    kit, kept = build.Kit(), build.Kept(crates[0])
+    kit, kept = build.Kit(), turn.kept_of() if is_turn else build.Kept(crates[0])
     with tempfile.TemporaryDirectory(prefix="wrong-bodies-") as at, concurrent.futures.ThreadPoolExecutor(lane_count()) as lanes:
         room = pathlib.Path(at)
         given = [lanes.submit(try_crate, kit, kept, it, edits_of(it.folder, names[1:]), room, is_each) for it in crates]
@@ -241,12 +257,12 @@ def tried(names, is_each):
 
 def main():
     words = sys.argv[1:]
-    is_each = words[:1] == ["--each"]
-    for program in ("cubeboard", "cubejoin"):
+    is_each, is_turn = words[:1] == ["--each"], words[:1] == ["--turn"]
+    for program in () if is_turn else turn.PROGRAMS:
         built = subprocess.run([sys.executable, str(build.ROOT / "scripts/build.py"), program])
         if built.returncode:
             return built.returncode
-    return tried(words[is_each:], is_each)
+    return tried(words[is_each or is_turn :], is_each, is_turn)
 
 
 if __name__ == "__main__":

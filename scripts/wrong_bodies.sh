@@ -5,7 +5,7 @@
 root=$(CDPATH= cd -- "$(dirname -- "$0")/.." && pwd) || exit 1
 . "$root/scripts/runs.sh"
 cp -R "$root/tests/wrong-bodies/." "$here/run/" && mkdir "$here/run/scripts" || exit 1
-cp "$root/scripts/build.py" "$root/scripts/wrong_bodies.py" "$here/run/scripts/" && cp "$root/HANDLES" "$here/run/" || exit 1
+cp "$root/scripts/build.py" "$root/scripts/turn.py" "$root/scripts/wrong_bodies.py" "$here/run/scripts/" && cp "$root/HANDLES" "$here/run/" || exit 1
 printf 'numbers:\nlost:\n' > "$here/run/crates.txt"
 # The kit wants files that end in .rt and .antt in the repository's crates alone, so here they have .txt behind that.
 find "$here/run/crates" -name '*.txt' | while read -r file; do mv "$file" "${file%.txt}"; done

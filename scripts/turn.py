@@ -1,0 +1,237 @@
+#!/usr/bin/env python3
+"""The turn of whoever changes a crate: what has changed is proved over what earlier turns kept, and tried. It is no gate.
+
+    python3 scripts/turn.py              what has changed since the last turn that passed
+    python3 scripts/turn.py CRATE ..     the same, and these crates are tried whether or not they have changed
+
+First it proves each crate that has changed, and all above it up to both programs, and builds these. A function is proved anew only where it, or a statement
+that it stands on, has changed: crates/CRATE/out/incremental has what is kept, the folder that `rt check` uses. Libraries that are as the launcher proved them
+are taken from there; the others lie in crates/cubeboard/out/rlib/turn, and the programs are out/turn.NAME of their folders. Then come tests/rows over these
+programs and, side by side, the scripts that try what the changed crates do (SCRIPTS), the wrong bodies of these crates (scripts/wrong_bodies.py), and the tests
+of the suites above them, unproved (`rt try --test`). The last lines say what was done and what was left out.
+
+What is proved so rests on files below out/, as the prover says (incremental=trusted): `./check` takes nothing from it, nor do the launchers. A first turn, with
+nothing kept, takes as long as a first call, and tries rows and scripts alone. The status is 0 where all of it passed, 1 where something did not, 70 where the
+turn can't be made.
+"""
+import concurrent.futures
+import contextlib
+import fcntl
+import os
+import subprocess
+import sys
+import time
+
+import build
+
+PROGRAMS = ("cubeboard", "cubejoin")
+# Which script tries what which crates do. tests/rows try all of them, so that one isn't here.
+SCRIPTS = {
+    "explain": {"cube_explain", "cube_command", "cube_report", "cubeboard"},
+    "files": {"bundle_files", "cube_command", "join_command", "cubeboard", "cubejoin"},
+    "picture": {"tree_map", "node_fields", "split_tree", "mark_board"},
+    "questions": {"cube_report", "node_fields"},
+    "cluster": {"join_command", "cube_join", "cubejoin"},
+    "threads": {"board_hall", "cube_jobs", "check_crew", "bundle_files", "cube_command", "cubeboard"},
+    "refused": {"hint_check", "case_core", "check_crew", "bundle_files", "join_command"},
+}
+WORDS = {"cluster": ["loop"]}
+LANES = 4
+
+
+class Kept(build.Kept):
+    """Libraries and programs of a turn, beside those of the launchers, which are taken where they are those of the sources."""
+
+    def __init__(self, program, sums):
+        super().__init__(program)
+        self.launcher, self.sums = build.Kept(program), sums
+        self.libraries = build.SHARED / "rlib" / "turn"
+        self.passed = build.SHARED / "turn.passed"
+
+    def is_launchers(self, crate):
+        return not crate.is_program and self.launcher.has(crate, self.sums[crate.name])
+
+    def library(self, crate):
+        return self.launcher.library(crate) if self.is_launchers(crate) else super().library(crate)
+
+    def made(self, crate):
+        return crate.folder / "out" / f"turn.{crate.name}" if crate.is_program else self.library(crate)
+
+    def sum_file(self, crate):
+        if crate.is_program:
+            return crate.folder / "out" / "turn.sum"
+        return self.launcher.sum_file(crate) if self.is_launchers(crate) else super().sum_file(crate)
+
+    def log(self, crate):
+        return self.libraries / f"{crate.name}.log"
+
+    def changed(self, owns):
+        """The crates whose own files aren't those of the last turn that passed; None where no turn has passed yet."""
+        if not self.passed.is_file():
+            return None
+        noted = dict(line.split() for line in self.passed.read_text().splitlines())
+        return {name for name, own in owns.items() if noted.get(name) != own}
+
+    def note_passed(self, owns):
+        self.passed.write_text("".join(f"{name} {own}\n" for name, own in owns.items()))
+
+
+class Prover(build.Prover):
+    """Proves over what earlier turns kept of a crate."""
+
+    def words(self, crate):
+        return [*super().words(crate), "-L", f"dependency={self.kept.launcher.libraries}"]
+
+    def prove(self, crate, jobs, log):
+        tool, folder = f"{self.kit.folder}/bin/rattle", self.kit.folder
+        words = [tool, "build", *self.words(crate), "--logic-built", f"{folder}/logic_built", "--incremental", "out/incremental"]
+        words += ["--jobs", str(jobs)]
+        (crate.folder / "out").mkdir(exist_ok=True)
+        with alone_in(crate.folder):
+            if not crate.is_program:
+                return self.call(crate, log, *words, "-o", str(self.kept.library(crate)))
+            return self.link(crate, log, words)
+
+
+@contextlib.contextmanager
+def alone_in(folder):
+    """Waits until no `rt` works in a crate's folder, and keeps others out."""
+    held = os.open(folder, os.O_RDONLY)
+    try:
+        fcntl.flock(held, fcntl.LOCK_EX)
+        yield
+    finally:
+        os.close(held)
+
+
+def kept_of():
+    """What the last turn left, where the sources are still those."""
+    crates = crates_of_programs()
+    return Kept(crates[-1], build.sums_of(crates))
+
+
+def crates_of_programs():
+    """The crates that the programs stand on, and the programs, each after those that it names."""
+    found = {}
+    for program in PROGRAMS:
+        for crate in build.below(program):
+            if crate.name not in found:
+                crate.lower = [found.get(it.name, it) for it in crate.lower]
+                found[crate.name] = crate
+    return [*found.values()]
+
+
+def suites():
+    """The crates of tests, each with the names of all that it stands on and its own."""
+    named = [it for it in build.lines_of_crates() if it.endswith("suite")]
+    return {it: {one.name for one in build.below(it)} for it in named}
+
+
+def owns_of(crates):
+    """The sums of the own files of the programs' crates and of those of tests."""
+    owns = {it.name: it.own for it in crates}
+    for name in suites():
+        owns.update({it.name: it.sum() for it in build.below(name) if it.name not in owns})
+    return owns
+
+
+def prove(crates, kept, sums):
+    """Proves what has changed and all above it, and answers the crates that were."""
+    kit = build.Kit()
+    kept.make_folders()
+    with open(build.SHARED / "lock", "w") as lock:
+        fcntl.flock(lock, fcntl.LOCK_EX)
+        run = build.Build(crates, kit, kept, sums)
+        run.prover = Prover(kit, kept, run.teller)
+        stale = [it.name for it in crates if it.name not in run.proved]
+        failed = run.run()
+    if failed:
+        print(*kept.log(failed).read_text(errors="replace").splitlines()[-25:], sep="\n", file=sys.stderr)
+        raise build.Failure(f"the crate {failed.name} isn't proved; all that was said stands in {kept.log(failed)}")
+    return stale
+
+
+class Tries:
+    """What is tried of a turn: commands that run side by side, what each says in one piece when it has ended, and which of them failed."""
+
+    def __init__(self, crates, kept):
+        programs = {it.name: str(kept.made(it)) for it in crates if it.is_program}
+        self.env = {**os.environ, "CUBEBOARD_PROGRAM": programs["cubeboard"], "CUBEJOIN_PROGRAM": programs["cubejoin"]}
+        self.lanes = concurrent.futures.ThreadPoolExecutor(LANES)
+        self.given, self.start = [], time.monotonic()
+
+    def one(self, name, folder, words):
+        """Runs a command and answers its name and whether it passed."""
+        start, out = time.monotonic(), subprocess.STDOUT
+        ran = subprocess.run(words, cwd=folder, env=self.env, stdin=subprocess.DEVNULL, stdout=subprocess.PIPE, stderr=out, text=True)
+        lines = ran.stdout.splitlines()
+        is_well = not ran.returncode
+        print(*(lines[-1:] if is_well else lines[-40:]), sep="\n")
+        build.say(f"{name}: {'passed' if is_well else 'failed'}, {time.monotonic() - start:.0f} s")
+        return name, is_well
+
+    def give(self, name, words, folder=build.ROOT):
+        self.given.append(self.lanes.submit(self.one, name, folder, words))
+
+    def script(self, name):
+        self.give(name, ["sh", f"scripts/{name}.sh", *WORDS.get(name, [])])
+
+    def failed(self):
+        """The names of those that failed, when all have ended."""
+        return [name for name, is_well in (it.result() for it in self.given) if not is_well]
+
+
+def try_all(tries, tried, is_first):
+    """Tries rows first, and beside them what these crates do; answers what was done and left out."""
+    tries.script("rows")
+    scripts = [it for it, crates in SCRIPTS.items() if is_first or crates & tried]
+    for name in scripts:
+        tries.script(name)
+    left = [it for it in SCRIPTS if it not in scripts]
+    if is_first:
+        return ["rows", *scripts], ["all wrong bodies", "all tests"]
+    wrong = sorted(it for it in tried if (build.ROOT / "crates" / it / "must-fail").is_dir())
+    for name in wrong:
+        words = [sys.executable, "scripts/wrong_bodies.py", "--turn", name]
+        tries.give(f"wrong bodies of {name}", words)
+    above = [it for it, below in suites().items() if below & tried]
+    for name in above:
+        tries.give(f"tests of {name}", ["rt", "try", "--test"], build.ROOT / "crates" / name)
+    left += [f"tests of {it}" for it in suites() if it not in above]
+    done = ["rows", *scripts, *(f"wrong bodies of {it}" for it in wrong), *(f"tests of {it}, unproved" for it in above)]
+    return done, left
+
+
+def turn(names):
+    """Makes a turn, and answers its status."""
+    start, crates = time.monotonic(), crates_of_programs()
+    if unknown := [it for it in names if it not in build.lines_of_crates()]:
+        raise build.Failure(f"crates.txt has no line of {unknown[0]}")
+    sums = build.sums_of(crates)
+    kept, owns = Kept(crates[-1], sums), owns_of(crates)
+    changed = kept.changed(owns)
+    tried = {*names} | (changed or set())
+    stale = prove(crates, kept, sums)
+    build.say(f"proved: {', '.join(stale) or 'nothing, since nothing has changed'}; {time.monotonic() - start:.0f} s")
+    tries = Tries(crates, kept)
+    done, left = try_all(tries, tried, changed is None and not names)
+    failed = tries.failed()
+    build.say(f"tried: {', '.join(done)}")
+    build.say(f"left out: {', '.join(left)}; the proofs of tests; what each wrong body does alone; the scripts that only ./check runs")
+    told = f"{len(failed)} failed: {', '.join(failed)}" if failed else "passed"
+    build.say(f"{told}, after {time.monotonic() - start:.0f} s. This is a turn over kept work, and no gate: that is ./check")
+    if not failed:
+        kept.note_passed(owns)
+    return 1 if failed else 0
+
+
+if __name__ == "__main__":
+    build.Speaker.name = "turn"
+    try:
+        sys.exit(turn(sys.argv[1:]))
+    except build.Failure as why:
+        build.say(why)
+        sys.exit(build.FAILED)
+    except KeyboardInterrupt:
+        build.say("interrupted. What is proved is kept")
+        sys.exit(build.INTERRUPTED)
