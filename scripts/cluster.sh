@@ -47,12 +47,7 @@ cp "$EXAMPLE/proofs/$number.lrat" "$2" && exit 20
 SOLVER
 chmod +x "$SOLVE"
 
-# The commands of the README, those under each of its headings in a file of its own.
-mkdir "$here/page"
-awk -v page="$here/page" '
-    /^## / { name = tolower(substr($0, 4)) }
-    /^    / && name != "" { print substr($0, 5) > (page "/" name) }
-' "$root/examples/cluster/README.md"
+cut_page "$root/examples/cluster/README.md"
 
 # Runs a command in the folder of the run.
 in_folder() {
@@ -117,10 +112,10 @@ is_here() {
 by_engine() {
     rm -f "$folder/joined.report"
     case $1 in
-        loop) in_folder sh "$here/page/a plain loop" ;;
-        parallel) in_folder sh "$here/page/gnu parallel" ;;
-        snakemake-slurm) in_folder sh "$here/page/snakemake through slurm" ;;
-        *) in_folder sh "$here/page/$1" ;;
+        loop) in_folder sh "$here/page/a plain loop.1" ;;
+        parallel) in_folder sh "$here/page/gnu parallel.1" ;;
+        snakemake-slurm) in_folder sh "$here/page/snakemake through slurm.1" ;;
+        *) in_folder sh "$here/page/$1.1" ;;
     esac
     if [ "$1" = slurm ]; then
         id=$(sed -n 's/^Submitted batch job //p' "$here/out")

@@ -13,8 +13,9 @@ import sys
 import tempfile
 import time
 
-ROOT = pathlib.Path(__file__).resolve().parent.parent
-BEGIN, END = "<!-- first call: begin -->", "<!-- first call: end -->"
+import tables
+
+ROOT = tables.ROOT
 NAMED = r"\d+ minutes and [\d,]+ processor seconds on \d+ cores"
 # The texts that name the time, and what stands before it there.
 TEXTS = {"README.md": r"The first call took ", "scripts/build.py": r'FIRST_CALL = "', "docs/PROOFS.md": r"The first call from a clean clone: "}
@@ -38,18 +39,16 @@ def measured(folder):
 def table(named, rows):
     """The part of docs/PROOFS.md."""
     used = sum(row[2] for row in rows)
-    return "\n".join([
-        BEGIN,
+    return [
         f"The first call from a clean clone: {named} (a virtual machine, its processor an {processor()}).",
         f"On two cores it takes some {used / 2 / 60 * 1.1:.0f} minutes, reckoned: half of the processor seconds and a tenth more.",
         "Crates that don't stand on each other are proved side by side, so the minutes are fewer than the sum of the second column.",
         "",
-        "| Crate | seconds from start to end | processor seconds |",
+        tables.row("Crate", "seconds from start to end", "processor seconds"),
         "|---|---|---|",
-        *[f"| {name} | {took:.0f} | {spent:.0f} |" for name, took, spent in rows],
-        f"| together | | {used:.0f} |",
-        END,
-    ])
+        *[tables.row(name, f"{took:.0f}", f"{spent:.0f}") for name, took, spent in rows],
+        tables.row("together", "", f"{used:.0f}"),
+    ]
 
 
 def names():
@@ -64,10 +63,7 @@ def names():
 def write(wall, rows):
     used = sum(row[2] for row in rows)
     named = f"{wall / 60:.0f} minutes and {used:,.0f} processor seconds on {os.cpu_count()} cores"
-    document = ROOT / "docs/PROOFS.md"
-    text = document.read_text()
-    start, end = text.index(BEGIN), text.index(END) + len(END)
-    document.write_text(text[:start] + table(named, rows) + text[end:])
+    tables.put("first call", table(named, rows))
     for file, before in TEXTS.items():
         text = (ROOT / file).read_text()
         (ROOT / file).write_text(re.sub(f"({before}){NAMED}", rf"\g<1>{named}", text))

@@ -1,16 +1,21 @@
-"""Runs ./check in a folder and writes the times that it took into a document, between two marks.
+#!/usr/bin/env python3
+"""Runs ./check in a clean clone of what is committed, and writes into docs/PROOFS.md what it took: the wall time, the processor time in all, and the processor
+seconds of each crate's proof, tests and must-fail edits. Run it with nothing else running. The status is that of ./check.
 
 What each process of the prover has used is read from /proc a few times a second; its command line says of which crate it is, and
-whether it proves the crate, its tests, or the crate with an edit. Called by gate_times.sh: FOLDER DOCUMENT."""
+whether it proves the crate, its tests, or the crate with an edit."""
 import os
 import resource
 import subprocess
 import sys
+import tempfile
 import time
+
+import tables
+import wrong_bodies
 
 TICK = os.sysconf("SC_CLK_TCK")
 PARTS = ("proof", "tests", "edits")
-BEGIN, END = "<!-- times: begin -->", "<!-- times: end -->"
 
 
 def read(path):
@@ -31,7 +36,7 @@ def label_of(process):
     except OSError:
         return None
     crate = words[words.index(b"--crate-name") + 1].decode()
-    if "rt-edit-" in folder:
+    if "/rt-edit-" in folder or f"/{wrong_bodies.ROOM}" in folder:
         return crate, "edits"
     return crate, "tests" if b"--test" in words else "proof"
 
@@ -71,39 +76,35 @@ def edit_count(folder, crate):
 
 def table_of(folder, wall, total, parts):
     """The lines of the document."""
-    with open(f"{folder}/crates.txt", encoding="utf-8") as file:
-        crates = [line.partition(":")[0].split()[0] for line in file if line.strip() and line[0] != "#"]
+    crates = tables.crates()
     rows = [[parts.get((crate, part), 0) for part in PARTS] for crate in crates]
-    lines = [
+    edits = [edit_count(folder, crate) for crate in crates]
+    sums = [sum(row[place] for row in rows) for place in range(len(PARTS))]
+    seconds = [[f"{it:.0f}" for it in row] for row in [*rows, sums]]
+    return [
+        "",
         f"`./check` from a clean clone: {wall / 60:.0f} minutes on {os.cpu_count()} cores, "
         f"{total / 60:.0f} processor minutes. In processor seconds:",
         "",
-        "| Crate | its proof | its tests | its edits | number of edits |",
+        tables.row("Crate", "its proof", "its tests", "its edits", "number of edits"),
         "|---|---|---|---|---|",
+        *[tables.row(*line) for line in zip([*crates, "together"], *zip(*seconds), [*edits, sum(edits)])],
+        "",
+        f"Compiling, linking, running the tests and the scripts took {total - sum(sums):.0f} more.",
     ]
-    for crate, row in zip(crates, rows):
-        times = " | ".join(f"{seconds:.0f}" for seconds in row)
-        lines.append(f"| {crate} | {times} | {edit_count(folder, crate)} |")
-    sums = [sum(row[place] for row in rows) for place in range(3)]
-    edits = sum(edit_count(folder, crate) for crate in crates)
-    lines.append(f"| together | {' | '.join(f'{seconds:.0f}' for seconds in sums)} | {edits} |")
-    lines += ["", f"Compiling, linking, running the tests and the scripts took {total - sum(sums):.0f} more."]
-    return lines
 
 
-def main(folder, document):
-    status, wall, total, parts = run(folder)
-    lines = table_of(folder, wall, total, parts)
-    print("\n".join(lines))
-    with open(document, encoding="utf-8") as file:
-        text = file.read()
-    head, _, rest = text.partition(BEGIN)
-    tail = rest.partition(END)[2]
-    if status == 0 and tail:
-        with open(document, "w", encoding="utf-8") as file:
-            file.write("\n".join([head + BEGIN, *lines, END]) + tail)
+def main():
+    with tempfile.TemporaryDirectory() as room:
+        clone = f"{room}/clone"
+        subprocess.run(["git", "clone", "-q", tables.ROOT, clone], check=True)
+        status, *found = run(clone)
+        lines = table_of(clone, *found)
+    print(*lines, sep="\n")
+    if status == 0:
+        tables.put("times", lines)
     return status
 
 
 if __name__ == "__main__":
-    sys.exit(main(*sys.argv[1:]))
+    sys.exit(main())

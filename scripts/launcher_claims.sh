@@ -11,6 +11,7 @@ count() {
         echo "$name: $1: this isn't so"
         [ -z "$is_wrong" ] || exit 1
     fi
+    return "$2"
 }
 
 # A copy of this folder without what was built.

@@ -7,20 +7,14 @@ root=$(CDPATH= cd -- "$(dirname -- "$0")/.." && pwd) || exit 1
 . "$root/scripts/runs.sh"
 build_program
 
-# The questions' blocks, each in a file of its own under its number.
-mkdir "$here/page"
-awk -v page="$here/page" '
-    /^## / { inside = 0; here = $0 == "## Questions to a report" }
-    here && /^    / { if (!inside) blocks++; inside = 1; print substr($0, 5) > (page "/" blocks); next }
-    /[^ ]/ { inside = 0 }
-' "$root/docs/FORMATS.md"
-blocks=$(ls "$here/page" | tr '\n' ' ')
+cut_page "$root/docs/FORMATS.md"
+blocks=$(ls "$here/page" | sed -n 's/^questions to a report\.//p' | tr '\n' ' ')
 [ "$blocks" = "1 2 3 4 5 6 7 " ]
 count "the page has seven questions" $?
 
 # Asks one of them in the folder of the report: its number.
 ask() {
-    (cd "$here/run" && sh "$here/page/$1" 2>&1)
+    (cd "$here/run" && sh "$here/page/questions to a report.$1" 2>&1)
 }
 
 # How many lines its answer has: its number.

@@ -15,13 +15,7 @@ ln -s "$root/examples" "$here/run/"
 ln -s "${CUBEBOARD_PROGRAM:-$root/cubeboard}" "$here/run/cubeboard"
 ln -s "${CUBEJOIN_PROGRAM:-$root/cubejoin}" "$here/run/cubejoin"
 
-# The page's blocks, each in a file of its own under the name of its part, a full stop, and which one of that part it is.
-mkdir "$here/page"
-awk -v page="$here/page" '
-    /^## / { part = tolower(substr($0, 4)); blocks = 0 }
-    /^    / { if (!inside) blocks++; inside = 1; print substr($0, 5) > (page "/" part "." blocks); next }
-    { inside = 0 }
-' "$root/README.md"
+cut_page "$root/README.md"
 blocks=$(ls "$here/page" | tr '\n' ,)
 if [ "$blocks" != "as a library.1,as a library.2,first run.1,first run.2,install.1,what a report means.1,your own formula.1,your own formula.2," ]; then
     fail "the page has the blocks $blocks which this script doesn't know"

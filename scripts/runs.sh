@@ -56,6 +56,17 @@ finish() {
     exit $?
 }
 
+# Puts a page's blocks of indented lines into $here/page, each in a file under the name of its part, a full stop, and which one of that part it is: the page. A
+# part's name is its number, if its heading has one, or the heading in small letters.
+cut_page() {
+    mkdir "$here/page"
+    awk -v page="$here/page" '
+        /^## / { part = $2 ~ /^[0-9]+\.$/ ? $2 + 0 : tolower(substr($0, 4)); blocks = 0 }
+        /^    / && part != "" { if (!inside) blocks++; inside = 1; print substr($0, 5) > (page "/" part "." blocks); next }
+        { inside = 0 }
+    ' "$1"
+}
+
 # The launcher first, which builds the program where that is needed; all other runs are of the program itself.
 build_program() {
     built=${CUBEBOARD_PROGRAM:-$root/crates/cubeboard/out/cubeboard}

@@ -6,7 +6,8 @@
 
 First it proves each crate that has changed, and all above it up to both programs, and builds these. A function is proved anew only where it, or a statement
 that it stands on, has changed: crates/CRATE/out/incremental has what is kept, the folder that `rt check` uses. Libraries that are as the launcher proved them
-are taken from there; the others lie in crates/cubeboard/out/rlib/turn, and the programs are out/turn.NAME of their folders. Then come tests/rows over these
+are taken from there; the others lie in crates/cubeboard/out/rlib/turn. The programs are out/turn.NAME of their folders, and slower than the launchers': the kit's
+own compiler makes them. Then come tests/rows over these
 programs and, side by side, the scripts that try what the changed crates do (SCRIPTS), the wrong bodies of these crates (scripts/wrong_bodies.py), and the tests
 of the suites above them, unproved (`rt try --test`). The last lines say what was done and what was left out.
 
@@ -54,6 +55,9 @@ class Kept(build.Kept):
     def library(self, crate):
         return self.launcher.library(crate) if self.is_launchers(crate) else super().library(crate)
 
+    def searched(self, crate):
+        return [self.libraries, self.launcher.libraries]
+
     def made(self, crate):
         return crate.folder / "out" / f"turn.{crate.name}" if crate.is_program else self.library(crate)
 
@@ -77,10 +81,9 @@ class Kept(build.Kept):
 
 
 class Prover(build.Prover):
-    """Proves over what earlier turns kept of a crate."""
+    """Proves over what earlier turns kept of a crate. Its programs are compiled by the kit's own compiler, which takes a third of the time that LLVM takes."""
 
-    def words(self, crate):
-        return [*super().words(crate), "-L", f"dependency={self.kept.launcher.libraries}"]
+    backend = "rattle"
 
     def prove(self, crate, jobs, log):
         tool, folder = f"{self.kit.folder}/bin/rattle", self.kit.folder

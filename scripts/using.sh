@@ -196,13 +196,7 @@ if [ -n "${CUBEBOARD_PROGRAM:-}${CUBEJOIN_PROGRAM:-}" ]; then
     root=$here/root
 fi
 
-# The page's blocks, each in a file of its own under the number of its part, a full stop, and which one of that part it is.
-mkdir "$here/page"
-awk -v page="$here/page" '
-    /^## / { part = $2 + 0; blocks = 0; inside = 0 }
-    /^    / { if (!inside) blocks++; inside = 1; print substr($0, 5) > (page "/" part "." blocks); next }
-    /[^ ]/ { inside = 0 }
-' "$root/docs/USING.md"
+cut_page "$root/docs/USING.md"
 blocks=$(ls "$here/page" | tr '\n' ' ')
 if [ "$blocks" != "1.1 2.1 3.1 3.2 4.1 4.2 4.3 4.4 4.5 4.6 4.7 4.8 4.9 5.1 5.2 5.3 5.4 5.5 6.1 8.1 8.2 8.3 8.4 8.5 8.6 8.7 " ]; then
     fail "the page has the blocks $blocks, which this script doesn't know"

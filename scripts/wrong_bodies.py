@@ -1,6 +1,6 @@
 #!/usr/bin/env python3
-"""Tries the must-fail edits of the crates, many at a time: for who writes one, or changes a contract. The verdict is that of `rt ci`, which tries each in a
-check of its own.
+"""Tries the must-fail edits of the crates, many at a time: in the gate, by scripts/gate.py, and for who writes one or changes a contract.
+`./check --whole` has `rt ci` try each in a check of its own, too.
 
     python3 scripts/wrong_bodies.py                  tries all
     python3 scripts/wrong_bodies.py CRATE [NAME ..]  tries those of a crate, or of these the ones whose names begin so
@@ -40,6 +40,10 @@ import tempfile
 import build
 import turn
 
+# How the folder's name begins in which edits are tried.
+ROOM = "wrong-bodies-"
+# The names of edits, and of pages about them, which nothing tries.
+NAMED = re.compile(r"[A-Za-z0-9_-][A-Za-z0-9_.-]*\.(edit|md)")
 # How often a check that is killed, most likely for memory, is tried in all, and what a check may take, in bytes.
 TRIES = 2
 MEMORY_OF_A_CHECK = 4_000_000_000
@@ -94,6 +98,12 @@ def edits_of(folder, names):
     """The wrong bodies of a crate whose names begin with one of these; all where there are none."""
     files = sorted((folder / "must-fail").glob("*.edit"))
     return [Edit(it) for it in files if not names or it.stem.startswith(tuple(names))]
+
+
+def strangers_of(folder):
+    """The names below a crate's must-fail/ that are no edit's, and that nothing would try."""
+    found = [it.relative_to(folder / "must-fail") for it in (folder / "must-fail").rglob("*") if not it.is_dir()]
+    return sorted(str(it) for it in found if not NAMED.fullmatch(str(it)))
 
 
 def rounds_of(edits, folder, is_each):
@@ -173,8 +183,7 @@ class Tries:
 
     def __init__(self, kit, kept, crate, room):
         self.crate, self.room, self.kit = crate, room / crate.name, kit
-        prover = turn.Prover if isinstance(kept, turn.Kept) else build.Prover
-        self.words = [*prover(kit, kept, None).words(crate), "--logic-built", f"{kit.folder}/logic_built", "--jobs", "1"]
+        self.words = [*build.Prover(kit, kept, None).words(crate), "--logic-built", f"{kit.folder}/logic_built", "--jobs", "1"]
         self.words += ["--incremental", str(self.room / "proved")]
         shutil.copytree(crate.folder, self.room / "crate", ignore=shutil.ignore_patterns("out", "must-fail"))
         before = crate.folder / "out" / "incremental"
@@ -208,7 +217,8 @@ class Tries:
 
 
 def try_crate(kit, kept, crate, edits, room, is_each):
-    """Tries the edits of a crate, and answers for each whether it is refused, with a line to print."""
+    """Tries the edits of a crate, prints a line for each, and answers for each whether it is refused."""
+    strangers = strangers_of(crate.folder)
     faults = [(it, False, f"FAILED: BAD: {why}") for it in edits if (why := it.fault(crate.folder))]
     bad = {it for it, _, _ in faults}
     tries, told = Tries(kit, kept, crate, room), faults
@@ -217,7 +227,9 @@ def try_crate(kit, kept, crate, edits, room, is_each):
     shutil.rmtree(tries.room)
     for edit, _, why in told:
         print(f"wrong body {crate.name}/{edit.name}: {' '.join(why.split())[:200]}", flush=True)
-    return [is_refused for _, is_refused, _ in told]
+    for name in strangers:
+        print(f"wrong body {crate.name}/{name}: FAILED: BAD: it stands below must-fail/ and its name is no edit's", flush=True)
+    return [is_refused for _, is_refused, _ in told] + [False for _ in strangers]
 
 
 def work_of(crate):
@@ -247,7 +259,7 @@ def tried(names, is_each, is_turn=False):
         sys.exit("wrong_bodies.py: there is no such crate with wrong bodies")
     # (all programs share their libraries)
     kit, kept = build.Kit(), turn.kept_of() if is_turn else build.Kept(crates[0])
-    with tempfile.TemporaryDirectory(prefix="wrong-bodies-") as at, concurrent.futures.ThreadPoolExecutor(lane_count()) as lanes:
+    with tempfile.TemporaryDirectory(prefix=ROOM) as at, concurrent.futures.ThreadPoolExecutor(lane_count()) as lanes:
         room = pathlib.Path(at)
         given = [lanes.submit(try_crate, kit, kept, it, edits_of(it.folder, names[1:]), room, is_each) for it in crates]
         told = [it for one in given for it in one.result()]

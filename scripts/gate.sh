@@ -1,0 +1,156 @@
+#!/bin/sh
+# Tries scripts/gate.py on a repository of three crates, each on the one before, under a stand-in for the kit, which proves nothing: when wrong bodies are
+# tried, over which libraries, what the status is, and what is handed over. Then it tries wrong gates, each of which a claim has to refuse. It takes no proof.
+# The last line counts.
+root=$(CDPATH= cd -- "$(dirname -- "$0")/.." && pwd) || exit 1
+here=$(mktemp -d) || exit 1
+trap 'rm -rf "$here"' EXIT
+name=gate
+passed=0
+failed=0
+. "$root/scripts/launcher_claims.sh"
+
+# `rt ci` says of each crate that it is proved, when it has made its library, after a while; but of $UNPROVED that it isn't, nor what stands on it. It notes
+# what it finds below must-fail/ and its priority. `rattle` refuses each function, but for $RIGHT, and each crate whose libraries aren't there; it notes the crate.
+stand_in_for_gates() {
+    stand_in
+    cat > "$here/bin/rt" << 'RT'
+#!/bin/sh
+case $1 in
+    version) cat "$HERE/version" ;;
+    doc) echo "$HERE/kit/START-HERE.md" ;;
+    ci)
+        find crates -path '*must-fail*' -name '*.edit' > "$HERE/edits"
+        nice > "$HERE/priority"
+        for crate in low mid top; do
+            [ "$crate" != "$UNPROVED" ] || { echo "rt: $crate NOT PROVED"; echo "0 passed, 1 failed"; exit 1; }
+            sleep 0.3
+            mkdir -p "crates/$crate/out/rlib/$crate.rlib"
+            echo "rt: $crate proved"
+            echo "rt: $crate: its tests are proved"
+        done
+        sleep 0.3
+        echo "${FAILS:-0} failed"
+        exit "${FAILS:-0}"
+        ;;
+    *) exit 1 ;;
+esac
+RT
+    cat > "$here/kit/bin/rattle" << 'RATTLE'
+#!/bin/sh
+while [ $# -gt 0 ]; do
+    case $1 in
+        --crate-name) crate=$2 ;;
+        --extern) lower="$lower ${2#*=}" ;;
+        -L) searched="$searched ${2#dependency=}" ;;
+        --only) functions="$functions $2" ;;
+    esac
+    shift
+done
+echo "$crate $(nice)" >> "$HERE/notes"
+for it in $lower; do
+    case $it in */kit/*) ;; *) [ -d "$it" ] || { echo "error: $it isn't there"; exit 1; } ;; esac
+done
+case "$crate $searched" in
+    top*/low/out/rlib* | mid* | low*) ;;
+    *) echo "error: low isn't found"; exit 1 ;;
+esac
+for it in $functions; do
+    if [ "$crate" = "$RIGHT" ]; then echo "fn $crate::$it: proved"; else echo "fn $crate::$it: a goal is open: it did not prove"; fi
+done
+exit 1
+RATTLE
+}
+
+# A repository of three crates with a wrong body each.
+copy_of_three() {
+    rm -rf "$here/copy"
+    mkdir -p "$here/copy/scripts"
+    cp "$root/HANDLES" "$here/copy/"
+    cp "$root/scripts/build.py" "$root/scripts/turn.py" "$root/scripts/wrong_bodies.py" "$root/scripts/gate.py" "$here/copy/scripts/"
+    printf 'low:\nmid: low\ntop: mid\n' > "$here/copy/crates.txt"
+    for crate in low mid top; do
+        mkdir -p "$here/copy/crates/$crate/src" "$here/copy/crates/$crate/must-fail"
+        printf '1\n' > "$here/copy/crates/$crate/src/lib.rt"
+        printf '# function: one\nfile: src/lib.rt\nold: 1\nnew: 2\n' > "$here/copy/crates/$crate/must-fail/01-one-two.edit"
+    done
+}
+
+# The crates whose wrong bodies were tried.
+tried() {
+    cut -d ' ' -f 1 "$here/notes" | sort -u | tr '\n' ' '
+}
+
+# Calls the gate: the claim and the status that is wanted; and where `rt ci` doesn't fail, so that nothing is given up, the crates whose wrong bodies have to be
+# tried, and the last line.
+gate() {
+    rm -rf "$here"/copy/crates/*/out "$here/made"
+    : > "$here/notes"
+    python3 "$here/copy/scripts/gate.py" "$here/made" < /dev/null > "$here/out" 2>&1
+    [ $? -eq "$2" ] && { [ $# -eq 2 ] || { [ "$(tried)" = "$3" ] && [ "$(tail -n 1 "$here/out")" = "$4" ]; }; }
+    count "$1" $? || cat "$here/out"
+}
+
+# Whether what `rt ci` made has been handed over.
+is_handed_over() {
+    [ -d "$here/copy/crates/low/out/rlib/low.rlib" ] && [ -d "$here/copy/crates/top/out/rlib/top.rlib" ]
+}
+
+claims_of_gates() {
+    gate "where each is refused the status is 0, and each is counted" 0 "low mid top " "wrong_bodies: 3 passed, 0 failed"
+    is_handed_over
+    count "what rt ci made is handed over" $?
+    [ ! -s "$here/edits" ] && [ "$(ls "$here"/copy/crates/*/must-fail/*.edit | wc -l)" -eq 3 ]
+    count "rt ci is given no edit, and they stay where they are" $?
+    [ "$(cat "$here/priority")" -lt 19 ] && ! grep -v -q ' 19$' "$here/notes"
+    count "wrong bodies have the lowest priority, and rt ci has not" $?
+    RIGHT=mid
+    export RIGHT
+    gate "where one isn't refused the status is 1" 1 "low mid top " "wrong_bodies: 2 passed, 1 failed"
+    grep -q '^wrong body mid/01-one-two: FAILED: NOT REFUSED' "$here/out" && ! is_handed_over
+    count "it is told, and nothing is handed over" $?
+    RIGHT=
+    FAILS=1
+    export FAILS
+    gate "where rt ci fails at its end the status is 1" 1
+    ! is_handed_over
+    count "and nothing is handed over" $?
+    FAILS=
+    UNPROVED=mid
+    export UNPROVED
+    gate "where a crate isn't proved the status is 1" 1
+    grep -q "isn't proved: the wrong bodies of top$" "$here/out" && [ "$(tried | grep -c top)" -eq 0 ]
+    count "what stands on it isn't tried, and that is told" $?
+    UNPROVED=
+    echo > "$here/copy/crates/mid/must-fail/02-two.edits"
+    gate "a file that is no edit has to be none" 1 "low mid top " "wrong_bodies: 3 passed, 1 failed"
+    rm "$here/copy/crates/mid/must-fail/02-two.edits"
+}
+
+# Wrong gates: the name and what `sed` makes of gate.py.
+wrong() {
+    copy_of_three
+    sed "$2" "$root/scripts/gate.py" > "$here/copy/scripts/gate.py"
+    if cmp -s "$root/scripts/gate.py" "$here/copy/scripts/gate.py"; then
+        count "the wrong gate \"$1\" can be made" 1
+        return
+    fi
+    (is_wrong=1 && failed=0 && claims_of_gates > "$here/told" 2>&1)
+    [ $? -ne 0 ]
+    count "a gate with $1 is refused" $?
+}
+
+stand_in_for_gates
+copy_of_three
+claims_of_gates
+wrong "the edits left to rt ci" 's/"must-fail", //'
+wrong "the status of rt ci passed over" 's/^    if status or left/    if left/'
+wrong "right bodies passed over" 's/ or not all(told)//'
+wrong "no wrong bodies" 's/^        ready = .*/        ready = [] if self.left else []; self.left = []/'
+wrong "no wait for libraries" 's/ if self.below\[it.name\] <= self.proved\]/]/'
+wrong "libraries by name alone" 's/^        return \[self.library(low).parent .*/        return []/'
+wrong "crates left out" 's/^    if status or left or not told/    if not told/; s/^    if left:/    if False:/'
+wrong "nothing handed over" 's/^    hand_over(copy)/    pass/'
+wrong "no priority" 's/^    os.nice(LOWEST)/    pass/'
+echo "$name: $passed passed, $failed failed"
+[ "$failed" -eq 0 ]
