@@ -100,7 +100,7 @@ reads files and can't write any).""",
       "cube_command/telling.rt own_words words memory",
       "cube_report/engine.rt run_io allowed",
       "cube_report/engine.rt write_report allowed",
-      "cube_report/device.rt Sink::write allowed rest",
+      "byte_flow/device.rt Sink::write allowed rest",
       "bundle_files/store.rt Store::read allowed",
       "bundle_files/store.rt Store::write allowed beside",
       "bundle_files/store.rt Store::write_counted allowed beside"]),
@@ -206,7 +206,7 @@ state in which a hall ends.""",
     ("cube_jobs and check_crew: one report for every number of threads", """
 Each section's place is claimed once. Once all workers are joined, each node of the boards has the mark of its finding,
 for every number of workers, every cut, every gate and every schedule. `command` makes the report by `judge_given` of
-bundle_files, over `conquer` of check_crew, and writes it by `write_all` of cube_report.
+bundle_files, over `conquer` of check_crew, and writes it by `write_all` of byte_flow.
 
 With DIR each proof is read when a worker comes to its leaf, judged and dropped, over `conquer_leaves`, in a hall for
 FILE's case whose leaves have their proofs elsewhere. There the laws of board_hall hold word for word, and what a board
@@ -249,7 +249,7 @@ Not among the definitions are:
   its clauses, a `Boards` as its case and all nodes' marks. The `impl Model` beside a type says that. By which function it is told from
   private fields no caller has to know, since the contracts of the calls say what the values are;
 - what a reader, a writer or a store of files says of itself in a clause, as `R.remaining`, `W.contents` or `D.held`. The traits `Source` and `Sink`
-  ([cube_report/device.rt](../crates/cube_report/src/device.rt)), `Store` ([bundle_files/store.rt](../crates/bundle_files/src/store.rt)) and the kit's `Read` and `Write` say that.
+  ([byte_flow/device.rt](../crates/byte_flow/src/device.rt)), `Store` ([bundle_files/store.rt](../crates/bundle_files/src/store.rt)) and the kit's `Read` and `Write` say that.
 """
 
 LAWS = """

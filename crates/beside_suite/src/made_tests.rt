@@ -4,7 +4,7 @@ ghost use Rattle.std.specs.Prelude.{◌<◌, ◌^◌, ◌-◌};
 
 use crate::calls::{DEVICE, Ending, ends_with};
 use cube_command::FileStore;
-use cube_report::Fault;
+use cube_report::DeviceFault;
 use devices::Shelf;
 use fixtures::bundles::{BOTH_CUBES, BOTH_CUBES_REPORT};
 use std::process::Abort;
@@ -59,7 +59,7 @@ fn left_on(store: &FileStore<Shelf<'_>>) -> Left {
 fn leaves<R: AllocGlobal + Abort + Threads + Wait + Sync>(
     rt: &R,
     words: &[&str],
-    failing: (u64, Fault, u64),
+    failing: (u64, DeviceFault, u64),
     ending: Ending<'_>,
     left: Left,
 ) -> Result<(), Fail> {
@@ -78,7 +78,7 @@ fn leaves<R: AllocGlobal + Abort + Threads + Wait + Sync>(
 }
 
 /// No call fails.
-const NEVER: (u64, Fault, u64) = (0, Fault::Device, 0);
+const NEVER: (u64, DeviceFault, u64) = (0, DeviceFault::Device, 0);
 
 // The file lies at the path that the words say. Without a word none is made.
 #[test]
@@ -93,19 +93,25 @@ fn a_file_is_made(rt: HostRuntime) -> Result<(), Fail> {
 #[test]
 fn no_file_is_made(rt: HostRuntime) -> Result<(), Fail> {
     let memory = (4, b"".as_slice(), MEMORY);
-    leaves(&rt, MAP, (1, Fault::Device, 0), UNREPORTED, Left::Nothing)?;
-    leaves(&rt, MAP, (1, Fault::Memory, 0), memory, Left::Nothing)?;
+    leaves(
+        &rt,
+        MAP,
+        (1, DeviceFault::Device, 0),
+        UNREPORTED,
+        Left::Nothing,
+    )?;
+    leaves(&rt, MAP, (1, DeviceFault::Memory, 0), memory, Left::Nothing)?;
     leaves(
         &rt,
         RECORD,
-        (1, Fault::Device, 0),
+        (1, DeviceFault::Device, 0),
         UNREPORTED,
         Left::Nothing,
     )?;
     leaves(
         &rt,
         RECORD,
-        (1, Fault::Memory, 0),
+        (1, DeviceFault::Memory, 0),
         UNREPORTED,
         Left::Nothing,
     )
@@ -114,6 +120,18 @@ fn no_file_is_made(rt: HostRuntime) -> Result<(), Fail> {
 // Both are written before the report: they are there where the report can't be written.
 #[test]
 fn a_file_without_a_report(rt: HostRuntime) -> Result<(), Fail> {
-    leaves(&rt, MAP, (0, Fault::Device, 1), UNREPORTED, Left::Picture)?;
-    leaves(&rt, RECORD, (0, Fault::Device, 1), UNREPORTED, Left::Record)
+    leaves(
+        &rt,
+        MAP,
+        (0, DeviceFault::Device, 1),
+        UNREPORTED,
+        Left::Picture,
+    )?;
+    leaves(
+        &rt,
+        RECORD,
+        (0, DeviceFault::Device, 1),
+        UNREPORTED,
+        Left::Record,
+    )
 }

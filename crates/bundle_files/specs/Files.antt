@@ -10,8 +10,9 @@ use Rattle.case_core.specs.Case.{CaseOf}
 use Rattle.case_core.specs.Sections.{IsCaseOf, IsFaultOf}
 use Rattle.case_core.specs.declared.fault.CaseFault.{CaseFault}
 use Rattle.proof_folder.specs.Added.{proof_path, section_text}
-use Rattle.cube_report.specs.declared.fault.Fault.{Fault}
-use Rattle.cube_report.specs.declared.fault.Fault.TheVariants.{Memory, Device}
+use Rattle.cube_report.specs.Device.{IsDeviceFault}
+use Rattle.cube_report.specs.DeviceFault.{DeviceFault}
+use Rattle.cube_report.specs.DeviceFault.TheVariants.{Device}
 
 -- what lies at each path, where that is known: no file, or a file with these bytes
 abbrev pub Held : Type 0
@@ -117,9 +118,9 @@ abbrev pub IsAbsent : Held → Option (List ℕ) → Type 0
 IsAbsent held None = ⊥
 IsAbsent held (Some path) = Gives held path None
 
--- Why a bundle wasn't read, where so many calls had failed and have: want of memory, without a
--- failed call; or a fault of the device, where a call failed or no file is there.
-abbrev pub IsUnread : Held → Option (List ℕ) → ℕ → ℕ → Fault → Type 0
+-- Why a bundle wasn't read, where so many calls had failed and have: want of memory or a failed
+-- call; or a fault of the device without one, where no file is there.
+abbrev pub IsUnread : Held → Option (List ℕ) → ℕ → ℕ → DeviceFault → Type 0
 IsUnread held file before after fault =
-    ((fault ≡ Memory) × (after ≡ before))
-    ⊎ ((fault ≡ Device) × ((after ≡ before + 1) ⊎ ((after ≡ before) × IsAbsent held file)))
+    IsDeviceFault before after fault
+    ⊎ ((fault ≡ Device) × (after ≡ before) × IsAbsent held file)

@@ -7,14 +7,17 @@ ghost use Rattle.case_core.specs.Outline.{IsOutlineOf, AreWholeLines};
 ghost use Rattle.bundle_files.specs.Inner.Blocks.{IsHandedOver};
 
 use case_core::Outline;
-use cube_report::{Fault, Source};
+use cube_report::{DeviceFault, Source};
 use memchr::memrchr;
-use std::alloc::Global;
+use std::alloc::{AllocError, Global};
 
 /// The outline of what a source gives up to its end. A block of whole lines at a time is in memory.
 ///
 /// `Device` where a read failed, `Memory` where a growth was refused.
-pub(crate) fn outline_of<S: Source>(alloc: Global, source: &mut S) -> Result<Outline, Fault>
+pub(crate) fn outline_of<S: Source>(
+    alloc: Global,
+    source: &mut S,
+) -> Result<Outline, DeviceFault>
     requires { S.failures source.old < 2 ^ 64 - 1 }
     ensures outline { IfOk result (λ outline.
         IfSome (S.remaining source.old) (λ text. IsOutlineOf outline text)) }
@@ -29,32 +32,42 @@ pub(crate) fn outline_of<S: Source>(alloc: Global, source: &mut S) -> Result<Out
     let mut buffer = [0u8; 65536];
     loop {
         let Ok(count) = source.read(&mut buffer) else {
-            return Err(Fault::Device);
+            return Err(DeviceFault::Device);
         };
         if count == 0 {
-            outline.add(&begun)?;
+            add_lines(&mut outline, &begun)?;
             return Ok(outline);
         }
         let Some(more) = total.checked_add(count as u64) else {
-            return Err(Fault::Memory);
+            return Err(DeviceFault::Memory);
         };
         total = more;
         hand_over(&mut outline, &mut begun, &buffer[..count])?;
     }
 }
 
+/// The outline goes on with these lines.
+fn add_lines(outline: &mut Outline, lines: &[u8]) -> Result<(), AllocError>
+    ensures { OnOk result ((text : List ℕ) → AreWholeLines text → IsOutlineOf outline.old text
+        → IsOutlineOf outline.new (text ++ lines.now)) }
+{
+    match outline.add(lines) {
+        Ok(()) => Ok(()),
+        Err(_) => Err(AllocError),
+    }
+}
+
 /// Hands over the whole lines of what was read, and keeps the line that is begun.
-fn hand_over(outline: &mut Outline, begun: &mut Vec<u8>, read: &[u8]) -> Result<(), Fault>
-    ensures ok { OnOk result ((text : List ℕ) → AreWholeLines text → IsOutlineOf outline.old text
+fn hand_over(outline: &mut Outline, begun: &mut Vec<u8>, read: &[u8]) -> Result<(), AllocError>
+    ensures { OnOk result ((text : List ℕ) → AreWholeLines text → IsOutlineOf outline.old text
         → IsHandedOver outline.new begun.new.items (text ++ (begun.old.items ++ read.now))) }
-    ensures memory { IfErr result (λ fault. fault ≡ Fault.Memory) }
 {
     let Some(end) = memrchr(b'\n', read) else {
         begun.extend_from_slice(read)?;
         return Ok(());
     };
     begun.extend_from_slice(&read[..end + 1])?;
-    outline.add(begun)?;
+    add_lines(outline, begun)?;
     begun.clear();
     begun.extend_from_slice(&read[end + 1..])?;
     Ok(())
@@ -63,7 +76,7 @@ fn hand_over(outline: &mut Outline, begun: &mut Vec<u8>, read: &[u8]) -> Result<
 /// Fills a buffer with what a source gives.
 ///
 /// `Device` where a read failed, or the source came to its end before.
-pub(crate) fn fill<S: Source>(source: &mut S, buffer: &mut [u8]) -> Result<(), Fault>
+pub(crate) fn fill<S: Source>(source: &mut S, buffer: &mut [u8]) -> Result<(), DeviceFault>
     requires { S.failures source.old < 2 ^ 64 - 1 }
     ensures length { length buffer.new ≡ length buffer.old }
     ensures filled { OnOk result
@@ -72,10 +85,10 @@ pub(crate) fn fill<S: Source>(source: &mut S, buffer: &mut [u8]) -> Result<(), F
     let mut done = 0;
     while done < buffer.len() {
         let Ok(count) = source.read(&mut buffer[done..]) else {
-            return Err(Fault::Device);
+            return Err(DeviceFault::Device);
         };
         if count == 0 {
-            return Err(Fault::Device);
+            return Err(DeviceFault::Device);
         }
         done += count;
     }

@@ -13,8 +13,8 @@ ghost use Rattle.bundle_files.specs.Judging.{IsRefusedOf, IsJudgingFault};
 use crate::folder::{proof_path, write_label};
 use crate::store::Store;
 use case_core::{Case, CaseFault, LabelScan, read_bundle};
-use cube_report::Fault;
-use std::alloc::Global;
+use cube_report::{DeviceFault, Fault};
+use std::alloc::{AllocError, Global};
 
 /// What was found of a bundle so far, to which the proofs of leaves are added one by one.
 #[derive(Drop)]
@@ -27,23 +27,22 @@ struct Search<'c> {
 }
 
 impl<'c> Search<'c> {
-    ghost use Rattle.std.specs.Prelude.{◌≡◌, ◌++◌, ℕ, List, codes, OnOk, IfErr};
+    ghost use Rattle.std.specs.Prelude.{◌≡◌, ◌++◌, ℕ, List, codes, OnOk};
     ghost use Rattle.bundle_files.specs.Inner.Faults.{IsSearched};
 
     /// The bundle goes on with the section that was read, a line end in front.
-    fn add(&mut self, alloc: Global) -> Result<(), Fault>
+    fn add(&mut self, alloc: Global) -> Result<(), AllocError>
         requires { (more : List ℕ) × (self.old.section.items ≡ codes "\nl " ++ more) }
-        ensures ok { OnOk result ((text : List ℕ)
+        ensures { OnOk result ((text : List ℕ)
             → IsSearched self.old.labels self.old.fault text
             → IsSearched self.new.labels self.new.fault (text ++ self.old.section.items)) }
-        ensures err { IfErr result (λ fault. fault ≡ Fault.Memory) }
     {
         if self.fault.is_some() {
             return Ok(());
         }
         match self.labels.add(alloc, &self.section[1..]) {
             Ok(()) => Ok(()),
-            Err(CaseFault::Memory) => Err(Fault::Memory),
+            Err(CaseFault::Memory) => Err(AllocError),
             Err(fault) => {
                 self.fault = Some(fault);
                 Ok(())
@@ -116,7 +115,7 @@ fn look<D: Store>(
     folder: &str,
     case: &Case,
     bundle: &[u8],
-) -> Result<Option<CaseFault>, Fault>
+) -> Result<Option<CaseFault>, DeviceFault>
     requires count { D.failures store.old < 2 ^ 64 - 1 }
     requires case { IsCaseOf bundle.now case.now }
     ensures held { D.held store.new ≡ D.held store.old }
@@ -148,7 +147,7 @@ fn look_at<D: Store>(
     kind: &str,
     count: u32,
     search: &mut Search,
-) -> Result<(), Fault>
+) -> Result<(), DeviceFault>
     requires { D.failures store.old < 2 ^ 64 - 1 }
     ensures held { D.held store.new ≡ D.held store.old }
     ensures allowed { StaysAllowed (D.allows store.old) (D.allows store.new) }
@@ -177,7 +176,7 @@ fn look_at_one<D: Store>(
     folder: &str,
     name: &str,
     search: &mut Search,
-) -> Result<(), Fault>
+) -> Result<(), DeviceFault>
     requires { D.failures store.old < 2 ^ 64 - 1 }
     ensures held { D.held store.new ≡ D.held store.old }
     ensures allowed { StaysAllowed (D.allows store.old) (D.allows store.new) }

@@ -8,7 +8,7 @@ ghost use Rattle.proof_folder.specs.Added.{proof_path};
 
 use crate::store::Store;
 use case_core::{CaseFault, read_tree};
-use cube_report::Fault;
+use cube_report::DeviceFault;
 use std::alloc::{AllocError, Global};
 
 /// How many cubes and how many missing leaves a tree has.
@@ -29,7 +29,7 @@ pub fn add_proofs<D: Store>(
     store: &mut D,
     folder: &str,
     bundle: &mut Vec<u8>,
-) -> Result<(), Fault>
+) -> Result<(), DeviceFault>
     // One more failed read can be counted.
     requires { D.failures store.old < 2 ^ 64 - 1 }
     // The bundle has got the folder's proofs, and the store holds what it held.
@@ -49,17 +49,16 @@ pub fn add_proofs<D: Store>(
 
 /// The leaves of the bundle's tree. A bundle with a fault has none: no proof is looked for, and the
 /// run tells the fault.
-fn leaves_of(alloc: Global, bundle: &[u8]) -> Result<Leaves, Fault>
-    ensures leaves { IfOk result (λ leaves. AreLeavesOf bundle.now
+fn leaves_of(alloc: Global, bundle: &[u8]) -> Result<Leaves, AllocError>
+    ensures { IfOk result (λ leaves. AreLeavesOf bundle.now
         (names_from (codes "") 1 leaves.cubes ++ names_from (codes "m") 1 leaves.missing)) }
-    ensures memory { IfErr result (λ fault. fault ≡ Fault.Memory) }
 {
     match read_tree(alloc, bundle) {
         Ok(tree) => Ok(Leaves {
             cubes: tree.cube_count(),
             missing: tree.missing_count(),
         }),
-        Err(CaseFault::Memory) => Err(Fault::Memory),
+        Err(CaseFault::Memory) => Err(AllocError),
         Err(_) => Ok(Leaves {
             cubes: 0,
             missing: 0,
@@ -75,7 +74,7 @@ fn add_sections<D: Store>(
     kind: &str,
     count: u32,
     bundle: &mut Vec<u8>,
-) -> Result<(), Fault>
+) -> Result<(), DeviceFault>
     requires { D.failures store.old < 2 ^ 64 - 1 }
     ensures held { D.held store.new ≡ D.held store.old }
     ensures allowed { StaysAllowed (D.allows store.old) (D.allows store.new) }
@@ -104,7 +103,7 @@ fn add_section<D: Store>(
     folder: &str,
     name: &str,
     bundle: &mut Vec<u8>,
-) -> Result<(), Fault>
+) -> Result<(), DeviceFault>
     requires { D.failures store.old < 2 ^ 64 - 1 }
     ensures held { D.held store.new ≡ D.held store.old }
     ensures allowed { StaysAllowed (D.allows store.old) (D.allows store.new) }

@@ -19,7 +19,8 @@ mod system;
 
 pub use by_section::judge_by_section;
 pub use case_core::{Outline, OutlinedCase, Stretch};
-pub use check_crew::{LeafProofs, ReadFault};
+pub use check_crew::LeafProofs;
+pub use cube_report::DeviceFault;
 pub use folder::add_proofs;
 pub use formula::{ReadBundle, read_from};
 pub use inputs::{FileId, Inputs, Spared};

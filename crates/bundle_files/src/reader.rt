@@ -7,8 +7,8 @@ ghost use Rattle.proof_folder.specs.Added.{proof_path};
 use crate::opener::Opener;
 use crate::store::FileStore;
 use case_core::Leaf;
-use check_crew::{LeafProofs, ReadFault};
-use cube_report::Fault;
+use check_crew::LeafProofs;
+use cube_report::DeviceFault;
 use std::alloc::{AllocError, Global};
 
 /// A reader of the proofs of a folder, over an opener of its own: what it reads for a leaf is what
@@ -53,14 +53,10 @@ impl<F: Opener + Drop> LeafProofs for FolderReader<F> {
 
     ghost failures = { λ s. s.files.failed };
 
-    fn read(&mut self, leaf: Leaf, bytes: &mut Vec<u8>) -> Result<bool, ReadFault> {
+    fn read(&mut self, leaf: Leaf, bytes: &mut Vec<u8>) -> Result<bool, DeviceFault> {
         let path = leaf_path(self.alloc, self.folder.as_str(), leaf)?;
         bytes.clear();
-        match self.files.read_file(path.as_str(), bytes) {
-            Ok(there) => Ok(there),
-            Err(Fault::Memory) => Err(ReadFault::Memory),
-            Err(_) => Err(ReadFault::Device),
-        }
+        self.files.read_file(path.as_str(), bytes)
     }
 
     fn length(&self, leaf: Leaf) -> Option<u64> {

@@ -4,8 +4,8 @@ ghost use Rattle.std.specs.Prelude.{◌≡◌};
 use crate::opener::Opener;
 use crate::store::FileStore;
 use case_core::{Leaf, OutlinedCase};
-use check_crew::{LeafProofs, ReadFault};
-use cube_report::Fault;
+use check_crew::LeafProofs;
+use cube_report::DeviceFault;
 use std::sync::Arc;
 
 /// A reader of the proofs of a case that are parts of the file at a path, over an opener of its
@@ -52,7 +52,7 @@ impl<F: Opener + Drop> LeafProofs for SectionReader<F> {
 
     ghost failures = { λ s. s.files.failed };
 
-    fn read(&mut self, leaf: Leaf, bytes: &mut Vec<u8>) -> Result<bool, ReadFault> {
+    fn read(&mut self, leaf: Leaf, bytes: &mut Vec<u8>) -> Result<bool, DeviceFault> {
         let Some(place) = self.outlined.place_of(leaf) else {
             bytes.clear();
             return Ok(false);
@@ -62,11 +62,9 @@ impl<F: Opener + Drop> LeafProofs for SectionReader<F> {
             return Ok(true);
         }
         bytes.resize(place.length, 0)?;
-        match self.files.read_part(self.path.as_str(), place.start, bytes) {
-            Ok(()) => Ok(true),
-            Err(Fault::Memory) => Err(ReadFault::Memory),
-            Err(_) => Err(ReadFault::Device),
-        }
+        self.files
+            .read_part(self.path.as_str(), place.start, bytes)?;
+        Ok(true)
     }
 
     fn length(&self, leaf: Leaf) -> Option<u64> {

@@ -5,7 +5,7 @@ ghost use Rattle.bundle_files.specs.Files.{IsRead, IsTextAt, IsUnread, StaysAllo
 ghost use Rattle.bundle_files.specs.Inner.Formula.{IsAppended};
 
 use crate::store::Store;
-use cube_report::{Fault, Source, read_to_end};
+use cube_report::{DeviceFault, Source, read_to_end};
 use std::alloc::Global;
 
 /// The bytes of the file at this path, or those of the input where there is none.
@@ -17,7 +17,7 @@ pub fn read_given<D: Store, I: Source>(
     store: &mut D,
     input: &mut I,
     file: Option<&str>,
-) -> Result<Vec<u8>, Fault>
+) -> Result<Vec<u8>, DeviceFault>
     requires store { D.failures store.old < 2 ^ 64 - 1 }
     requires input { I.failures input.old < 2 ^ 64 - 1 }
     ensures held { D.held store.new ≡ D.held store.old }
@@ -49,7 +49,7 @@ pub(crate) fn append_given<D: Store, I: Source>(
     input: &mut I,
     file: Option<&str>,
     bytes: &mut Vec<u8>,
-) -> Result<(), Fault>
+) -> Result<(), DeviceFault>
     requires store { D.failures store.old < 2 ^ 64 - 1 }
     requires input { I.failures input.old < 2 ^ 64 - 1 }
     ensures held { D.held store.new ≡ D.held store.old }
@@ -73,7 +73,7 @@ pub(crate) fn append_given<D: Store, I: Source>(
         None => read_to_end(input, bytes),
         Some(path) => {
             if !store.read(path, bytes)? {
-                return Err(Fault::Device);
+                return Err(DeviceFault::Device);
             }
             Ok(())
         }

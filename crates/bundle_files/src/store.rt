@@ -18,7 +18,7 @@ use crate::reader::FolderReader;
 use crate::sections::SectionReader;
 use case_core::{Outline, OutlinedCase};
 use check_crew::LeafProofs;
-use cube_report::{Counted, Fault, read_to_end, write_all};
+use cube_report::{Counted, DeviceFault, read_to_end, write_all};
 use std::alloc::{AllocError, Global};
 use std::io::ErrorKind;
 use std::sync::Arc;
@@ -49,7 +49,7 @@ pub trait Store {
     /// `Device` where a file is there and can't be opened or read, `Memory` where a growth was
     /// refused. The count of failed calls, which has to be below its greatest value, rises by one
     /// exactly with `Device`.
-    fn read(&mut self, path: &str, bytes: &mut Vec<u8>) -> Result<bool, Fault>
+    fn read(&mut self, path: &str, bytes: &mut Vec<u8>) -> Result<bool, DeviceFault>
         requires { failures self.old < 2 ^ 64 - 1 }
         ensures held { held self.new ≡ held self.old }
         ensures allowed { StaysAllowed (allows self.old) (allows self.new) }
@@ -73,7 +73,7 @@ pub trait Store {
         alloc: Global,
         inputs: &Inputs<'_>,
         written: &[Option<&str>],
-    ) -> Result<Spared, Fault>
+    ) -> Result<Spared, DeviceFault>
         requires { failures self.old < 2 ^ 64 - 1 }
         ensures same { OnOk result (self.new ≡ self.old) }
         ensures held { held self.new ≡ held self.old }
@@ -89,7 +89,7 @@ pub trait Store {
     /// also where the path names a file to be spared, and then nothing changes. `Memory` where a
     /// growth was refused, and then nothing changes. The count of failed calls, which has to be
     /// below its greatest value, rises by one exactly with `Device`.
-    fn write(&mut self, path: &str, bytes: &[u8], spared: &Spared) -> Result<(), Fault>
+    fn write(&mut self, path: &str, bytes: &[u8], spared: &Spared) -> Result<(), DeviceFault>
         requires count { failures self.old < 2 ^ 64 - 1 }
         requires allowed { allows self.old path.now bytes.now }
         ensures written { OnOk result (Gives (held self.new) path.now (Some bytes.now)) }
@@ -98,7 +98,7 @@ pub trait Store {
         ensures beside { OnOk result
             (StaysAllowedBeside path.now (allows self.old) (allows self.new)) }
         ensures nothing { IfErr result
-            (λ fault. fault ≢ Fault.Device → held self.new ≡ held self.old) }
+            (λ fault. fault ≢ DeviceFault.Device → held self.new ≡ held self.old) }
         ensures ok { OnOk result (failures self.new ≡ failures self.old) }
         ensures err { IfErr result
             (λ fault. IsDeviceFault (failures self.old) (failures self.new) fault) };
@@ -106,7 +106,12 @@ pub trait Store {
     /// The same for a file that is written when another one may have been: then `Memory` would say
     /// that nothing changed. So a growth that was refused counts as a failed call, too, and each
     /// fault is `Device`.
-    fn write_counted(&mut self, path: &str, bytes: &[u8], spared: &Spared) -> Result<(), Fault>
+    fn write_counted(
+        &mut self,
+        path: &str,
+        bytes: &[u8],
+        spared: &Spared,
+    ) -> Result<(), DeviceFault>
         requires count { failures self.old < 2 ^ 64 - 1 }
         requires allowed { allows self.old path.now bytes.now }
         ensures written { OnOk result (Gives (held self.new) path.now (Some bytes.now)) }
@@ -115,7 +120,7 @@ pub trait Store {
         ensures beside { OnOk result
             (StaysAllowedBeside path.now (allows self.old) (allows self.new)) }
         ensures ok { OnOk result (failures self.new ≡ failures self.old) }
-        ensures err { IfErr result (λ fault. fault ≡ Fault.Device) }
+        ensures err { IfErr result (λ fault. fault ≡ DeviceFault.Device) }
         ensures failed { OnErr result (failures self.new ≡ failures self.old + 1) };
 
     /// A reader of the proofs of a folder, for one worker, with no failed read yet: what it reads
@@ -138,7 +143,7 @@ pub trait Store {
     /// `Device` where a file is there and can't be opened or read, `Memory` where a growth was
     /// refused. The count of failed calls, which has to be below its greatest value, rises by one
     /// exactly with `Device`.
-    fn outline(&mut self, alloc: Global, path: &str) -> Result<Option<Outline>, Fault>
+    fn outline(&mut self, alloc: Global, path: &str) -> Result<Option<Outline>, DeviceFault>
         requires { failures self.old < 2 ^ 64 - 1 }
         ensures held { held self.new ≡ held self.old }
         ensures allowed { StaysAllowed (allows self.old) (allows self.new) }
@@ -203,14 +208,14 @@ impl<F> FileStore<F> {
     }
 
     /// A fault of the device, which is counted.
-    fn broken(&mut self) -> Fault
+    fn broken(&mut self) -> DeviceFault
         requires { self.old.failed < 2 ^ 64 - 1 }
-        ensures fault { result ≡ Fault.Device }
+        ensures fault { result ≡ DeviceFault.Device }
         ensures opener { self.new.opener ≡ self.old.opener }
         ensures count { self.new.failed ≡ self.old.failed + 1 }
     {
         self.failed += 1;
-        Fault::Device
+        DeviceFault::Device
     }
 
     /// How many calls have failed so far.
@@ -224,7 +229,7 @@ impl<F> FileStore<F> {
 impl<F: Opener> FileStore<F> {
     /// Appends the bytes of the file at this path, and answers whether there is one, as
     /// `Store::read` owes it.
-    pub(crate) fn read_file(&mut self, path: &str, bytes: &mut Vec<u8>) -> Result<bool, Fault>
+    pub(crate) fn read_file(&mut self, path: &str, bytes: &mut Vec<u8>) -> Result<bool, DeviceFault>
         requires { self.old.failed < 2 ^ 64 - 1 }
         ensures knows { F.knows self.new.opener ≡ F.knows self.old.opener }
         ensures files { F.files self.new.opener ≡ F.files self.old.opener }
@@ -237,19 +242,19 @@ impl<F: Opener> FileStore<F> {
         match self.opener.open(path) {
             Ok(file) => match read_to_end(&mut Counted::new(file), bytes) {
                 Ok(()) => Ok(true),
-                Err(Fault::Memory) => Err(Fault::Memory),
+                Err(DeviceFault::Memory) => Err(DeviceFault::Memory),
                 Err(_) => Err(self.broken()),
             },
             Err(error) => match error.kind() {
                 ErrorKind::NotFound => Ok(false),
-                ErrorKind::OutOfMemory => Err(Fault::Memory),
+                ErrorKind::OutOfMemory => Err(DeviceFault::Memory),
                 _ => Err(self.broken()),
             },
         }
     }
 
     /// The outline of the file at this path, as `Store::outline` owes it.
-    fn outline_file(&mut self, alloc: Global, path: &str) -> Result<Option<Outline>, Fault>
+    fn outline_file(&mut self, alloc: Global, path: &str) -> Result<Option<Outline>, DeviceFault>
         requires { self.old.failed < 2 ^ 64 - 1 }
         ensures knows { F.knows self.new.opener ≡ F.knows self.old.opener }
         ensures files { F.files self.new.opener ≡ F.files self.old.opener }
@@ -265,12 +270,12 @@ impl<F: Opener> FileStore<F> {
         match opened {
             Ok(file) => match outline_of(alloc, &mut Counted::new(file)) {
                 Ok(outline) => Ok(Some(outline)),
-                Err(Fault::Memory) => Err(Fault::Memory),
+                Err(DeviceFault::Memory) => Err(DeviceFault::Memory),
                 Err(_) => Err(self.broken()),
             },
             Err(error) => match error.kind() {
                 ErrorKind::NotFound => Ok(None),
-                ErrorKind::OutOfMemory => Err(Fault::Memory),
+                ErrorKind::OutOfMemory => Err(DeviceFault::Memory),
                 _ => Err(self.broken()),
             },
         }
@@ -284,7 +289,7 @@ impl<F: Opener> FileStore<F> {
         path: &str,
         start: usize,
         bytes: &mut [u8],
-    ) -> Result<(), Fault>
+    ) -> Result<(), DeviceFault>
         requires { self.old.failed < 2 ^ 64 - 1 }
         ensures knows { F.knows self.new.opener ≡ F.knows self.old.opener }
         ensures files { F.files self.new.opener ≡ F.files self.old.opener }
@@ -301,7 +306,7 @@ impl<F: Opener> FileStore<F> {
                 Err(_) => Err(self.broken()),
             },
             Err(error) => match error.kind() {
-                ErrorKind::OutOfMemory => Err(Fault::Memory),
+                ErrorKind::OutOfMemory => Err(DeviceFault::Memory),
                 _ => Err(self.broken()),
             },
         }
@@ -326,7 +331,7 @@ impl<F: Opener + Send + Drop> Store for FileStore<F> {
 
     ghost hands = { λ _ _. Unit {0} };
 
-    fn read(&mut self, path: &str, bytes: &mut Vec<u8>) -> Result<bool, Fault> {
+    fn read(&mut self, path: &str, bytes: &mut Vec<u8>) -> Result<bool, DeviceFault> {
         self.read_file(path, bytes)
     }
 
@@ -335,7 +340,7 @@ impl<F: Opener + Send + Drop> Store for FileStore<F> {
         alloc: Global,
         inputs: &Inputs<'_>,
         written: &[Option<&str>],
-    ) -> Result<Spared, Fault> {
+    ) -> Result<Spared, DeviceFault> {
         if is_none_written(written) {
             return Ok(Spared::none(alloc));
         }
@@ -346,7 +351,7 @@ impl<F: Opener + Send + Drop> Store for FileStore<F> {
         Ok(spared)
     }
 
-    fn write(&mut self, path: &str, bytes: &[u8], spared: &Spared) -> Result<(), Fault> {
+    fn write(&mut self, path: &str, bytes: &[u8], spared: &Spared) -> Result<(), DeviceFault> {
         match self.opener.create(path, spared) {
             Ok(file) => {
                 let mut made = Counted::new(file);
@@ -358,16 +363,21 @@ impl<F: Opener + Send + Drop> Store for FileStore<F> {
                 }
             }
             Err(error) => match error.kind() {
-                ErrorKind::OutOfMemory => Err(Fault::Memory),
+                ErrorKind::OutOfMemory => Err(DeviceFault::Memory),
                 _ => Err(self.broken()),
             },
         }
     }
 
-    fn write_counted(&mut self, path: &str, bytes: &[u8], spared: &Spared) -> Result<(), Fault> {
+    fn write_counted(
+        &mut self,
+        path: &str,
+        bytes: &[u8],
+        spared: &Spared,
+    ) -> Result<(), DeviceFault> {
         match self.write(path, bytes, spared) {
             Ok(()) => Ok(()),
-            Err(Fault::Memory) => Err(self.broken()),
+            Err(DeviceFault::Memory) => Err(self.broken()),
             Err(fault) => Err(fault),
         }
     }
@@ -382,7 +392,7 @@ impl<F: Opener + Send + Drop> Store for FileStore<F> {
         self.file_length(path)
     }
 
-    fn outline(&mut self, alloc: Global, path: &str) -> Result<Option<Outline>, Fault> {
+    fn outline(&mut self, alloc: Global, path: &str) -> Result<Option<Outline>, DeviceFault> {
         self.outline_file(alloc, path)
     }
 

@@ -8,13 +8,13 @@ use Rattle.board_hall.specs.declared.pass.Pass.{Pass}
 use Rattle.board_hall.specs.declared.view.CutCase.{CutCase}
 use Rattle.board_hall.specs.Halls.{HallOf, view_of}
 use Rattle.check_crew.specs.LeafProofs.{Known, IsExamined}
-use Rattle.check_crew.specs.declared.leaf_proofs.ReadFault.{ReadFault}
+use Rattle.byte_flow.specs.declared.fault.DeviceFault.{DeviceFault}
 use Rattle.check_crew.specs.declared.leaves.ExaminedLeaf.{ExaminedLeaf}
 use Rattle.check_crew.specs.Seen.{HaveSeenSections}
 use Rattle.check_crew.specs.Inner.Apart.{IsLeafShiftOf, IsListOf}
 
 -- where no fault is, there is none
-pub no_fault : (fault : Option ReadFault) → is_some fault ≡ false → fault ≡ None
+pub no_fault : (fault : Option DeviceFault) → is_some fault ≡ false → fault ≡ None
 no_fault None is = refl
 no_fault (Some fault) is = absurd (cc)
 
@@ -27,7 +27,7 @@ sections_more case passes pass seen place within =
 
 -- the list of a worker that no fault stopped
 pub list_of : (hall : HallOf) (held known : Known) (failures : ℕ) (pass : Pass)
-    (examined : List ExaminedLeaf) (fault : Option ReadFault)
+    (examined : List ExaminedLeaf) (fault : Option DeviceFault)
     → IsLeafShiftOf hall held failures pass examined fault → fault ≡ None
     → ((leaf : Leaf) → held leaf ≡ known leaf) → IsListOf known hall.of.case examined
 list_of hall held known failures pass examined fault shift none same = record {

@@ -1,5 +1,5 @@
 -- What is read of the proofs that don't stand in a case, and what a worker has found of one.
-use Rattle.std.specs.Prelude.{◌≡◌, ℕ, ◌+◌, Bool, List, [], ◌⊎◌, Option, None, Some, IfSome}
+use Rattle.std.specs.Prelude.{◌≡◌, ℕ, Bool, List, [], Option, None, Some, IfSome}
 use Rattle.std.specs.Prelude.{is_some, unwrap_or}
 use Rattle.case_core.specs.Leaves.{IsTargetAt}
 use Rattle.case_core.specs.Leaf.{Leaf}
@@ -11,8 +11,6 @@ use Rattle.case_core.specs.Case.{proof_for}
 use Rattle.case_core.specs.Finding.{IsFoundBy}
 use Rattle.board_hall.specs.declared.view.View.{View}
 use Rattle.check_crew.specs.Seen.{HasSeenMark}
-use Rattle.check_crew.specs.declared.leaf_proofs.ReadFault.{ReadFault}
-use Rattle.check_crew.specs.declared.leaf_proofs.ReadFault.TheVariants.{Memory, Device}
 use Rattle.check_crew.specs.declared.leaves.Examined.{Examined}
 use Rattle.check_crew.specs.declared.leaves.Examined.TheVariants.{Absent, Found, Other}
 
@@ -26,11 +24,6 @@ abbrev pub IsProofRead : Option (Option (List ℕ)) → List ℕ → Bool → Ty
 IsProofRead known bytes there =
     (given : Option (List ℕ)) × IfSome known (λ held. given ≡ held)
     × (there ≡ is_some given) × (bytes ≡ unwrap_or given [])
-
--- want of memory without a failed read, or a fault of the device with one
-abbrev pub IsReadFault : ℕ → ℕ → ReadFault → Type 0
-IsReadFault before after fault =
-    ((fault ≡ Memory) × (after ≡ before)) ⊎ ((fault ≡ Device) × (after ≡ before + 1))
 
 -- what was given for a leaf is what is known to lie there
 abbrev pub IsGiven : Option (Option (List ℕ)) → Option (List ℕ) → Type 0

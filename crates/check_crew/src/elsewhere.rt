@@ -2,13 +2,14 @@
 
 ghost use Rattle.std.specs.Prelude.{◌≡◌, ◌+◌, ◌*◌, ◌<◌, ◌≤◌, ◌≢◌, ℕ, true, None, Some, All, IfOk};
 ghost use Rattle.std.specs.Prelude.{IfErr, IfSome, List, Option, vec_len, MatchOption};
+ghost use Rattle.byte_flow.specs.Device.{IsDeviceFault};
 ghost use Rattle.case_core.specs.Leaf.{Leaf};
 ghost use Rattle.board_hall.specs.Halls.{core_of, hall_of, shared_of, view_of, IsPassOf, IsNewPass};
 ghost use Rattle.board_hall.specs.Terms.{cut_case_as};
 ghost use Rattle.proof_folder.specs.Given.{AreFoundApart};
 ghost use Rattle.check_crew.specs.Seen.{HaveSeenSections};
 ghost use Rattle.case_core.specs.Leaves.{IsLeafAt};
-ghost use Rattle.check_crew.specs.LeafProofs.{Known, IsReadFault};
+ghost use Rattle.check_crew.specs.LeafProofs.{Known};
 ghost use Rattle.check_crew.specs.Inner.Apart.{IsLeafShiftOf, IsListOf, IsRightAt};
 
 use crate::compare::has_right_marks;
@@ -16,10 +17,11 @@ use crate::crew::examine_all;
 use crate::fault::CrewFault;
 use crate::gate::Gate;
 use crate::leaf_order::{LeafOrder, leaves_in_order};
-use crate::leaf_proofs::{LeafProofs, ReadFault};
+use crate::leaf_proofs::LeafProofs;
 use crate::leaves::{ExaminedLeaf, LeafJob, LeafShift, LeafSite, work_leaves};
 use crate::settings::Settings;
 use board_hall::{Core, Hall, Pass};
+use byte_flow::DeviceFault;
 use case_core::Case;
 use mark_board::Boards;
 use std::alloc::{AllocError, Global};
@@ -287,14 +289,14 @@ fn examine_elsewhere<R: Threads + Wait + Sync, G: Gate + Sync, P: LeafProofs + S
 /// The first of what workers read by that has met a failed read, or else all that they hand back.
 fn failed_first<P: LeafProofs + Drop>(mut shifts: Vec<LeafShift<P>>) -> Result<Vec<LeafShift<P>>, P>
     requires { All (λ shift. MatchOption shift.fault (P.failures shift.proofs ≡ 0)
-        (IsReadFault 0 (P.failures shift.proofs))) shifts.items }
+        (IsDeviceFault 0 (P.failures shift.proofs))) shifts.items }
     ensures same { IfOk result (λ kept. kept ≡ shifts) }
     ensures none { IfOk result (λ kept.
-        All (λ shift. shift.fault ≢ Some ReadFault.Device) kept.items) }
+        All (λ shift. shift.fault ≢ Some DeviceFault.Device) kept.items) }
     ensures failed { IfErr result (λ one. P.failures one ≡ 1) }
 {
     for place in 0..shifts.len() {
-        if let Some(ReadFault::Device) = shifts[place].fault {
+        if let Some(DeviceFault::Device) = shifts[place].fault {
             let LeafShift { proofs, .. } = shifts.swap_remove(place);
             return Err(proofs);
         }

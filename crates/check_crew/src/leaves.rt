@@ -2,6 +2,7 @@
 
 ghost use Rattle.std.specs.Prelude.{◌≡◌, ◌<◌, ◌^◌, ◌-◌, [], true, None, All, IfOk, IfErr, IfSome};
 ghost use Rattle.std.specs.Prelude.{false, List, Option, Some, ℕ};
+ghost use Rattle.byte_flow.specs.Device.{IsDeviceFault};
 ghost use Rattle.case_core.specs.Bundle.{labels_of};
 ghost use Rattle.case_core.specs.Case.{proof_for};
 ghost use Rattle.std.specs.Prelude.{OnOk};
@@ -10,13 +11,14 @@ ghost use Rattle.case_core.specs.Leaves.{HasTarget};
 ghost use Rattle.board_hall.specs.Halls.{core_of, shared_of, view_of, IsPassOf, IsNewPass};
 ghost use Rattle.board_hall.specs.Clauses.{Stays};
 ghost use Rattle.board_hall.specs.declared.view.View.{View};
-ghost use Rattle.check_crew.specs.LeafProofs.{IsExamined, IsGiven, IsReadFault};
+ghost use Rattle.check_crew.specs.LeafProofs.{IsExamined, IsGiven};
 ghost use Rattle.check_crew.specs.Inner.Apart.{IsLeafShiftOf};
 
 use crate::gate::Gate;
-use crate::leaf_proofs::{LeafProofs, ReadFault};
+use crate::leaf_proofs::LeafProofs;
 use crate::worker::{JudgedProof, post, tell};
 use board_hall::{Core, Pass};
+use byte_flow::DeviceFault;
 use case_core::{Case, Examiner, Judged, Leaf, Target, has_label_line};
 use std::alloc::{AllocError, Global};
 use std::sync::Wait;
@@ -77,7 +79,7 @@ pub(crate) struct LeafShift<P> {
     pub(crate) pass: Pass,
     pub(crate) proofs: P,
     pub(crate) examined: Vec<ExaminedLeaf>,
-    pub(crate) fault: Option<ReadFault>,
+    pub(crate) fault: Option<DeviceFault>,
 }
 
 /// Whether the run has to be made with all proofs in one bundle, for the proof of this leaf: it has
@@ -210,7 +212,7 @@ fn next_proof<R: Wait, G, P: LeafProofs>(
     proofs: &mut P,
     bytes: &mut Vec<u8>,
     examined: &mut Vec<ExaminedLeaf>,
-) -> Result<Option<Leaf>, ReadFault>
+) -> Result<Option<Leaf>, DeviceFault>
     requires count { P.failures proofs.old < 2 ^ 64 - 1 }
     ensures held { P.held proofs.new ≡ P.held proofs.old }
     ensures leaf { IfOk result (λ found. IfSome found
@@ -224,7 +226,7 @@ fn next_proof<R: Wait, G, P: LeafProofs>(
         examined.new.items) }
     ensures ok { OnOk result (P.failures proofs.new ≡ P.failures proofs.old) }
     ensures err { IfErr result
-        (λ fault. IsReadFault (P.failures proofs.old) (P.failures proofs.new) fault) }
+        (λ fault. IsDeviceFault (P.failures proofs.old) (P.failures proofs.new) fault) }
 {
     for _ in site.rt.forever() {
         let Some(leaf) = next_leaf(site) else {
@@ -253,7 +255,7 @@ fn take_leaves<R: Wait, G: Gate, P: LeafProofs>(
     pass: &mut Pass,
     examined: &mut Vec<ExaminedLeaf>,
     first: Leaf,
-) -> Result<(), ReadFault>
+) -> Result<(), DeviceFault>
     requires case { site.case.now ≡ (core_of site.core.now).case }
     requires elsewhere { (core_of site.core.now).elsewhere ≡ true }
     requires examiner { examiner.old ≡ site.case.now }
@@ -271,7 +273,7 @@ fn take_leaves<R: Wait, G: Gate, P: LeafProofs>(
         (view_of pass.new) one.leaf one.examined) examined.new.items) }
     ensures ok { OnOk result (P.failures proofs.new ≡ P.failures proofs.old) }
     ensures err { IfErr result
-        (λ fault. IsReadFault (P.failures proofs.old) (P.failures proofs.new) fault) }
+        (λ fault. IsDeviceFault (P.failures proofs.old) (P.failures proofs.new) fault) }
 {
     let mut leaf = first;
     for _ in site.rt.forever() {
@@ -294,7 +296,7 @@ fn examine_leaves<R: Wait, G: Gate, P: LeafProofs>(
     proofs: &mut P,
     pass: &mut Pass,
     examined: &mut Vec<ExaminedLeaf>,
-) -> Result<(), ReadFault>
+) -> Result<(), DeviceFault>
     requires case { site.case.now ≡ (core_of site.core.now).case }
     requires elsewhere { (core_of site.core.now).elsewhere ≡ true }
     requires own { IsPassOf (shared_of site.core.now) pass.old }
@@ -308,7 +310,7 @@ fn examine_leaves<R: Wait, G: Gate, P: LeafProofs>(
         (view_of pass.new) one.leaf one.examined) examined.new.items) }
     ensures ok { OnOk result (P.failures proofs.new ≡ P.failures proofs.old) }
     ensures err { IfErr result
-        (λ fault. IsReadFault (P.failures proofs.old) (P.failures proofs.new) fault) }
+        (λ fault. IsDeviceFault (P.failures proofs.old) (P.failures proofs.new) fault) }
 {
     let mut bytes = Vec::new(site.alloc);
     let Some(first) = next_proof(site, proofs, &mut bytes, examined)? else {

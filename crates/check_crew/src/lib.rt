@@ -18,6 +18,6 @@ pub use crew::conquer;
 pub use elsewhere::conquer_leaves;
 pub use fault::CrewFault;
 pub use gate::{Elsewhere, Found, Gate, NoGate};
-pub use leaf_proofs::{LeafProofs, ReadFault};
+pub use leaf_proofs::LeafProofs;
 pub use leaves::Examined;
 pub use settings::Settings;

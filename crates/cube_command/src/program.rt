@@ -31,7 +31,7 @@ use crate::telling::{tell_refused, tell_run};
 use crate::watched::Beside;
 use bundle_files::{Inputs, ReadBundle, Spared, Store, judge_by_section, judge_given, read_from};
 use command_words::{Request, request_of};
-use cube_report::{Explain, Fault, Gate, Outcome, Sink, Source, write_all};
+use cube_report::{DeviceFault, Explain, Fault, Gate, Outcome, Sink, Source, write_all};
 use std::alloc::Global;
 use std::convert::AsStr;
 use std::sync::Wait;
@@ -563,7 +563,7 @@ fn write_outcome<D: Store, O: Sink>(
     outcome: &Outcome,
     made: &[u8],
     spared: &Spared,
-) -> Result<(), Fault>
+) -> Result<(), DeviceFault>
     requires store { D.failures store.old < 2 ^ 64 - 1 }
     requires output { O.failures output.old < 2 ^ 64 - 1 }
     requires report { O.allows output.old outcome.now.text.items }
@@ -579,13 +579,13 @@ fn write_outcome<D: Store, O: Sink>(
     ensures elsewhere { (path : List ℕ) → IsElsewhere (asked_in request.now) path
         → D.held store.new path ≡ D.held store.old path }
     ensures undrawn { IfErr result
-        (λ fault. fault ≢ Fault.Device → D.held store.new ≡ D.held store.old) }
+        (λ fault. fault ≢ DeviceFault.Device → D.held store.new ≡ D.held store.old) }
     ensures written { OnOk result (Appends (O.contents output.old) (O.contents output.new)
         outcome.now.text.items) }
     ensures ok { OnOk result ((D.failures store.new ≡ D.failures store.old)
         × (O.failures output.new ≡ O.failures output.old)) }
-    ensures nothing { IfErr result
-        (λ fault. fault ≢ Fault.Device → Keeps (O.contents output.old) (O.contents output.new)) }
+    ensures nothing { IfErr result (λ fault. fault ≢ DeviceFault.Device
+        → Keeps (O.contents output.old) (O.contents output.new)) }
     ensures beginning { OnErr result (Keeps (O.contents output.old) (O.contents output.new)
         ⊎ ((O.failures output.old < O.failures output.new)
         × AppendsBeginning (O.contents output.old) (O.contents output.new)
@@ -605,7 +605,7 @@ fn write_picture<D: Store>(
     path: Option<&str>,
     picture: &[u8],
     spared: &Spared,
-) -> Result<(), Fault>
+) -> Result<(), DeviceFault>
     requires store { D.failures store.old < 2 ^ 64 - 1 }
     requires picture { (at : List ℕ) → option_map (λ path. path.now) path ≡ Some at
         → D.allows store.old at picture.now }
@@ -617,7 +617,7 @@ fn write_picture<D: Store>(
         → option_map (λ path. path.now) path.entry ≢ Some other
         → D.allows store.old other bytes → D.allows store.new other bytes) }
     ensures undrawn { IfErr result
-        (λ fault. fault ≢ Fault.Device → D.held store.new ≡ D.held store.old) }
+        (λ fault. fault ≢ DeviceFault.Device → D.held store.new ≡ D.held store.old) }
     ensures ok { OnOk result (D.failures store.new ≡ D.failures store.old) }
     ensures err { IfErr result
         (λ fault. IsDeviceFault (D.failures store.old) (D.failures store.new) fault) }
@@ -635,7 +635,7 @@ fn write_record<D: Store>(
     path: Option<&str>,
     made: &[u8],
     spared: &Spared,
-) -> Result<(), Fault>
+) -> Result<(), DeviceFault>
     requires store { D.failures store.old < 2 ^ 64 - 1 }
     requires recorded { (at : List ℕ) → option_map (λ path. path.now) path ≡ Some at
         → D.allows store.old at made.now }
@@ -644,7 +644,7 @@ fn write_record<D: Store>(
     ensures elsewhere { (other : List ℕ) → option_map (λ path. path.now) path.entry ≢ Some other
         → D.held store.new other ≡ D.held store.old other }
     ensures ok { OnOk result (D.failures store.new ≡ D.failures store.old) }
-    ensures err { IfErr result (λ fault. fault ≡ Fault.Device) }
+    ensures err { IfErr result (λ fault. fault ≡ DeviceFault.Device) }
     ensures failed { OnErr result (D.failures store.new ≡ D.failures store.old + 1) }
 {
     match path {

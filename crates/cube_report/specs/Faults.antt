@@ -5,6 +5,8 @@ use Rattle.case_core.specs.declared.fault.CaseFault.TheVariants as case
 use Rattle.case_core.specs.Faults.{of_text}
 use Rattle.case_core.specs.DimacsFault.{DimacsFault}
 use Rattle.case_core.specs.DimacsFault.TheVariants as dimacs
+use Rattle.byte_flow.specs.declared.fault.DeviceFault.{DeviceFault}
+use Rattle.byte_flow.specs.declared.fault.DeviceFault.TheVariants as flow
 use Rattle.check_crew.specs.declared.fault.CrewFault.{CrewFault}
 use Rattle.check_crew.specs.declared.fault.CrewFault.TheVariants as crew
 use Rattle.cube_report.specs.declared.fault.Fault.{Fault}
@@ -28,6 +30,11 @@ fault_of_case (case.Overlap first second) = Overlap first second
 fault_of_case (case.BadLabel line) = BadLabel line
 fault_of_case (case.NoSuchLeaf line) = NoSuchLeaf line
 fault_of_case (case.ProofTwice line) = ProofTwice line
+
+-- a fault of a call on a device, as a fault of the run
+abbrev pub fault_of_device : DeviceFault → Fault
+fault_of_device flow.Memory = Memory
+fault_of_device flow.Device = Device
 
 -- a fault of the workers, as a fault of the run
 abbrev pub fault_of_crew : CrewFault → Fault

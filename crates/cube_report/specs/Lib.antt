@@ -1,9 +1,10 @@
 pub mod Faults
-pub mod Device
 pub mod Report
 pub mod Correct
 pub mod Stated
 pub mod Laws
+pub use Rattle.byte_flow.specs.Device
+pub use Rattle.byte_flow.specs.declared.fault.DeviceFault
 pub use Rattle.case_core.specs.Bundle
 pub use Rattle.case_core.specs.Case
 pub use Rattle.case_core.specs.Dimacs

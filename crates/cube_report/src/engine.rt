@@ -3,12 +3,11 @@
 ghost use Rattle.std.specs.Prelude.{Bool, false, List, replicate, ◌≡◌, ◌≢◌, ◌↔◌, ◌⊎◌, ℕ, ◌<◌, ◌^◌};
 ghost use Rattle.std.specs.Prelude.{◌-◌, ◌+◌, true, IfOk, IfErr, OnOk, OnErr, IfSome, IsErrOf};
 ghost use Rattle.std.specs.Prelude.{All, vec_len};
-ghost use Rattle.std.specs.Io.{StartsWith};
 ghost use Rattle.std.specs.Io.KnownBytes.{Keeps, Appends};
 ghost use Rattle.split_tree.specs.SplitTree.{size};
 ghost use Rattle.mark_board.specs.declared.mark.Mark.TheVariants.{Open};
 ghost use Rattle.cube_report.specs.Faults.{IsInputFault};
-ghost use Rattle.cube_report.specs.Device.{AppendsBeginning, IsDeviceFault, IsLeft, IsReadOf};
+ghost use Rattle.byte_flow.specs.Device.{AppendsBeginning, IsLeft};
 ghost use Rattle.cube_report.specs.Stated.{IsStated, IsWrittenBy};
 ghost use Rattle.case_core.specs.Leaf.{Leaf};
 ghost use Rattle.mark_board.specs.declared.mark.Mark.{Mark};
@@ -19,9 +18,9 @@ ghost use Rattle.cube_report.specs.Correct.{IsReportOn, IsAnswerOn, IsCorrect, I
 ghost use Rattle.cube_report.specs.Correct.{IsFaultOn, IsUnsatisfiable, SaysRefuted, map_if};
 ghost use Rattle.cube_report.specs.Correct.{AllowsReports};
 
-use crate::device::{Sink, Source};
 use crate::fault::Fault;
 use crate::report::report_of;
+use byte_flow::{Sink, Source, read_all, write_all};
 use case_core::{Case, Examiner, read_bundle, take_bundle};
 use check_crew::{CrewFault, Gate, LeafProofs, Settings, conquer, conquer_leaves};
 use mark_board::Boards;
@@ -373,71 +372,4 @@ pub fn write_report<T: Threads + Wait + Sync, W: Sink, G: Gate + Sync>(
     let outcome = judge_bundle(rt, alloc, bundle, settings, gate, false)?;
     write_all(writer, &outcome.text)?;
     Ok(outcome.refuted)
-}
-
-/// All bytes up to the reader's end.
-fn read_all<R: Source>(alloc: Global, reader: &mut R) -> Result<Vec<u8>, Fault>
-    requires { R.failures reader.old < 2 ^ 64 - 1 }
-    ensures bytes { IfOk result
-        (λ input. IfSome (R.remaining reader.old) (λ left. input.items ≡ left)) }
-    ensures ok { OnOk result (R.failures reader.new ≡ R.failures reader.old) }
-    ensures err { IfErr result
-        (λ fault. IsDeviceFault (R.failures reader.old) (R.failures reader.new) fault) }
-{
-    let mut input = Vec::new(alloc);
-    read_to_end(reader, &mut input)?;
-    Ok(input)
-}
-
-/// Appends all bytes up to the reader's end. A read of 0 bytes is the reader's end.
-///
-/// `Device` where a read failed in this call, and `Memory` where a growth was refused: what was
-/// there before stays.
-pub fn read_to_end<R: Source>(reader: &mut R, bytes: &mut Vec<u8>) -> Result<(), Fault>
-    // One more failed read can be counted.
-    requires { R.failures reader.old < 2 ^ 64 - 1 }
-    // What was left to read stands behind what was there.
-    ensures read { OnOk result (IsReadOf (R.remaining reader.old) bytes.old.items bytes.new.items) }
-    ensures stays { StartsWith bytes.new.items bytes.old.items }
-    // A fault is that of a read that failed, or of memory.
-    ensures ok { OnOk result (R.failures reader.new ≡ R.failures reader.old) }
-    ensures err { IfErr result
-        (λ fault. IsDeviceFault (R.failures reader.old) (R.failures reader.new) fault) }
-{
-    let mut buffer = [0u8; 65536];
-    loop {
-        let Ok(count) = reader.read(&mut buffer) else {
-            return Err(Fault::Device);
-        };
-        if count == 0 {
-            return Ok(());
-        }
-        bytes.extend_from_slice(&buffer[..count])?;
-    }
-}
-
-/// Writes all of the text. `Device` where a write failed in this call, and then a beginning of it
-/// was written.
-pub fn write_all<W: Sink>(writer: &mut W, text: &[u8]) -> Result<(), Fault>
-    // One more failed write can be counted.
-    requires count { W.failures writer.old < 2 ^ 64 - 1 }
-    // The text may be written.
-    requires allowed { W.allows writer.old text.now }
-    // The text was written, and nothing failed.
-    ensures ok { OnOk result (Appends (W.contents writer.old) (W.contents writer.new) text.now) }
-    ensures same { OnOk result (W.failures writer.new ≡ W.failures writer.old) }
-    // Where a write failed, a beginning of the text was written.
-    ensures beginning { OnErr result
-        (AppendsBeginning (W.contents writer.old) (W.contents writer.new) text.now) }
-    ensures err { IfErr result
-        (λ fault. (fault ≡ Fault.Device) × (W.failures writer.new ≡ W.failures writer.old + 1)) }
-{
-    let mut done = 0;
-    while done < text.len() {
-        let Ok(count) = writer.write(&text[done..]) else {
-            return Err(Fault::Device);
-        };
-        done += count;
-    }
-    Ok(())
 }

@@ -1,5 +1,6 @@
 //! Why a run gives no report.
 
+use byte_flow::DeviceFault;
 use case_core::{CaseFault, DimacsFault};
 use check_crew::CrewFault;
 use std::alloc::{AllocError, AllocFailed};
@@ -175,6 +176,20 @@ impl<T: Drop> From<AllocFailed<T>> for Fault {
 
     fn from(_error: AllocFailed<T>) -> Fault {
         Fault::Memory
+    }
+}
+
+impl From<DeviceFault> for Fault {
+    ghost use Rattle.std.specs.Prelude.{◌≡◌};
+    ghost use Rattle.cube_report.specs.Faults.{fault_of_device};
+
+    ghost from_gives = { λ fault told. told ≡ fault_of_device fault };
+
+    fn from(fault: DeviceFault) -> Fault {
+        match fault {
+            DeviceFault::Memory => Fault::Memory,
+            DeviceFault::Device => Fault::Device,
+        }
     }
 }
 

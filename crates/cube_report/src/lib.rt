@@ -1,19 +1,16 @@
 //! What is said of a bundle: its report or its first fault, and the run from a reader to a writer.
 #![tactic(auto)]
 
-mod device;
 mod engine;
 mod explain;
 mod fault;
 mod laws;
 mod report;
 
+pub use byte_flow::{Counted, DeviceFault, Sink, Source, read_all, read_to_end, write_all};
 pub use case_core::{Case, Judged, Leaf, NodeId, Target, Tree, icnf_part};
-pub use check_crew::{Elsewhere, Found, Gate, LeafProofs, NoGate, ReadFault, Settings};
-pub use device::{Counted, Sink, Source};
-pub use engine::{
-    Outcome, judge_apart, judge_bundle, read_to_end, run, run_io, run_one, write_all, write_report,
-};
+pub use check_crew::{Elsewhere, Found, Gate, LeafProofs, NoGate, Settings};
+pub use engine::{Outcome, judge_apart, judge_bundle, run, run_io, run_one, write_report};
 pub use explain::{Asked, Explain, NoExplain};
 pub use fault::Fault;
 pub use laws::{

@@ -7,7 +7,7 @@ ghost use Rattle.bundle_files.specs.Files.{IsOpenedAt};
 ghost use Rattle.devices.specs.Shelf.{bytes_at, lies_at};
 
 use bundle_files::{FileId, Inputs, Opener, Spared};
-use cube_report::Fault;
+use cube_report::DeviceFault;
 use std::alloc::{AllocError, Global};
 use std::io;
 use std::io::{ErrorKind, Read};
@@ -123,7 +123,7 @@ pub struct Shelf<'t> {
     made: Option<Made>,
     desk: Arc<Desk>,
     fails_at: u64,
-    fault: Fault,
+    fault: DeviceFault,
     tells_lengths: bool,
 }
 
@@ -134,7 +134,7 @@ impl<'t> Shelf<'t> {
         ensures none { IfOk result (λ shelf. shelf.made ≡ None) }
         ensures at { IfOk result (λ shelf. shelf.fails_at ≡ 0) }
     {
-        Shelf::failing(alloc, files, 0, Fault::Device)
+        Shelf::failing(alloc, files, 0, DeviceFault::Device)
     }
 
     /// These files, where this call fails with this fault, `Memory` or `Device`. `AllocError` where
@@ -143,7 +143,7 @@ impl<'t> Shelf<'t> {
         alloc: Global,
         files: &'t [File<'t>],
         fails_at: u64,
-        fault: Fault,
+        fault: DeviceFault,
     ) -> Result<Shelf<'t>, AllocError>
         ensures files { IfOk result (λ shelf. shelf.files.now ≡ files.now) }
         ensures none { IfOk result (λ shelf. shelf.made ≡ None) }
@@ -216,7 +216,7 @@ impl<'t> Shelf<'t> {
     {
         let has_room = self.desk.note(String::from_str(self.alloc, path)?);
         let is_broken = self.fails();
-        if !has_room || is_broken && self.fault == Fault::Memory {
+        if !has_room || is_broken && self.fault == DeviceFault::Memory {
             return Err(io::Error::from(ErrorKind::OutOfMemory));
         }
         if let Some(made) = &self.made
@@ -266,7 +266,7 @@ impl<'t> Opener for Shelf<'t> {
     fn create(&mut self, path: &str, _spared: &Spared) -> io::Result<Vec<u8>> {
         if self.fails() {
             return Err(io::Error::from(match self.fault {
-                Fault::Memory => ErrorKind::OutOfMemory,
+                DeviceFault::Memory => ErrorKind::OutOfMemory,
                 _ => ErrorKind::PermissionDenied,
             }));
         }

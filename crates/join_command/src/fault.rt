@@ -4,7 +4,7 @@ ghost use Rattle.std.specs.Prelude.{◌≡◌};
 ghost use Rattle.join_command.specs.declared.fault.JoinFault.TheVariants.{Run};
 
 use case_core::CaseFault;
-use cube_report::Fault;
+use cube_report::{DeviceFault, Fault};
 use std::alloc::AllocError;
 
 /// Why reports aren't joined: what a run of `cubeboard` may end with, too, or a RECORD that is
@@ -22,6 +22,16 @@ impl From<Fault> for JoinFault {
 
     fn from(fault: Fault) -> JoinFault {
         JoinFault::Run(fault)
+    }
+}
+
+impl From<DeviceFault> for JoinFault {
+    ghost use Rattle.cube_report.specs.Faults.{fault_of_device};
+
+    ghost from_gives = { λ fault told. told ≡ Run (fault_of_device fault) };
+
+    fn from(fault: DeviceFault) -> JoinFault {
+        JoinFault::Run(Fault::from(fault))
     }
 }
 

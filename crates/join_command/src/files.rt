@@ -15,7 +15,7 @@ use crate::fault::JoinFault;
 use bundle_files::{Store, read_from};
 use cube_command::digest_line_of;
 use cube_join::Join;
-use cube_report::{Counted, Fault};
+use cube_report::{Counted, DeviceFault, Fault};
 use std::alloc::{AllocError, Global};
 use std::io;
 
@@ -66,7 +66,7 @@ pub(crate) fn read_whole<D: Store>(
     alloc: Global,
     store: &mut D,
     path: &str,
-) -> Result<Vec<u8>, Fault>
+) -> Result<Vec<u8>, DeviceFault>
     requires store { D.failures store.old < 2 ^ 64 - 1 }
     ensures held { D.held store.new ≡ D.held store.old }
     ensures text { IfOk result (λ text. Gives (D.held store.old) path.now (Some text.items)) }
@@ -77,7 +77,7 @@ pub(crate) fn read_whole<D: Store>(
 {
     let mut text = Vec::new(alloc);
     if !store.read(path, &mut text)? {
-        return Err(Fault::Device);
+        return Err(DeviceFault::Device);
     }
     Ok(text)
 }

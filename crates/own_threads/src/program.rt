@@ -5,11 +5,11 @@ ghost use Rattle.std.specs.Prelude.{if◌then◌else◌, IfOk, IfErr, OnOk, IfSo
 ghost use Rattle.std.specs.Io.KnownBytes.{Keeps, Appends};
 ghost use Rattle.cube_report.specs.Correct.{AllowsReports, IsCorrect, IsFaultOn};
 ghost use Rattle.cube_report.specs.Correct.{IsUnsatisfiable};
-ghost use Rattle.cube_report.specs.Device.{IsDeviceFault, IsLeft};
+ghost use Rattle.cube_report.specs.Device.{IsLeft};
 ghost use Rattle.cube_report.specs.Faults.{IsInputFault};
 
 use crate::report::outcome_of;
-use cube_report::{Fault, Sink, Source, read_to_end, write_all};
+use cube_report::{Fault, Sink, Source, read_all, write_all};
 use std::alloc::Global;
 use std::sync::Wait;
 use std::thread::Threads;
@@ -45,23 +45,10 @@ pub fn check<R: Threads + Wait + Sync, I: Source, O: Sink>(
         (I.failures input.old < I.failures input.new
         ⊎ O.failures output.old < O.failures output.new) }
 {
-    let bundle = bytes_of(alloc, input)?;
+    let bundle = read_all(alloc, input)?;
     let outcome = outcome_of(rt, alloc, &bundle)?;
     write_all(output, &outcome.text)?;
     Ok(outcome.refuted)
-}
-
-/// All bytes up to the input's end.
-fn bytes_of<I: Source>(alloc: Global, input: &mut I) -> Result<Vec<u8>, Fault>
-    requires { I.failures input.old < 2 ^ 64 - 1 }
-    ensures bytes { IfOk result (λ bytes.
-        IfSome (I.remaining input.old) (λ known. bytes.items ≡ known)) }
-    ensures ok { OnOk result (I.failures input.new ≡ I.failures input.old) }
-    ensures err { IfErr result (IsDeviceFault (I.failures input.old) (I.failures input.new)) }
-{
-    let mut bytes = Vec::new(alloc);
-    read_to_end(input, &mut bytes)?;
-    Ok(bytes)
 }
 
 /// The status of a run: 0 or 1 for a report that says refuted or open, 3 where the bundle is

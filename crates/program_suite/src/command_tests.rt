@@ -5,7 +5,7 @@ ghost use Rattle.std.specs.Prelude.{◌<◌, ◌^◌, ◌-◌, ℕ, List};
 use cube_command::{
     Counted, FileStore, Gate, NoExplain, NoGate, NoLog, Sink, Source, Store, command,
 };
-use cube_report::Fault;
+use cube_report::DeviceFault;
 use devices::{Broken, File, Narrow, Shelf};
 use fixtures::bundles::{REFUTED, REFUTED_REPORT};
 use std::process::Abort;
@@ -218,7 +218,7 @@ fn no_folder(rt: HostRuntime) -> Result<(), Fail> {
 /// A read that fails so behind the first fault ends the program so.
 fn fails_behind<R: AllocGlobal + Abort + Threads + Wait + Sync>(
     rt: &R,
-    fault: Fault,
+    fault: DeviceFault,
     ending: Ending<'_>,
 ) -> Result<(), Fail> {
     let files = [("D/1.lrat", b"l x\n".as_slice())];
@@ -230,8 +230,8 @@ fn fails_behind<R: AllocGlobal + Abort + Threads + Wait + Sync>(
 // A read that fails behind the first fault comes before it.
 #[test]
 fn a_file_fails_behind_a_fault(rt: HostRuntime) -> Result<(), Fail> {
-    fails_behind(&rt, Fault::Device, (5, b"", DEVICE))?;
-    fails_behind(&rt, Fault::Memory, (4, b"", MEMORY))
+    fails_behind(&rt, DeviceFault::Device, (5, b"", DEVICE))?;
+    fails_behind(&rt, DeviceFault::Memory, (4, b"", MEMORY))
 }
 
 /// The paths of the proofs of `MIXED` where another leaf's section is in the first file.
@@ -271,7 +271,7 @@ pub(crate) fn leaves_input<R: AllocGlobal + Abort + Threads + Wait + Sync>(
 fn file_fails_at<R: AllocGlobal + Abort + Threads + Wait + Sync>(
     rt: &R,
     fails_at: u64,
-    fault: Fault,
+    fault: DeviceFault,
     ending: Ending<'_>,
     paths: &[u8],
 ) -> Result<(), Fail> {
@@ -292,8 +292,8 @@ const CALLS: &[(u64, &[u8])] = &[
 #[test]
 fn a_file_fails(rt: HostRuntime) -> Result<(), Fail> {
     for (fails_at, paths) in CALLS {
-        file_fails_at(&rt, *fails_at, Fault::Device, (5, b"", DEVICE), paths)?;
-        file_fails_at(&rt, *fails_at, Fault::Memory, (4, b"", MEMORY), paths)?;
+        file_fails_at(&rt, *fails_at, DeviceFault::Device, (5, b"", DEVICE), paths)?;
+        file_fails_at(&rt, *fails_at, DeviceFault::Memory, (4, b"", MEMORY), paths)?;
     }
     Ok(())
 }

@@ -4,7 +4,7 @@
 use crate::command_tests::{
     ALL_REPORT, BARE_REPORT, DEVICE, Ending, FAULTS, MEMORY, MIXED, WITHOUT_M1_REPORT, leaves_input,
 };
-use cube_report::Fault;
+use cube_report::DeviceFault;
 use devices::Shelf;
 use std::alloc::Global;
 use std::process::Abort;
@@ -51,7 +51,7 @@ fn ends_opened<R: AllocGlobal + Abort + Threads + Wait + Sync>(
     rt: &R,
     words: &[&str],
     bundle: &[u8],
-    fails: (u64, Fault),
+    fails: (u64, DeviceFault),
     ending: Ending<'_>,
     opened: usize,
 ) -> Result<(), Fail> {
@@ -75,7 +75,7 @@ fn ends_after<R: AllocGlobal + Abort + Threads + Wait + Sync>(
 }
 
 /// No call fails.
-const NEVER: (u64, Fault) = (0, Fault::Device);
+const NEVER: (u64, DeviceFault) = (0, DeviceFault::Device);
 
 /// The path of the file, so often.
 fn paths(alloc: Global, opened: usize) -> Result<Vec<u8>, Fail> {
@@ -144,9 +144,9 @@ const ALONE: &[&str] = &["FILE", "--workers", "1"];
 fn a_call_fails(rt: HostRuntime) -> Result<(), Fail> {
     let bundle = mixed_with(rt.alloc(), ALL)?;
     for at in 1..=5 {
-        let device = (at as u64, Fault::Device);
+        let device = (at as u64, DeviceFault::Device);
         ends_opened(&rt, ALONE, &bundle, device, (5, b"", DEVICE), at)?;
-        let memory = (at as u64, Fault::Memory);
+        let memory = (at as u64, DeviceFault::Memory);
         ends_opened(&rt, ALONE, &bundle, memory, (4, b"", MEMORY), at)?;
     }
     Ok(())

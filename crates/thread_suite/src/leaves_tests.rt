@@ -5,8 +5,8 @@ ghost use Rattle.std.specs.Prelude.{◌≡◌, All, vec_len};
 use crate::cases::{case, need_count};
 use crate::gates::{Told, cube_number, need_each_once, one_of};
 use case_core::{Case, Leaf};
-use check_crew::{Gate, LeafProofs, NoGate, ReadFault, Settings};
-use cube_report::{Fault, Outcome, judge_apart};
+use check_crew::{Gate, LeafProofs, NoGate, Settings};
+use cube_report::{DeviceFault, Fault, Outcome, judge_apart};
 use fixtures::bundles::FOUR_CUBES_REPORT;
 use fixtures::four;
 use std::process::Abort;
@@ -78,12 +78,12 @@ impl<'t> LeafProofs for Lent<'t> {
 
     ghost failures = { λ s. s.failed };
 
-    fn read(&mut self, leaf: Leaf, bytes: &mut Vec<u8>) -> Result<bool, ReadFault> {
+    fn read(&mut self, leaf: Leaf, bytes: &mut Vec<u8>) -> Result<bool, DeviceFault> {
         let cube = cube_number(leaf);
         self.reads.fetch_add(one_of(cube), Ordering::SeqCst);
         if cube == self.fails_at {
             self.failed += 1;
-            return Err(ReadFault::Device);
+            return Err(DeviceFault::Device);
         }
         bytes.clear();
         match self.proofs.get((cube as usize).wrapping_sub(1)) {

@@ -10,20 +10,21 @@ use Rattle.proof_folder.specs.Given.{IsGivenFor}
 use Rattle.board_hall.specs.declared.view.View.{View}
 use Rattle.board_hall.specs.declared.pass.Pass.{Pass}
 use Rattle.board_hall.specs.Halls.{HallOf, IsPassOf, view_of}
-use Rattle.check_crew.specs.LeafProofs.{Known, IsExamined, IsReadFault}
-use Rattle.check_crew.specs.declared.leaf_proofs.ReadFault.{ReadFault}
+use Rattle.byte_flow.specs.Device.{IsDeviceFault}
+use Rattle.byte_flow.specs.declared.fault.DeviceFault.{DeviceFault}
+use Rattle.check_crew.specs.LeafProofs.{Known, IsExamined}
 use Rattle.check_crew.specs.declared.leaves.ExaminedLeaf.{ExaminedLeaf}
 
 -- What a worker over leaves hands back, by what is known of the proofs that it reads and how many
 -- of its reads have failed: its pass, which owes nothing; unless a fault stopped it, what became of
 -- each leaf that it took; and a fault of the device just where a read has failed.
 pub record IsLeafShiftOf (hall : HallOf) (held : Known) (failures : ℕ) (pass : Pass)
-    (examined : List ExaminedLeaf) (fault : Option ReadFault) : Type 0 where
+    (examined : List ExaminedLeaf) (fault : Option DeviceFault) : Type 0 where
   pub own : IsPassOf hall pass
   pub owes : (view_of pass).owes ≡ None
   pub each : fault ≡ None →
       All (λ one. IsExamined (held one.leaf) (view_of pass) one.leaf one.examined) examined
-  pub fault_is : MatchOption fault (failures ≡ 0) (IsReadFault 0 failures)
+  pub fault_is : MatchOption fault (failures ≡ 0) (IsDeviceFault 0 failures)
 
 -- a worker found this of leaves of the case
 pub record IsListOf (known : Known) (case : CaseOf) (list : List ExaminedLeaf) : Type 0 where

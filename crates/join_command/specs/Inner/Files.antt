@@ -7,7 +7,7 @@ use Rattle.cube_report.specs.declared.fault.Fault.{Fault}
 use Rattle.cube_report.specs.declared.fault.Fault.TheVariants.{Memory, Device}
 use Rattle.cube_report.specs.Faults.{IsInputFault}
 use Rattle.cube_report.specs.Correct.{IsFaultOn}
-use Rattle.bundle_files.specs.Files.{Held, Gives, IsUnread}
+use Rattle.bundle_files.specs.Files.{Held, Gives, IsAbsent}
 use Rattle.bundle_files.specs.Formula.{Sources, IsFormulaFault, IsOneAbsent}
 use Rattle.cube_join.specs.Joined.{IsStranger}
 use Rattle.join_command.specs.declared.fault.JoinFault.{JoinFault}
@@ -37,7 +37,7 @@ IsUnreadBundle held sources before after fault =
 -- why one record, of this number, wasn't joined
 abbrev pub IsNotAdded : Held → List ℕ → SplitTree → List ℕ → ℕ → ℕ → ℕ → JoinFault → Type 0
 IsNotAdded held line tree path number before after (Run fault) =
-    IsUnread held (Some path) before after fault
+    IsUnreadWhere (IsAbsent held (Some path)) before after fault
 IsNotAdded held line tree path number before after (Stranger other) =
     (other ≡ number) × (after ≡ before)
     × ((text : List ℕ) × Gives held path (Some text)

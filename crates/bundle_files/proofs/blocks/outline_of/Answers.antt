@@ -12,7 +12,7 @@ loop-count-preserved g c = record {
       (g.S.Source.remaining c.loop-count.source) (g.S.Source.remaining c.read.new.self)
       c.loop-count.outline c.hand_over.new.outline c.loop-count.begun.items
       c.hand_over.new.begun.items _ c.loop-count.invariant.read c.in-Ok.ensures.bytes.0
-      c.in_ok-hand_over.ensures.ok;
+      c.in_ok-hand_over.ensures;
 }
 
 pub returns-then-count-eq0-clause-outline : goal.returns-then-count-eq0-clause-outline
@@ -21,16 +21,19 @@ returns-then-count-eq0-clause-outline g c =
     let some : 0 < length c.read.new.buffer = search rules in
     all_read (g.S.Source.remaining c.args.source.now)
     (g.S.Source.remaining c.loop-count.source) (g.S.Source.remaining c.read.new.self)
-    c.loop-count.outline c.add.new.self c.loop-count.begun.items
+    c.loop-count.outline c.add_lines.new.outline c.loop-count.begun.items
     (take c.in-Ok.count c.read.new.buffer) c.loop-count.invariant.read
     c.in-Ok.ensures.bytes.0 (ap (λ (n : ℕ). take n c.read.new.buffer) none)
     (c.in-Ok.ensures.bytes.1 none some)
-    (λ text whole is. subst (λ (block : List ℕ). IsOutlineOf c.add.new.self (text ++ block))
-    c.deref.ensures.value (c.in_ok-add.ensures.ok text whole is))
+    (λ text whole is. subst (λ (block : List ℕ).
+    IsOutlineOf c.add_lines.new.outline (text ++ block)) c.deref.ensures.value
+    (c.in_ok-add_lines.ensures text whole is))
 
 pub returns-then-count-eq0-clause-read : goal.returns-then-count-eq0-clause-read
 returns-then-count-eq0-clause-read g c =
     all_handed (g.S.Source.remaining c.args.source.now) (g.S.Source.remaining c.loop-count.source)
-    c.loop-count.outline c.add.new.self c.loop-count.begun.items c.loop-count.invariant.read
-    (λ text whole is. subst (λ (block : List ℕ). IsOutlineOf c.add.new.self (text ++ block))
-    c.deref.ensures.value (c.in_ok-add.ensures.ok text whole is))
+    c.loop-count.outline c.add_lines.new.outline c.loop-count.begun.items
+    c.loop-count.invariant.read
+    (λ text whole is. subst (λ (block : List ℕ).
+    IsOutlineOf c.add_lines.new.outline (text ++ block)) c.deref.ensures.value
+    (c.in_ok-add_lines.ensures text whole is))

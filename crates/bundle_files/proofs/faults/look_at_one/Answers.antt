@@ -14,4 +14,4 @@ returns-clause-added g c =
     c.in_ok-read.field-0 c.args.search.now.labels _ c.args.search.now.fault _ (search rules)
     (c.as_str.ensures.value ∙ c.in_ok-path.ensures)
     (rw c.clear.ensures.items at c.in_ok-write_label.ensures) c.in_ok-read.ensures.found
-    c.in_ok-add.ensures.ok
+    c.in_ok-add.ensures

@@ -1,7 +1,7 @@
 use Rattle.std.proofs.Common.{MatchOption, ◌≡◌}
 use Rattle.std.proofs.lemmas.List.Elements.{All-weaker}
 use Rattle.board_hall.specs.Halls.{hall_of}
-use Rattle.check_crew.specs.LeafProofs.{IsReadFault}
+use Rattle.byte_flow.specs.Device.{IsDeviceFault}
 use Rattle.check_crew.specs.Inner.Apart.{IsLeafShiftOf}
 use Rattle.check_crew.proofs.elsewhere.close_leaves.Goals as goal
 
@@ -11,7 +11,7 @@ failed_first-requires g c =
     (λ shift. IsLeafShiftOf (hall_of c.args.run.hall) (g.P.LeafProofs.held shift.proofs)
     (g.P.LeafProofs.failures shift.proofs) shift.pass shift.examined.items shift.fault)
     (λ shift. MatchOption shift.fault (g.P.LeafProofs.failures shift.proofs ≡ 0)
-    (IsReadFault 0 (g.P.LeafProofs.failures shift.proofs)))
+    (IsDeviceFault 0 (g.P.LeafProofs.failures shift.proofs)))
     (λ shift is. is.fault_is) c.args.run.shifts.items c.requires.shifts
 
 pub boards_of-requires-clause-shifts : goal.boards_of-requires-clause-shifts

@@ -1,6 +1,6 @@
 use Rattle.std.proofs.Common.{rules, ◌≡◌, ◌≢◌, ◌<◌, Some, arith, length, get_or, subst}
 use Rattle.std.proofs.lemmas.List.Elements.{All-more}
-use Rattle.check_crew.specs.declared.leaf_proofs.ReadFault.TheVariants.{Device}
+use Rattle.byte_flow.specs.declared.fault.DeviceFault.TheVariants.{Device}
 use Rattle.check_crew.specs.declared.leaves.LeafShift.{LeafShift}
 use Rattle.check_crew.proofs.elsewhere.failed_first.Goals as goal
 

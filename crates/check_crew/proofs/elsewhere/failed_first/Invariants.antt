@@ -1,5 +1,5 @@
 use Rattle.std.proofs.Common.{◌≡◌, ◌≢◌, Some, All, take}
-use Rattle.check_crew.specs.declared.leaf_proofs.ReadFault.TheVariants.{Device}
+use Rattle.byte_flow.specs.declared.fault.DeviceFault.TheVariants.{Device}
 use Rattle.check_crew.proofs.elsewhere.failed_first.Given as goal
 
 abbrev pub invariant-loop-place : goal.invariant-loop-place

@@ -1,5 +1,5 @@
 use Rattle.std.proofs.Common.{List, ℕ, ◌≢◌}
-use Rattle.cube_report.specs.Device.{AppendsBeginning}
+use Rattle.byte_flow.specs.Device.{AppendsBeginning}
 use Rattle.cube_report.specs.Correct.{IsReportOn}
 use Rattle.cube_report.proofs.CorrectReports.{sound_of, fault_of, begun_of}
 use Rattle.cube_report.proofs.engine.run_io.Goals as goal

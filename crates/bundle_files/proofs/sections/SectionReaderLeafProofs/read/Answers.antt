@@ -11,8 +11,8 @@ use Rattle.bundle_files.specs.Parts.{IsPart, held_in}
 use Rattle.bundle_files.proofs.PartsRead.{part_is_read, empty_is_read, filled}
 use Rattle.bundle_files.proofs.sections.SectionReaderLeafProofs.read.Goals as goal
 
-pub returns-in-Ok-clause-found : goal.returns-in-Ok-clause-found
-returns-in-Ok-clause-found g c =
+pub returns-clause-found : goal.returns-clause-found
+returns-clause-found g c =
     let items : length c.deref_mut.result.now ≡ length c.resize.new.self.items =
     ap length c.deref_mut.ensures.value in
     let whole : length c.deref_mut.result.now ≡ c.resize.new.self.len =
@@ -36,9 +36,9 @@ returns-in-Ok-clause-found g c =
     (subst (λ (b : List ℕ). IsPart (known c.as_str.result.now) c.in-Some.place.start
     c.in-Some.place.length b)
     (sym (filled c.resize.new.self.len c.read_part.new.bytes c.resize.new.self.items
-    (c.in-Ok.ensures.length ∙ whole)))
+    (c.in_ok-read_part.ensures.length ∙ whole)))
     (subst (λ (n : ℕ). IsPart (known c.as_str.result.now) c.in-Some.place.start n
-    c.read_part.new.bytes) size c.in-Ok.ensures.part)))
+    c.read_part.new.bytes) size c.in_ok-read_part.ensures.part)))
 
 pub returns-then-place-eq0-clause-found : goal.returns-then-place-eq0-clause-found
 returns-then-place-eq0-clause-found g c =

@@ -1,9 +1,9 @@
--- What a run does to its reader and its writer.
+-- What calls do to a reader and a writer, and why they fail.
 use Rattle.std.specs.Prelude.{◌≡◌, ℕ, ◌+◌, ◌≤◌, List, ◌⊎◌, ◌++◌, IfSome, take, length, Result}
 use Rattle.std.specs.Prelude.{Option, MatchResult}
 use Rattle.std.specs.Io.KnownBytes.{Appends}
-use Rattle.cube_report.specs.declared.fault.Fault.{Fault}
-use Rattle.cube_report.specs.declared.fault.Fault.TheVariants.{Memory, Device as FaultDevice}
+use Rattle.byte_flow.specs.declared.fault.DeviceFault.{DeviceFault}
+use Rattle.byte_flow.specs.declared.fault.DeviceFault.TheVariants.{Memory, Device as FaultDevice}
 
 -- the number of failed calls rises by one exactly where this call failed
 abbrev pub CountsFailures : {T E : Type 0} → ℕ → ℕ → Result T E → Type 0
@@ -23,6 +23,6 @@ abbrev pub IsReadOf : Option (List ℕ) → List ℕ → List ℕ → Type 0
 IsReadOf left old new = (read : List ℕ) × (new ≡ old ++ read) × IfSome left (λ known. read ≡ known)
 
 -- want of memory without a failed call, or a fault of the device with one
-abbrev pub IsDeviceFault : ℕ → ℕ → Fault → Type 0
+abbrev pub IsDeviceFault : ℕ → ℕ → DeviceFault → Type 0
 IsDeviceFault before after fault =
     ((fault ≡ Memory) × (after ≡ before)) ⊎ ((fault ≡ FaultDevice) × (after ≡ before + 1))

@@ -1,6 +1,6 @@
 use Rattle.std.proofs.Common.{◌≡◌, ◌≤◌, ◌-◌, length, take, drop}
 use Rattle.std.specs.Io.KnownBytes.{Appends}
-use Rattle.cube_report.proofs.engine.write_all.Given as goal
+use Rattle.byte_flow.proofs.whole.write_all.Given as goal
 
 abbrev pub invariant-loop-done : goal.invariant-loop-done
 invariant-loop-done g l = record {

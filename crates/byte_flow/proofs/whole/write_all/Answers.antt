@@ -1,6 +1,6 @@
 use Rattle.std.proofs.Common.{rules}
-use Rattle.cube_report.proofs.ReportPieces.{allowed_more, appends_more, rest_allowed}
-use Rattle.cube_report.proofs.engine.write_all.Goals as goal
+use Rattle.byte_flow.proofs.WholePieces.{allowed_more, appends_more, rest_allowed}
+use Rattle.byte_flow.proofs.whole.write_all.Goals as goal
 
 pub write-requires-clause-allowed : goal.write-requires-clause-allowed
 write-requires-clause-allowed g c =

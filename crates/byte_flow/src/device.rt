@@ -2,7 +2,7 @@
 ghost use Rattle.std.specs.Prelude.{◌≡◌, ℕ, List, Option, ◌<◌, ◌^◌, ◌-◌, length, drop, IfOk};
 ghost use Rattle.std.specs.Io.{ReadsAtMost, WritesAtMost};
 ghost use Rattle.std.specs.Io.KnownBytes.{ReadConsumes, WriteAppends};
-ghost use Rattle.cube_report.specs.Device.{CountsFailures};
+ghost use Rattle.byte_flow.specs.Device.{CountsFailures};
 
 use std::io;
 use std::io::{ErrorKind, Read, Write};

@@ -1,6 +1,6 @@
 use Rattle.std.proofs.Common.{◌≡◌, ◌-◌, ◌^◌, vec_len, length}
-use Rattle.cube_report.proofs.ReportPieces.{ReadSoFar}
-use Rattle.cube_report.proofs.engine.read_to_end.Given as goal
+use Rattle.byte_flow.proofs.WholePieces.{ReadSoFar}
+use Rattle.byte_flow.proofs.whole.read_to_end.Given as goal
 
 abbrev pub invariant-loop-count : goal.invariant-loop-count
 invariant-loop-count g l = record {
