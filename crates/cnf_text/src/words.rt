@@ -60,6 +60,21 @@ impl<'t> Words<'t> {
         }
     }
 
+    /// The words of a text from a place within a line on: its first line is no comment, whatever it
+    /// begins with.
+    pub fn within(text: &'t [u8]) -> Self
+        ensures { result ≡ words_left text.now }
+    {
+        Words { text }
+    }
+
+    /// The text that is left, from a place within a line on.
+    pub fn text(&self) -> &'t [u8]
+        ensures { words_left result.now ≡ self.now }
+    {
+        self.text
+    }
+
     /// The same words, to go back to.
     #[inline(always)]
     pub fn saved(&self) -> Self

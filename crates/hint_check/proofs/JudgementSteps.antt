@@ -10,7 +10,6 @@ use Rattle.std.proofs.lemmas.Bool.{cond-true, cond-false, not_from_false, ne_eqb
 use Rattle.cnf_text.specs.Literal.{Literal}
 use Rattle.hint_check.specs.Live.{Live, is_empty, holds_empty_clause, without}
 use Rattle.lrat_text.specs.Grammar.{Addition, ProofStep as Step, Add, Delete}
-use Rattle.lrat_text.specs.Proof.{Unread}
 use Rattle.hint_check.specs.Addition.{addition_fault}
 use Rattle.hint_check.specs.Judgement.{with_clause, unless_refuted, after_fault, end_reason}
 use Rattle.hint_check.specs.Judgement.{judged_from}
@@ -125,11 +124,3 @@ insert-empty live id clause empty =
 pub length-is_empty : (clause : List Literal) → (length clause == 0) ≡ is_empty clause
 length-is_empty [] = refl
 length-is_empty (l ∷ literals) = ne_eqb (length (l ∷ literals)) 0 (λ e. omega (arith, e))
-
--- where no step is left to read and no empty clause is live, the proof is rejected for its end
-pub judged-end : (live : Live) (number : ℕ) (left : Unread) (reason : Reason) →
-    holds_empty_clause live ≡ false → left.steps ≡ [] → reason ≡ end_reason left.blank →
-    judged_from live number left.steps left.blank ≡ Rejected number reason
-judged-end live number left reason none done is =
-    ap (λ steps. judged_from live number steps left.blank) done
-    ∙ judged_from-end live number left.blank none ∙ ap (Rejected number) (sym is)

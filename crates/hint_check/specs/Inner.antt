@@ -3,7 +3,8 @@ pub mod Alike
 pub mod Live
 pub mod Propagate
 pub mod Apply
-pub mod Judge
+pub mod Steps
+pub mod Judging
 pub mod Stamps
 pub mod Assignment
 pub mod Blocks

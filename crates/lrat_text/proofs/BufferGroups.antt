@@ -1,6 +1,6 @@
 -- Groups as runs of a list of ids that grows.
 use Rattle.std.proofs.Common.{◌≡◌, ℕ, ◌-◌, ◌≤◌, List, [], ◌∷◌, ◌++◌, take, drop, length, refl, sym}
-use Rattle.std.proofs.Common.{◌∙◌, ap, arith, inl, inr}
+use Rattle.std.proofs.Common.{◌∙◌, ap, append_assoc, arith, inl, inr}
 use Rattle.std.proofs.Math.Seq.{drop-append_seam, take-length}
 use Rattle.std.proofs.lemmas.Bool.{cases_lt}
 use Rattle.std.proofs.lemmas.List.{take-append-le, drop-append-le, take_rest, length-append}
@@ -11,8 +11,8 @@ use Rattle.lrat_text.specs.declared.steps.Stop.{Stop}
 use Rattle.lrat_text.specs.declared.steps.Stop.TheVariants as stops
 use Rattle.lrat_text.specs.Buffer.{ids_between, group_in, groups_in}
 use Rattle.lrat_text.specs.Grammar.{StepSymbol, HintGroup, IsId, IsGroup, hint_symbols, positive}
-use Rattle.lrat_text.specs.Grammar.{DeleteMark, Delete, BeginsWith}
-use Rattle.lrat_text.specs.Inner.Steps.{stop_symbol, IsStop, IsRun, IsIds}
+use Rattle.lrat_text.specs.Grammar.{DeleteMark, Delete, BeginsWith, negative, end_mark}
+use Rattle.lrat_text.specs.Inner.Steps.{stop_symbol, IsStop, IsRun, IsIds, IsHints}
 use Rattle.lrat_text.proofs.GrammarDecoding.{hints_push, hints_nil, deletion_begins}
 
 abbrev pub EndsWithin : List ℕ → GroupRun → Type 0
@@ -84,7 +84,7 @@ pub record HintsRead (ids : List ℕ) (leading : ℕ) (runs : List GroupRun) (st
   pub read : whole
       ≡ hint_symbols (ids_between 0 leading ids) (groups_in ids runs) ++ stop_symbol stop ∷ left
 
-all_push : {X : Type 0} (P : X → Type 0) (xs : List X) (x : X) → AllByRecursion P xs → P x →
+pub all_push : {X : Type 0} (P : X → Type 0) (xs : List X) (x : X) → AllByRecursion P xs → P x →
     AllByRecursion P (xs ++ x ∷ [])
 all_push P [] x all here = (here, tt)
 all_push P (y ∷ xs) x all here = (all.0, all_push P xs x all.1 here)
@@ -166,3 +166,28 @@ pub deletion_read : (n count : ℕ) (t left : List StepSymbol) (ids : List ℕ) 
     → BeginsWith (positive n ∷ DeleteMark ∷ t) (Delete (ids_between 0 count ids)) left
 deletion_read n count t left ids bound counted read =
     rw (counted, all_between ids) (deletion_begins n t left ids bound read)
+
+-- hints whose last run would end at an end mark
+pub hints_then : (ids : List ℕ) (leading candidate : ℕ) (runs : List GroupRun) (stop : Stop)
+    (whole between : List StepSymbol) → HintsRead ids leading runs stop whole between →
+    stop ≡ stops.Group candidate →
+    ((run : List ℕ) × IsRun (between ++ end_mark ∷ []) run stops.End []) →
+    (hints : List ℕ) × (groups : List HintGroup)
+    × IsHints (whole ++ end_mark ∷ []) hints groups []
+hints_then ids leading candidate runs stop whole between read group run =
+    let h = rw group at read in
+    let first = ids_between 0 leading ids in
+    let groups = groups_in ids runs in
+    let last = group_of candidate run.0 in (
+      first,
+      groups ++ last ∷ [],
+      (
+        h.leading_ids,
+        all_push IsGroup groups last h.each (h.is_stop, run.1.0),
+        ap (λ s. s ++ end_mark ∷ []) h.read
+            ∙ append_assoc (hint_symbols first groups) (negative candidate ∷ between)
+            (end_mark ∷ [])
+            ∙ ap (λ s. hint_symbols first groups ++ negative candidate ∷ s) run.1.2
+            ∙ sym (hints_push first groups last (end_mark ∷ [])),
+      ),
+    )

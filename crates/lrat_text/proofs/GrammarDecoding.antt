@@ -12,8 +12,7 @@ use Rattle.lrat_text.specs.declared.steps.Word.{Word}
 use Rattle.lrat_text.specs.declared.steps.Word.TheVariants as words
 use Rattle.lrat_text.specs.declared.steps.Stop.{Stop}
 use Rattle.lrat_text.specs.declared.steps.Stop.TheVariants as stops
-use Rattle.lrat_text.specs.declared.step.StepFault.TheVariants.{Unreadable, Memory}
-use Rattle.lrat_text.specs.declared.step.StepFault.{StepFault}
+use Rattle.lrat_text.specs.declared.step.OpenFault.{OpenFault}
 use Rattle.lrat_text.specs.Grammar.{StepSymbol, Numeral, DeleteMark, positive, negative, signed}
 use Rattle.lrat_text.specs.Grammar.{end_mark, IsId, HintGroup, IsGroup, hint_symbols, Add, Delete}
 use Rattle.lrat_text.specs.Grammar.{BeginsWith}
@@ -283,6 +282,13 @@ no_step_addition n t no_mark none (Add a) left found =
 no_step_addition n t no_mark none (Delete ids) left found =
     no_mark _ (tails _ _ _ _ (found.2 ∙ ap (λ x. x ++ left) found.1.1.2))
 
+-- where no literals begin, no addition does
+pub no_step_literals : (n : ℕ) (t : List StepSymbol) → NoLiterals t →
+    ((r : List StepSymbol) → t ≡ DeleteMark ∷ r → ⊥) → NoStep (positive n ∷ t)
+no_step_literals n t none no_mark =
+    no_step_addition n t no_mark (λ literals hints groups left id all each every e.
+    none literals (hint_symbols hints groups ++ end_mark ∷ left) (all, e))
+
 -- literals without hints begin no step
 pub no_step_hints : (n : ℕ) (t : List StepSymbol) (ls : List Literal) (rest : List StepSymbol) →
     IsLiterals t ls rest → NoHints rest → ((r : List StepSymbol) → t ≡ DeleteMark ∷ r → ⊥) →
@@ -340,18 +346,14 @@ not_mark words.DeleteMark other symbol means t r e = other refl
 not_mark words.Stray other symbol means t r e = means.1 (heads _ _ _ _ e)
 
 -- what holds of an answer
-pub ok_each : {A : Type 0} (result : Result A StepFault) (P : A → Type 0)
+pub ok_each : {A : Type 0} (result : Result A OpenFault) (P : A → Type 0)
     (Q : StepSymbol → A → Type 0) → ((symbol : StepSymbol) (kind : A) → P kind → Q symbol kind) →
     IfOk result P → IfOk result (λ kind. (symbol : StepSymbol) → Q symbol kind)
 ok_each (Ok kind) P Q more h = λ symbol. more symbol kind h
 ok_each (Err fault) P Q more h = tt
 
 -- what follows from each fault is said of a result's fault
-pub err_each : {A : Type 0} (result : Result A StepFault) (P Q : StepFault → Type 0) →
-    ((fault : StepFault) → P fault → Q fault) → IfErr result P → IfErr result Q
+pub err_each : {A : Type 0} (result : Result A OpenFault) (P Q : OpenFault → Type 0) →
+    ((fault : OpenFault) → P fault → Q fault) → IfErr result P → IfErr result Q
 err_each (Ok kind) P Q more h = tt
 err_each (Err fault) P Q more h = more fault h
-
--- the two faults of a step are apart
-pub not_memory : Unreadable ≡ Memory → ⊥
-not_memory e = cc

@@ -1,5 +1,5 @@
 -- The decoding gives the longest list of whole steps with which symbols begin.
-use Rattle.std.proofs.Common.{◌≡◌, ℕ, zero, suc, ◌≤◌, ◌<◌, Bool, true, false, Some, None, List, []}
+use Rattle.std.proofs.Common.{◌≡◌, ℕ, zero, suc, ◌≤◌, ◌<◌, Some, None, List, []}
 use Rattle.std.proofs.Common.{◌∷◌, ◌++◌, length, map, refl, sym, ◌∙◌, ap, subst, arith}
 use Rattle.std.proofs.lemmas.List.{length-append, length-map}
 use Rattle.std.proofs.lemmas.Simd.{map-map}
@@ -8,7 +8,7 @@ use Rattle.lrat_text.specs.Grammar.{StepSymbol, step_symbol_of, step_symbols_of,
 use Rattle.lrat_text.specs.Grammar.{Delete, BeginsWith, BeginsWithAll, Longest}
 use Rattle.lrat_text.specs.Inner.Steps.{NoStep, first_step, is_none_left, step_onto, steps_in}
 use Rattle.lrat_text.specs.Inner.Steps.{proof_in, symbols}
-use Rattle.lrat_text.specs.Proof.{Proof, Unread, unread}
+use Rattle.lrat_text.specs.Proof.{Proof}
 use Rattle.lrat_text.proofs.ProofFronts.{first_step-sound, first_step-complete, first_step-none}
 use Rattle.lrat_text.proofs.ProofFronts.{none-no_step}
 use Rattle.lrat_text.proofs.GrammarUnique.{one_step, longest_at_no_step}
@@ -166,50 +166,9 @@ bounded found n few =
     let same = length-map found step_symbol_of in
     omega arith
 
--- ---- what a call of the reader says
-
-abbrev reader_at : Proof → Bool → Unread
-reader_at proof failed = record { steps = proof.steps; blank = proof.blank; failed = failed }
-
--- a reader of a text's words, before its first step
-pub read-new : (text : List ℕ) (found : List (List ℕ)) →
+-- the symbols of a text's words
+pub symbols-new : (text : List ℕ) (found : List (List ℕ)) →
     found ≡ map (λ (token : Token). token.bytes) (tokens_of text) →
-    reader_at (proof_in (symbols found)) false
-    ≡ unread (proof_in (step_symbols_of (tokens_of text)))
-read-new text found is =
-    ap (λ seen. reader_at (proof_in seen) false)
-    (ap symbols is ∙ map-map step_symbol_of (λ (token : Token). token.bytes) (tokens_of text))
-
--- a reader of no symbols has no step left, and only blanks
-pub read-blank : (seen symbols : List StepSymbol) (failed : Bool) → seen ≡ symbols → seen ≡ [] →
-    failed ≡ false →
-    reader_at (proof_in symbols) failed ≡ record { steps = []; blank = true; failed = false }
-read-blank seen symbols failed same none on =
-    let is : proof_in symbols ≡ record { steps = []; blank = true } =
-    ap proof_in (sym same ∙ none) ∙ proof_in-none [] (none-no_step [] refl) in
-    λ i. reader_at (is i) (on i)
-
--- a reader of symbols that begin with a step has it, and the others after it
-pub read-step : (seen symbols left : List StepSymbol) (step : ProofStep) (failed : Bool) →
-    seen ≡ symbols → BeginsWith seen step left →
-    reader_at (proof_in symbols) failed
-    ≡ record {
-      steps = step ∷ (proof_in left).steps;
-      blank = (proof_in left).blank;
-      failed = failed;
-    }
-read-step seen symbols left step failed same begins =
-    ap (λ s. reader_at (proof_in s) failed) (sym same)
-    ∙ ap (λ p. reader_at p failed) (proof_in-step seen step left begins)
-
-some_left : (symbols : List StepSymbol) → (symbols ≡ [] → ⊥) → is_none_left symbols ≡ false
-some_left [] some = absurd (some refl)
-some_left (symbol ∷ symbols) some = refl
-
--- where symbols are left and begin no step, no step is left, and more than blanks
-pub read-nothing : (seen symbols : List StepSymbol) → seen ≡ symbols → NoStep seen →
-    (seen ≡ [] → ⊥) → ((proof_in symbols).steps ≡ []) × ((proof_in symbols).blank ≡ false)
-read-nothing seen symbols same none some =
-    let is : proof_in symbols ≡ record { steps = []; blank = is_none_left seen } =
-    ap proof_in (sym same) ∙ proof_in-none seen none in
-    (ap (λ (p : Proof). p.steps) is, ap (λ (p : Proof). p.blank) is ∙ some_left seen some)
+    symbols found ≡ step_symbols_of (tokens_of text)
+symbols-new text found is =
+    ap symbols is ∙ map-map step_symbol_of (λ (token : Token). token.bytes) (tokens_of text)

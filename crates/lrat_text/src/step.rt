@@ -38,6 +38,39 @@ impl<T: Drop> From<AllocFailed<T>> for StepFault {
     }
 }
 
+/// Why no step is answered of a text that may go on.
+#[derive(Clone, Copy, Debug, PartialEq, Eq)]
+pub enum OpenFault {
+    /// No whole step comes next, whatever follows the text.
+    Unreadable,
+    /// The text ends within a step.
+    Unfinished,
+    /// A growth was refused.
+    Memory,
+}
+
+impl From<AllocError> for OpenFault {
+    ghost use Rattle.std.specs.Prelude.{◌≡◌};
+    ghost use Rattle.lrat_text.specs.declared.step.OpenFault.TheVariants.{Memory};
+
+    ghost from_gives = { λ _ e. e ≡ Memory };
+
+    fn from(_error: AllocError) -> Self {
+        OpenFault::Memory
+    }
+}
+
+impl<T: Drop> From<AllocFailed<T>> for OpenFault {
+    ghost use Rattle.std.specs.Prelude.{◌≡◌};
+    ghost use Rattle.lrat_text.specs.declared.step.OpenFault.TheVariants.{Memory};
+
+    ghost from_gives = { λ _ e. e ≡ Memory };
+
+    fn from(_error: AllocFailed<T>) -> Self {
+        OpenFault::Memory
+    }
+}
+
 /// The hints for one candidate of a RAT addition.
 #[derive(Drop)]
 pub struct Group {

@@ -12,7 +12,7 @@ use std::process::Abort;
 
 /// A proof: the path, the text, and the number of the step that isn't good or isn't there with what
 /// is wrong with it, or nothing where the proof refutes.
-type Proof = (&'static [i32], &'static str, Option<(u64, Reason)>);
+pub type Proof = (&'static [i32], &'static str, Option<(u64, Reason)>);
 
 /// A tautology, and clauses that repeat literals and have no model together.
 pub const REPEATED: &[&[i32]] = &[&[1, -1], &[1, 2, 2], &[-1, 3], &[-2, 3, 3], &[-3]];
@@ -525,7 +525,8 @@ fn judged_alone(rt: &impl Abort, alloc: Global, base: &Base, path: &[Lit], text:
     checker.judge(alloc, text).expect(rt, "memory")
 }
 
-fn expected(fault: Option<(u64, Reason)>) -> Judged {
+/// The judgement that a table names.
+pub fn expected(fault: Option<(u64, Reason)>) -> Judged {
     match fault {
         None => Judged::Refuted,
         Some((step, reason)) => Judged::Rejected { step, reason },
@@ -601,7 +602,7 @@ fn first_wrong_owned(
 }
 
 /// Clauses, and lists of proofs over them.
-type Table = (&'static [&'static [i32]], &'static [&'static [Proof]]);
+pub type Table = (&'static [&'static [i32]], &'static [&'static [Proof]]);
 
 /// That over the four clauses.
 static OVER_FOUR: Table = (
@@ -629,12 +630,12 @@ const OVER_OTHERS: &[Table] = &[
 
 /// The table over the four clauses. A test that calls this is cheaper to prove than one that names
 /// the table.
-fn over_four() -> &'static Table {
+pub fn over_four() -> &'static Table {
     &OVER_FOUR
 }
 
 /// The tables over other formulas, by a call for the same cause.
-fn over_others() -> &'static [Table] {
+pub fn over_others() -> &'static [Table] {
     OVER_OTHERS
 }
 

@@ -22,6 +22,8 @@ mod map_tests;
 #[cfg(test)]
 mod outline_tests;
 #[cfg(test)]
+mod parts_tests;
+#[cfg(test)]
 mod plain;
 #[cfg(test)]
 mod random_tests;

@@ -3,6 +3,7 @@
 use crate::judges::{Work, with_judge};
 use crate::judging_tests::{REPEATED, judged_by, judged_over};
 use crate::literals::lits;
+use crate::parts_tests::judged_in_parts;
 use crate::plain;
 use cnf_text::literal::Lit;
 use fixtures::bundles::FOUR;
@@ -311,8 +312,38 @@ fn take_back(text: &mut Vec<u8>, before: usize, longest: usize, judged: Judged) 
     }
 }
 
-/// Whether both judges say the same of a text, and so does a fast one that judged other texts over
-/// this base. Its last step is taken back where it isn't good.
+/// A text in parts of 1 to 7 bytes.
+fn parts_of<'t>(
+    random: &mut Generator,
+    alloc: Global,
+    text: &'t [u8],
+) -> Result<Vec<&'t [u8]>, AllocError> {
+    let mut parts = Vec::new(alloc);
+    let mut rest = text;
+    for _ in 0..text.len() {
+        let (part, behind) = rest.split_at(rest.len().min((random.next() % 7) as usize + 1));
+        parts.push(part)?;
+        rest = behind;
+    }
+    Ok(parts)
+}
+
+/// What is said of a text in such parts.
+fn judged_in_random_parts(
+    rt: &impl Abort,
+    alloc: Global,
+    base: &Base,
+    path: &[Lit],
+    text: &[u8],
+    random: &mut Generator,
+) -> Judged {
+    let parts = parts_of(random, alloc, text).expect(rt, "memory");
+    judged_in_parts(rt, alloc, base, path, &parts)
+}
+
+/// Whether both judges say the same of a text, and so do a fast one that judged other texts over
+/// this base and one to which the text is handed over in parts. Its last step is taken back where
+/// it isn't good.
 fn agree(
     rt: &impl Abort,
     alloc: Global,
@@ -320,15 +351,16 @@ fn agree(
     base: &Base,
     path: &[Lit],
     growing: Growing,
-    tally: &mut Tally,
+    trials: &mut Trials,
 ) -> bool {
     let (text, before, longest) = growing;
     let slow = plain::judge(rt, alloc, base.formula(), path, text);
     let fast = judged_over(rt, alloc, base, path, text);
     let kept = judged_by(rt, alloc, judge, path, text);
-    count(tally, slow);
+    let parted = judged_in_random_parts(rt, alloc, base, path, text, &mut trials.random);
+    count(&mut trials.tally, slow);
     take_back(text, before, longest, slow);
-    slow == fast && slow == kept
+    slow == fast && slow == kept && slow == parted
 }
 
 /// Random steps after one another. A step that isn't good is taken back, so that the proofs grow;
@@ -349,7 +381,7 @@ fn differences(
         let before = text.len();
         push_step(&mut trials.random, &mut text, given).expect(rt, "memory");
         let growing = (&mut text, before, LONGEST);
-        if !agree(rt, alloc, judge, base, path, growing, &mut trials.tally) {
+        if !agree(rt, alloc, judge, base, path, growing, trials) {
             differ = differ.saturating_add(1);
         }
     }
@@ -552,7 +584,7 @@ fn spread_differences(
         let before = text.len();
         push_spread_step(&mut trials.random, &mut text).expect(rt, "memory");
         let growing = (&mut text, before, LONGEST_SPREAD);
-        if !agree(rt, alloc, judge, base, &[], growing, &mut trials.tally) {
+        if !agree(rt, alloc, judge, base, &[], growing, trials) {
             differ = differ.saturating_add(1);
         }
     }

@@ -1,0 +1,235 @@
+//! Judges proofs that are handed over part by part.
+ghost use Rattle.std.specs.Prelude.{◌≡◌, ◌∷◌, [], true, false, IfOk};
+ghost use Rattle.hint_check.specs.Live.{holds_empty_clause};
+ghost use Rattle.hint_check.specs.Inner.Judging.{GoesOnAs};
+
+use crate::base::Base;
+use crate::live::LiveClauses;
+use crate::scratch::Scratch;
+use crate::steps::{Halt, judge_steps, judge_to_end};
+use crate::{Judged, Reason};
+use cnf_text::literal::Lit;
+use lrat_text::OpenSteps;
+use memchr::{memchr, memrchr};
+use std::alloc::{AllocError, Global};
+use std::marker::Model;
+use std::mem;
+
+/// What is said where no text was begun, and behind an error: no proof has a step of this number.
+const NOT_JUDGED: Judged = Judged::Rejected {
+    step: 0,
+    reason: Reason::Unreadable,
+};
+
+/// Judges one proof after another, the text of each of which is handed over part by part, over a
+/// base that others may share. It keeps the live clauses, the line that is begun and the step that
+/// is begun, and nothing else of the text. To a contract it is the list of the base's clauses, and
+/// what it says of each text that may follow what it was handed.
+#[derive(Drop)]
+pub struct Judging<'b> {
+    live: LiveClauses<'b>,
+    scratch: Scratch,
+    /// What is said, once it is decided.
+    decided: Option<Judged>,
+    /// The number of the step that comes next.
+    number: u64,
+    /// What isn't judged yet of the text, from a place within a line on.
+    unread: Vec<u8>,
+    /// Room for what will be left of that.
+    left: Vec<u8>,
+    /// Whether a line has ended since steps were read.
+    ended: bool,
+    /// So many bytes are awaited before steps are read again: then each byte of a step is read some
+    /// three times at most, however many parts the step spans.
+    wanted: usize,
+}
+
+impl<'b> Model for Judging<'b> {
+    ghost use Rattle.hint_check.specs.Judging.{JudgingOf, judging_code};
+    ghost use Rattle.hint_check.specs.Inner.Judging.{IsOpen};
+
+    ghost Value = { JudgingOf };
+
+    ghost coded = { judging_code };
+
+    ghost view = { λ j. record {
+      formula = j.live.1;
+      decided = j.decided;
+      live = j.live.0;
+      number = j.number;
+      unread = j.unread.items;
+    } };
+
+    ghost invariant = { λ j. IsOpen j.decided j.live.0 };
+}
+
+impl<'b> Judging<'b> {
+    ghost use Rattle.std.specs.Prelude.{◌≡◌, ◌++◌, [], ℕ, List, IfOk, OnOk};
+    ghost use Rattle.lrat_text.specs.Proof.{Proof, IsProofOf};
+    ghost use Rattle.hint_check.specs.Judgement.{judgement};
+    ghost use Rattle.hint_check.specs.Judging.{says};
+
+    /// A judging over a base, of no text yet. It takes memory for the base's literals and a slot
+    /// for each of its clauses; an error is a refused growth.
+    pub fn over(alloc: Global, base: &'b Base<'b>) -> Result<Judging<'b>, AllocError>
+        ensures { IfOk result (λ judging. judging.formula ≡ base.now) }
+    {
+        Ok(Judging {
+            live: LiveClauses::over(alloc, base)?,
+            scratch: Scratch::new(alloc),
+            decided: Some(NOT_JUDGED),
+            number: 1,
+            unread: Vec::new(alloc),
+            left: Vec::new(alloc),
+            ended: false,
+            wanted: 0,
+        })
+    }
+
+    /// Begins with a text of which nothing was handed over yet, from the base's formula and a path.
+    /// An error is a refused growth; behind one nothing is promised of what it says, here and
+    /// below, until it begins again.
+    pub fn begin(&mut self, path: &[Lit]) -> Result<(), AllocError>
+        // Of each text it says the judgement of the formula, the path and the text's proof.
+        ensures told { OnOk result ((text : List ℕ) (proof : Proof) → IsProofOf text proof
+            → says self.new text ≡ judgement self.old.formula path.now proof) }
+        ensures same { self.new.formula ≡ self.old.formula }
+    {
+        self.decided = Some(NOT_JUDGED);
+        self.number = 1;
+        self.ended = false;
+        self.wanted = 0;
+        self.unread.clear();
+        self.unread.push(b'\n')?;
+        if self.live.base_has_empty() {
+            self.decided = Some(Judged::Refuted);
+            return Ok(());
+        }
+        self.live.start_over(path)?;
+        self.decided = None;
+        Ok(())
+    }
+
+    /// The text goes on with these bytes. An error is a refused growth.
+    pub fn more(&mut self, alloc: Global, text: &[u8]) -> Result<(), AllocError>
+        // Of each rest it says what it would have said of these bytes and the rest.
+        ensures told { OnOk result ((rest : List ℕ)
+            → says self.new rest ≡ says self.old (text.now ++ rest)) }
+        ensures same { self.new.formula ≡ self.old.formula }
+    {
+        if self.decided.is_some() {
+            return Ok(());
+        }
+        self.unread.extend_from_slice(text)?;
+        self.ended = self.ended || memchr(b'\n', text).is_some();
+        if !self.ended || self.unread.len() < self.wanted {
+            return Ok(());
+        }
+        self.judge_lines(alloc)
+    }
+
+    /// Judges what was handed over, as far as lines have ended and steps are whole.
+    fn judge_lines(&mut self, alloc: Global) -> Result<(), AllocError>
+        ensures told { OnOk result ((rest : List ℕ) → says self.new rest ≡ says self.old rest) }
+        ensures same { self.new.formula ≡ self.old.formula }
+    {
+        if self.decided.is_some() {
+            return Ok(());
+        }
+        self.decided = Some(NOT_JUDGED);
+        let (decided, number) = judge_lines(
+            alloc,
+            &mut self.live,
+            &mut self.scratch,
+            self.number,
+            &self.unread,
+            &mut self.left,
+        )?;
+        self.number = number;
+        self.decided = decided;
+        mem::swap(&mut self.unread, &mut self.left);
+        self.ended = false;
+        self.wanted = self.unread.len().saturating_mul(2);
+        Ok(())
+    }
+
+    /// What is said of the text, which ends with these bytes. They are judged where they lie if
+    /// nothing is left of what was handed over before. An error is a refused growth.
+    pub fn last(&mut self, alloc: Global, text: &[u8]) -> Result<Judged, AllocError>
+        ensures told { IfOk result (λ judged. judged ≡ says self.old text.now) }
+        ensures same { self.new.formula ≡ self.old.formula }
+    {
+        if let Some(judged) = self.decided {
+            return Ok(judged);
+        }
+        self.decided = Some(NOT_JUDGED);
+        if is_line_end(&self.unread) {
+            let mut steps = OpenSteps::new(text);
+            return judge_to_end(
+                alloc,
+                &mut self.live,
+                &mut self.scratch,
+                &mut steps,
+                self.number,
+            );
+        }
+        self.unread.extend_from_slice(text)?;
+        let mut steps = OpenSteps::within(&self.unread);
+        judge_to_end(
+            alloc,
+            &mut self.live,
+            &mut self.scratch,
+            &mut steps,
+            self.number,
+        )
+    }
+
+    /// What is said of the text, which ends here.
+    pub fn end(&mut self, alloc: Global) -> Result<Judged, AllocError>
+        ensures told { IfOk result (λ judged. judged ≡ says self.old []) }
+        ensures same { self.new.formula ≡ self.old.formula }
+    {
+        self.last(alloc, &[])
+    }
+}
+
+/// Whether a text is a line end and nothing else.
+fn is_line_end(text: &[u8]) -> bool
+    ensures { result ≡ true → text.now ≡ 10 ∷ [] }
+{
+    text == b"\n".as_slice()
+}
+
+/// Judges the whole lines of a text, from these live clauses and this number of a step on; answers
+/// what is decided by them, and the number of the step that comes next. What isn't judged yet is
+/// put in the place of `left`.
+fn judge_lines(
+    alloc: Global,
+    live: &mut LiveClauses,
+    scratch: &mut Scratch,
+    first: u64,
+    unread: &[u8],
+    left: &mut Vec<u8>,
+) -> Result<(Option<Judged>, u64), AllocError>
+    requires { holds_empty_clause live.old.0 ≡ false }
+    ensures same { IfOk result (λ found. GoesOnAs live.old.0 first unread.now found.0
+        live.new.0 found.1 left.new.items) }
+    ensures base { live.new.1 ≡ live.old.1 }
+{
+    left.clear();
+    let Some(end) = memrchr(b'\n', unread) else {
+        left.extend_from_slice(unread)?;
+        return Ok((None, first));
+    };
+    let lines = &unread[..end];
+    let begun = &unread[end + 1..];
+    let mut steps = OpenSteps::within(lines);
+    let (halt, number) = judge_steps(alloc, live, scratch, &mut steps, first)?;
+    if let Halt::Decided(judged) = halt {
+        return Ok((Some(judged), number));
+    }
+    left.extend_from_slice(steps.text())?;
+    left.push(b'\n')?;
+    left.extend_from_slice(begun)?;
+    Ok((None, number))
+}
