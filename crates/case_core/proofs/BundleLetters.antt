@@ -19,7 +19,7 @@ use Rattle.case_core.specs.Inner.Bundle.{HasNoLabel, HasNoLetter, AfterPlainLine
 use Rattle.case_core.proofs.BundleCuts.{CutOff, one_line_more, last_line_front, last_line_labels}
 
 -- each of the parts is without the letter
-abbrev Plain : List (List ℕ) → Type 0
+abbrev pub Plain : List (List ℕ) → Type 0
 Plain [] = Unit {0}
 Plain (part ∷ parts) = HasNoLetter part × Plain parts
 
@@ -33,7 +33,7 @@ plain_onto : (b : ℕ) (parts : List (List ℕ)) → (b == 108) ≡ false → Pl
 plain_onto b [] h p = (no_letter-cons b [] h (All-nil (λ x. (x == 108) ≡ false)), tt)
 plain_onto b (part ∷ parts) h p = (no_letter-cons b part h p.0, p.1)
 
-plain_parts : (f : ℕ → Bool) (bs : List ℕ) → HasNoLetter bs → Plain (slice_split f bs)
+pub plain_parts : (f : ℕ → Bool) (bs : List ℕ) → HasNoLetter bs → Plain (slice_split f bs)
 plain_parts f [] h = (h, tt)
 plain_parts f (b ∷ bs) h =
     let more = plain_parts f bs (All-tail (λ x. (x == 108) ≡ false) b bs h) in
@@ -49,7 +49,7 @@ plain_words [] p = refl
 plain_words ([] ∷ parts) p = plain_words parts p.1
 plain_words ((b ∷ bs) ∷ parts) p = rw (All-head (λ x. (x == 108) ≡ false) b bs p.0) refl
 
-plain_line : (line : List ℕ) → HasNoLetter line → is_label line ≡ false
+pub plain_line : (line : List ℕ) → HasNoLetter line → is_label line ≡ false
 unfolding is_label words
 plain_line line h = plain_words (slice_split is_blank line) (plain_parts is_blank line h)
 
@@ -132,7 +132,7 @@ plain_rest text rest cut p =
       last_line_front text found.last found.last here split refl other,
     )
 
-not_true : (b : Bool) → (b ≡ true → ⊥) → b ≡ false
+pub not_true : (b : Bool) → (b ≡ true → ⊥) → b ≡ false
 not_true b h = elim (cases_Bool b) [ inl t ↦ absurd (h t) | inr f ↦ f ]
 
 none_before : (text : List ℕ) (letter : ℕ) → IsFirstByte (is_byte 108) text (Some letter) →
@@ -144,7 +144,7 @@ none_before text letter first =
     (λ k h. let before : k < letter = omega (arith, size, h) in
     rw (get_or-take letter text k 0 before) (not_true _ (first.0.before k (omega arith) before)))
 
-rest_at : (start : ℕ) (text : List ℕ) →
+pub rest_at : (start : ℕ) (text : List ℕ) →
     take (length text - start) (drop start text) ≡ drop start text
 rest_at start text =
     take_all (length text - start) (drop start text) (omega (arith, length-drop start text))

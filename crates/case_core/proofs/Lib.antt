@@ -9,6 +9,8 @@ pub mod SectionsUniqueCase
 mod SectionsUniqueFault
 mod SectionsTotal
 mod BundleLetters
+mod WatchLines
+mod ReadingParts
 pub mod BundleMore
 mod ScanLabels
 mod ScanTaken

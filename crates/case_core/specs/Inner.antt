@@ -6,3 +6,4 @@ pub mod Bundle
 pub mod Sections
 pub mod Scan
 pub mod Outline
+pub mod Reading

@@ -1,15 +1,20 @@
 //! Finds what is to be said of the targets of a case.
 
-ghost use Rattle.std.specs.Prelude.{◌≡◌, ℕ, IfOk, MatchOption, None};
+ghost use Rattle.std.specs.Prelude.{◌≡◌, ◌<◌, ◌^◌, ◌-◌, ℕ, List, [], length, IfOk, IfErr, IfSome};
+ghost use Rattle.std.specs.Prelude.{MatchOption, None, OnOk};
+ghost use Rattle.byte_flow.specs.Device.{IsDeviceFault, IsLeft};
 ghost use Rattle.split_tree.specs.Leaves.{HasTarget, IsTargetAt};
 ghost use Rattle.split_tree.specs.SplitTree.{SplitTree};
+ghost use Rattle.case_core.specs.Bundle.{labels_of};
 ghost use Rattle.case_core.specs.Case.{proof_for};
 ghost use Rattle.case_core.specs.Finding.{IsFinding, HasSection, IsFoundBy, IsSoundFinding, target_of};
 ghost use Rattle.case_core.specs.Inner.Finding.{IsJudgement};
 
 use crate::case::Case;
 use crate::finding::Finding;
-use hint_check::{Judge, Judged};
+use crate::reading::{begin_proof, read_proof};
+use byte_flow::{DeviceFault, Source};
+use hint_check::{Judged, Judging};
 use split_tree::{Leaf, Target};
 use std::alloc::{AllocError, Global};
 use std::marker::Model;
@@ -20,7 +25,16 @@ use std::marker::Model;
 pub struct Examiner<'c> {
     case: &'c Case,
     /// Over the case's formula.
-    judge: Judge<'c>,
+    judging: Judging<'c>,
+}
+
+/// What is found by a proof that was read, and how many bytes that has.
+#[derive(Drop)]
+pub struct ReadFinding<'c> {
+    /// What is found of the leaf.
+    pub finding: Finding<'c>,
+    /// How many bytes the proof has.
+    pub length: usize,
 }
 
 impl<'c> Model for Examiner<'c> {
@@ -34,7 +48,7 @@ impl<'c> Model for Examiner<'c> {
 
     ghost view = { λ examiner. examiner.case.now };
 
-    ghost invariant = { λ examiner. examiner.judge ≡ examiner.case.now.formula };
+    ghost invariant = { λ examiner. examiner.judging.formula ≡ examiner.case.now.formula };
 }
 
 impl<'c> Examiner<'c> {
@@ -42,8 +56,8 @@ impl<'c> Examiner<'c> {
     pub fn over(alloc: Global, case: &'c Case) -> Result<Examiner<'c>, AllocError>
         ensures { IfOk result (λ examiner. examiner ≡ case.now) }
     {
-        let judge = Judge::over(alloc, case.base())?;
-        Ok(Examiner { case, judge })
+        let judging = Judging::over(alloc, case.base())?;
+        Ok(Examiner { case, judging })
     }
 
     /// Judges the section of a target, from the formula and the target's path; `None` exactly where
@@ -93,14 +107,44 @@ impl<'c> Examiner<'c> {
         ensures same { self.new ≡ self.old }
     {
         let judged = self.judge_proof(alloc, Target::Leaf(leaf), proof)?;
-        let case = self.case;
-        let node = case.tree().node_of_target(Target::Leaf(leaf)).number();
-        Ok(Finding {
-            case,
-            leaf: Some(leaf),
-            node,
-            judged,
-        })
+        Ok(finding_of_leaf(self.case, leaf, judged))
+    }
+
+    /// The same of a proof that a source gives up to its end. A block of it is in memory at a time,
+    /// so it may be longer than memory. `None` where one of its lines is a label line; it is read
+    /// no further then.
+    ///
+    /// `Device` where a read failed, `Memory` where a growth was refused.
+    pub fn examine_read<S: Source>(
+        &mut self,
+        alloc: Global,
+        leaf: Leaf,
+        source: &mut S,
+    ) -> Result<Option<ReadFinding<'c>>, DeviceFault>
+        requires leaf { HasTarget self.old.tree (Target.Leaf leaf) }
+        requires none { proof_for self.old.sections (Target.Leaf leaf) ≡ None }
+        // One more failed read can be counted.
+        requires count { S.failures source.old < 2 ^ 64 - 1 }
+        // It is what is found by all that the source had left, in which no line is a label line.
+        ensures found { IfOk result (λ some. IfSome some (λ read.
+            (read.finding.case.now ≡ self.old)
+            × (target_of read.finding.leaf read.finding.node ≡ Target.Leaf leaf)
+            × ((text : List ℕ) × IsLeft (S.remaining source.old) text × (labels_of text ≡ [])
+            × (length text ≡ read.length)
+            × IsFoundBy self.old (Target.Leaf leaf) text read.finding.judged))) }
+        ensures same { self.new ≡ self.old }
+        ensures ok { OnOk result (S.failures source.new ≡ S.failures source.old) }
+        ensures err { IfErr result
+            (λ fault. IsDeviceFault (S.failures source.old) (S.failures source.new) fault) }
+    {
+        begin_proof(alloc, self.case, &mut self.judging, Target::Leaf(leaf))?;
+        match read_proof(alloc, &mut self.judging, source)? {
+            Some(read) => Ok(Some(ReadFinding {
+                finding: finding_of_leaf(self.case, leaf, read.judged),
+                length: read.length,
+            })),
+            None => Ok(None),
+        }
     }
 
     /// What is said of the target's proof, if it has one.
@@ -130,8 +174,8 @@ impl<'c> Examiner<'c> {
         ensures judged { IfOk result (λ judged. IsJudgement self.old target proof.now judged) }
         ensures same { self.new ≡ self.old }
     {
-        let path = self.case.tree().path_of(alloc, target)?;
-        self.judge.judge(alloc, &path, proof)
+        begin_proof(alloc, self.case, &mut self.judging, target)?;
+        self.judging.last(alloc, proof)
     }
 }
 
@@ -162,5 +206,25 @@ fn leaf_of(target: Target) -> Option<Leaf>
     match target {
         Target::Leaf(leaf) => Some(leaf),
         Target::Node(_) => None,
+    }
+}
+
+/// What is found of a leaf that has no section, by a text that is judged so.
+fn finding_of_leaf(case: &Case, leaf: Leaf, judged: Judged) -> Finding<'_>
+    requires leaf { HasTarget case.now.tree (Target.Leaf leaf) }
+    requires none { proof_for case.now.sections (Target.Leaf leaf) ≡ None }
+    requires judged { (text : List ℕ) × IsJudgement case.now (Target.Leaf leaf) text judged }
+    ensures case { result.case.now ≡ case.now }
+    ensures target { target_of result.leaf result.node ≡ Target.Leaf leaf }
+    ensures judged { result.judged ≡ judged }
+    ensures found { (text : List ℕ) → IsJudgement case.now (Target.Leaf leaf) text judged
+        → IsFoundBy case.now (Target.Leaf leaf) text judged }
+{
+    let node = case.tree().node_of_target(Target::Leaf(leaf)).number();
+    Finding {
+        case,
+        leaf: Some(leaf),
+        node,
+        judged,
     }
 }

@@ -10,8 +10,10 @@ mod finding;
 mod label;
 mod laws;
 mod outline;
+mod reading;
 mod scan;
 mod sections;
+mod watch;
 
 pub use bundle::{has_label_line, icnf_part, read_bundle, read_tree, take_bundle};
 pub use case::{Case, Section};
@@ -19,7 +21,7 @@ pub use cnf_text::tokens::{first_word, is_comment, split_line};
 pub use cnf_text::{
     Clause, DimacsFault, Formula, Lit, Problem, TextFault, read_icnf, read_problem,
 };
-pub use examiner::{Examiner, examine};
+pub use examiner::{Examiner, ReadFinding, examine};
 pub use fault::CaseFault;
 pub use finding::Finding;
 pub use hint_check::{Judged, Reason};
@@ -27,3 +29,4 @@ pub use laws::{case_or_a_fault, no_fault_beside_a_case, one_case, one_fault};
 pub use outline::{Outline, OutlinedCase, Stretch};
 pub use scan::LabelScan;
 pub use split_tree::{Leaf, NodeId, Target, Tree};
+pub use watch::LabelWatch;
