@@ -14,10 +14,7 @@ use std::alloc::{AllocError, Global};
 /// The outline of what a source gives up to its end. A block of whole lines at a time is in memory.
 ///
 /// `Device` where a read failed, `Memory` where a growth was refused.
-pub(crate) fn outline_of<S: Source>(
-    alloc: Global,
-    source: &mut S,
-) -> Result<Outline, DeviceFault>
+pub(crate) fn outline_of<S: Source>(alloc: Global, source: &mut S) -> Result<Outline, DeviceFault>
     requires { S.failures source.old < 2 ^ 64 - 1 }
     ensures outline { IfOk result (λ outline.
         IfSome (S.remaining source.old) (λ text. IsOutlineOf outline text)) }

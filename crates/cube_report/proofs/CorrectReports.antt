@@ -17,7 +17,9 @@ use Rattle.cube_report.specs.Faults.{IsInputFault}
 use Rattle.node_fields.specs.Fields.{answer_line}
 use Rattle.cube_report.specs.Report.{total_line, cube_lines, missing_lines, node_lines, open_lines}
 use Rattle.cube_report.specs.Report.{weight_line}
-use Rattle.cube_report.specs.Stated.{IsStated}
+use Rattle.mark_board.specs.declared.mark.Mark.{Mark}
+use Rattle.mark_board.specs.Findings.{AreFindings}
+use Rattle.cube_report.specs.Stated.{IsStated, IsWrittenBy}
 use Rattle.cube_report.specs.Correct.{IsCorrect, IsOutcome, SaysRefuted, IsUnsatisfiable, IsFaultOn}
 use Rattle.cube_report.specs.Correct.{IsReportOn}
 
@@ -95,6 +97,21 @@ pub told : {X : Type 0} (r : Result X Fault) (P : Fault → Type 0) (fault : Fau
     IsErrAnd r (λ e. e ≡ fault) → P fault → IfErr r P
 told (Ok x) P fault h p = tt
 told (Err e) P fault h p = subst P (sym h) p
+
+-- what is written of boards that have the marks of a case's findings is stated of the case
+pub stated : (case of : CaseOf) (marks : List Mark) (draws : Bool) (report map : List ℕ)
+    (answer : Bool) → of ≡ case → AreFindings case marks
+    → IsWrittenBy of marks draws report map answer → IsStated case draws report map answer
+stated case of marks draws report map answer same findings written =
+    let here : IsWrittenBy case marks draws report map answer =
+    subst (λ (k : CaseOf). IsWrittenBy k marks draws report map answer) same written in record {
+      marks = marks;
+      findings = findings;
+      text = here.text;
+      drawn = here.drawn;
+      refuted = here.refuted;
+      sound = here.sound;
+    }
 
 -- the formula of a case that is refuted without any literal has no model, and it is the bundle's
 pub unsatisfiable : (bundle : List ℕ) (case : CaseOf) → IsCaseOf bundle case →

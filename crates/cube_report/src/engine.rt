@@ -52,22 +52,6 @@ fn post_findings<'c>(
     ensures findings { OnOk result (AreFindings case.now boards.new.marks) }
 {
     let mut examiner = Examiner::over(alloc, case)?;
-    post_sections(alloc, &mut examiner, case, boards)
-}
-
-/// The same, by an examiner that may have examined other sections.
-fn post_sections<'c>(
-    alloc: Global,
-    examiner: &mut Examiner<'c>,
-    case: &'c Case,
-    boards: &mut Boards<'c>,
-) -> Result<(), AllocError>
-    requires examiner { examiner.old ≡ case.now }
-    requires case { boards.old.case ≡ case.now }
-    requires open { boards.old.marks ≡ replicate (size case.now.tree) Open }
-    ensures case { OnOk result (boards.new.case ≡ case.now) }
-    ensures findings { OnOk result (AreFindings case.now boards.new.marks) }
-{
     let sections = case.sections();
     for section in sections {
         match examiner.examine(alloc, section.target)? {
@@ -78,17 +62,6 @@ fn post_sections<'c>(
         }
     }
     Ok(())
-}
-
-/// The boards of a case with the findings of all its sections, at cut 0, by this thread: one board
-/// for the whole tree, since on one thread a cut changes nothing that a caller sees.
-fn conquer_alone(alloc: Global, case: &Case) -> Result<Boards<'_>, AllocError>
-    ensures case { IfOk result (λ boards. boards.case ≡ case.now) }
-    ensures findings { IfOk result (λ boards. AreFindings case.now boards.marks) }
-{
-    let mut boards = Boards::new(alloc, case, 0)?;
-    post_findings(alloc, case, &mut boards)?;
-    Ok(boards)
 }
 
 /// The picture by the boards' own marks where one is drawn, and otherwise nothing.
@@ -116,39 +89,15 @@ fn written_by(alloc: Global, boards: &Boards<'_>, draws: bool) -> Result<Outcome
     })
 }
 
-/// The same where the marks are those of the findings.
-fn outcome_by(alloc: Global, boards: &Boards<'_>, draws: bool) -> Result<Outcome, AllocError>
-    requires { AreFindings boards.now.case boards.now.marks }
-    ensures { IfOk result (λ outcome. IsStated boards.now.case draws
-        outcome.text.items outcome.map.items outcome.refuted) }
-{
-    let outcome = written_by(alloc, boards, draws)?;
-    Ok(outcome)
-}
-
-/// The report on a case, and whether it says refuted, by this thread.
-fn outcome_on(alloc: Global, case: &Case) -> Result<Outcome, AllocError>
+/// The report on a case, and whether it says refuted, by this thread and by one board for the whole
+/// tree: on one thread a cut changes nothing that a caller sees.
+fn outcome_alone(alloc: Global, case: &Case) -> Result<Outcome, AllocError>
     ensures { IfOk result (λ outcome. IsStated case.now false
         outcome.text.items outcome.map.items outcome.refuted) }
 {
-    let boards = conquer_alone(alloc, case)?;
-    outcome_by(alloc, &boards, false)
-}
-
-/// The report on a case, whether it says refuted, and the picture where one is drawn, by workers.
-fn outcome_with<T: Threads + Wait + Sync, G: Gate + Sync>(
-    rt: &T,
-    alloc: Global,
-    case: &Case,
-    settings: Settings,
-    gate: &G,
-    draws: bool,
-) -> Result<Outcome, CrewFault>
-    ensures { IfOk result (λ outcome. IsStated case.now draws
-        outcome.text.items outcome.map.items outcome.refuted) }
-{
-    let boards = conquer(rt, alloc, case, settings, gate)?;
-    Ok(outcome_by(alloc, &boards, draws)?)
+    let mut boards = Boards::new(alloc, case, 0)?;
+    post_findings(alloc, case, &mut boards)?;
+    written_by(alloc, &boards, false)
 }
 
 /// What a run says of a bundle that is handed over, by as many workers and at the cut that the
@@ -172,7 +121,8 @@ pub fn judge_bundle<T: Threads + Wait + Sync, G: Gate + Sync>(
     ensures device { IfErr result (λ fault. fault ≢ Fault.Device) }
 {
     let case = take_bundle(alloc, bundle)?;
-    Ok(outcome_with(rt, alloc, &case, settings, gate, draws)?)
+    let boards = conquer(rt, alloc, &case, settings, gate)?;
+    Ok(written_by(alloc, &boards, draws)?)
 }
 
 /// What is written of a case by the marks that a run with proofs elsewhere gives it, as
@@ -213,17 +163,6 @@ pub fn judge_apart<T: Threads + Wait + Sync, G: Gate + Sync, P: LeafProofs + Sen
     }
 }
 
-/// The report on a bundle, and whether it says refuted, by this thread.
-fn outcome_of(alloc: Global, bundle: &[u8]) -> Result<Outcome, Fault>
-    ensures outcome { IfOk result
-        (λ outcome. IsCorrect bundle.now outcome.text.items outcome.refuted) }
-    ensures fault { IfErr result (λ fault. fault ≢ Fault.Memory → IsFaultOn bundle.now fault) }
-    ensures device { IfErr result (λ fault. fault ≢ Fault.Device) }
-{
-    let case = read_bundle(alloc, bundle)?;
-    Ok(outcome_on(alloc, &case)?)
-}
-
 /// The report on a bundle, by one thread, or the bundle's first fault; `Memory` may stand in the
 /// place of any other answer where a growth is refused.
 pub fn run_one(alloc: Global, bundle: &[u8]) -> Result<Vec<u8>, Fault>
@@ -237,7 +176,8 @@ pub fn run_one(alloc: Global, bundle: &[u8]) -> Result<Vec<u8>, Fault>
     // Another bundle is refused for its first fault.
     ensures fault { IfErr result (λ fault. fault ≢ Fault.Memory → IsFaultOn bundle.now fault) }
 {
-    let outcome = outcome_of(alloc, bundle)?;
+    let case = read_bundle(alloc, bundle)?;
+    let outcome = outcome_alone(alloc, &case)?;
     Ok(outcome.text)
 }
 

@@ -1,7 +1,7 @@
 //! From standard input to standard output.
 
 ghost use Rattle.std.specs.Prelude.{◌≡◌, ◌≢◌, ◌⊎◌, ◌↔◌, ◌<◌, ◌^◌, ◌-◌, ℕ, List, true};
-ghost use Rattle.std.specs.Prelude.{if◌then◌else◌, IfOk, IfErr, OnOk, IfSome, IsErrOf};
+ghost use Rattle.std.specs.Prelude.{if◌then◌else◌, IfOk, IfErr, IfSome, IsErrOf};
 ghost use Rattle.std.specs.Io.KnownBytes.{Keeps, Appends};
 ghost use Rattle.cube_report.specs.Correct.{AllowsReports, IsCorrect, IsFaultOn};
 ghost use Rattle.cube_report.specs.Correct.{IsUnsatisfiable};

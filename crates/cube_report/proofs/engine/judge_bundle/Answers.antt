@@ -1,7 +1,7 @@
 use Rattle.std.proofs.Common.{◌≢◌, refl, ap}
 use Rattle.cube_report.proofs.FaultsOfCrew.{crew_fault, crew_no_device}
-use Rattle.cube_report.proofs.CorrectReports.{outcome, told}
-use Rattle.cube_report.specs.declared.fault.Fault.TheVariants.{Device}
+use Rattle.cube_report.proofs.CorrectReports.{outcome, stated, told}
+use Rattle.cube_report.specs.declared.fault.Fault.TheVariants.{Device, Memory}
 use Rattle.cube_report.specs.Faults.{IsInputFault, fault_of_case, fault_of_crew}
 use Rattle.cube_report.specs.Correct.{IsFaultOn}
 use Rattle.cube_report.proofs.engine.judge_bundle.Goals as goal
@@ -16,20 +16,27 @@ returns-in_err-case-clause-fault g c =
       c.in_err-case.ensures.err (λ e. input.0 (ap fault_of_case e)),
     ))
 
-pub returns-in_err-outcome_with-clause-fault : goal.returns-in_err-outcome_with-clause-fault
-returns-in_err-outcome_with-clause-fault g c =
-    told c.from_residual-in_err-outcome_with.result
+pub returns-in_err-boards-clause-fault : goal.returns-in_err-boards-clause-fault
+returns-in_err-boards-clause-fault g c =
+    told c.from_residual-in_err-boards.result
     (λ fault. IsInputFault fault → IsFaultOn c.args.bundle.items fault)
-    (fault_of_crew c.in_err-outcome_with.field-0.0) c.from_residual-in_err-outcome_with.ensures.1
-    (λ input. absurd (crew_fault c.in_err-outcome_with.field-0.0 input.0 input.2))
+    (fault_of_crew c.in_err-boards.field-0.0) c.from_residual-in_err-boards.ensures.1
+    (λ input. absurd (crew_fault c.in_err-boards.field-0.0 input.0 input.2))
 
-pub returns-in_err-outcome_with-clause-device : goal.returns-in_err-outcome_with-clause-device
-returns-in_err-outcome_with-clause-device g c =
-    told c.from_residual-in_err-outcome_with.result (λ fault. fault ≢ Device)
-    (fault_of_crew c.in_err-outcome_with.field-0.0) c.from_residual-in_err-outcome_with.ensures.1
-    (crew_no_device c.in_err-outcome_with.field-0.0)
+pub returns-in_err-boards-clause-device : goal.returns-in_err-boards-clause-device
+returns-in_err-boards-clause-device g c =
+    told c.from_residual-in_err-boards.result (λ fault. fault ≢ Device)
+    (fault_of_crew c.in_err-boards.field-0.0) c.from_residual-in_err-boards.ensures.1
+    (crew_no_device c.in_err-boards.field-0.0)
+
+pub returns-in_err-written_by-clause-fault : goal.returns-in_err-written_by-clause-fault
+returns-in_err-written_by-clause-fault g c =
+    told c.from_residual-in_err-written_by.result
+    (λ fault. IsInputFault fault → IsFaultOn c.args.bundle.items fault) Memory
+    c.from_residual-in_err-written_by.ensures.1 (λ input. absurd (input.0 refl))
 
 pub returns-clause-outcome : goal.returns-clause-outcome
 returns-clause-outcome g c =
     outcome c.args.bundle.items c.in_ok-case.case _ _ _ _ c.in_ok-case.ensures.ok
-    c.in_ok-outcome_with.ensures
+    (stated c.in_ok-case.case _ _ _ _ _ _ c.in_ok-boards.ensures.case.0
+    c.in_ok-boards.ensures.findings c.in_ok-written_by.ensures)

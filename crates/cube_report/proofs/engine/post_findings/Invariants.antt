@@ -1,6 +1,6 @@
 use Rattle.std.proofs.Common.{◌≡◌, take}
 use Rattle.cube_report.proofs.StatedPosting.{ArePostedOf}
-use Rattle.cube_report.proofs.engine.post_sections.Given as goal
+use Rattle.cube_report.proofs.engine.post_findings.Given as goal
 
 abbrev pub invariant-loop-section : goal.invariant-loop-section
 invariant-loop-section l = record {

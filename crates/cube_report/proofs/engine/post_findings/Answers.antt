@@ -1,6 +1,6 @@
 use Rattle.std.proofs.Common.{◌≡◌, ◌∙◌, arith}
 use Rattle.cube_report.proofs.StatedPosting.{section_target, section_none, one_turn, all_posted}
-use Rattle.cube_report.proofs.engine.post_sections.Goals as goal
+use Rattle.cube_report.proofs.engine.post_findings.Goals as goal
 
 pub examine-requires : goal.examine-requires
 examine-requires c =
