@@ -28,6 +28,8 @@ mod plain;
 #[cfg(test)]
 mod random_tests;
 #[cfg(test)]
+mod tidy_tests;
+#[cfg(test)]
 mod tree_tests;
 #[cfg(test)]
 mod words_tests;
