@@ -137,7 +137,7 @@ find-near blocks n (slot ∷ slots) q =
     (find-near blocks (n + 1) slots q)
     ∙ near-cons blocks n slot slots q
 
-mapped : {A B : Type 0} (f : A → B) (b : Bool) (x : A) (o : Option A)
+pub mapped : {A B : Type 0} (f : A → B) (b : Bool) (x : A) (o : Option A)
     → cond b (Some (f x)) (option_map f o) ≡ option_map f (cond b (Some x) o)
 mapped f true x o = refl
 mapped f false x o = refl
@@ -178,7 +178,7 @@ spans-found (e ∷ far) count h q =
       | false ↦ spans-found far count h.1 q
     ]
 
-slice-append : (blocks more : List Block) (i j : ℕ) → i ≤ j → j ≤ length blocks
+pub slice-append : (blocks more : List Block) (i j : ℕ) → i ≤ j → j ≤ length blocks
     → slice_range (blocks ++ more) i j ≡ slice_range blocks i j
 slice-append blocks more i j ordered within =
     let rest = length-drop i blocks in

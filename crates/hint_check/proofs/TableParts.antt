@@ -26,7 +26,7 @@ use Rattle.hint_check.proofs.TableEntries.{table-same, table-insert-near, table-
 use Rattle.hint_check.proofs.TableEntries.{table-remove, table-none, table-slots, slot-drop, past}
 use Rattle.hint_check.proofs.TableEntries.{SetsFrom-all, SetsFrom-behind, SlotsEndBy-drop}
 
-same_parts : (a b : Tabled) → a.live ≡ b.live → a.front ≡ b.front → a.own ≡ b.own → a ≡ b
+pub same_parts : (a b : Tabled) → a.live ≡ b.live → a.front ≡ b.front → a.own ≡ b.own → a ≡ b
 same_parts a b p q r = λ i. record { live = p i; front = q i; own = r i }
 
 -- the slots from one on answer alike where all do
@@ -105,12 +105,12 @@ tabled-remove blocks slots slots' far far' front id sets taken =
     (table-remove blocks first (drop first slots) (drop first slots') far far' id
     (SetsFrom-behind first slots slots' id no_slot sets) taken)
 
-take-long : (n : ℕ) (blocks : List Block) → n ≤ length blocks → length (take n blocks) ≡ n
+pub take-long : (n : ℕ) (blocks : List Block) → n ≤ length blocks → length (take n blocks) ≡ n
 take-long zero blocks h = refl
 take-long (suc n) [] h = absurd (omega arith)
 take-long (suc n) (b ∷ blocks) h = ap suc (take-long n blocks (omega arith))
 
-taken_ends : (blocks : List Block) (count : ℕ) (front : List Slot) → SlotsEndBy front count →
+pub taken_ends : (blocks : List Block) (count : ℕ) (front : List Slot) → SlotsEndBy front count →
     count ≤ length blocks → SlotsEndBy front (length (take count blocks))
 taken_ends blocks count front ends less =
     subst (SlotsEndBy front) (sym (take-long count blocks less)) ends
@@ -198,7 +198,7 @@ KeepsFront-same slots slots' front emptied named same more kept q within =
       | inr gone ↦ inr (more q gone.0, same q ∙ gone.1)
     ]
 
-slot-take : (n : ℕ) (slots : List Slot) (i : ℕ) → i < n → slot_at (take n slots) i ≡ slot_at slots i
+pub slot-take : (n : ℕ) (slots : List Slot) (i : ℕ) → i < n → slot_at (take n slots) i ≡ slot_at slots i
 slot-take zero slots i h = absurd (omega arith)
 slot-take (suc n) [] i h = refl
 slot-take (suc n) (slot ∷ slots) zero h = refl
@@ -309,7 +309,7 @@ IsTable-emptied blocks reach slots slots' far far' front emptied named id is set
           is.kept;
     }
 
-take-take : (n : ℕ) (blocks : List Block) → take n (take n blocks) ≡ take n blocks
+pub take-take : (n : ℕ) (blocks : List Block) → take n (take n blocks) ≡ take n blocks
 take-take zero blocks = refl
 take-take (suc n) [] = refl
 take-take (suc n) (b ∷ blocks) = ap (λ bs. b ∷ bs) (take-take n blocks)

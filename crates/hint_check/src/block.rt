@@ -1,5 +1,6 @@
 //! Clauses as blocks of the literals that falsify theirs.
-ghost use Rattle.std.specs.Prelude.{◌≡◌, ◌≤◌, ◌++◌, Some, OnOk, List, drop};
+ghost use Rattle.std.specs.Prelude.{◌≡◌, ◌≤◌, ◌++◌, Some, IfOk, OnOk, List, drop, length};
+ghost use Rattle.std.specs.Prelude.{slice_range};
 ghost use Rattle.std.specs.List.{slice_get};
 ghost use Rattle.cnf_text.specs.Literal.{Literal};
 ghost use Rattle.hint_check.specs.Inner.Blocks.{falsified_by, kept, with_block, clause_of};
@@ -111,6 +112,25 @@ fn behind_block(lits: &[Lit]) -> &[Lit]
     ensures { result.now ≡ drop 4 lits.now }
 {
     &lits[lits.len().min(4)..]
+}
+
+/// Puts the blocks of another list from a place up to an end behind those of a list, and answers
+/// where they begin there.
+pub fn push_blocks(
+    list: &mut Vec<Block>,
+    blocks: &[Block],
+    start: usize,
+    end: usize,
+) -> Result<usize, AllocError>
+    requires ordered { start ≤ end }
+    requires within { end ≤ length blocks.now }
+    ensures grown { OnOk result
+        (list.new.items ≡ list.old.items ++ slice_range blocks.now start end) }
+    ensures begins { IfOk result (λ begin. begin ≡ length list.old.items) }
+{
+    let begin = list.len();
+    list.extend_from_slice(&blocks[start..end])?;
+    Ok(begin)
 }
 
 /// Puts the blocks of a clause behind those of a list, in which no falsifier has a number above the

@@ -3,9 +3,10 @@ ghost use Rattle.std.specs.Prelude.{◌≡◌, ℕ, ◌+◌, ◌*◌, ◌<◌, �
 ghost use Rattle.std.specs.Prelude.{None, Some, IfSome, IfOk, OnOk, OnErr, slice_index_or};
 ghost use Rattle.std.specs.Map.{lookup};
 ghost use Rattle.hint_check.specs.Inner.Far.{tells, known_span, place_of, placed, nothing};
-ghost use Rattle.hint_check.specs.Inner.Far.{InPlace, MayStand};
-ghost use Rattle.hint_check.specs.Inner.Table.{SpansEndBy};
+ghost use Rattle.hint_check.specs.Inner.Far.{InPlace, MayStand, SeatMoves, SeatsMove};
+ghost use Rattle.hint_check.specs.Inner.Table.{SpansEndBy, SpansMove, GrowsFrom};
 
+use crate::block::{Block, push_blocks};
 use std::alloc::{AllocError, Global};
 use std::collections::BTreeMap;
 use std::marker::Model;
@@ -76,7 +77,8 @@ impl Far {
     ghost use Rattle.std.specs.Prelude.{◌≡◌, ◌++◌, ℕ, nat_eq, true, []};
     ghost use Rattle.std.specs.Map.{lookup};
     ghost use Rattle.hint_check.specs.Inner.Far.{placed};
-    ghost use Rattle.hint_check.specs.Inner.Table.{SpansEndBy};
+    ghost use Rattle.std.specs.Prelude.{IfOk, OnOk, length};
+    ghost use Rattle.hint_check.specs.Inner.Table.{SpansEndBy, SpansMove, GrowsFrom};
 
     /// No id is there. It takes no memory yet.
     pub fn new(alloc: Global) -> Far
@@ -120,6 +122,24 @@ impl Far {
             Some(seat) => Some(self.known[seat].span),
             None => found(&self.map, id),
         }
+    }
+
+    /// The same ids. The blocks of their clauses are put behind those of a list, and the spans are
+    /// those there.
+    pub fn moved(&self, list: &mut Vec<Block>, blocks: &[Block]) -> Result<Far, AllocError>
+        requires { SpansEndBy self.now (length blocks.now) }
+        ensures grown { OnOk result (GrowsFrom blocks.now list.old.items list.new.items) }
+        ensures moved { IfOk result (λ far. SpansMove blocks.now list.new.items self.now far) }
+    {
+        let known = moved_seats(self.alloc, list, blocks, &self.known)?;
+        let map = moved_map(self.alloc, list, blocks, &self.map)?;
+        Ok(Far {
+            alloc: self.alloc,
+            map,
+            known,
+            taken: self.taken,
+            shift: self.shift,
+        })
     }
 
     /// Takes all ids out.
@@ -329,6 +349,64 @@ fn doubled(alloc: Global, known: &[Known], shift: u32) -> Result<Vec<Known>, All
         }
     }
     Ok(seats)
+}
+
+/// What stands in a seat, where the blocks of its clause are put behind those of a list.
+fn moved_seat(list: &mut Vec<Block>, blocks: &[Block], one: Known) -> Result<Known, AllocError>
+    requires { tells one ≡ true → one.span.end ≤ length blocks.now }
+    ensures grown { OnOk result (GrowsFrom blocks.now list.old.items list.new.items) }
+    ensures moved { IfOk result (λ seat. SeatMoves blocks.now list.new.items one seat) }
+{
+    if !is_told(one) {
+        return Ok(one);
+    }
+    let start = push_blocks(list, blocks, one.span.start, one.span.end)?;
+    let end = list.len();
+    Ok(Known {
+        id: one.id,
+        span: Span { start, end },
+    })
+}
+
+/// The same seats, where the blocks of their clauses are put behind those of a list.
+fn moved_seats(
+    alloc: Global,
+    list: &mut Vec<Block>,
+    blocks: &[Block],
+    known: &[Known],
+) -> Result<Vec<Known>, AllocError>
+    requires { SpansEndBy (placed known.now) (length blocks.now) }
+    ensures grown { OnOk result (GrowsFrom blocks.now list.old.items list.new.items) }
+    ensures moved { IfOk result
+        (λ seats. SeatsMove blocks.now list.new.items known.now seats.items) }
+{
+    let mut seats = Vec::new(alloc);
+    for one in known {
+        let seat = moved_seat(list, blocks, *one)?;
+        seats.push(seat)?;
+    }
+    Ok(seats)
+}
+
+/// The same ids of a map, where the blocks of their clauses are put behind those of a list.
+fn moved_map(
+    alloc: Global,
+    list: &mut Vec<Block>,
+    blocks: &[Block],
+    map: &BTreeMap<u64, Span>,
+) -> Result<BTreeMap<u64, Span>, AllocError>
+    requires { SpansEndBy map.now.entries (length blocks.now) }
+    ensures grown { OnOk result (GrowsFrom blocks.now list.old.items list.new.items) }
+    ensures moved { IfOk result
+        (λ moved. SpansMove blocks.now list.new.items map.now.entries moved.entries) }
+{
+    let mut moved = BTreeMap::new(alloc);
+    for (id, span) in map {
+        let start = push_blocks(list, blocks, span.start, span.end)?;
+        let end = list.len();
+        moved.insert(*id, Span { start, end })?;
+    }
+    Ok(moved)
 }
 
 /// How many blocks stand where a span says.

@@ -1,12 +1,15 @@
 //! Where the blocks of a clause stand, by its id.
 ghost use Rattle.std.specs.Prelude.{◌≡◌, ℕ, ◌<◌, ◌≤◌, ◌+◌, ◌^◌, nat_eq, cond, length, max, true};
 ghost use Rattle.std.specs.Prelude.{None, Some, IfSome, IfOk, OnOk, OnErr, if◌then◌else◌};
+ghost use Rattle.std.specs.Prelude.{List, ◌++◌};
 ghost use Rattle.std.specs.Map.{lookup};
 ghost use Rattle.hint_check.specs.Inner.Stamps.{is_named};
 ghost use Rattle.hint_check.specs.Inner.Table.{no_slot, slot_at, far_at, slot_clause};
-ghost use Rattle.hint_check.specs.Inner.Table.{SlotsEndBy, SpansEndBy, SetsSlot};
+ghost use Rattle.hint_check.specs.declared.slots.Slot.{Slot};
+ghost use Rattle.hint_check.specs.Inner.Table.{SlotsEndBy, SpansEndBy, SetsSlot, SlotsMove};
+ghost use Rattle.hint_check.specs.Inner.Table.{GrowsFrom};
 
-use crate::block::{Blocks, Run};
+use crate::block::{Block, Blocks, Run, push_blocks};
 use crate::far::Far;
 use std::alloc::AllocError;
 
@@ -145,4 +148,50 @@ fn put_one_back(slots: &mut Vec<Slot>, first: &[Slot], place: usize)
     if place < first.len() {
         slots[place] = first[place];
     }
+}
+
+/// Puts the blocks of a slot's clause behind those of a list, and answers its slot there. An error
+/// is a refused growth, or an end that no slot can tell.
+fn moved_slot(list: &mut Vec<Block>, blocks: &[Block], slot: Slot) -> Result<Slot, AllocError>
+    requires { slot.end ≤ length blocks.now }
+    ensures grown { OnOk result (GrowsFrom blocks.now list.old.items list.new.items) }
+    ensures moved { IfOk result (λ moved.
+        (slot_clause list.new.items moved ≡ slot_clause blocks.now slot)
+        × (moved.end ≤ length list.new.items)) }
+{
+    if slot.start > slot.end {
+        return Ok(NO_SLOT);
+    }
+    let start = push_blocks(list, blocks, slot.start as usize, slot.end as usize)?;
+    let end = list.len();
+    if end > u32::MAX as usize {
+        return Err(AllocError);
+    }
+    Ok(Slot {
+        start: start as u32,
+        end: end as u32,
+    })
+}
+
+/// Puts the blocks of the clauses of slots behind those of a list, and their slots there behind
+/// those that were moved before. An error is a refused growth, or an end that no slot can tell.
+pub fn move_slots(
+    list: &mut Vec<Block>,
+    blocks: &[Block],
+    slots: &[Slot],
+    moved: &mut Vec<Slot>,
+) -> Result<(), AllocError>
+    requires { SlotsEndBy slots.now (length blocks.now) }
+    ensures grown { OnOk result (GrowsFrom blocks.now list.old.items list.new.items) }
+    ensures moved { OnOk result ((before : List Slot)
+        → SlotsMove blocks.now list.old.items before moved.old.items
+        → SlotsMove blocks.now list.new.items (before ++ slots.now) moved.new.items) }
+    ensures behind { OnOk result ((more : List Slot)
+        × (moved.new.items ≡ moved.old.items ++ more)) }
+{
+    for slot in slots {
+        let next = moved_slot(list, blocks, *slot)?;
+        moved.push(next)?;
+    }
+    Ok(())
 }

@@ -13,12 +13,18 @@ use crate::far::{Far, Known, Span, put_far, take_far};
 use crate::front::Front;
 use crate::index::Index;
 use crate::scratch::ClauseScratch;
-use crate::slots::{Slot, empty_slot, far_clause, near_clause, put_back, put_slot, slot_clause};
+use crate::slots::{
+    Slot, empty_slot, far_clause, move_slots, near_clause, put_back, put_slot, slot_clause,
+};
 use crate::tautology::indexed_part;
 use cnf_text::literal::Lit;
 use std::alloc::{AllocError, Global};
 use std::collections::BTreeMap;
 use std::marker::Model;
+use std::mem;
+
+/// So many blocks of own clauses that are gone are left where they are.
+const FEW_BLOCKS: usize = 65_536;
 
 /// So many slots may be made before any clause is there.
 const FIRST_SLOTS: u64 = 1024;
@@ -53,6 +59,9 @@ pub struct Table {
     inserted: u64,
     /// How many blocks the slots and the spans behind the front have.
     held: usize,
+    /// Room for the blocks that are kept when those of clauses that are gone are given back.
+    spare: Vec<Block>,
+    alloc: Global,
 }
 
 impl Model for Table {
@@ -100,6 +109,8 @@ impl Table {
             emptied: Vec::new(alloc),
             inserted,
             held: 0,
+            spare: Vec::new(alloc),
+            alloc,
         })
     }
 
@@ -172,6 +183,42 @@ impl Table {
         let emptied = empty_slot(&mut self.slots, id);
         let taken = take_far(&mut self.far, id);
         self.held = held_after(self.held, 0, emptied.saturating_add(taken));
+        Ok(())
+    }
+
+    /// Gives the blocks of clauses that are gone back, where they are three of four, and many beside
+    /// the slots and the blocks of the front, which are gone through. An error is a refused growth.
+    #[inline(always)]
+    pub fn tidy(&mut self) -> Result<(), AllocError>
+        ensures { self.new ≡ self.old }
+    {
+        let own = self.blocks.len().saturating_sub(self.front.blocks);
+        if own < FEW_BLOCKS || own / 4 < self.held {
+            return Ok(());
+        }
+        let others = self.slots.len().saturating_add(self.front.blocks);
+        if own < others / 4 {
+            return Ok(());
+        }
+        self.move_all()
+    }
+
+    /// Puts the blocks of all clauses into a list of their own.
+    #[inline(never)]
+    fn move_all(&mut self) -> Result<(), AllocError>
+        ensures { self.new ≡ self.old }
+    {
+        let first = self.front.slots.len();
+        self.spare.clear();
+        self.spare
+            .extend_from_slice(&self.blocks[..self.front.blocks])?;
+        let mut slots = copy_of(self.alloc, &self.slots[..first])?;
+        let behind = slots_from(&self.slots, first);
+        move_slots(&mut self.spare, &self.blocks, behind, &mut slots)?;
+        let far = self.far.moved(&mut self.spare, &self.blocks)?;
+        mem::swap(&mut self.blocks, &mut self.spare);
+        self.slots = slots;
+        self.far = far;
         Ok(())
     }
 

@@ -30,6 +30,8 @@ mod random_tests;
 #[cfg(test)]
 mod reading_tests;
 #[cfg(test)]
+mod tidy_tests;
+#[cfg(test)]
 mod tree_tests;
 #[cfg(test)]
 mod words_tests;

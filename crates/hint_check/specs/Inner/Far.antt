@@ -5,6 +5,8 @@ use Rattle.std.specs.Option.{IfSome}
 use Rattle.std.specs.Map.{lookup}
 use Rattle.hint_check.specs.declared.far.Span.{Span}
 use Rattle.hint_check.specs.declared.far.Known.{Known}
+use Rattle.hint_check.specs.declared.block.Block.{Block}
+use Rattle.hint_check.specs.Inner.Table.{SpanMoves}
 
 abbrev pub nothing : Known
 nothing = record { id = 0; span = record { start = 1; end = 0 } }
@@ -46,6 +48,20 @@ pub record MayStand (known : List Known) (shift id seat : ℕ) : Type 0 where
   pub free : tells (slice_index_or known seat nothing) ≡ true
       → (slice_index_or known seat nothing).id ≡ id
   pub alone : NoOther known id seat
+
+-- an entry of the same id, whose clause was moved where there is one
+abbrev pub SeatMoves : List Block → List Block → Known → Known → Type 0
+SeatMoves blocks moved one other =
+    ((other.id ≡ one.id) × (tells other ≡ tells one))
+    × (tells one ≡ true → SpanMoves blocks moved one.span other.span)
+
+-- so it is in each seat
+unfoldable pub SeatsMove : List Block → List Block → List Known → List Known → Type 0
+SeatsMove blocks moved [] [] = Unit {0}
+SeatsMove blocks moved [] (other ∷ after) = ⊥
+SeatsMove blocks moved (one ∷ before) [] = ⊥
+SeatsMove blocks moved (one ∷ before) (other ∷ after) =
+    SeatMoves blocks moved one other × SeatsMove blocks moved before after
 
 -- none of these ids is among those entries
 unfoldable pub Apart : List (ℕ × Span) → List (ℕ × Span) → Type 0

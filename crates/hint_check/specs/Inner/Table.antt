@@ -10,7 +10,7 @@ use Rattle.std.specs.FinMap as map
 use Rattle.std.specs.Coded.{Coded, code_by, coded×, coded_ℕ, coded_list}
 use Rattle.cnf_text.specs.Literal.{Literal, literal_code}
 use Rattle.hint_check.specs.Live.{Live}
-use Rattle.hint_check.specs.Inner.Blocks.{clause_of, Within}
+use Rattle.hint_check.specs.Inner.Blocks.{clause_of, Within, Grows}
 use Rattle.hint_check.specs.Inner.Index.{Links, Awaits}
 use Rattle.hint_check.specs.Inner.Stamps.{is_named}
 use Rattle.hint_check.specs.declared.block.Block.{Block}
@@ -82,6 +82,37 @@ unfoldable pub ListsAll : Links → Links → List (ℕ × List Literal) → Typ
 ListsAll before after entries =
     (rest all : List (ℕ × List Literal)) → Awaits before (entries ++ rest) all
     → Awaits after rest all
+
+-- ---- clauses whose blocks were moved into another list
+
+-- the list has more blocks behind its own now, and all of them are from these
+abbrev pub GrowsFrom : List Block → List Block → List Block → Type 0
+GrowsFrom blocks before after =
+    Grows before after (λ more. (reach : ℕ) → Within blocks reach → Within more reach)
+
+-- each slot has the clause among the moved blocks that the one in its place had before
+unfoldable pub SlotsMove : List Block → List Block → List Slot → List Slot → Type 0
+SlotsMove blocks moved [] [] = Unit {0}
+SlotsMove blocks moved [] (other ∷ after) = ⊥
+SlotsMove blocks moved (slot ∷ before) [] = ⊥
+SlotsMove blocks moved (slot ∷ before) (other ∷ after) =
+    ((slot_clause moved other ≡ slot_clause blocks slot) × (other.end ≤ length moved))
+    × SlotsMove blocks moved before after
+
+-- the span has the clause among the moved blocks that the other one had before
+abbrev pub SpanMoves : List Block → List Block → Span → Span → Type 0
+SpanMoves blocks moved span other =
+    (span_clause moved other ≡ span_clause blocks span)
+    × ((other.start ≤ other.end) × (other.end ≤ length moved))
+
+-- so has the span of each id
+unfoldable pub SpansMove : List Block → List Block → List (ℕ × Span) → List (ℕ × Span) → Type 0
+SpansMove blocks moved [] [] = Unit {0}
+SpansMove blocks moved [] (other ∷ after) = ⊥
+SpansMove blocks moved (entry ∷ before) [] = ⊥
+SpansMove blocks moved (entry ∷ before) (other ∷ after) =
+    ((entry.0 ≡ other.0) × SpanMoves blocks moved entry.1 other.1)
+    × SpansMove blocks moved before after
 
 -- ---- a table
 

@@ -1,0 +1,53 @@
+//! Proofs with so many clauses that are deleted that the room of these is given back.
+use crate::judging_tests::{expected, judged_over};
+use crate::literals::formula;
+use fixtures::bundles::FOUR;
+use hint_check::{Base, Reason};
+use std::alloc::{AllocError, Global};
+use std::process::Abort;
+
+/// Lemmas that stay, with ids that are near and far, over the four clauses.
+const STAYING: &str = "5 1 10 0 1 2 0\n1000000 1 11 0 1 2 0\n1000233 1 12 0 1 2 0\n";
+
+/// The ids of the clauses that are put in and deleted at once.
+const FIRST: u64 = 6;
+
+const BEHIND: u64 = 70_006;
+
+/// Steps that need what stays: three, behind 140,003.
+const NEEDING: &str = "80000 1 10 0 5 0\n80001 1 11 0 1000000 0\n80002 1 12 0 1000233 0\n";
+
+/// What follows: a refutation, or a hint that is no id any more.
+const ENDS: &[(&str, Option<(u64, Reason)>)] = &[
+    ("80003 1 0 1 2 0\n80004 0 80003 3 4 0\n", None),
+    ("80003 1 0 70005 0\n", Some((140_007, Reason::Hint))),
+];
+
+/// The steps that put in and delete the others.
+fn push_gone(alloc: Global, text: &mut Vec<u8>) -> Result<(), AllocError> {
+    for id in FIRST..BEHIND {
+        text.extend_from_slice(format!(in alloc; "{id} 1 -1 0 0\n0 d {id} 0\n")?.as_bytes())?;
+    }
+    Ok(())
+}
+
+/// All these steps and this end.
+fn tidy_text(alloc: Global, end: &str) -> Result<Vec<u8>, AllocError> {
+    let mut text = Vec::new(alloc);
+    text.extend_from_slice(STAYING.as_bytes())?;
+    push_gone(alloc, &mut text)?;
+    text.extend_from_slice(NEEDING.as_bytes())?;
+    text.extend_from_slice(end.as_bytes())?;
+    Ok(text)
+}
+
+#[test]
+fn lemmas_that_stay_are_kept(rt: HostRuntime) {
+    let formula = formula(&rt, rt.alloc(), FOUR);
+    let base = Base::new(rt.alloc(), &formula).expect(&rt, "memory");
+    for (end, fault) in ENDS {
+        let text = tidy_text(rt.alloc(), end).expect(&rt, "memory");
+        let judged = judged_over(&rt, rt.alloc(), &base, &[], &text);
+        assert_eq!(rt; judged, expected(*fault));
+    }
+}
