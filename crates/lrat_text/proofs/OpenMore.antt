@@ -14,7 +14,8 @@ use Rattle.lrat_text.specs.Grammar.{StepSymbol, step_symbol_of, step_symbols_of,
 use Rattle.lrat_text.specs.Grammar.{signed, end_mark, IsId, HintGroup, IsGroup, hint_symbols}
 use Rattle.lrat_text.specs.Grammar.{ProofStep, Add, Delete, DeleteMark, BeginsWith}
 use Rattle.lrat_text.specs.Inner.Steps.{NoStep, stop_symbol, IsRun, NoRun, IsLiterals, NoLiterals}
-use Rattle.lrat_text.specs.Inner.Steps.{NoHints, IsIds, IsHints, is_none_left, proof_in, symbols}
+use Rattle.lrat_text.specs.Inner.Steps.{NoHints, IsIds, IsHints}
+use Rattle.lrat_text.specs.Decoding.{is_none_left, proof_in, symbols}
 use Rattle.lrat_text.specs.Proof.{Proof, IsProofOf}
 use Rattle.lrat_text.specs.Open.{proof_left, MayBegin}
 use Rattle.lrat_text.proofs.GrammarDecoding.{stuck_run, stuck_literals, no_hints_after}

@@ -4,7 +4,7 @@ use Rattle.std.proofs.Common.{ap, subst}
 use Rattle.std.proofs.lemmas.Bool.{false≢true}
 use Rattle.cnf_text.specs.Tokens.{tokens_of}
 use Rattle.lrat_text.specs.Grammar.{StepSymbol, step_symbols_of}
-use Rattle.lrat_text.specs.Inner.Steps.{is_none_left, steps_in, proof_in}
+use Rattle.lrat_text.specs.Decoding.{is_none_left, steps_in, proof_in}
 use Rattle.lrat_text.specs.Proof.{Proof, IsProofOf}
 use Rattle.lrat_text.proofs.GrammarDecoding.{nil_cons}
 use Rattle.lrat_text.proofs.ProofSteps.{proof_in-longest, only_longest}

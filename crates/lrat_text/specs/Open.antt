@@ -3,7 +3,7 @@ use Rattle.std.specs.Prelude.{◌≡◌, ◌++◌, ℕ, List, []}
 use Rattle.cnf_text.specs.Words.{words_left}
 use Rattle.lrat_text.specs.Grammar.{StepSymbol, ProofStep, BeginsWith}
 use Rattle.lrat_text.specs.Proof.{Proof}
-use Rattle.lrat_text.specs.Inner.Steps.{proof_in, symbols}
+use Rattle.lrat_text.specs.Decoding.{proof_in, symbols}
 use Rattle.lrat_text.specs.declared.step.OpenFault.{OpenFault}
 use Rattle.lrat_text.specs.declared.step.OpenFault.TheVariants.{Unreadable, Unfinished, Memory}
 

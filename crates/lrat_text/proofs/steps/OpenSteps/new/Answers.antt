@@ -1,5 +1,5 @@
 use Rattle.std.proofs.Common.{ap, ◌∙◌, append-nil}
-use Rattle.lrat_text.specs.Inner.Steps.{proof_in}
+use Rattle.lrat_text.specs.Decoding.{proof_in}
 use Rattle.lrat_text.proofs.ProofSteps.{bounded, symbols-new}
 use Rattle.lrat_text.proofs.ProofUnique.{proof_is}
 use Rattle.lrat_text.proofs.steps.OpenSteps.new.Goals as goal

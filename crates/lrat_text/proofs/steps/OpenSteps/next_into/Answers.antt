@@ -1,5 +1,5 @@
 use Rattle.std.proofs.Common.{refl, sym, ◌∙◌, ap, subst, []}
-use Rattle.lrat_text.specs.Inner.Steps.{symbols}
+use Rattle.lrat_text.specs.Decoding.{symbols}
 use Rattle.lrat_text.specs.Open.{proof_with, MayBegin}
 use Rattle.lrat_text.specs.Step.{told_step}
 use Rattle.lrat_text.proofs.GrammarDecoding.{nil_cons}

@@ -2,7 +2,7 @@ use Rattle.std.proofs.Common.{ap, ◌∙◌, append-nil, sym}
 use Rattle.cnf_text.specs.Tokens.{tokens_of}
 use Rattle.lrat_text.specs.Grammar.{step_symbols_of}
 use Rattle.lrat_text.specs.Open.{proof_with}
-use Rattle.lrat_text.specs.Inner.Steps.{proof_in, symbols}
+use Rattle.lrat_text.specs.Decoding.{proof_in, symbols}
 use Rattle.lrat_text.proofs.OpenMore.{left-more}
 use Rattle.lrat_text.proofs.steps.OpenSteps.within.Goals as goal
 
