@@ -1,6 +1,6 @@
 -- A proof that is judged while it is read.
-use Rattle.std.proofs.Common.{◌≡◌, ◌∙◌, sym, ap, subst, refl, ℕ, ◌+◌, ◌||◌, List, [], ◌∷◌, ◌++◌, length}
-use Rattle.std.proofs.Common.{Option, Some, None, IfSome, Bool, true, false, append_assoc}
+use Rattle.std.proofs.Common.{◌≡◌, ◌∙◌, sym, ap, subst, refl, ℕ, ◌+◌, List, [], ◌∷◌, ◌++◌, length}
+use Rattle.std.proofs.Common.{Option, Some, None, false, append_assoc}
 use Rattle.std.proofs.Common.{append-nil, length-append, inl, inr}
 use Rattle.std.proofs.KnownBytes.{Consumes-nil, Consumes-trans}
 use Rattle.std.proofs.lemmas.Bool.{cases_Bool}
@@ -19,7 +19,6 @@ use Rattle.split_tree.specs.declared.node.Target.{Target}
 use Rattle.case_core.specs.Bundle.{is_label, lines_of, labelled, labels_of}
 use Rattle.case_core.specs.Case.{CaseOf}
 use Rattle.case_core.specs.Watch.{has_label, holds}
-use Rattle.case_core.specs.Inner.Finding.{IsJudgement}
 use Rattle.case_core.specs.Inner.Reading.{IsBegun, ReadSoFar}
 use Rattle.case_core.specs.declared.watch.LabelWatch.{LabelWatch}
 
@@ -102,9 +101,9 @@ all_read first now next begun old watch size none judged so_far lost is_none end
     Consumes-trans first now next so_far.read none so_far.lost lost in (
       so_far.read,
       all_left first next so_far.read (subst (λ (text : List ℕ). Consumes first next text)
-      (ap (λ (n : List ℕ). so_far.read ++ n) is_none ∙ append-nil so_far.read) last) end,
+          (ap (λ (n : List ℕ). so_far.read ++ n) is_none ∙ append-nil so_far.read) last) end,
       unlabelled so_far.read
-      (unheld ∙ so_far.watched [] ∙ ap has_label (append-nil so_far.read)),
+          (unheld ∙ so_far.watched [] ∙ ap has_label (append-nil so_far.read)),
       so_far.count,
       is ∙ so_far.judged [] ∙ ap (says begun) (append-nil so_far.read),
     )

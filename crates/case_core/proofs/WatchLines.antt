@@ -1,7 +1,7 @@
 -- What a label line is, byte by byte.
 use Rattle.std.proofs.Common.{◌≡◌, ◌∙◌, sym, ap, refl, subst, ℕ, ◌==◌, ◌||◌, Bool, true, false}
 use Rattle.std.proofs.Common.{List, [], ◌∷◌, ◌++◌, take, drop, length, get_or, inl, inr, ◌⊎◌, ◌+◌, ◌-◌, ◌<◌}
-use Rattle.std.proofs.Common.{Option, None, Some, drop-cons, add-one, append_assoc, arith}
+use Rattle.std.proofs.Common.{None, Some, drop-cons, add-one, append_assoc, arith}
 use Rattle.std.proofs.lemmas.List.{take-append-drop}
 use Rattle.std.proofs.lemmas.List.Elements.{All-take, All-from_get_or}
 use Rattle.std.proofs.lemmas.List.Folds.{list_any-append}
@@ -208,11 +208,11 @@ plain_front text end none last =
     let here : get_or text end 0 ≡ 10 = eqb-true _ _ last.1 in (
       take end text,
       All-take (λ x. (x == 108) ≡ false) end text
-      (All-from_get_or (λ x. (x == 108) ≡ false) text 0
-      (λ k h. not_true _ (none k (omega arith) h))),
+          (All-from_get_or (λ x. (x == 108) ≡ false) text 0
+          (λ k h. not_true _ (none k (omega arith) h))),
       sym (take-append-drop end text)
-      ∙ ap (λ rest. take end text ++ rest) (rw (add-one, ← here) (drop-cons text end 0 inside))
-      ∙ ap (λ rest. take end text ++ 10 ∷ rest) (sym (rest_at (end + 1) text)),
+          ∙ ap (λ rest. take end text ++ rest) (rw (add-one, ← here) (drop-cons text end 0 inside))
+          ∙ ap (λ rest. take end text ++ 10 ∷ rest) (sym (rest_at (end + 1) text)),
     )
 
 -- behind the last line end of bytes without the letter a watch knows nothing, where the line that

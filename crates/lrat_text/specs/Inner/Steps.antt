@@ -1,19 +1,17 @@
 -- Runs of words in a step, and the decoding of all words that a reader has left.
-use Rattle.std.specs.Prelude.{◌≡◌, ℕ, zero, suc, ◌≤◌, Bool, true, false, not, ◌&&◌, ◌==◌, leb}
-use Rattle.std.specs.Prelude.{if◌then◌else◌, List, [], ◌∷◌, ◌++◌, map, length, Option, None, Some}
-use Rattle.std.specs.Prelude.{option_map, option_and_then}
+use Rattle.std.specs.Prelude.{◌≡◌, ℕ, ◌≤◌}
+use Rattle.std.specs.Prelude.{List, ◌∷◌, ◌++◌, map}
 use Rattle.std.specs.List.{AllByRecursion}
-use Rattle.cnf_text.specs.Literal.{Literal, IsVariable, greatest_variable}
+use Rattle.cnf_text.specs.Literal.{Literal, IsVariable}
 use Rattle.cnf_text.specs.Numbers.{Number}
 use Rattle.lrat_text.specs.declared.steps.Word.{Word}
 use Rattle.lrat_text.specs.declared.steps.Word.TheVariants as words
 use Rattle.lrat_text.specs.declared.steps.Stop.{Stop}
 use Rattle.lrat_text.specs.declared.steps.Stop.TheVariants as stops
-use Rattle.lrat_text.specs.Grammar.{StepSymbol, Numeral, DeleteMark, Stray, step_symbol_of}
+use Rattle.lrat_text.specs.Grammar.{StepSymbol, Numeral, DeleteMark}
 use Rattle.lrat_text.specs.Grammar.{positive, negative, signed, end_mark, greatest_id, IsId}
-use Rattle.lrat_text.specs.Grammar.{HintGroup, IsGroup, hint_symbols, ProofStep, Add, Delete}
+use Rattle.lrat_text.specs.Grammar.{HintGroup, IsGroup, hint_symbols, ProofStep}
 use Rattle.lrat_text.specs.Grammar.{BeginsWith}
-use Rattle.lrat_text.specs.Proof.{Proof}
 
 -- no whole step stands at the front
 abbrev pub NoStep : List StepSymbol → Type 0

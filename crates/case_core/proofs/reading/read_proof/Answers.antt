@@ -1,5 +1,4 @@
-use Rattle.std.proofs.Common.{◌≡◌, ◌<◌, ◌∙◌, ◌+◌, sym, ap, subst, ℕ, length, take, rules}
-use Rattle.hint_check.specs.Judging.{JudgingOf}
+use Rattle.std.proofs.Common.{◌≡◌, ◌<◌, ◌∙◌, ap, subst, ℕ, length, take, rules}
 use Rattle.case_core.specs.Inner.Reading.{ReadSoFar}
 use Rattle.case_core.proofs.ReadingParts.{more_read, all_read}
 use Rattle.case_core.proofs.reading.read_proof.Goals as goal

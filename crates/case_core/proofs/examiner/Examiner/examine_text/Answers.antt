@@ -25,8 +25,8 @@ returns-clause-found c =
       c.finding_of_leaf.ensures.case ∙ same,
       c.finding_of_leaf.ensures.target,
       subst (λ (j : Judged). IsFoundBy c.args.self.now (Named c.args.leaf) c.args.proof.now j)
-      (sym c.finding_of_leaf.ensures.judged)
-      (subst (λ (case : CaseOf). IsFoundBy case (Named c.args.leaf) c.args.proof.now
-      c.in_ok-judged.judged) same
-      (c.finding_of_leaf.ensures.found c.args.proof.now (rw same c.in_ok-judged.ensures.judged))),
+          (sym c.finding_of_leaf.ensures.judged)
+          (subst (λ (case : CaseOf). IsFoundBy case (Named c.args.leaf) c.args.proof.now
+          c.in_ok-judged.judged) same
+          (c.finding_of_leaf.ensures.found c.args.proof.now (rw same c.in_ok-judged.ensures.judged))),
     )

@@ -1,4 +1,4 @@
-use Rattle.std.proofs.Common.{◌≡◌, ◌∙◌, ◌++◌, sym, ap}
+use Rattle.std.proofs.Common.{◌∙◌, ◌++◌, sym, ap}
 use Rattle.case_core.specs.Watch.{holds}
 use Rattle.case_core.proofs.WatchLines.{from_there}
 use Rattle.case_core.proofs.watch.LabelWatch.more.Goals as goal
