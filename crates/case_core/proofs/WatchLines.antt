@@ -1,6 +1,7 @@
 -- What a label line is, byte by byte.
 use Rattle.std.proofs.Common.{◌≡◌, ◌∙◌, sym, ap, refl, subst, ℕ, ◌==◌, ◌||◌, Bool, true, false}
-use Rattle.std.proofs.Common.{List, [], ◌∷◌, ◌++◌, take, drop, length, get_or, inl, inr, ◌⊎◌, ◌+◌, ◌-◌, ◌<◌}
+use Rattle.std.proofs.Common.{List, [], ◌∷◌, ◌++◌, take, drop, length, get_or, inl, inr, ◌+◌}
+use Rattle.std.proofs.Common.{◌⊎◌, ◌-◌, ◌<◌}
 use Rattle.std.proofs.Common.{None, Some, drop-cons, add-one, append_assoc, arith}
 use Rattle.std.proofs.lemmas.List.{take-append-drop}
 use Rattle.std.proofs.lemmas.List.Elements.{All-take, All-from_get_or}
@@ -38,7 +39,8 @@ first_part f (b ∷ bs) = elim (cases_Bool (f b)) [
 label_blank : (b : ℕ) (line : List ℕ) → is_blank b ≡ true → is_label (b ∷ line) ≡ is_label line
 unfolding is_label words
 label_blank b line blank =
-    ap (λ parts. is_label_of (filter is_some_text parts)) (slice_split-cons_yes is_blank b line blank)
+    ap (λ parts. is_label_of (filter is_some_text parts))
+    (slice_split-cons_yes is_blank b line blank)
 
 -- a line whose first word begins with another byte is none
 label_other : (b : ℕ) (line : List ℕ) → is_blank b ≡ false → (b == 108) ≡ false →
@@ -57,7 +59,8 @@ label_longer b line blank =
     let more = first_part is_blank line in
     ap (λ parts. is_label_of (filter is_some_text parts))
     (slice_split-cons_no is_blank 108 (b ∷ line) refl
-    ∙ ap (onto_first 108) (slice_split-cons_no is_blank b line blank ∙ ap (onto_first b) more.split))
+    ∙ ap (onto_first 108)
+    (slice_split-cons_no is_blank b line blank ∙ ap (onto_first b) more.split))
 
 -- one whose first word is the letter is one
 label_letter : (b : ℕ) (line : List ℕ) → is_blank b ≡ true → is_label (108 ∷ b ∷ line) ≡ true
@@ -76,7 +79,8 @@ unfolding is_label words
 label_none = refl
 
 -- a line end, and a text
-lines_end : (b : ℕ) (text : List ℕ) → is_line_end b ≡ true → lines_of (b ∷ text) ≡ [] ∷ lines_of text
+lines_end : (b : ℕ) (text : List ℕ) → is_line_end b ≡ true →
+    lines_of (b ∷ text) ≡ [] ∷ lines_of text
 lines_end b text e = slice_split-cons_yes is_line_end b text e
 
 -- the same where the first line goes on
@@ -90,11 +94,13 @@ any_onto : (b : ℕ) (lines : List (List ℕ)) (part : List ℕ) (others : List 
     list_any is_label (onto_first b lines) ≡ (is_label (b ∷ part) || list_any is_label others)
 any_onto b lines part others split = ap (λ l. list_any is_label (onto_first b l)) split
 
-any_split : (lines : List (List ℕ)) (part : List ℕ) (others : List (List ℕ)) → lines ≡ part ∷ others →
+any_split : (lines : List (List ℕ)) (part : List ℕ) (others : List (List ℕ)) →
+    lines ≡ part ∷ others →
     list_any is_label lines ≡ (is_label part || list_any is_label others)
 any_split lines part others split = ap (list_any is_label) split
 
-any_below : (lines : List (List ℕ)) (part : List ℕ) (others : List (List ℕ)) → lines ≡ part ∷ others →
+any_below : (lines : List (List ℕ)) (part : List ℕ) (others : List (List ℕ)) →
+    lines ≡ part ∷ others →
     list_any is_label (drop 1 lines) ≡ list_any is_label others
 any_below lines part others split = ap (λ l. list_any is_label (drop 1 l)) split
 

@@ -7,7 +7,8 @@ ghost use Rattle.split_tree.specs.Leaves.{HasTarget, IsTargetAt};
 ghost use Rattle.split_tree.specs.SplitTree.{SplitTree};
 ghost use Rattle.case_core.specs.Bundle.{labels_of};
 ghost use Rattle.case_core.specs.Case.{proof_for};
-ghost use Rattle.case_core.specs.Finding.{IsFinding, HasSection, IsFoundBy, IsSoundFinding, target_of};
+ghost use Rattle.case_core.specs.Finding.{IsFinding, HasSection, IsFoundBy, IsSoundFinding};
+ghost use Rattle.case_core.specs.Finding.{target_of};
 ghost use Rattle.case_core.specs.Inner.Finding.{IsJudgement};
 
 use crate::case::Case;

@@ -1,5 +1,5 @@
--- The steps that symbols begin with, worked out: what is kept of a text that may go on. Contracts say
--- by a relation which proof a whole text has (IsProofOf of the room Proof).
+-- The steps that symbols begin with, worked out: what is kept of a text that may go on. Contracts
+-- say by a relation which proof a whole text has (IsProofOf of the room Proof).
 use Rattle.std.specs.Prelude.{ℕ, zero, suc, Bool, true, false, not, ◌&&◌, ◌==◌, leb}
 use Rattle.std.specs.Prelude.{if◌then◌else◌, List, [], ◌∷◌, map, length, Option, None, Some}
 use Rattle.std.specs.Prelude.{option_map, option_and_then}

@@ -12,7 +12,8 @@ use Rattle.case_core.specs.declared.watch.LabelWatch.{LabelWatch}
 abbrev pub IsBegun : CaseOf → Target → JudgingOf → Type 0
 IsBegun case target j = (text : List ℕ) → IsJudgement case target text (says j text)
 
--- What a source has given so far was handed over to a judging and to a watch, and has so many bytes.
+-- what a source has given so far was handed over to a judging and to a watch, and has so many
+-- bytes
 pub record ReadSoFar (first now : Option (List ℕ)) (begun j : JudgingOf) (watch : LabelWatch)
     (size : ℕ) : Type 0 where
   pub read : List ℕ

@@ -28,5 +28,6 @@ invariant_of-result c = record {
 
 pub returns-clause-found : goal.returns-clause-found
 returns-clause-found c = λ text judged.
-    (found_by c.args.case.now (Named c.args.leaf) text c.args.judged c.number-node.result (only c.before)
+    (found_by c.args.case.now (Named c.args.leaf) text c.args.judged c.number-node.result
+    (only c.before)
     judged).0

@@ -28,5 +28,6 @@ returns-clause-found c =
           (sym c.finding_of_leaf.ensures.judged)
           (subst (λ (case : CaseOf). IsFoundBy case (Named c.args.leaf) c.args.proof.now
           c.in_ok-judged.judged) same
-          (c.finding_of_leaf.ensures.found c.args.proof.now (rw same c.in_ok-judged.ensures.judged))),
+          (c.finding_of_leaf.ensures.found c.args.proof.now
+          (rw same c.in_ok-judged.ensures.judged))),
     )
