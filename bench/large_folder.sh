@@ -1,13 +1,16 @@
 #!/bin/bash
-# large_folder.sh PROGRAM [GIGABYTES=2] [PROOFS=4096]
-# Runs PROGRAM with four workers on a folder of so many proofs, a power of two, that are so many gigabytes in all, and then on one bundle
-# of the same proofs in a file, and says how much memory each took. The status is 1 where that is more than 32 MB, a thousand bytes for each
-# leaf and one proof for each worker, or where a report isn't that all leaves are refuted.
-# What is made is in TMPDIR (/tmp), where there has to be room for twice the proofs, and removed afterwards.
+# large_folder.sh PROGRAM [GIGABYTES=2] [PROOFS=4096] [rising]
+# Runs PROGRAM with four workers on a folder of so many proofs, a power of two, that are so many
+# gigabytes in all, and then on one bundle of the same proofs in a file, and says how much memory each
+# took. With `rising` the ids of a proof rise. The status is 1 if a run took more than 16 MB and a
+# thousand bytes for each leaf, with `rising` and 8 bytes for each id of a worker's proof, or if a
+# report isn't that all leaves are refuted.
+# What is made is in TMPDIR (/tmp), where there has to be room for twice the proofs, and removed.
 set -eu
 program=$(realpath "${1:?a program}")
 gigabytes=${2:-2}
 proofs=${3:-4096}
+ids=${4:-}
 cd "$(dirname "$0")"
 
 within() { awk -v a="$1" -v b="$2" 'BEGIN {exit !(a <= b)}'; } # whether a number is at most another
@@ -23,9 +26,15 @@ fi
 folder=$(mktemp -d)
 trap 'rm -rf "$folder"' EXIT
 
-python3 tools/large_folder.py "$folder" "$gigabytes" "$proofs"
+python3 tools/large_folder.py "$folder" "$gigabytes" "$proofs" $ids
 bytes=$(find "$folder/proofs" -name '*.lrat' -printf '%s\n' | awk '{n += $1} END {printf "%.0f", n}')
-limit=$(awk -v bytes="$bytes" -v proofs="$proofs" 'BEGIN {printf "%.0f", 32 + proofs / 1000 + 4 * bytes / proofs / 1e6}')
+greatest=0
+[ -z "$ids" ] || greatest=$(tail -n 1 "$folder/proofs/1.lrat" | awk '{print $1}')
+workers=$(awk -v proofs="$proofs" 'BEGIN {print proofs < 4 ? proofs : 4}')
+# (a list of slots that grows is twice its length at most, and so is the one it is copied from)
+limit=$(awk -v proofs="$proofs" -v ids="$greatest" -v workers="$workers" 'BEGIN {
+    printf "%.0f", 16 + proofs / 1000 + workers * 3 * 8 * ids / 1e6
+}')
 failed=0
 
 # A run on these words, which is named so.
@@ -35,7 +44,7 @@ measure() {
     told=$(bin/measure "$folder/out" "$program" --workers 4 "$@")
     read -r wall processor kilobytes status <<< "$told"
     awk -v name="$name" -v bytes="$bytes" -v proofs="$proofs" -v wall="$wall" -v processor="$processor" -v kilobytes="$kilobytes" 'BEGIN {
-        printf "%s of %d proofs, %.3f GB: %.2f s, %.2f s of processor time, %.1f MB at most in memory\n",
+        printf "%s of %d proofs, %.3f GB: %.2f s, %.2f s of processor time, %.1f MB in memory\n",
             name, proofs, bytes / 1e9, wall / 1e9, processor / 1e6, kilobytes * 1024 / 1e6
     }'
     if [ "$status" -ne 0 ] || ! cmp -s "$folder/report" "$folder/out"; then

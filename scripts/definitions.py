@@ -208,7 +208,7 @@ Each section's place is claimed once. Once all workers are joined, each node of 
 for every number of workers, every cut, every gate and every schedule. `command` makes the report by `judge_given` of
 bundle_files, over `conquer` of check_crew, and writes it by `write_all` of byte_flow.
 
-With DIR each proof is read when a worker comes to its leaf, judged and dropped, over `conquer_leaves`, in a hall for
+With DIR each proof is judged while a worker reads it, when it comes to its leaf, over `conquer_leaves`, in a hall for
 FILE's case whose leaves have their proofs elsewhere. There the laws of board_hall hold word for word, and what a board
 marks refuted has no model; that a leaf is marked by the judgement of its own file is no law of that hall: it is
 compared, for each leaf, when all workers are joined, and `conquer_leaves` gives boards only where it is so.""",

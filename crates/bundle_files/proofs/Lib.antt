@@ -10,5 +10,4 @@ mod FilesApart
 mod JudgingRuns
 mod BlocksLines
 mod FaultsSearch
-mod PartsRead
 mod SectionsJudged

@@ -1,7 +1,6 @@
-//! A file that is read block by block, or a part of it.
-ghost use Rattle.std.specs.Prelude.{◌≡◌, ◌<◌, ◌^◌, ◌-◌, ◌++◌, List, ℕ, length};
+//! A file that is read block by block.
+ghost use Rattle.std.specs.Prelude.{◌≡◌, ◌<◌, ◌^◌, ◌-◌, ◌++◌, List, ℕ};
 ghost use Rattle.std.specs.Prelude.{IfOk, IfErr, IfSome, OnOk};
-ghost use Rattle.std.specs.Io.KnownBytes.{Consumes};
 ghost use Rattle.cube_report.specs.Device.{IsDeviceFault};
 ghost use Rattle.case_core.specs.Outline.{IsOutlineOf, AreWholeLines};
 ghost use Rattle.bundle_files.specs.Inner.Blocks.{IsHandedOver};
@@ -67,27 +66,5 @@ fn hand_over(outline: &mut Outline, begun: &mut Vec<u8>, read: &[u8]) -> Result<
     add_lines(outline, begun)?;
     begun.clear();
     begun.extend_from_slice(&read[end + 1..])?;
-    Ok(())
-}
-
-/// Fills a buffer with what a source gives.
-///
-/// `Device` where a read failed, or the source came to its end before.
-pub(crate) fn fill<S: Source>(source: &mut S, buffer: &mut [u8]) -> Result<(), DeviceFault>
-    requires { S.failures source.old < 2 ^ 64 - 1 }
-    ensures length { length buffer.new ≡ length buffer.old }
-    ensures filled { OnOk result
-        (Consumes (S.remaining source.old) (S.remaining source.new) buffer.new) }
-{
-    let mut done = 0;
-    while done < buffer.len() {
-        let Ok(count) = source.read(&mut buffer[done..]) else {
-            return Err(DeviceFault::Device);
-        };
-        if count == 0 {
-            return Err(DeviceFault::Device);
-        }
-        done += count;
-    }
     Ok(())
 }

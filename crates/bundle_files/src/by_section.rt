@@ -24,7 +24,7 @@ use std::thread::Threads;
 /// the bundle has to be read whole. The gate is called as `judge_apart` says.
 ///
 /// The file is read once for its formula, its cubes and its label lines; then each proof is read
-/// from its place when a worker comes to its leaf, and dropped when it is judged. A bundle with a
+/// from its place when a worker comes to its leaf, and judged while it is read. A bundle with a
 /// fault and one with a section for an inner node have to be read whole, and so have one whose file
 /// isn't there or has no length that can be told, as a pipe, and one where a label line stands in a
 /// proof when it is read, since the file has changed meanwhile.

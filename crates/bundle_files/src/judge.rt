@@ -28,7 +28,7 @@ use std::thread::Threads;
 /// `judge_bundle` says. Where the bundle's case was made when it was read, it isn't read again for
 /// the folder's proofs.
 ///
-/// Each proof of the folder is read when a worker comes to its leaf, and dropped when it is judged.
+/// Each proof of the folder is judged while it is read, when a worker comes to its leaf.
 /// Where one has a label line, or is for a leaf with a section of its own, all of them are read
 /// again, one after the other, for the first fault of the bundle with them. Only where it has none
 /// they are read together; then the gate is called for a second run.

@@ -8,11 +8,11 @@ use crate::opener::Opener;
 use crate::store::FileStore;
 use case_core::Leaf;
 use check_crew::LeafProofs;
-use cube_report::DeviceFault;
+use cube_report::{Counted, DeviceFault};
 use std::alloc::{AllocError, Global};
 
-/// A reader of the proofs of a folder, over an opener of its own: what it reads for a leaf is what
-/// lies at `FOLDER/K.lrat` or `FOLDER/mJ.lrat`.
+/// A reader of the proofs of a folder, over an opener of its own: what it opens for a leaf is the
+/// file at `FOLDER/K.lrat` or `FOLDER/mJ.lrat`.
 #[derive(Drop)]
 pub struct FolderReader<F> {
     alloc: Global,
@@ -43,6 +43,8 @@ impl<F> FolderReader<F> {
 }
 
 impl<F: Opener + Drop> LeafProofs for FolderReader<F> {
+    type Proof = Counted<F::Opened>;
+
     ghost use Rattle.std.specs.String.{string_bytes};
     ghost use Rattle.bundle_files.specs.Files.{held_if};
     ghost use Rattle.bundle_files.specs.Laws.{held_for};
@@ -53,10 +55,13 @@ impl<F: Opener + Drop> LeafProofs for FolderReader<F> {
 
     ghost failures = { λ s. s.files.failed };
 
-    fn read(&mut self, leaf: Leaf, bytes: &mut Vec<u8>) -> Result<bool, DeviceFault> {
+    fn open(&mut self, leaf: Leaf) -> Result<Option<Counted<F::Opened>>, DeviceFault> {
         let path = leaf_path(self.alloc, self.folder.as_str(), leaf)?;
-        bytes.clear();
-        self.files.read_file(path.as_str(), bytes)
+        self.files.open_file(path.as_str())
+    }
+
+    fn close(&mut self, proof: Counted<F::Opened>) {
+        self.files.count(proof.failed());
     }
 
     fn length(&self, leaf: Leaf) -> Option<u64> {

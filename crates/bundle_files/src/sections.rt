@@ -2,6 +2,7 @@
 ghost use Rattle.std.specs.Prelude.{◌≡◌};
 
 use crate::opener::Opener;
+use crate::part::Part;
 use crate::store::FileStore;
 use case_core::{Leaf, OutlinedCase};
 use check_crew::LeafProofs;
@@ -9,7 +10,7 @@ use cube_report::DeviceFault;
 use std::sync::Arc;
 
 /// A reader of the proofs of a case that are parts of the file at a path, over an opener of its
-/// own: what it reads for a leaf are the bytes at the place of the leaf's section.
+/// own: what it opens for a leaf is the part of the file at the place of the leaf's section.
 #[derive(Drop)]
 pub struct SectionReader<F> {
     files: FileStore<F>,
@@ -42,6 +43,8 @@ impl<F> SectionReader<F> {
 }
 
 impl<F: Opener + Drop> LeafProofs for SectionReader<F> {
+    type Proof = Part<F::Opened>;
+
     ghost use Rattle.std.specs.String.{string_bytes};
     ghost use Rattle.bundle_files.specs.Files.{held_if};
     ghost use Rattle.bundle_files.specs.Parts.{held_in};
@@ -52,19 +55,19 @@ impl<F: Opener + Drop> LeafProofs for SectionReader<F> {
 
     ghost failures = { λ s. s.files.failed };
 
-    fn read(&mut self, leaf: Leaf, bytes: &mut Vec<u8>) -> Result<bool, DeviceFault> {
+    fn open(&mut self, leaf: Leaf) -> Result<Option<Part<F::Opened>>, DeviceFault> {
         let Some(place) = self.outlined.place_of(leaf) else {
-            bytes.clear();
-            return Ok(false);
+            return Ok(None);
         };
         if place.length == 0 {
-            bytes.clear();
-            return Ok(true);
+            return Ok(Some(Part::empty()));
         }
-        bytes.resize(place.length, 0)?;
-        self.files
-            .read_part(self.path.as_str(), place.start, bytes)?;
-        Ok(true)
+        let file = self.files.open_file_at(self.path.as_str(), place.start)?;
+        Ok(Some(Part::new(file, place.length)))
+    }
+
+    fn close(&mut self, proof: Part<F::Opened>) {
+        self.files.count(proof.failed());
     }
 
     fn length(&self, leaf: Leaf) -> Option<u64> {

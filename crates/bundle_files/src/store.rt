@@ -1,17 +1,17 @@
 //! What can be read and written by its path.
 ghost use Rattle.std.specs.Prelude.{◌≡◌, ◌≢◌, ℕ, List, Some, ◌<◌, ◌+◌, ◌^◌, ◌-◌, Option, None};
-ghost use Rattle.std.specs.Prelude.{IfOk, IfErr, IfSome, length};
-ghost use Rattle.std.specs.Prelude.{OnOk, OnErr};
+ghost use Rattle.std.specs.Prelude.{IfOk, IfErr, IfSome, OnOk, OnErr, true};
 ghost use Rattle.case_core.specs.Leaf.{Leaf};
 ghost use Rattle.cube_report.specs.Device.{IsDeviceFault};
-ghost use Rattle.bundle_files.specs.Files.{Gives, IsFound, IsHanded, StaysAllowed};
+ghost use Rattle.check_crew.specs.LeafProofs.{IsOpenedOf};
+ghost use Rattle.bundle_files.specs.Files.{Gives, IsFound, IsHanded, IsOpenedAt, StaysAllowed};
 ghost use Rattle.bundle_files.specs.Files.{StaysAllowedBeside};
 ghost use Rattle.case_core.specs.Outline.{IsOutlineOf};
 ghost use Rattle.bundle_files.specs.Files.{held_if};
 ghost use Rattle.bundle_files.specs.Laws.{held_for};
-ghost use Rattle.bundle_files.specs.Parts.{IsOutlined, IsPart, held_in};
+ghost use Rattle.bundle_files.specs.Parts.{IsOutlined, held_in};
 
-use crate::blocks::{fill, outline_of};
+use crate::blocks::outline_of;
 use crate::inputs::{Inputs, Spared, is_clash, is_none_written};
 use crate::opener::Opener;
 use crate::reader::FolderReader;
@@ -218,6 +218,15 @@ impl<F> FileStore<F> {
         DeviceFault::Device
     }
 
+    /// Counts so many failed calls more.
+    pub(crate) fn count(&mut self, failed: u64)
+        requires { self.old.failed + failed < 2 ^ 64 }
+        ensures opener { self.new.opener ≡ self.old.opener }
+        ensures count { self.new.failed ≡ self.old.failed + failed }
+    {
+        self.failed += failed;
+    }
+
     /// How many calls have failed so far.
     pub(crate) fn failed(&self) -> u64
         ensures { result ≡ self.now.failed }
@@ -227,6 +236,59 @@ impl<F> FileStore<F> {
 }
 
 impl<F: Opener> FileStore<F> {
+    /// Opens the file at this path; `None` where there is none.
+    ///
+    /// `Device` where it is there and can't be opened, `Memory` where memory was refused.
+    pub(crate) fn open_file(
+        &mut self,
+        path: &str,
+    ) -> Result<Option<Counted<F::Opened>>, DeviceFault>
+        requires { self.old.failed < 2 ^ 64 - 1 }
+        ensures knows { F.knows self.new.opener ≡ F.knows self.old.opener }
+        ensures files { F.files self.new.opener ≡ F.files self.old.opener }
+        ensures opened { IfOk result (λ found. IsOpenedOf
+            (held_if (F.knows self.old.opener) (F.files self.old.opener path.now))
+            (λ file. F.Opened.remaining file.inner) found) }
+        ensures fresh { IfOk result (λ found. IfSome found (λ file. file.failed ≡ 0)) }
+        ensures ok { OnOk result (self.new.failed ≡ self.old.failed) }
+        ensures err { IfErr result (λ fault. IsDeviceFault self.old.failed self.new.failed fault) }
+    {
+        match self.opener.open(path) {
+            Ok(file) => Ok(Some(Counted::new(file))),
+            Err(error) => match error.kind() {
+                ErrorKind::NotFound => Ok(None),
+                ErrorKind::OutOfMemory => Err(DeviceFault::Memory),
+                _ => Err(self.broken()),
+            },
+        }
+    }
+
+    /// Opens the file at this path, which is read from a place on.
+    ///
+    /// `Device` where it can't be opened or the place can't be gone to, `Memory` where memory was
+    /// refused.
+    pub(crate) fn open_file_at(
+        &mut self,
+        path: &str,
+        start: usize,
+    ) -> Result<F::Opened, DeviceFault>
+        requires { self.old.failed < 2 ^ 64 - 1 }
+        ensures knows { F.knows self.new.opener ≡ F.knows self.old.opener }
+        ensures files { F.files self.new.opener ≡ F.files self.old.opener }
+        ensures opened { IfOk result (λ file. F.knows self.old.opener ≡ true → IsOpenedAt
+            (F.files self.old.opener path.now) start (F.Opened.remaining file)) }
+        ensures ok { OnOk result (self.new.failed ≡ self.old.failed) }
+        ensures err { IfErr result (λ fault. IsDeviceFault self.old.failed self.new.failed fault) }
+    {
+        match self.opener.open_at(path, start as u64) {
+            Ok(file) => Ok(file),
+            Err(error) => match error.kind() {
+                ErrorKind::OutOfMemory => Err(DeviceFault::Memory),
+                _ => Err(self.broken()),
+            },
+        }
+    }
+
     /// Appends the bytes of the file at this path, and answers whether there is one, as
     /// `Store::read` owes it.
     pub(crate) fn read_file(&mut self, path: &str, bytes: &mut Vec<u8>) -> Result<bool, DeviceFault>
@@ -239,17 +301,13 @@ impl<F: Opener> FileStore<F> {
         ensures ok { OnOk result (self.new.failed ≡ self.old.failed) }
         ensures err { IfErr result (λ fault. IsDeviceFault self.old.failed self.new.failed fault) }
     {
-        match self.opener.open(path) {
-            Ok(file) => match read_to_end(&mut Counted::new(file), bytes) {
-                Ok(()) => Ok(true),
-                Err(DeviceFault::Memory) => Err(DeviceFault::Memory),
-                Err(_) => Err(self.broken()),
-            },
-            Err(error) => match error.kind() {
-                ErrorKind::NotFound => Ok(false),
-                ErrorKind::OutOfMemory => Err(DeviceFault::Memory),
-                _ => Err(self.broken()),
-            },
+        let Some(mut file) = self.open_file(path)? else {
+            return Ok(false);
+        };
+        match read_to_end(&mut file, bytes) {
+            Ok(()) => Ok(true),
+            Err(DeviceFault::Memory) => Err(DeviceFault::Memory),
+            Err(_) => Err(self.broken()),
         }
     }
 
@@ -266,49 +324,13 @@ impl<F: Opener> FileStore<F> {
         ensures ok { OnOk result (self.new.failed ≡ self.old.failed) }
         ensures err { IfErr result (λ fault. IsDeviceFault self.old.failed self.new.failed fault) }
     {
-        let opened = self.opener.open(path);
-        match opened {
-            Ok(file) => match outline_of(alloc, &mut Counted::new(file)) {
-                Ok(outline) => Ok(Some(outline)),
-                Err(DeviceFault::Memory) => Err(DeviceFault::Memory),
-                Err(_) => Err(self.broken()),
-            },
-            Err(error) => match error.kind() {
-                ErrorKind::NotFound => Ok(None),
-                ErrorKind::OutOfMemory => Err(DeviceFault::Memory),
-                _ => Err(self.broken()),
-            },
-        }
-    }
-
-    /// Fills `bytes` with the file at this path, from a place on.
-    ///
-    /// `Device` where the file can't be opened or read so far, `Memory` where memory was refused.
-    pub(crate) fn read_part(
-        &mut self,
-        path: &str,
-        start: usize,
-        bytes: &mut [u8],
-    ) -> Result<(), DeviceFault>
-        requires { self.old.failed < 2 ^ 64 - 1 }
-        ensures knows { F.knows self.new.opener ≡ F.knows self.old.opener }
-        ensures files { F.files self.new.opener ≡ F.files self.old.opener }
-        ensures length { length bytes.new ≡ length bytes.old }
-        ensures part { OnOk result
-            (IsPart (held_if (F.knows self.old.opener) (F.files self.old.opener path.now)) start
-            (length bytes.old) bytes.new) }
-        ensures ok { OnOk result (self.new.failed ≡ self.old.failed) }
-        ensures err { IfErr result (λ fault. IsDeviceFault self.old.failed self.new.failed fault) }
-    {
-        match self.opener.open_at(path, start as u64) {
-            Ok(file) => match fill(&mut Counted::new(file), bytes) {
-                Ok(()) => Ok(()),
-                Err(_) => Err(self.broken()),
-            },
-            Err(error) => match error.kind() {
-                ErrorKind::OutOfMemory => Err(DeviceFault::Memory),
-                _ => Err(self.broken()),
-            },
+        let Some(mut file) = self.open_file(path)? else {
+            return Ok(None);
+        };
+        match outline_of(alloc, &mut file) {
+            Ok(outline) => Ok(Some(outline)),
+            Err(DeviceFault::Memory) => Err(DeviceFault::Memory),
+            Err(_) => Err(self.broken()),
         }
     }
 

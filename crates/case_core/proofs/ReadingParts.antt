@@ -1,6 +1,6 @@
 -- A proof that is judged while it is read.
 use Rattle.std.proofs.Common.{◌≡◌, ◌∙◌, sym, ap, subst, refl, ℕ, ◌+◌, List, [], ◌∷◌, ◌++◌, length}
-use Rattle.std.proofs.Common.{Option, Some, None, false, append_assoc}
+use Rattle.std.proofs.Common.{Option, Some, None, true, false, append_assoc}
 use Rattle.std.proofs.Common.{append-nil, length-append, inl, inr}
 use Rattle.std.proofs.KnownBytes.{Consumes-nil, Consumes-trans}
 use Rattle.std.proofs.lemmas.Bool.{cases_Bool}
@@ -18,9 +18,10 @@ use Rattle.split_tree.specs.Leaves.{IsPathOf}
 use Rattle.split_tree.specs.declared.node.Target.{Target}
 use Rattle.case_core.specs.Bundle.{is_label, lines_of, labelled, labels_of}
 use Rattle.case_core.specs.Case.{CaseOf}
-use Rattle.case_core.specs.Watch.{has_label, holds}
+use Rattle.case_core.specs.Watch.{has_label, holds, HasGivenLabel}
 use Rattle.case_core.specs.Inner.Reading.{IsBegun, ReadSoFar}
 use Rattle.case_core.specs.declared.watch.LabelWatch.{LabelWatch}
+use Rattle.case_core.specs.declared.watch.LabelWatch.TheVariants.{Found}
 
 -- a judging that has begun with a target's path
 pub begun : (case : CaseOf) (target : Target) (formula : List (List Literal)) (path : List Literal)
@@ -107,3 +108,15 @@ all_read first now next begun old watch size none judged so_far lost is_none end
       so_far.count,
       is ∙ so_far.judged [] ∙ ap (says begun) (append-nil so_far.read),
     )
+
+-- behind a read with which a label line is there
+pub label_found : (first now next : Option (List ℕ)) (begun old : JudgingOf) (before : LabelWatch)
+    (size : ℕ) (bytes : List ℕ) → ReadSoFar first now begun old before size →
+    Consumes now next bytes → ((rest : List ℕ) → true ≡ holds before (bytes ++ rest)) →
+    HasGivenLabel first next
+label_found first now next begun old before size bytes so_far lost found = (
+  so_far.read ++ bytes,
+  Consumes-trans first now next so_far.read bytes so_far.lost lost,
+  sym (found [] ∙ so_far.watched (bytes ++ [])
+      ∙ ap (λ (text : List ℕ). has_label (so_far.read ++ text)) (append-nil bytes)),
+)

@@ -1,6 +1,7 @@
 -- Whether a label line stands in a text that is handed over part by part.
-use Rattle.std.specs.Prelude.{ℕ, Bool, true, List, ◌∷◌, drop}
+use Rattle.std.specs.Prelude.{◌≡◌, ℕ, Bool, true, Option, List, ◌∷◌, drop}
 use Rattle.std.specs.List.{list_any}
+use Rattle.std.specs.Io.KnownBytes.{Consumes}
 use Rattle.case_core.specs.Bundle.{lines_of, is_label}
 use Rattle.case_core.specs.declared.watch.LabelWatch.{LabelWatch}
 use Rattle.case_core.specs.declared.watch.LabelWatch.TheVariants.{Blank, Letter, Other, Found}
@@ -20,3 +21,7 @@ holds Blank rest = has_label rest
 holds Letter rest = has_label (108 ∷ rest)
 holds Other rest = has_label_below rest
 holds Found rest = true
+
+-- what a source gave has a label line, by what it had left before and has now
+abbrev pub HasGivenLabel : Option (List ℕ) → Option (List ℕ) → Type 0
+HasGivenLabel first now = (text : List ℕ) × Consumes first now text × (has_label text ≡ true)

@@ -84,16 +84,6 @@ pub fn icnf_part(bundle: &[u8]) -> &[u8]
     front
 }
 
-/// Whether a line of the text is a label line.
-pub fn has_label_line(text: &[u8]) -> bool
-    ensures { (result ≡ false) ↔ (labels_of text.now ≡ []) }
-{
-    match cut(text) {
-        (_, Some(_)) => true,
-        (_, None) => false,
-    }
-}
-
 /// The number of the line, counted from 1, on which the end of a text begins.
 pub(crate) fn line_at(text: &[u8], end: &[u8]) -> u64
     requires { EndsWith text.now end.now }

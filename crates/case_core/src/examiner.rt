@@ -9,6 +9,7 @@ ghost use Rattle.case_core.specs.Bundle.{labels_of};
 ghost use Rattle.case_core.specs.Case.{proof_for};
 ghost use Rattle.case_core.specs.Finding.{IsFinding, HasSection, IsFoundBy, IsSoundFinding};
 ghost use Rattle.case_core.specs.Finding.{target_of};
+ghost use Rattle.case_core.specs.Watch.{HasGivenLabel};
 ghost use Rattle.case_core.specs.Inner.Finding.{IsJudgement};
 
 use crate::case::Case;
@@ -92,28 +93,9 @@ impl<'c> Examiner<'c> {
         }))
     }
 
-    /// Judges a proof that the case doesn't hold, for a leaf of its tree that has no section there.
-    /// `AllocError` where a growth was refused.
-    pub fn examine_text(
-        &mut self,
-        alloc: Global,
-        leaf: Leaf,
-        proof: &[u8],
-    ) -> Result<Finding<'c>, AllocError>
-        requires leaf { HasTarget self.old.tree (Target.Leaf leaf) }
-        requires none { proof_for self.old.sections (Target.Leaf leaf) ≡ None }
-        ensures found { IfOk result (λ finding. (finding.case.now ≡ self.old)
-            × (target_of finding.leaf finding.node ≡ Target.Leaf leaf)
-            × IsFoundBy self.old (Target.Leaf leaf) proof.now finding.judged) }
-        ensures same { self.new ≡ self.old }
-    {
-        let judged = self.judge_proof(alloc, Target::Leaf(leaf), proof)?;
-        Ok(finding_of_leaf(self.case, leaf, judged))
-    }
-
-    /// The same of a proof that a source gives up to its end. A block of it is in memory at a time,
-    /// so it may be longer than memory. `None` where one of its lines is a label line; it is read
-    /// no further then.
+    /// Judges a proof that the case doesn't hold, for a leaf of its tree that has no section there:
+    /// what a source gives up to its end. A block of it is in memory at a time, so it may be longer
+    /// than memory. `None` where one of its lines is a label line; it is read no further then.
     ///
     /// `Device` where a read failed, `Memory` where a growth was refused.
     pub fn examine_read<S: Source>(
@@ -133,6 +115,9 @@ impl<'c> Examiner<'c> {
             × ((text : List ℕ) × IsLeft (S.remaining source.old) text × (labels_of text ≡ [])
             × (length text ≡ read.length)
             × IsFoundBy self.old (Target.Leaf leaf) text read.finding.judged))) }
+        // Without an answer one of the lines that it gave is a label line.
+        ensures labelled { IfOk result (λ some. some ≡ None
+            → HasGivenLabel (S.remaining source.old) (S.remaining source.new)) }
         ensures same { self.new ≡ self.old }
         ensures ok { OnOk result (S.failures source.new ≡ S.failures source.old) }
         ensures err { IfErr result

@@ -10,7 +10,7 @@ use hint_check::Judged;
 use split_tree::{Leaf, NodeId, Target};
 
 /// The judgement of a target's section in its case, or of a proof that the case doesn't hold, for a
-/// leaf without a section. Only `examine`, and `Examiner` by `examine` and `examine_text`, make
+/// leaf without a section. Only `examine`, and `Examiner` by `examine` and `examine_read`, make
 /// one.
 ///
 /// It keeps a leaf or the number of an inner node, and the number of the node at which its target

@@ -1,11 +1,12 @@
 //! Judges the proof of a target while it is read.
 
 ghost use Rattle.std.specs.Prelude.{◌≡◌, ◌<◌, ◌^◌, ◌-◌, ℕ, List, [], length, IfOk, IfErr, IfSome};
-ghost use Rattle.std.specs.Prelude.{OnOk};
+ghost use Rattle.std.specs.Prelude.{OnOk, None};
 ghost use Rattle.byte_flow.specs.Device.{IsDeviceFault, IsLeft};
 ghost use Rattle.hint_check.specs.Judging.{says};
 ghost use Rattle.split_tree.specs.Leaves.{HasTarget};
 ghost use Rattle.case_core.specs.Bundle.{labels_of};
+ghost use Rattle.case_core.specs.Watch.{HasGivenLabel};
 ghost use Rattle.case_core.specs.Inner.Reading.{IsBegun};
 
 use crate::case::Case;
@@ -53,6 +54,8 @@ pub(crate) fn read_proof<S: Source>(
     ensures judged { IfOk result (λ some. IfSome some (λ read. (text : List ℕ)
         × IsLeft (S.remaining source.old) text × (labels_of text ≡ [])
         × (length text ≡ read.length) × (read.judged ≡ says judging.old text))) }
+    ensures labelled { IfOk result (λ some. some ≡ None
+        → HasGivenLabel (S.remaining source.old) (S.remaining source.new)) }
     ensures same { judging.new.formula ≡ judging.old.formula }
     ensures ok { OnOk result (S.failures source.new ≡ S.failures source.old) }
     ensures err { IfErr result

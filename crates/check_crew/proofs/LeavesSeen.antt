@@ -1,6 +1,7 @@
 -- What a worker has seen after it posted the finding of a leaf's proof.
 use Rattle.std.proofs.Common.{◌≡◌, ℕ, false, List, [], ◌∷◌, ◌++◌, Option, None, Some, Bool, refl}
-use Rattle.std.proofs.Common.{sym, ap, All, ◌∙◌, subst, is_some}
+use Rattle.std.proofs.Common.{sym, ap, All, ◌∙◌, subst, ◌+◌, ◌≤◌, length, arith, inl, inr}
+use Rattle.std.proofs.Common.{Result, Ok, Err, IfOk, IfErr, OnOk}
 use Rattle.std.proofs.Common.{append_assoc, append-nil}
 use Rattle.std.specs.Prelude.{IfSome}
 use Rattle.std.proofs.lemmas.List.Elements.{All-push, All-weaker}
@@ -11,28 +12,67 @@ use Rattle.case_core.specs.Target.TheVariants.{Leaf as Named}
 use Rattle.case_core.specs.Judged.{Judged}
 use Rattle.case_core.specs.Bundle.{labels_of}
 use Rattle.case_core.specs.Case.{CaseOf, proof_for}
-use Rattle.case_core.specs.Finding.{IsFoundBy}
+use Rattle.case_core.specs.Finding.{IsFoundBy, target_of}
 use Rattle.board_hall.specs.declared.view.CutCase.{CutCase}
 use Rattle.board_hall.specs.declared.view.Post.{Post}
 use Rattle.board_hall.specs.declared.view.View.{View}
 use Rattle.board_hall.specs.Clauses.{Stays}
-use Rattle.check_crew.specs.LeafProofs.{IsProofRead, IsGiven, HasSeenAs, IsFoundAt, IsExamined}
+use Rattle.byte_flow.specs.Device.{IsDeviceFault, IsLeft}
+use Rattle.byte_flow.specs.declared.fault.DeviceFault.{DeviceFault}
+use Rattle.case_core.specs.declared.examiner.ReadFinding.{ReadFinding}
+use Rattle.check_crew.specs.LeafProofs.{IsGiven, IsLeftOf, IsOpenedOf, HasSeenAs, IsFoundAt, IsExamined}
 use Rattle.check_crew.specs.LeafProofs.{Known}
+use Rattle.check_crew.specs.Inner.Apart.{IsFoundOf}
 use Rattle.check_crew.specs.declared.leaves.ExaminedLeaf.{ExaminedLeaf}
 use Rattle.check_crew.specs.declared.leaves.Examined.{Examined}
 use Rattle.check_crew.specs.declared.leaves.Examined.TheVariants.{Absent, Found, Other}
 use Rattle.check_crew.specs.Seen.{HasSeenMark}
 use Rattle.check_crew.proofs.SeenPosted.{mark_stays}
 
--- and that there is none, where there is none
-pub read_none : (known : Option (Option (List ℕ))) (bytes : List ℕ) (there : Bool) →
-    IsProofRead known bytes there → there ≡ false → IsGiven known None
-read_none known bytes there read is = of (read.0) read.1 (sym read.2 ∙ is)
-  where
-    of : (given : Option (List ℕ)) → IfSome known (λ held. given ≡ held) → is_some given ≡ false
-        → IsGiven known None
-    of None given_is none = given_is
-    of (Some proof) given_is none = absurd (cc)
+-- what was read to its end is what is known to lie there
+left_given : (known : Option (Option (List ℕ))) (left : Option (List ℕ)) (text : List ℕ) →
+    IsLeftOf known left → IsLeft left text → IsGiven known (Some text)
+left_given None left text of is = tt
+left_given (Some lies) left text of is =
+    ap Some (rw of.2 at is) ∙ sym of.1
+
+-- what was found by it is found by what is known to lie there
+pub found_given : {E : Type 0} (result : Result (Option ReadFinding) E)
+    (known : Option (Option (List ℕ))) (left : Option (List ℕ)) (case : CaseOf) (leaf : Leaf) →
+    IsLeftOf known left →
+    IfOk result (λ some. IfSome some (λ read. (read.finding.case.now ≡ case)
+    × (target_of read.finding.leaf read.finding.node ≡ Named leaf)
+    × ((text : List ℕ) × IsLeft left text × (labels_of text ≡ []) × (length text ≡ read.length)
+    × IsFoundBy case (Named leaf) text read.finding.judged))) →
+    IfOk result (λ some. IfSome some (λ read. IsFoundOf known case leaf read))
+found_given (Err fault) known left case leaf of found = tt
+found_given (Ok None) known left case leaf of found = tt
+found_given (Ok (Some read)) known left case leaf of found = record {
+  of_case = found.0;
+  of_leaf = found.1;
+  text = found.2.0;
+  given = left_given known left found.2.0 of found.2.1;
+  plain = found.2.2;
+  size = found.2.3;
+  found = found.2.4;
+}
+
+-- of a leaf for which nothing was opened there is none
+pub none_opened : {T : Type 0} (known : Option (Option (List ℕ))) (left : T → Option (List ℕ))
+    (found : Option T) → IsOpenedOf known left found → found ≡ None → IsGiven known None
+none_opened known left None is none = is
+none_opened known left (Some one) is none = absurd (cc)
+
+-- how many of its reads have failed
+pub failed_reads : {T : Type 0} (result : Result T DeviceFault) (before failed : ℕ) →
+    OnOk result (failed ≡ 0) → IfErr result (λ fault. IsDeviceFault 0 failed fault) →
+    (failed ≤ 1) × OnOk result (before + failed ≡ before)
+    × IfErr result (λ fault. IsDeviceFault before (before + failed) fault)
+failed_reads (Ok value) before failed ok err = (rw ok (omega arith), rw ok (omega arith), tt)
+failed_reads (Err fault) before failed ok (inl memory) =
+    (rw memory.1 (omega arith), tt, inl (memory.0, rw memory.1 (omega arith)))
+failed_reads (Err fault) before failed ok (inr device) =
+    (rw device.1 (omega arith), tt, inr (device.0, rw device.1 (omega arith)))
 
 -- a pass is its own later one
 pub stays_same : (v : View) → Stays v v

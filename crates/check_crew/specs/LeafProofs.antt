@@ -1,6 +1,5 @@
 -- What is read of the proofs that don't stand in a case, and what a worker has found of one.
-use Rattle.std.specs.Prelude.{◌≡◌, ℕ, Bool, List, [], Option, None, Some, IfSome}
-use Rattle.std.specs.Prelude.{is_some, unwrap_or}
+use Rattle.std.specs.Prelude.{◌≡◌, ℕ, List, [], Option, None, Some, IfSome, MatchOption}
 use Rattle.case_core.specs.Leaves.{IsTargetAt}
 use Rattle.case_core.specs.Leaf.{Leaf}
 use Rattle.case_core.specs.Target.{Target}
@@ -19,15 +18,20 @@ use Rattle.check_crew.specs.declared.leaves.Examined.TheVariants.{Absent, Found,
 abbrev pub Known : Type 0
 Known = Leaf → Option (Option (List ℕ))
 
--- what was read is what is known to lie there: nothing, or these bytes
-abbrev pub IsProofRead : Option (Option (List ℕ)) → List ℕ → Bool → Type 0
-IsProofRead known bytes there =
-    (given : Option (List ℕ)) × IfSome known (λ held. given ≡ held)
-    × (there ≡ is_some given) × (bytes ≡ unwrap_or given [])
-
 -- what was given for a leaf is what is known to lie there
 abbrev pub IsGiven : Option (Option (List ℕ)) → Option (List ℕ) → Type 0
 IsGiven known given = IfSome known (λ held. given ≡ held)
+
+-- what is left to read of a proof is what is known to lie there for its leaf
+abbrev pub IsLeftOf : Option (Option (List ℕ)) → Option (List ℕ) → Type 0
+IsLeftOf known left =
+    IfSome known (λ lies. (bytes : List ℕ) × (lies ≡ Some bytes) × (left ≡ Some bytes))
+
+-- what was opened for a leaf, of which this is left to read, or nothing, is what is known to lie
+-- there
+abbrev pub IsOpenedOf : {T : Type 0} → Option (Option (List ℕ)) → (T → Option (List ℕ)) →
+    Option T → Type 0
+IsOpenedOf known left found = MatchOption found (IsGiven known None) (λ one. IsLeftOf known (left one))
 
 -- the mark of this judgement is among what was seen, at the node of the target
 pub record HasSeenAs (v : View) (target : Target) (judged : Judged) : Type 0 where

@@ -1,4 +1,4 @@
-//! A run whose leaves have their proofs elsewhere: one proof of each worker is in memory at a time.
+//! A run whose leaves have their proofs elsewhere: each worker judges one while it reads it.
 
 ghost use Rattle.std.specs.Prelude.{◌≡◌, ◌+◌, ◌*◌, ◌<◌, ◌≤◌, ◌≢◌, ℕ, true, None, Some, All, IfOk};
 ghost use Rattle.std.specs.Prelude.{IfErr, IfSome, List, Option, vec_len, MatchOption};
@@ -32,7 +32,7 @@ use std::thread::Threads;
 
 /// The boards of `case` at the cut of `settings` with the findings of its sections, as `conquer`
 /// makes them, and of its leaves by proofs that lie elsewhere. Each worker has one of `proofs`, by
-/// which it reads the proof of a leaf when the leaf's turn comes, judges it and drops it; the
+/// which it opens the proof of a leaf when the leaf's turn comes, and judges it while it reads; the
 /// leaves of longer proofs come first. All of `proofs` tell of the same proofs, and there is one
 /// for each worker. The case's own sections are examined before them.
 ///

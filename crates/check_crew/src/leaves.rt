@@ -1,25 +1,25 @@
 //! What a worker does of leaves whose proofs don't stand in the case.
 
 ghost use Rattle.std.specs.Prelude.{◌≡◌, ◌<◌, ◌^◌, ◌-◌, [], true, None, All, IfOk, IfErr, IfSome};
-ghost use Rattle.std.specs.Prelude.{false, List, Option, Some, ℕ};
+ghost use Rattle.std.specs.Prelude.{false, List, Option, ℕ};
 ghost use Rattle.byte_flow.specs.Device.{IsDeviceFault};
-ghost use Rattle.case_core.specs.Bundle.{labels_of};
 ghost use Rattle.case_core.specs.Case.{proof_for};
 ghost use Rattle.std.specs.Prelude.{OnOk};
+ghost use Rattle.case_core.specs.Finding.{target_of};
 ghost use Rattle.case_core.specs.Leaf.{Leaf};
 ghost use Rattle.case_core.specs.Leaves.{HasTarget};
 ghost use Rattle.board_hall.specs.Halls.{core_of, shared_of, view_of, IsPassOf, IsNewPass};
 ghost use Rattle.board_hall.specs.Clauses.{Stays};
 ghost use Rattle.board_hall.specs.declared.view.View.{View};
-ghost use Rattle.check_crew.specs.LeafProofs.{IsExamined, IsGiven};
-ghost use Rattle.check_crew.specs.Inner.Apart.{IsLeafShiftOf};
+ghost use Rattle.check_crew.specs.LeafProofs.{IsExamined, IsLeftOf};
+ghost use Rattle.check_crew.specs.Inner.Apart.{IsFoundOf, IsLeafShiftOf};
 
 use crate::gate::Gate;
 use crate::leaf_proofs::LeafProofs;
 use crate::worker::{JudgedProof, post, tell};
 use board_hall::{Core, Pass};
 use byte_flow::DeviceFault;
-use case_core::{Case, Examiner, Judged, Leaf, Target, has_label_line};
+use case_core::{Case, Examiner, Judged, Leaf, ReadFinding, Target};
 use std::alloc::{AllocError, Global};
 use std::sync::Wait;
 use std::sync::atomic::{AtomicU64, Ordering};
@@ -82,68 +82,136 @@ pub(crate) struct LeafShift<P> {
     pub(crate) fault: Option<DeviceFault>,
 }
 
-/// Whether the run has to be made with all proofs in one bundle, for the proof of this leaf: it has
-/// a label line, or the leaf has a section of its own.
-fn is_for_one_bundle(case: &Case, leaf: Leaf, proof: &[u8]) -> bool
-    requires { HasTarget case.now.tree (Target.Leaf leaf) }
-    ensures plain { result ≡ false → labels_of proof.now ≡ [] }
-    ensures free { result ≡ false → proof_for case.now.sections (Target.Leaf leaf) ≡ None }
-{
-    has_label_line(proof) || case.proof_for(Target::Leaf(leaf)).is_some()
+/// A leaf whose proof was opened.
+#[derive(Drop)]
+struct OpenedLeaf<T> {
+    leaf: Leaf,
+    proof: T,
 }
 
-/// Judges a proof of a leaf, which was read, and posts what is found, and then the part that is
-/// owed, if any; the gate is called beside it.
-fn examine_leaf<R: Wait, G: Gate>(
-    site: LeafSite<'_, R, G>,
+/// Whether a leaf has a section of its own in the case.
+fn has_section(case: &Case, leaf: Leaf) -> bool
+    requires { HasTarget case.now.tree (Target.Leaf leaf) }
+    ensures { result ≡ false → proof_for case.now.sections (Target.Leaf leaf) ≡ None }
+{
+    case.proof_for(Target::Leaf(leaf)).is_some()
+}
+
+/// What is found by the proof of a leaf, which is read to its end and given back; `None` where it
+/// has a label line.
+fn read_leaf<'c, P: LeafProofs>(
+    alloc: Global,
+    examiner: &mut Examiner<'c>,
+    proofs: &mut P,
+    opened: OpenedLeaf<P::Proof>,
+) -> Result<Option<ReadFinding<'c>>, DeviceFault>
+    requires leaf { HasTarget examiner.old.tree (Target.Leaf opened.leaf) }
+    requires none { proof_for examiner.old.sections (Target.Leaf opened.leaf) ≡ None }
+    requires left { IsLeftOf (P.held proofs.old opened.leaf) (P.Proof.remaining opened.proof) }
+    requires fresh { P.Proof.failures opened.proof ≡ 0 }
+    requires count { P.failures proofs.old < 2 ^ 64 - 1 }
+    ensures same { examiner.new ≡ examiner.old }
+    ensures held { P.held proofs.new ≡ P.held proofs.old }
+    ensures found { IfOk result (λ some. IfSome some
+        (λ read. IsFoundOf (P.held proofs.old opened.leaf) examiner.old opened.leaf read)) }
+    ensures ok { OnOk result (P.failures proofs.new ≡ P.failures proofs.old) }
+    ensures err { IfErr result
+        (λ fault. IsDeviceFault (P.failures proofs.old) (P.failures proofs.new) fault) }
+{
+    let OpenedLeaf { leaf, mut proof } = opened;
+    let found = examiner.examine_read(alloc, leaf, &mut proof);
+    proofs.close(proof);
+    found
+}
+
+/// Posts what was found by the proof of a leaf, and then the part that is owed, if any, and tells
+/// the gate.
+fn post_leaf<'c, R: Wait, G: Gate>(
+    site: LeafSite<'c, R, G>,
     worker: u32,
-    examiner: &mut Examiner<'_>,
-    proof: &[u8],
     pass: &mut Pass,
     leaf: Leaf,
-) -> Result<Examined, AllocError>
+    read: ReadFinding<'c>,
+) -> Examined
     requires case { site.case.now ≡ (core_of site.core.now).case }
     requires elsewhere { (core_of site.core.now).elsewhere ≡ true }
-    requires examiner { examiner.old ≡ site.case.now }
-    requires leaf { HasTarget site.case.now.tree (Target.Leaf leaf) }
+    requires free { proof_for site.case.now.sections (Target.Leaf leaf) ≡ None }
     requires own { IsPassOf (shared_of site.core.now) pass.old }
-    requires free { (view_of pass.old).owes ≡ None }
-    ensures same { examiner.new ≡ examiner.old }
+    requires owes { (view_of pass.old).owes ≡ None }
+    requires of { (read.finding.case.now ≡ site.case.now)
+        × (target_of read.finding.leaf read.finding.node ≡ Target.Leaf leaf) }
     ensures own { IsPassOf (shared_of site.entry.core.now) pass.new }
     ensures owes { (view_of pass.new).owes ≡ None }
     ensures stays { Stays (view_of pass.old) (view_of pass.new) }
-    ensures examined { IfOk result (λ examined. (known : Option (Option (List ℕ)))
-        → IsGiven known (Some proof.now) → IsExamined known (view_of pass.new) leaf examined) }
+    ensures examined { (known : Option (Option (List ℕ)))
+        → IsFoundOf known site.entry.case.now leaf read.entry
+        → IsExamined known (view_of pass.new) leaf result }
 {
     let LeafSite {
         rt,
-        alloc,
         case,
         core,
         gate,
         ..
     } = site;
-    let placed = leaf;
-    let announced = leaf;
-    let told = leaf;
-    if is_for_one_bundle(case, placed, proof) {
-        gate.falls_back(told);
-        return Ok(Examined::Other);
-    }
-    gate.before(worker, Target::Leaf(announced));
-    let finding = examiner.examine_text(alloc, leaf, proof)?;
+    let ReadFinding { finding, length } = read;
     let judged = finding.judged();
     let judged_proof = JudgedProof {
-        target: Target::Leaf(told),
+        target: Target::Leaf(leaf),
         node: finding.node(),
-        length: proof.len(),
+        length,
         judged,
     };
     if !post(rt, case, core, pass, finding) {
-        return Ok(Examined::Other);
+        return Examined::Other;
     }
     tell(case, core, gate, worker, pass, judged_proof);
-    Ok(Examined::Found(judged))
+    Examined::Found(judged)
+}
+
+/// Judges the proof of a leaf while it is read, and posts what is found; the gate is called beside
+/// it.
+fn examine_leaf<'c, R: Wait, G: Gate, P: LeafProofs>(
+    site: LeafSite<'c, R, G>,
+    worker: u32,
+    examiner: &mut Examiner<'c>,
+    proofs: &mut P,
+    pass: &mut Pass,
+    opened: OpenedLeaf<P::Proof>,
+) -> Result<Examined, DeviceFault>
+    requires case { site.case.now ≡ (core_of site.core.now).case }
+    requires elsewhere { (core_of site.core.now).elsewhere ≡ true }
+    requires examiner { examiner.old ≡ site.case.now }
+    requires leaf { HasTarget site.case.now.tree (Target.Leaf opened.leaf) }
+    requires left { IsLeftOf (P.held proofs.old opened.leaf) (P.Proof.remaining opened.proof) }
+    requires fresh { P.Proof.failures opened.proof ≡ 0 }
+    requires count { P.failures proofs.old < 2 ^ 64 - 1 }
+    requires own { IsPassOf (shared_of site.core.now) pass.old }
+    requires free { (view_of pass.old).owes ≡ None }
+    ensures same { examiner.new ≡ examiner.old }
+    ensures held { P.held proofs.new ≡ P.held proofs.old }
+    ensures own { IsPassOf (shared_of site.entry.core.now) pass.new }
+    ensures owes { (view_of pass.new).owes ≡ None }
+    ensures stays { Stays (view_of pass.old) (view_of pass.new) }
+    ensures examined { IfOk result (λ examined. IsExamined (P.held proofs.old opened.leaf)
+        (view_of pass.new) opened.leaf examined) }
+    ensures ok { OnOk result (P.failures proofs.new ≡ P.failures proofs.old) }
+    ensures err { IfErr result
+        (λ fault. IsDeviceFault (P.failures proofs.old) (P.failures proofs.new) fault) }
+{
+    let leaf = opened.leaf;
+    if has_section(site.case, leaf) {
+        site.gate.falls_back(leaf);
+        return Ok(Examined::Other);
+    }
+    site.gate.before(worker, Target::Leaf(leaf));
+    match read_leaf(site.alloc, examiner, proofs, opened)? {
+        Some(read) => Ok(post_leaf(site, worker, pass, leaf, read)),
+        None => {
+            site.gate.falls_back(leaf);
+            Ok(Examined::Other)
+        }
+    }
 }
 
 /// The leaf of an order whose turn it is, from 0, where the tree has it. `None` behind the last.
@@ -176,49 +244,55 @@ fn end_at_other<R, G>(site: LeafSite<'_, R, G>, found: Examined) {
 
 /// Examines a leaf whose turn was taken, by its proof. Where the run has to be made with all proofs
 /// in one bundle, nobody takes another one.
-fn take_leaf<R: Wait, G: Gate>(
-    site: LeafSite<'_, R, G>,
+fn take_leaf<'c, R: Wait, G: Gate, P: LeafProofs>(
+    site: LeafSite<'c, R, G>,
     worker: u32,
-    examiner: &mut Examiner<'_>,
-    proof: &[u8],
+    examiner: &mut Examiner<'c>,
+    proofs: &mut P,
     pass: &mut Pass,
-    leaf: Leaf,
-) -> Result<ExaminedLeaf, AllocError>
+    opened: OpenedLeaf<P::Proof>,
+) -> Result<ExaminedLeaf, DeviceFault>
     requires case { site.case.now ≡ (core_of site.core.now).case }
     requires elsewhere { (core_of site.core.now).elsewhere ≡ true }
     requires examiner { examiner.old ≡ site.case.now }
-    requires leaf { HasTarget site.case.now.tree (Target.Leaf leaf) }
+    requires leaf { HasTarget site.case.now.tree (Target.Leaf opened.leaf) }
+    requires left { IsLeftOf (P.held proofs.old opened.leaf) (P.Proof.remaining opened.proof) }
+    requires fresh { P.Proof.failures opened.proof ≡ 0 }
+    requires count { P.failures proofs.old < 2 ^ 64 - 1 }
     requires own { IsPassOf (shared_of site.core.now) pass.old }
     requires free { (view_of pass.old).owes ≡ None }
     ensures same { examiner.new ≡ examiner.old }
+    ensures held { P.held proofs.new ≡ P.held proofs.old }
     ensures own { IsPassOf (shared_of site.entry.core.now) pass.new }
     ensures owes { (view_of pass.new).owes ≡ None }
     ensures stays { Stays (view_of pass.old) (view_of pass.new) }
-    ensures leaf { IfOk result (λ one. one.leaf ≡ leaf) }
-    ensures examined { IfOk result (λ one. (known : Option (Option (List ℕ)))
-        → IsGiven known (Some proof.now)
-        → IsExamined known (view_of pass.new) one.leaf one.examined) }
+    ensures examined { IfOk result (λ one. IsExamined (P.held proofs.old one.leaf)
+        (view_of pass.new) one.leaf one.examined) }
+    ensures ok { OnOk result (P.failures proofs.new ≡ P.failures proofs.old) }
+    ensures err { IfErr result
+        (λ fault. IsDeviceFault (P.failures proofs.old) (P.failures proofs.new) fault) }
 {
-    let asked = leaf;
-    let examined = examine_leaf(site, worker, examiner, proof, pass, asked)?;
+    let leaf = opened.leaf;
+    let examined = examine_leaf(site, worker, examiner, proofs, pass, opened)?;
     end_at_other(site, examined);
     Ok(ExaminedLeaf { leaf, examined })
 }
 
-/// Takes turns until a leaf has a proof, which is read then, and answers that leaf; those without
-/// one are noted. `None` where no turn is left. The bytes are dropped by the next call.
+/// Takes turns until a leaf has a proof, which is opened then, and answers it; those without one
+/// are noted. `None` where no turn is left.
 fn next_proof<R: Wait, G, P: LeafProofs>(
     site: LeafSite<'_, R, G>,
     proofs: &mut P,
-    bytes: &mut Vec<u8>,
     examined: &mut Vec<ExaminedLeaf>,
-) -> Result<Option<Leaf>, DeviceFault>
+) -> Result<Option<OpenedLeaf<P::Proof>>, DeviceFault>
     requires count { P.failures proofs.old < 2 ^ 64 - 1 }
     ensures held { P.held proofs.new ≡ P.held proofs.old }
     ensures leaf { IfOk result (λ found. IfSome found
-        (λ leaf. HasTarget site.entry.case.now.tree (Target.Leaf leaf))) }
-    ensures given { IfOk result (λ found. IfSome found
-        (λ leaf. IsGiven (P.held proofs.old leaf) (Some bytes.new.items))) }
+        (λ opened. HasTarget site.entry.case.now.tree (Target.Leaf opened.leaf))) }
+    ensures left { IfOk result (λ found. IfSome found (λ opened.
+        IsLeftOf (P.held proofs.old opened.leaf) (P.Proof.remaining opened.proof))) }
+    ensures fresh { IfOk result (λ found. IfSome found
+        (λ opened. P.Proof.failures opened.proof ≡ 0)) }
     ensures absent { OnOk result ((view : View)
         → All (λ one. IsExamined (P.held proofs.old one.leaf) view one.leaf one.examined)
         examined.old.items
@@ -233,8 +307,8 @@ fn next_proof<R: Wait, G, P: LeafProofs>(
             return Ok(None);
         };
         let asked = leaf;
-        if proofs.read(asked, bytes)? {
-            return Ok(Some(leaf));
+        if let Some(proof) = proofs.open(asked)? {
+            return Ok(Some(OpenedLeaf { leaf, proof }));
         }
         examined.push(ExaminedLeaf {
             leaf,
@@ -244,23 +318,23 @@ fn next_proof<R: Wait, G, P: LeafProofs>(
     unreachable!()
 }
 
-/// Examines a leaf whose proof was read, and then those of further turns, until none is left or a
-/// fault comes, by an examiner that is lent. One proof is in memory at a time.
-fn take_leaves<R: Wait, G: Gate, P: LeafProofs>(
-    site: LeafSite<'_, R, G>,
+/// Examines a leaf whose proof was opened, and then those of further turns, until none is left or a
+/// fault comes, by an examiner that is lent. One proof is open at a time.
+fn take_leaves<'c, R: Wait, G: Gate, P: LeafProofs>(
+    site: LeafSite<'c, R, G>,
     worker: u32,
     proofs: &mut P,
-    examiner: &mut Examiner<'_>,
-    bytes: &mut Vec<u8>,
+    examiner: &mut Examiner<'c>,
     pass: &mut Pass,
     examined: &mut Vec<ExaminedLeaf>,
-    first: Leaf,
+    first: OpenedLeaf<P::Proof>,
 ) -> Result<(), DeviceFault>
     requires case { site.case.now ≡ (core_of site.core.now).case }
     requires elsewhere { (core_of site.core.now).elsewhere ≡ true }
     requires examiner { examiner.old ≡ site.case.now }
-    requires first { HasTarget site.case.now.tree (Target.Leaf first) }
-    requires given { IsGiven (P.held proofs.old first) (Some bytes.old.items) }
+    requires first { HasTarget site.case.now.tree (Target.Leaf first.leaf) }
+    requires left { IsLeftOf (P.held proofs.old first.leaf) (P.Proof.remaining first.proof) }
+    requires fresh { P.Proof.failures first.proof ≡ 0 }
     requires own { IsPassOf (shared_of site.core.now) pass.old }
     requires free { (view_of pass.old).owes ≡ None }
     requires count { P.failures proofs.old < 2 ^ 64 - 1 }
@@ -275,20 +349,20 @@ fn take_leaves<R: Wait, G: Gate, P: LeafProofs>(
     ensures err { IfErr result
         (λ fault. IsDeviceFault (P.failures proofs.old) (P.failures proofs.new) fault) }
 {
-    let mut leaf = first;
+    let mut opened = first;
     for _ in site.rt.forever() {
-        let one = take_leaf(site, worker, examiner, bytes, pass, leaf)?;
+        let one = take_leaf(site, worker, examiner, proofs, pass, opened)?;
         examined.push(one)?;
-        let Some(following) = next_proof(site, proofs, bytes, examined)? else {
+        let Some(following) = next_proof(site, proofs, examined)? else {
             return Ok(());
         };
-        leaf = following;
+        opened = following;
     }
     unreachable!()
 }
 
 /// Takes turns until none is left or a fault comes, by an examiner of its own. That holds the
-/// formula once more, so it is made when a first proof was read: a worker that meets none costs
+/// formula once more, so it is made when a first proof was opened: a worker that meets none costs
 /// nothing.
 fn examine_leaves<R: Wait, G: Gate, P: LeafProofs>(
     site: LeafSite<'_, R, G>,
@@ -312,8 +386,7 @@ fn examine_leaves<R: Wait, G: Gate, P: LeafProofs>(
     ensures err { IfErr result
         (λ fault. IsDeviceFault (P.failures proofs.old) (P.failures proofs.new) fault) }
 {
-    let mut bytes = Vec::new(site.alloc);
-    let Some(first) = next_proof(site, proofs, &mut bytes, examined)? else {
+    let Some(first) = next_proof(site, proofs, examined)? else {
         return Ok(());
     };
     let mut examiner = Examiner::over(site.alloc, site.case)?;
@@ -322,7 +395,6 @@ fn examine_leaves<R: Wait, G: Gate, P: LeafProofs>(
         worker,
         proofs,
         &mut examiner,
-        &mut bytes,
         pass,
         examined,
         first,

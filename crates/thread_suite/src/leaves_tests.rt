@@ -1,4 +1,4 @@
-//! Runs by workers that read the proofs of leaves themselves, one at a time: that each is read
+//! Runs by workers that read the proofs of leaves themselves, one at a time: that each is opened
 //! once, and that what is said is what a run says of the bundle with all proofs.
 ghost use Rattle.std.specs.Prelude.{◌≡◌, All, vec_len};
 
@@ -6,9 +6,11 @@ use crate::cases::{case, need_count};
 use crate::gates::{Told, cube_number, need_each_once, one_of};
 use case_core::{Case, Leaf};
 use check_crew::{Gate, LeafProofs, NoGate, Settings};
-use cube_report::{DeviceFault, Fault, Outcome, judge_apart};
+use cube_report::{DeviceFault, Fault, Outcome, Source, judge_apart};
 use fixtures::bundles::FOUR_CUBES_REPORT;
 use fixtures::four;
+use std::io;
+use std::io::ErrorKind;
 use std::process::Abort;
 use std::sync::Wait;
 use std::sync::atomic::{AtomicU64, Ordering};
@@ -61,38 +63,80 @@ const SHORT_SECOND_REPORT: &[u8] = b"t 4 0 1152921504606846976\n\
 a 1 refuted\na 2 rejected 2 end\na 3 refuted\na 4 refuted\no 1 -2 0\nw 288230376151711744\n\
 s OPEN\n";
 
-/// Proofs in memory, by the numbers of their cubes. It counts how often each is read, four bits for
-/// each cube, and fails at one of them.
+/// Which call on a proof fails, by the number of its cube.
+#[derive(Clone, Copy)]
+enum Failing {
+    Nothing,
+    Opening(u32),
+    Reading(u32),
+}
+
+/// A proof in memory, which gives a byte at a time, or fails.
+#[derive(Drop)]
+struct LentProof<'t> {
+    rest: &'t [u8],
+    is_failing: bool,
+    failed: u64,
+}
+
+impl<'t> Source for LentProof<'t> {
+    ghost use Rattle.std.specs.Prelude.{None};
+
+    ghost remaining = { λ _. None };
+
+    ghost failures = { λ s. s.failed };
+
+    fn read(&mut self, buffer: &mut [u8]) -> io::Result<usize> {
+        if self.is_failing {
+            self.failed += 1;
+            return Err(io::Error::from(ErrorKind::Other));
+        }
+        let count = self.rest.len().min(buffer.len()).min(1);
+        let (front, rest) = self.rest.split_at(count);
+        buffer[..count].copy_from_slice(front);
+        self.rest = rest;
+        Ok(count)
+    }
+}
+
+/// Proofs in memory, by the numbers of their cubes. It counts how often each is opened, four bits
+/// for each cube, and fails at one of them.
 #[derive(Drop)]
 struct Lent<'t> {
     proofs: &'t [Option<&'t [u8]>],
-    reads: &'t AtomicU64,
-    fails_at: u32,
+    opens: &'t AtomicU64,
+    failing: Failing,
     failed: u64,
 }
 
 impl<'t> LeafProofs for Lent<'t> {
+    type Proof = LentProof<'t>;
+
     ghost use Rattle.std.specs.Prelude.{None};
 
     ghost held = { λ _ _. None };
 
     ghost failures = { λ s. s.failed };
 
-    fn read(&mut self, leaf: Leaf, bytes: &mut Vec<u8>) -> Result<bool, DeviceFault> {
+    fn open(&mut self, leaf: Leaf) -> Result<Option<LentProof<'t>>, DeviceFault> {
         let cube = cube_number(leaf);
-        self.reads.fetch_add(one_of(cube), Ordering::SeqCst);
-        if cube == self.fails_at {
+        self.opens.fetch_add(one_of(cube), Ordering::SeqCst);
+        if matches!(self.failing, Failing::Opening(at) if at == cube) {
             self.failed += 1;
             return Err(DeviceFault::Device);
         }
-        bytes.clear();
         match self.proofs.get((cube as usize).wrapping_sub(1)) {
-            Some(Some(proof)) => {
-                bytes.extend_from_slice(*proof)?;
-                Ok(true)
-            }
-            _ => Ok(false),
+            Some(Some(proof)) => Ok(Some(LentProof {
+                rest: *proof,
+                is_failing: matches!(self.failing, Failing::Reading(at) if at == cube),
+                failed: 0,
+            })),
+            _ => Ok(None),
         }
+    }
+
+    fn close(&mut self, proof: LentProof<'t>) {
+        self.failed += proof.failed;
     }
 
     fn length(&self, leaf: Leaf) -> Option<u64> {
@@ -110,8 +154,8 @@ impl<'t> LeafProofs for Lent<'t> {
 fn readers<'t>(
     rt: &(impl Abort + AllocGlobal),
     proofs: &'t [Option<&'t [u8]>],
-    reads: &'t AtomicU64,
-    fails_at: u32,
+    opens: &'t AtomicU64,
+    failing: Failing,
     workers: u32,
 ) -> Vec<Lent<'t>>
     ensures count { vec_len result ≡ workers }
@@ -121,8 +165,8 @@ fn readers<'t>(
     for _ in 0..workers {
         all.push(Lent {
             proofs,
-            reads,
-            fails_at,
+            opens,
+            failing,
             failed: 0,
         })
         .expect(rt, "memory");
@@ -157,11 +201,11 @@ fn run_on<R: Abort + AllocGlobal + Threads + Wait + Sync, G: Gate + Sync>(
     (workers, cut): (u32, u32),
     gate: &G,
     proofs: &[Option<&[u8]>],
-    reads: &AtomicU64,
-    fails_at: u32,
+    opens: &AtomicU64,
+    failing: Failing,
 ) -> Said {
     let settings = Settings::new(workers, cut).expect(rt, "no settings");
-    let all = readers(rt, proofs, reads, fails_at, workers);
+    let all = readers(rt, proofs, opens, failing, workers);
     answered(judge_apart(rt, rt.alloc(), case, settings, gate, false, all))
 }
 
@@ -172,8 +216,8 @@ fn run_apart<R: Abort + AllocGlobal + Threads + Wait + Sync, G: Gate + Sync>(
     numbers: (u32, u32),
     gate: &G,
     proofs: &[Option<&[u8]>],
-    reads: &AtomicU64,
-    fails_at: u32,
+    opens: &AtomicU64,
+    failing: Failing,
 ) -> Said {
     run_on(
         rt,
@@ -181,8 +225,8 @@ fn run_apart<R: Abort + AllocGlobal + Threads + Wait + Sync, G: Gate + Sync>(
         numbers,
         gate,
         proofs,
-        reads,
-        fails_at,
+        opens,
+        failing,
     )
 }
 
@@ -194,18 +238,18 @@ fn is_report(said: Said, wanted: &[u8]) -> bool {
     }
 }
 
-// Whatever the number of workers, each proof is read once, judged once and told once, between one
+// Whatever the number of workers, each proof is opened once, judged once and told once, between one
 // start and one end, and the report is that on the bundle with all of them. One worker takes the
 // longest first, and those of equal length in the order of the cubes.
 #[test]
-fn each_proof_is_read_once(rt: HostRuntime) {
+fn each_proof_is_opened_once(rt: HostRuntime) {
     for workers in [1, 2, 4, 32] {
         for cut in [0, 1, 6] {
             let gate = Told::new();
-            let reads = AtomicU64::new(0);
-            let told = run_apart(&rt, CUBES, (workers, cut), &gate, ALL, &reads, 0);
+            let opens = AtomicU64::new(0);
+            let told = run_apart(&rt, CUBES, (workers, cut), &gate, ALL, &opens, Failing::Nothing);
             assert!(rt; is_report(told, FOUR_CUBES_REPORT));
-            need_count(&rt, "reads", &reads, 0x11110);
+            need_count(&rt, "opens", &opens, 0x11110);
             need_count(&rt, "elsewhere", &gate.elsewhere, 4);
             need_count(&rt, "bytes", &gate.bytes, 72);
             need_count(&rt, "bytes after", &gate.bytes_after, 72);
@@ -226,44 +270,46 @@ fn a_leaf_is_left_open(rt: HostRuntime) {
             (CUBES, SHORT_SECOND, SHORT_SECOND_REPORT, 0x11110),
         ] {
             let gate = Told::new();
-            let reads = AtomicU64::new(0);
-            let said = run_apart(&rt, bundle, (workers, 1), &gate, proofs, &reads, 0);
+            let opens = AtomicU64::new(0);
+            let said = run_apart(&rt, bundle, (workers, 1), &gate, proofs, &opens, Failing::Nothing);
             assert!(rt; is_report(said, report));
-            need_count(&rt, "reads", &reads, 0x11110);
+            need_count(&rt, "opens", &opens, 0x11110);
             need_count(&rt, "after", &gate.after, told);
         }
     }
 }
 
 // A proof with a label line, and one of a leaf that has a section, too, have to be in the bundle.
-// The gate is told of that leaf, once, and one worker reads no further proof: the third is the
+// The gate is told of that leaf, once, and one worker opens no further proof: the third is the
 // longest, and the second is next.
 #[test]
 fn all_in_one_bundle(rt: HostRuntime) {
     for workers in [1, 4] {
-        for (bundle, proofs, leaf, read) in [
+        for (bundle, proofs, leaf, opened) in [
             (CUBES, LABELLED, 0x1000, 0x1000),
             (SECOND, ALL, 0x100, 0x1100),
         ] {
             let gate = Told::new();
-            let reads = AtomicU64::new(0);
-            let told = run_apart(&rt, bundle, (workers, 0), &gate, proofs, &reads, 0);
+            let opens = AtomicU64::new(0);
+            let told = run_apart(&rt, bundle, (workers, 0), &gate, proofs, &opens, Failing::Nothing);
             assert!(rt; matches!(told, Said::Elsewhere));
             need_count(&rt, "fell_back", &gate.fell_back, leaf);
-            assert!(rt; workers > 1 || reads.load(Ordering::SeqCst) == read);
+            assert!(rt; workers > 1 || opens.load(Ordering::SeqCst) == opened);
             need_count(&rt, "ended", &gate.ended, 1);
         }
     }
 }
 
-// What has met a failed read comes back, whatever else there is to say.
+// What has met a failed call comes back, whatever else there is to say.
 #[test]
 fn a_read_fails(rt: HostRuntime) {
     for workers in [1, 2, 4] {
-        for (proofs, fails_at) in [(ALL, 1), (ALL, 2), (ALL, 3), (ALL, 4), (LABELLED, 3)] {
-            let reads = AtomicU64::new(0);
-            let told = run_apart(&rt, CUBES, (workers, 1), &NoGate, proofs, &reads, fails_at);
-            assert!(rt; matches!(told, Said::Unread(1)), "{fails_at}");
+        for (proofs, cube) in [(ALL, 1), (ALL, 2), (ALL, 3), (ALL, 4), (LABELLED, 3)] {
+            for failing in [Failing::Opening(cube), Failing::Reading(cube)] {
+                let opens = AtomicU64::new(0);
+                let told = run_apart(&rt, CUBES, (workers, 1), &NoGate, proofs, &opens, failing);
+                assert!(rt; matches!(told, Said::Unread(1)), "{cube}");
+            }
         }
     }
 }

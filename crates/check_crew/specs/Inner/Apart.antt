@@ -1,6 +1,10 @@
 -- What the workers over leaves hand back, and the marks that are compared with it.
-use Rattle.std.specs.Prelude.{◌≡◌, ℕ, List, All, Option, None, MatchOption, Bool, true, false}
-use Rattle.std.specs.Prelude.{get_or}
+use Rattle.std.specs.Prelude.{◌≡◌, ℕ, List, [], All, Option, None, Some, MatchOption, Bool, true}
+use Rattle.std.specs.Prelude.{false, get_or, length}
+use Rattle.case_core.specs.Bundle.{labels_of}
+use Rattle.case_core.specs.Finding.{IsFoundBy, target_of}
+use Rattle.case_core.specs.Target.TheVariants.{Leaf as Named}
+use Rattle.case_core.specs.declared.examiner.ReadFinding.{ReadFinding}
 use Rattle.case_core.specs.Leaf.{Leaf}
 use Rattle.case_core.specs.Leaves.{IsLeafAt}
 use Rattle.case_core.specs.Case.{CaseOf}
@@ -12,8 +16,20 @@ use Rattle.board_hall.specs.declared.pass.Pass.{Pass}
 use Rattle.board_hall.specs.Halls.{HallOf, IsPassOf, view_of}
 use Rattle.byte_flow.specs.Device.{IsDeviceFault}
 use Rattle.byte_flow.specs.declared.fault.DeviceFault.{DeviceFault}
-use Rattle.check_crew.specs.LeafProofs.{Known, IsExamined}
+use Rattle.check_crew.specs.LeafProofs.{Known, IsExamined, IsGiven}
 use Rattle.check_crew.specs.declared.leaves.ExaminedLeaf.{ExaminedLeaf}
+
+-- what was found by the proof that is known to lie there for the leaf, in which no line is a label
+-- line
+pub record IsFoundOf (known : Option (Option (List ℕ))) (case : CaseOf) (leaf : Leaf)
+    (read : ReadFinding) : Type 0 where
+  pub of_case : read.finding.case.now ≡ case
+  pub of_leaf : target_of read.finding.leaf read.finding.node ≡ Named leaf
+  pub text : List ℕ
+  pub given : IsGiven known (Some text)
+  pub plain : labels_of text ≡ []
+  pub size : length text ≡ read.length
+  pub found : IsFoundBy case (Named leaf) text read.finding.judged
 
 -- What a worker over leaves hands back, by what is known of the proofs that it reads and how many
 -- of its reads have failed: its pass, which owes nothing; unless a fault stopped it, what became of

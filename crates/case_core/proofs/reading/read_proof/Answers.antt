@@ -1,6 +1,8 @@
-use Rattle.std.proofs.Common.{◌≡◌, ◌<◌, ◌∙◌, ap, subst, ℕ, length, take, rules}
+use Rattle.std.proofs.Common.{◌≡◌, ◌<◌, ◌∙◌, ◌++◌, ap, subst, ℕ, List, length, take, rules}
+use Rattle.case_core.specs.Watch.{holds}
+use Rattle.case_core.specs.declared.watch.LabelWatch.{LabelWatch}
 use Rattle.case_core.specs.Inner.Reading.{ReadSoFar}
-use Rattle.case_core.proofs.ReadingParts.{more_read, all_read}
+use Rattle.case_core.proofs.ReadingParts.{more_read, all_read, label_found}
 use Rattle.case_core.proofs.reading.read_proof.Goals as goal
 
 pub loop-count-preserved : goal.loop-count-preserved
@@ -30,3 +32,13 @@ returns-then-count-eq0-clause-judged g c =
     c.in_ok-judged.judged c.loop-count.invariant.read c.in-Ok.ensures.bytes.0
     (ap (λ (n : ℕ). take n c.read.new.buffer) none) (c.in-Ok.ensures.bytes.1 none some)
     c.if-has_label.ensures c.in_ok-judged.ensures.told
+
+pub returns-in-Found-clause-labelled : goal.returns-in-Found-clause-labelled
+returns-in-Found-clause-labelled g c = λ none.
+    let bytes : List ℕ = take c.in-Ok.count c.read.new.buffer in
+    label_found (g.S.Source.remaining c.args.source.now)
+    (g.S.Source.remaining c.loop-count.source) (g.S.Source.remaining c.read.new.self)
+    c.args.judging.now c.loop-count.judging c.loop-count.watch c.loop-count.length bytes
+    c.loop-count.invariant.read c.in-Ok.ensures.bytes.0
+    (λ rest. subst (λ (w : LabelWatch). holds w rest ≡ holds c.loop-count.watch (bytes ++ rest))
+        c.in-Found.is (c.more-watch.ensures rest))

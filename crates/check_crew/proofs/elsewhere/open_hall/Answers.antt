@@ -3,7 +3,7 @@ use Rattle.board_hall.specs.Halls.{HallOf, IsNewPass}
 use Rattle.check_crew.proofs.elsewhere.open_hall.Goals as goal
 
 pub deal-requires-clause-new : goal.deal-requires-clause-new
-deal-requires-clause-new g c =
+deal-requires-clause-new g c = λ κs within.
     subst (λ (hall : HallOf). All (IsNewPass hall) c.in_ok-hall.passes.items) (sym c.core.ensures)
     c.in_ok-hall.ensures.passes
 

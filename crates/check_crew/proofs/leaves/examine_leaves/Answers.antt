@@ -7,6 +7,9 @@ returns-in_default-clause-examined g c =
     c.in_ok-first.ensures.absent (view_of c.args.pass.now) (rw c.requires.none (All-nil _))
 
 pub take_leaves-requires-clause-examined : goal.take_leaves-requires-clause-examined
-take_leaves-requires-clause-examined g c =
+take_leaves-requires-clause-examined g c = λ κs within.
     rw c.in_ok-first.ensures.held
     (c.in_ok-first.ensures.absent (view_of c.args.pass.now) (rw c.requires.none (All-nil _)))
+
+pub returns-clause-examined : goal.returns-clause-examined
+returns-clause-examined g c = rw c.in_ok-first.ensures.held at c.take_leaves.ensures.examined

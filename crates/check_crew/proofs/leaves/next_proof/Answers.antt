@@ -1,18 +1,11 @@
-use Rattle.std.proofs.Common.{◌∙◌, ◌≡◌, refl, false, rules}
-use Rattle.check_crew.proofs.LeavesSeen.{examined_more, read_none, stays_same}
+use Rattle.std.proofs.Common.{◌∙◌, ◌≡◌, refl, rules, None}
+use Rattle.check_crew.proofs.LeavesSeen.{examined_more, none_opened, stays_same}
 use Rattle.check_crew.proofs.leaves.next_proof.Goals as goal
-
-pub loop-init : goal.loop-init
-loop-init g c = record {
-  held = refl;
-  count = refl;
-  absent = λ view were. were;
-}
 
 pub loop-preserved : goal.loop-preserved
 loop-preserved g c =
-    let was = c.loop.invariant in let step = c.in_ok-read.ensures in
-    let none : c.in_ok-read.field-0 ≡ false = search rules in
+    let was = c.loop.invariant in let step = c.in_ok-proof.ensures in
+    let none : c.in_ok-proof.field-0 ≡ None = search rules in
     record {
       held = step.held ∙ was.held;
       count = step.ok ∙ was.count;
@@ -20,5 +13,5 @@ loop-preserved g c =
           rw c.in_ok-push.ensures.items
           (examined_more (g.P.LeafProofs.held c.args.proofs.now) view view c.loop.examined.items _
           (stays_same view) (was.absent view were)
-          (rw was.held at (read_none _ _ c.in_ok-read.field-0 step.found none)));
+          (rw was.held at (none_opened _ _ c.in_ok-proof.field-0 step.opened none)));
     }

@@ -7,7 +7,8 @@ pub loop-init : goal.loop-init
 loop-init g c = record {
   examiner = c.requires.examiner;
   leaf = c.requires.first;
-  given = c.requires.given;
+  left = c.requires.left;
+  fresh = c.requires.fresh;
   held = refl;
   count = refl;
   pass = c.requires.own;
@@ -22,23 +23,22 @@ loop-preserved g c =
     record {
       examiner = step.same ∙ was.examiner;
       leaf = rw c.in-Some-2.is at next.leaf;
-      given = rw (c.in-Some-2.is, was.held) at next.given;
-      held = next.held ∙ was.held;
-      count = next.ok ∙ was.count;
+      left = rw (c.in-Some-2.is, step.held, was.held) at next.left;
+      fresh = rw c.in-Some-2.is at next.fresh;
+      held = next.held ∙ step.held ∙ was.held;
+      count = next.ok ∙ step.ok ∙ was.count;
       pass = step.own;
       owes = step.owes;
-      examined = (rw was.held at next.absent) (view_of c.take_leaf.new.pass)
+      examined = (rw (step.held, was.held) at next.absent) (view_of c.take_leaf.new.pass)
           (rw c.in_ok-push.ensures.items
           (examined_more (g.P.LeafProofs.held c.args.proofs.now) _ _ c.loop.examined.items _
-          step.stays was.examined
-          (step.examined _ (rw (step.leaf, c.deref.ensures.value) was.given))));
+          step.stays was.examined (rw was.held at step.examined)));
     }
 
 pub returns-in_default-clause-examined : goal.returns-in_default-clause-examined
 returns-in_default-clause-examined g c =
     let was = c.loop.invariant in let step = c.in_ok-one.ensures in
-    (rw was.held at c.in_ok-following.ensures.absent) (view_of c.take_leaf.new.pass)
+    (rw (step.held, was.held) at c.in_ok-following.ensures.absent) (view_of c.take_leaf.new.pass)
     (rw c.in_ok-push.ensures.items
     (examined_more (g.P.LeafProofs.held c.args.proofs.now) _ _ c.loop.examined.items _
-    step.stays was.examined
-    (step.examined _ (rw (step.leaf, c.deref.ensures.value) was.given))))
+    step.stays was.examined (rw was.held at step.examined)))

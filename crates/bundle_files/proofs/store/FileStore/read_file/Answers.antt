@@ -1,8 +1,6 @@
-use Rattle.std.proofs.Common.{rules}
 use Rattle.bundle_files.proofs.FilesOpened.{opened_is_found}
 use Rattle.bundle_files.proofs.store.FileStore.read_file.Goals as goal
 
-pub returns-in-Ok-read_to_end-clause-found : goal.returns-in-Ok-read_to_end-clause-found
-returns-in-Ok-read_to_end-clause-found g c =
-    opened_is_found _ _ _ _ _ _ c.in-Ok.ensures.opened (search rules)
-    c.in-Ok-read_to_end.ensures.read
+pub returns-in-Ok-clause-found : goal.returns-in-Ok-clause-found
+returns-in-Ok-clause-found g c =
+    opened_is_found _ _ _ _ (rw c.in-Some.is at c.in_ok-file.ensures.opened) c.in-Ok.ensures.read

@@ -1,26 +1,23 @@
-use Rattle.std.proofs.Common.{rules, ◌≡◌, ℕ, List, [], true, None, sym, ◌∙◌, subst}
+use Rattle.std.proofs.Common.{rules, ◌≡◌, ℕ, List, true, None, sym, ◌∙◌, subst}
 use Rattle.case_core.specs.Leaves.{IsTargetAt}
 use Rattle.case_core.specs.Target.{Target}
 use Rattle.case_core.specs.Target.TheVariants.{Leaf as Named}
 use Rattle.case_core.specs.Judged.{Judged}
-use Rattle.case_core.specs.Bundle.{labels_of}
-use Rattle.case_core.specs.Case.{CaseOf, proof_for}
+use Rattle.case_core.specs.Case.{CaseOf}
 use Rattle.case_core.specs.Finding.{IsFoundBy, target_of}
 use Rattle.board_hall.specs.declared.view.CutCase.{CutCase}
 use Rattle.board_hall.specs.Halls.{core_of, view_of}
 use Rattle.check_crew.specs.LeafProofs.{HasSeenAs}
 use Rattle.check_crew.specs.Seen.{HasSeenMark}
 use Rattle.check_crew.proofs.LeavesSeen.{as_stays, seen_as, found_at, stays_on}
-use Rattle.check_crew.proofs.LeavesSeen.{stays_same}
-use Rattle.check_crew.proofs.leaves.examine_leaf.Goals as goal
+use Rattle.check_crew.proofs.leaves.post_leaf.Goals as goal
 
 pub post-requires-clause-section : goal.post-requires-clause-section
 post-requires-clause-section g c = λ alone. absurd (cc (c.requires.elsewhere, alone))
 
 pub tell-requires-clause-here : goal.tell-requires-clause-here
 tell-requires-clause-here g c =
-    let found = rw c.requires.examiner at c.in_ok-finding.ensures.found in
-    rw (found.0, found.1) at c.node.ensures.here
+    rw (c.requires.of.0, c.requires.of.1) at c.node.ensures.here
 
 pub tell-requires-clause-seen : goal.tell-requires-clause-seen
 tell-requires-clause-seen g c =
@@ -29,45 +26,30 @@ tell-requires-clause-seen g c =
 
 pub tell-requires-clause-is : goal.tell-requires-clause-is
 tell-requires-clause-is g c =
-    let found = rw c.requires.examiner at c.in_ok-finding.ensures.found in
-    rw (found.0, found.1) at c.judged-judged.ensures.is
+    rw (c.requires.of.0, c.requires.of.1) at c.judged-judged.ensures.is
 
 pub returns-clause-examined : goal.returns-clause-examined
 returns-clause-examined g c =
     let k : CutCase = core_of c.args.site.core.now in
     let leaf : Target = Named c.args.leaf in
-    let finding = c.in_ok-finding.finding in
-    let found = rw c.requires.examiner at c.in_ok-finding.ensures.found in
-    let bytes : List ℕ = c.args.proof.now in
+    let finding = c.args.read.finding in
     let judged : Judged = c.judged-judged.result in
-    let free : proof_for c.args.site.case.now.sections leaf ≡ None =
-    c.is_for_one_bundle.ensures.free c.if-is_for_one_bundle.false in
     let new : c.post.result ≡ true = search rules in
-    let plain : labels_of bytes ≡ [] =
-    c.is_for_one_bundle.ensures.plain c.if-is_for_one_bundle.false in
-    let by_text : IsFoundBy c.args.site.case.now leaf bytes judged =
-    subst (λ (j : Judged). IsFoundBy c.args.site.case.now leaf bytes j)
-    (sym c.judged-judged.ensures.value)
-    found.2 in
     let here : IsTargetAt k.case.tree finding.node leaf =
-    subst (λ (t : Target). IsTargetAt k.case.tree finding.node t) found.1
+    subst (λ (t : Target). IsTargetAt k.case.tree finding.node t) c.requires.of.1
     (subst (λ (z : CaseOf). IsTargetAt z.tree finding.node (target_of finding.leaf finding.node))
-    (found.0 ∙ c.requires.case) finding.here) in
+    (c.requires.of.0 ∙ c.requires.case) finding.here) in
     let mark : HasSeenMark (view_of c.post.new.pass) finding.node judged =
     subst (λ (j : Judged). HasSeenMark (view_of c.post.new.pass) finding.node j)
     (sym c.judged-judged.ensures.value) (c.post.ensures.new new) in
     let seen : HasSeenAs (view_of c.tell.new.pass) leaf judged =
     as_stays (view_of c.post.new.pass) (view_of c.tell.new.pass) leaf judged c.tell.ensures.stays
     (seen_as k (view_of c.post.new.pass) finding.node leaf judged c.post.ensures.own.1 here mark) in
-    λ known given.
+    λ known found.
     found_at known k c.args.site.case.now (view_of c.tell.new.pass) c.args.leaf judged
-    bytes c.tell.ensures.own.1 c.requires.case given plain free by_text seen
-
-pub returns-then-is_for_one_bundle-clause-stays : goal.returns-then-is_for_one_bundle-clause-stays
-returns-then-is_for_one_bundle-clause-stays g c = stays_same _
-
-pub returns-in_err-finding-clause-stays : goal.returns-in_err-finding-clause-stays
-returns-in_err-finding-clause-stays g c = stays_same _
+    found.text c.tell.ensures.own.1 c.requires.case found.given found.plain c.requires.free
+    (subst (λ (j : Judged). IsFoundBy c.args.site.case.now leaf found.text j)
+    (sym c.judged-judged.ensures.value) found.found) seen
 
 pub returns-clause-stays : goal.returns-clause-stays
 returns-clause-stays g c = stays_on _ _ _ c.post.ensures.stays c.tell.ensures.stays
