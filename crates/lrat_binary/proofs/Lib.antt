@@ -1,0 +1,2 @@
+pub mod DecoderBytes
+mod FormParts
