@@ -3,6 +3,7 @@
 ghost use Rattle.std.specs.Prelude.{◌≡◌, ◌<◌, ◌^◌, ◌-◌, ℕ, List, [], length, IfOk, IfErr, IfSome};
 ghost use Rattle.std.specs.Prelude.{MatchOption, None, OnOk};
 ghost use Rattle.byte_flow.specs.Device.{IsDeviceFault, IsLeft};
+ghost use Rattle.lrat_binary.specs.Binary.{proof_text};
 ghost use Rattle.split_tree.specs.Leaves.{HasTarget, IsTargetAt};
 ghost use Rattle.split_tree.specs.SplitTree.{SplitTree};
 ghost use Rattle.case_core.specs.Bundle.{labels_of};
@@ -29,12 +30,12 @@ pub struct Examiner<'c> {
     judging: Judging<'c>,
 }
 
-/// What is found by a proof that was read, and how many bytes that has.
+/// What is found by a proof that was read, and how many bytes were read.
 #[derive(Drop)]
 pub struct ReadFinding<'c> {
     /// What is found of the leaf.
     pub finding: Finding<'c>,
-    /// How many bytes the proof has.
+    /// How many bytes the source gave: those of a binary proof, and not of its text.
     pub length: usize,
 }
 
@@ -111,9 +112,10 @@ impl<'c> Examiner<'c> {
         Ok(finding_of_leaf(self.case, leaf, judged))
     }
 
-    /// The same of a proof that a source gives up to its end. A block of it is in memory at a time,
-    /// so it may be longer than memory. `None` where one of its lines is a label line; it is read
-    /// no further then.
+    /// The same of a proof that a source gives up to its end: a text, or where its first byte is an
+    /// `a` or a `d` a binary LRAT proof, for which the text stands that it stands for. A block of
+    /// it is in memory at a time, so it may be longer than memory. `None` where one of the text's
+    /// lines is a label line; it is read no further then.
     ///
     /// `Device` where a read failed, `Memory` where a growth was refused.
     pub fn examine_read<S: Source>(
@@ -126,13 +128,14 @@ impl<'c> Examiner<'c> {
         requires none { proof_for self.old.sections (Target.Leaf leaf) ≡ None }
         // One more failed read can be counted.
         requires count { S.failures source.old < 2 ^ 64 - 1 }
-        // It is what is found by all that the source had left, in which no line is a label line.
+        // It is what is found by the text of all that the source had left, in which no line is a
+        // label line.
         ensures found { IfOk result (λ some. IfSome some (λ read.
             (read.finding.case.now ≡ self.old)
             × (target_of read.finding.leaf read.finding.node ≡ Target.Leaf leaf)
-            × ((text : List ℕ) × IsLeft (S.remaining source.old) text × (labels_of text ≡ [])
-            × (length text ≡ read.length)
-            × IsFoundBy self.old (Target.Leaf leaf) text read.finding.judged))) }
+            × ((bytes : List ℕ) × IsLeft (S.remaining source.old) bytes
+            × (labels_of (proof_text bytes) ≡ []) × (length bytes ≡ read.length)
+            × IsFoundBy self.old (Target.Leaf leaf) (proof_text bytes) read.finding.judged))) }
         ensures same { self.new ≡ self.old }
         ensures ok { OnOk result (S.failures source.new ≡ S.failures source.old) }
         ensures err { IfErr result
