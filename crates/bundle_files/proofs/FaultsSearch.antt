@@ -14,7 +14,8 @@ use Rattle.case_core.specs.declared.fault.CaseFault.{CaseFault}
 use Rattle.case_core.specs.declared.fault.CaseFault.TheVariants as case
 use Rattle.cube_report.specs.declared.fault.Fault.TheVariants.{Device}
 use Rattle.cube_report.specs.Faults.{fault_of_case}
-use Rattle.bundle_files.specs.Files.{AreAdded, Gives, Held, IsFound, IsWithProofs, names_from}
+use Rattle.bundle_files.specs.Files.{AreAdded, Gives, Held, IsFound, IsWithProofs, as_proofs}
+use Rattle.bundle_files.specs.Files.{names_from}
 use Rattle.proof_folder.specs.Added.{proof_path}
 use Rattle.bundle_files.specs.Inner.Faults.{IsSearched, IsFoundIn}
 use Rattle.bundle_files.specs.Judging.{IsRefusedOf}
@@ -156,8 +157,9 @@ pub all_looked : (first held : Held) (folder bundle : List ℕ) (case : CaseOf)
     (middle_fault end_fault : Option CaseFault) → held ≡ first → IsCaseOf bundle case
     → cubes ≡ cube_count case.tree → missing ≡ length (missing_nodes case.tree)
     → HasScanned start bundle
-    → Looked first folder (names_from (codes "") 1 cubes) start None middle middle_fault
-    → Looked held folder (names_from (codes "m") 1 missing) middle middle_fault end end_fault
+    → Looked (as_proofs first) folder (names_from (codes "") 1 cubes) start None middle middle_fault
+    → Looked (as_proofs held) folder (names_from (codes "m") 1 missing) middle middle_fault end
+    end_fault
     → (whole : List ℕ) × IsWithProofs first folder bundle whole × IsFoundIn whole end_fault
 all_looked first held folder bundle case cubes missing start middle end middle_fault end_fault same
     is cubes_are missing_are has before after =
@@ -173,10 +175,10 @@ all_looked first held folder bundle case cubes missing start middle end middle_f
               ∙ ap (λ (n : ℕ). names_from (codes "") 1 (cube_count case.tree)
               ++ names_from (codes "m") 1 n) missing_are,
         ),
-        added_more first folder (names_from (codes "") 1 cubes) (names_from (codes "m") 1 missing)
-            bundle part.0 whole.0 part.1
-            (subst (λ (h : Held). AreAdded h folder (names_from (codes "m") 1 missing) part.0
-            whole.0) same whole.1),
+        added_more (as_proofs first) folder (names_from (codes "") 1 cubes)
+            (names_from (codes "m") 1 missing) bundle part.0 whole.0 part.1
+            (subst (λ (h : Held). AreAdded (as_proofs h) folder (names_from (codes "m") 1 missing)
+            part.0 whole.0) same whole.1),
       ),
       found_in end end_fault whole.0 whole.2,
     )

@@ -19,7 +19,7 @@ use Rattle.proof_folder.specs.Given.{HasFewLeaves, MayBeGiven, AreMarksBy, AreFo
 use Rattle.proof_folder.proofs.GivenFound.{all_given, given_is_held, may_be_given, marks_by_given}
 use Rattle.proof_folder.proofs.GivenLeaves.{IsOfTree, cubes_of_case, leaves_of_tree}
 use Rattle.proof_folder.proofs.GivenFindings.{judged_with_given}
-use Rattle.bundle_files.specs.Files.{AreAdded, Gives, Held, leaf_names, names_from}
+use Rattle.bundle_files.specs.Files.{AreAdded, Gives, Held, as_proofs, leaf_names, names_from}
 use Rattle.proof_folder.specs.Added.{proof_path}
 use Rattle.bundle_files.specs.Laws.{IsJudgedApart, held_for}
 
@@ -89,7 +89,7 @@ module _ (given : Given) where
 
 by_given : (held : Held) (folder bundle : List ℕ) (case : CaseOf) (given : Given)
     (marks : List Mark) → IsCaseOf bundle case → HasFewLeaves case.tree
-    → AreHeld held folder case.tree given → MayBeGiven case given → AreMarksBy case given marks
+    → AreHeld (as_proofs held) folder case.tree given → MayBeGiven case given → AreMarksBy case given marks
     → IsJudgedApart held folder bundle case marks
 by_given held folder bundle case given marks is few held_there may are =
     let cubes = cubes_of_case bundle case is in
@@ -100,7 +100,7 @@ by_given held folder bundle case given marks is few held_there may are =
       with_proofs = (
         leaf_names case.tree,
         inl (case, is, refl),
-        leaves_added given held folder bundle case.tree held_there of_tree,
+        leaves_added given (as_proofs held) folder bundle case.tree held_there of_tree,
       );
       judged_case = with_them.whole;
       judged = record { case_is = with_them.is; findings = with_them.findings };

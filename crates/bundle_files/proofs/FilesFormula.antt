@@ -11,7 +11,7 @@ use Rattle.cube_report.specs.Correct.{IsFormulaOf, IsUnsatisfiable}
 use Rattle.proof_folder.specs.Added.{IsAlmost, section_text}
 use Rattle.case_core.proofs.BundleMore.{no_lines, lines_more}
 use Rattle.proof_folder.proofs.AddedLines.{label_begun, before_label, almost_header}
-use Rattle.bundle_files.specs.Files.{AreAdded, Held, IsJudgedOf, IsWithProofs}
+use Rattle.bundle_files.specs.Files.{AreAdded, Held, IsJudgedOf, IsWithProofs, as_proofs}
 
 pub first_label : (rest : List ℕ) (lines : List (List ℕ)) → lines_of rest ≡ lines
     →
@@ -100,7 +100,7 @@ pub proofs_keep_formula : (held : Held) (folder bundle whole : List ℕ)
     → IsWithProofs held folder bundle whole
     → IsFormulaOf whole formula ↔ IsFormulaOf bundle formula
 proofs_keep_formula held folder bundle whole formula with_them =
-    added_keep_formula held folder with_them.0 bundle whole formula with_them.2
+    added_keep_formula (as_proofs held) folder with_them.0 bundle whole formula with_them.2
 
 -- a bundle whose formula has no model with proofs added to it has a formula with no model
 pub judged_unsatisfiable : (held : Held) (folder : Option (List ℕ)) (bundle whole : List ℕ)
@@ -118,6 +118,6 @@ judged_keeps_items held None bundle whole items same stands =
     subst (λ (text : List ℕ). StandsFor (icnf_text text) items) same stands
 judged_keeps_items held (Some folder) bundle whole items with_them stands = (
   stands.0,
-  sym (added_keep_words held folder with_them.0 bundle whole with_them.2) ∙ stands.1,
+  sym (added_keep_words (as_proofs held) folder with_them.0 bundle whole with_them.2) ∙ stands.1,
   stands.2,
 )

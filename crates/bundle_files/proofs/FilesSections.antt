@@ -10,7 +10,7 @@ use Rattle.std.proofs.lemmas.Grind.{flat_map-append}
 use Rattle.std.proofs.lemmas.List.{map-append}
 use Rattle.std.proofs.lemmas.List.Elements.{All-append, All-cons, All-nil}
 use Rattle.std.proofs.Math.Seq.{take-append_seam}
-use Rattle.bundle_files.specs.Files.{AreAdded, AreLeavesOf, Gives, Held, IsFound, IsWithProofs}
+use Rattle.bundle_files.specs.Files.{AreAdded, AreLeavesOf, Gives, Held, IsFound, IsWithProofs, as_proofs}
 use Rattle.bundle_files.specs.Files.{names_from}
 use Rattle.proof_folder.specs.Added.{section_text}
 use Rattle.proof_folder.specs.Added.{proof_path}
@@ -153,16 +153,17 @@ one_further first held folder kind bundle now new name done same name_is before 
 pub both_kinds : {T E : Type 0} (result : Result T E) (first held : Held)
     (folder bundle part whole : List ℕ) (cubes missing : ℕ) → held ≡ first
     → AreLeavesOf bundle (names_from (codes "") 1 cubes ++ names_from (codes "m") 1 missing)
-    → AreAdded first folder (names_from (codes "") 1 cubes) bundle part
-    → OnOk result (AreAdded held folder (names_from (codes "m") 1 missing) part whole)
+    → AreAdded (as_proofs first) folder (names_from (codes "") 1 cubes) bundle part
+    → OnOk result
+    (AreAdded (as_proofs held) folder (names_from (codes "m") 1 missing) part whole)
     → OnOk result (IsWithProofs first folder bundle whole)
 both_kinds (Ok value) first held folder bundle part whole cubes missing same leaves before after = (
   names_from (codes "") 1 cubes ++ names_from (codes "m") 1 missing,
   leaves,
-  added_more first folder (names_from (codes "") 1 cubes) (names_from (codes "m") 1 missing) bundle
-      part whole before
-      (subst (λ (h : Held). AreAdded h folder (names_from (codes "m") 1 missing) part whole) same
-      after),
+  added_more (as_proofs first) folder (names_from (codes "") 1 cubes)
+      (names_from (codes "m") 1 missing) bundle part whole before
+      (subst (λ (h : Held). AreAdded (as_proofs h) folder (names_from (codes "m") 1 missing) part
+      whole) same after),
 )
 both_kinds (Err error) first held folder bundle part whole cubes missing same leaves before after =
     tt

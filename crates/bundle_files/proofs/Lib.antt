@@ -10,4 +10,5 @@ mod FilesApart
 mod JudgingRuns
 mod BlocksLines
 mod FaultsSearch
+mod ProofsTurned
 mod SectionsJudged

@@ -3,7 +3,9 @@
 use Rattle.std.specs.Prelude.{◌≡◌, ◌≢◌, ℕ, zero, suc, ◌+◌, Bool, List, [], ◌∷◌, ◌++◌, map, length}
 use Rattle.std.specs.Prelude.{decimal, Option, None, Some, IfSome, is_some, unwrap_or, ◌⊎◌}
 use Rattle.std.specs.Prelude.{true, false, codes, drop}
+use Rattle.std.specs.Prelude.{option_map}
 use Rattle.std.specs.List.{All, flat_map}
+use Rattle.case_core.specs.Binary.{proof_text}
 use Rattle.case_core.specs.SplitTree.{SplitTree}
 use Rattle.case_core.specs.Leaves.{missing_nodes, cube_count}
 use Rattle.case_core.specs.Case.{CaseOf}
@@ -66,8 +68,13 @@ AreLeavesOf bundle names =
     ((case : CaseOf) × IsCaseOf bundle case × (names ≡ leaf_names case.tree))
     ⊎ ((fault : CaseFault) × IsFaultOf bundle fault × (names ≡ []))
 
--- Leaves with these names were added, in this order: each whose file is there, with the file's
--- bytes as its proof.
+-- what lies at each path, where that is known, as proofs are read: in the place of a binary one the
+-- text that it stands for
+abbrev pub as_proofs : Held → Held
+as_proofs held path = option_map (λ lies. option_map proof_text lies) (held path)
+
+-- Leaves with these names were added, in this order: each whose file is there, with what lies there
+-- as its proof.
 pub record AreAdded (held : Held) (folder : List ℕ) (names : List (List ℕ)) (bundle whole : List ℕ)
     : Type 0 where
   pub leaves : List (List ℕ × Option (List ℕ))
@@ -78,7 +85,8 @@ pub record AreAdded (held : Held) (folder : List ℕ) (names : List (List ℕ)) 
 -- the whole is the bundle with the folder's proofs for all leaves of its tree
 abbrev pub IsWithProofs : Held → List ℕ → List ℕ → List ℕ → Type 0
 IsWithProofs held folder bundle whole =
-    (names : List (List ℕ)) × AreLeavesOf bundle names × AreAdded held folder names bundle whole
+    (names : List (List ℕ)) × AreLeavesOf bundle names
+    × AreAdded (as_proofs held) folder names bundle whole
 
 -- the bundle that is judged: the one that was read, with the proofs of the folder that is asked for
 abbrev pub IsJudgedOf : Held → Option (List ℕ) → List ℕ → List ℕ → Type 0

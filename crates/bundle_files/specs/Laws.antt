@@ -9,12 +9,12 @@ use Rattle.cube_report.specs.Report.{report_text}
 use Rattle.cube_report.specs.Correct.{IsJudged, IsOutcome}
 use Rattle.cube_report.specs.Stated.{IsWrittenBy}
 use Rattle.proof_folder.specs.Given.{name_of, HasFewLeaves, AreFoundApart}
-use Rattle.bundle_files.specs.Files.{Held, IsWithProofs}
+use Rattle.bundle_files.specs.Files.{Held, IsWithProofs, as_proofs}
 use Rattle.proof_folder.specs.Added.{proof_path}
 
--- what is known to lie at the path of a leaf's proof
+-- what is known to lie at the path of a leaf's proof, in the place of a binary one its text
 abbrev pub held_for : Held → List ℕ → Leaf → Option (Option (List ℕ))
-held_for held folder leaf = held (proof_path folder (name_of leaf))
+held_for held folder leaf = as_proofs held (proof_path folder (name_of leaf))
 
 -- The bundle with the folder's proofs stands for a case with the formula and the tree of this case,
 -- of whose findings these are the marks. By them report and picture of the two cases are the same;

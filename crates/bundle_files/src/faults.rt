@@ -6,7 +6,7 @@ ghost use Rattle.case_core.specs.Case.{CaseOf};
 ghost use Rattle.case_core.specs.Sections.{IsCaseOf};
 ghost use Rattle.cube_report.specs.Device.{IsDeviceFault};
 ghost use Rattle.cube_report.specs.Faults.{IsInputFault};
-ghost use Rattle.bundle_files.specs.Files.{AreAdded, IsWithProofs, StaysAllowed, names_from};
+ghost use Rattle.bundle_files.specs.Files.{AreAdded, IsWithProofs, StaysAllowed, as_proofs, names_from};
 ghost use Rattle.bundle_files.specs.Inner.Faults.{IsSearched, IsFoundIn};
 ghost use Rattle.bundle_files.specs.Judging.{IsRefusedOf, IsJudgingFault};
 
@@ -153,7 +153,7 @@ fn look_at<D: Store>(
     ensures allowed { StaysAllowed (D.allows store.old) (D.allows store.new) }
     ensures added { OnOk result ((text : List ℕ)
         → IsSearched search.old.labels search.old.fault text
-        → (whole : List ℕ) × AreAdded (D.held store.old) folder.now
+        → (whole : List ℕ) × AreAdded (as_proofs (D.held store.old)) folder.now
         (names_from kind.now 1 count) text whole
         × IsSearched search.new.labels search.new.fault whole) }
     ensures ok { OnOk result (D.failures store.new ≡ D.failures store.old) }
@@ -182,7 +182,7 @@ fn look_at_one<D: Store>(
     ensures allowed { StaysAllowed (D.allows store.old) (D.allows store.new) }
     ensures added { OnOk result ((text : List ℕ)
         → IsSearched search.old.labels search.old.fault text
-        → (whole : List ℕ) × AreAdded (D.held store.old) folder.now
+        → (whole : List ℕ) × AreAdded (as_proofs (D.held store.old)) folder.now
         (name.now ∷ []) text whole × IsSearched search.new.labels search.new.fault whole) }
     ensures ok { OnOk result (D.failures store.new ≡ D.failures store.old) }
     ensures err { IfErr result
@@ -191,7 +191,7 @@ fn look_at_one<D: Store>(
     let path = proof_path(alloc, folder, name)?;
     search.section.clear();
     write_label(name, &mut search.section)?;
-    if !store.read(path.as_str(), &mut search.section)? {
+    if !store.read_proof(alloc, path.as_str(), &mut search.section)? {
         return Ok(());
     }
     search.add(alloc)?;

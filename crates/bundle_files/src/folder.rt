@@ -3,7 +3,7 @@ ghost use Rattle.std.specs.Prelude.{◌≡◌, ◌<◌, ◌^◌, ◌-◌, ◌++�
 ghost use Rattle.std.specs.String.{string_bytes};
 ghost use Rattle.cube_report.specs.Device.{IsDeviceFault};
 ghost use Rattle.bundle_files.specs.Files.{IsWithProofs, AreLeavesOf, AreAdded, names_from};
-ghost use Rattle.bundle_files.specs.Files.{StaysAllowed};
+ghost use Rattle.bundle_files.specs.Files.{StaysAllowed, as_proofs};
 ghost use Rattle.proof_folder.specs.Added.{proof_path};
 
 use crate::store::Store;
@@ -79,7 +79,7 @@ fn add_sections<D: Store>(
     ensures held { D.held store.new ≡ D.held store.old }
     ensures allowed { StaysAllowed (D.allows store.old) (D.allows store.new) }
     ensures added { OnOk result
-        (AreAdded (D.held store.old) folder.now
+        (AreAdded (as_proofs (D.held store.old)) folder.now
         (names_from kind.now 1 count) bundle.old.items bundle.new.items) }
     ensures ok { OnOk result (D.failures store.new ≡ D.failures store.old) }
     ensures err { IfErr result
@@ -108,7 +108,7 @@ fn add_section<D: Store>(
     ensures held { D.held store.new ≡ D.held store.old }
     ensures allowed { StaysAllowed (D.allows store.old) (D.allows store.new) }
     ensures added { OnOk result
-        (AreAdded (D.held store.old) folder.now (name.now ∷ []) bundle.old.items bundle.new.items) }
+        (AreAdded (as_proofs (D.held store.old)) folder.now (name.now ∷ []) bundle.old.items bundle.new.items) }
     ensures ok { OnOk result (D.failures store.new ≡ D.failures store.old) }
     ensures err { IfErr result
         (λ fault. IsDeviceFault (D.failures store.old) (D.failures store.new) fault) }
@@ -116,7 +116,7 @@ fn add_section<D: Store>(
     let path = proof_path(alloc, folder, name)?;
     let before = bundle.len();
     write_label(name, bundle)?;
-    if store.read(path.as_str(), bundle)? {
+    if store.read_proof(alloc, path.as_str(), bundle)? {
         return Ok(());
     }
     bundle.truncate(before);

@@ -6,7 +6,7 @@ ghost use Rattle.proof_folder.specs.Added.{proof_path};
 
 use crate::opener::Opener;
 use crate::store::FileStore;
-use case_core::Leaf;
+use case_core::{Leaf, ProofForm};
 use check_crew::LeafProofs;
 use cube_report::{Counted, DeviceFault};
 use std::alloc::{AllocError, Global};
@@ -45,6 +45,7 @@ impl<F> FolderReader<F> {
 impl<F: Opener + Drop> LeafProofs for FolderReader<F> {
     type Proof = Counted<F::Opened>;
 
+    ghost use Rattle.std.specs.Prelude.{true};
     ghost use Rattle.std.specs.String.{string_bytes};
     ghost use Rattle.bundle_files.specs.Files.{held_if};
     ghost use Rattle.bundle_files.specs.Laws.{held_for};
@@ -54,6 +55,12 @@ impl<F: Opener + Drop> LeafProofs for FolderReader<F> {
         (string_bytes s.folder) };
 
     ghost failures = { λ s. s.files.failed };
+
+    ghost takes_binary = { true };
+
+    fn form(&self) -> ProofForm {
+        ProofForm::Unread
+    }
 
     fn open(&mut self, leaf: Leaf) -> Result<Option<Counted<F::Opened>>, DeviceFault> {
         let path = leaf_path(self.alloc, self.folder.as_str(), leaf)?;

@@ -4,7 +4,7 @@ ghost use Rattle.std.specs.Prelude.{◌≡◌};
 use crate::opener::Opener;
 use crate::part::Part;
 use crate::store::FileStore;
-use case_core::{Leaf, OutlinedCase};
+use case_core::{Leaf, OutlinedCase, ProofForm};
 use check_crew::LeafProofs;
 use cube_report::DeviceFault;
 use std::sync::Arc;
@@ -45,6 +45,7 @@ impl<F> SectionReader<F> {
 impl<F: Opener + Drop> LeafProofs for SectionReader<F> {
     type Proof = Part<F::Opened>;
 
+    ghost use Rattle.std.specs.Prelude.{false};
     ghost use Rattle.std.specs.String.{string_bytes};
     ghost use Rattle.bundle_files.specs.Files.{held_if};
     ghost use Rattle.bundle_files.specs.Parts.{held_in};
@@ -54,6 +55,12 @@ impl<F: Opener + Drop> LeafProofs for SectionReader<F> {
         s.outlined.value.sections leaf };
 
     ghost failures = { λ s. s.files.failed };
+
+    ghost takes_binary = { false };
+
+    fn form(&self) -> ProofForm {
+        ProofForm::Text
+    }
 
     fn open(&mut self, leaf: Leaf) -> Result<Option<Part<F::Opened>>, DeviceFault> {
         let Some(place) = self.outlined.place_of(leaf) else {

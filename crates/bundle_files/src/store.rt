@@ -1,13 +1,15 @@
 //! What can be read and written by its path.
 ghost use Rattle.std.specs.Prelude.{◌≡◌, ◌≢◌, ℕ, List, Some, ◌<◌, ◌+◌, ◌^◌, ◌-◌, Option, None};
-ghost use Rattle.std.specs.Prelude.{IfOk, IfErr, IfSome, OnOk, OnErr, true};
+ghost use Rattle.std.specs.Prelude.{IfOk, IfErr, IfSome, OnOk, OnErr, true, ◌++◌, ◌≤◌, length};
+ghost use Rattle.std.specs.Prelude.{option_map, take, drop};
 ghost use Rattle.case_core.specs.Leaf.{Leaf};
 ghost use Rattle.cube_report.specs.Device.{IsDeviceFault};
 ghost use Rattle.check_crew.specs.LeafProofs.{IsOpenedOf};
 ghost use Rattle.bundle_files.specs.Files.{Gives, IsFound, IsHanded, IsOpenedAt, StaysAllowed};
 ghost use Rattle.bundle_files.specs.Files.{StaysAllowedBeside};
 ghost use Rattle.case_core.specs.Outline.{IsOutlineOf};
-ghost use Rattle.bundle_files.specs.Files.{held_if};
+ghost use Rattle.bundle_files.specs.Files.{as_proofs, held_if};
+ghost use Rattle.case_core.specs.Binary.{proof_text};
 ghost use Rattle.bundle_files.specs.Laws.{held_for};
 ghost use Rattle.bundle_files.specs.Parts.{IsOutlined, held_in};
 
@@ -16,7 +18,7 @@ use crate::inputs::{Inputs, Spared, is_clash, is_none_written};
 use crate::opener::Opener;
 use crate::reader::FolderReader;
 use crate::sections::SectionReader;
-use case_core::{Outline, OutlinedCase};
+use case_core::{Outline, OutlinedCase, ProofForm};
 use check_crew::LeafProofs;
 use cube_report::{Counted, DeviceFault, read_to_end, write_all};
 use std::alloc::{AllocError, Global};
@@ -57,6 +59,23 @@ pub trait Store {
             (λ there. IsFound (held self.old path.now) bytes.old.items bytes.new.items there) }
         ensures handed { IfOk result
             (λ there. IsHanded (hands path.now) bytes.old.items bytes.new.items there) }
+        ensures ok { OnOk result (failures self.new ≡ failures self.old) }
+        ensures err { IfErr result
+            (λ fault. IsDeviceFault (failures self.old) (failures self.new) fault) };
+
+    /// The same of a proof: where its first byte says that it is binary, the text that it stands for
+    /// is appended.
+    fn read_proof(
+        &mut self,
+        alloc: Global,
+        path: &str,
+        bytes: &mut Vec<u8>,
+    ) -> Result<bool, DeviceFault>
+        requires { failures self.old < 2 ^ 64 - 1 }
+        ensures held { held self.new ≡ held self.old }
+        ensures allowed { StaysAllowed (allows self.old) (allows self.new) }
+        ensures found { IfOk result (λ there. IsFound (as_proofs (held self.old) path.now)
+            bytes.old.items bytes.new.items there) }
         ensures ok { OnOk result (failures self.new ≡ failures self.old) }
         ensures err { IfErr result
             (λ fault. IsDeviceFault (failures self.old) (failures self.new) fault) };
@@ -311,6 +330,32 @@ impl<F: Opener> FileStore<F> {
         }
     }
 
+    /// Appends the text of the proof at this path, and answers whether there is one, as
+    /// `Store::read_proof` owes it.
+    pub(crate) fn read_proof_file(
+        &mut self,
+        alloc: Global,
+        path: &str,
+        text: &mut Vec<u8>,
+    ) -> Result<bool, DeviceFault>
+        requires { self.old.failed < 2 ^ 64 - 1 }
+        ensures knows { F.knows self.new.opener ≡ F.knows self.old.opener }
+        ensures files { F.files self.new.opener ≡ F.files self.old.opener }
+        ensures found { IfOk result (λ there. IsFound
+            (option_map (λ lies. option_map proof_text lies)
+            (held_if (F.knows self.old.opener) (F.files self.old.opener path.now)))
+            text.old.items text.new.items there) }
+        ensures ok { OnOk result (self.new.failed ≡ self.old.failed) }
+        ensures err { IfErr result (λ fault. IsDeviceFault self.old.failed self.new.failed fault) }
+    {
+        let begin = text.len();
+        if !self.read_file(path, text)? {
+            return Ok(false);
+        }
+        turn_from(alloc, text, begin)?;
+        Ok(true)
+    }
+
     /// The outline of the file at this path, as `Store::outline` owes it.
     fn outline_file(&mut self, alloc: Global, path: &str) -> Result<Option<Outline>, DeviceFault>
         requires { self.old.failed < 2 ^ 64 - 1 }
@@ -355,6 +400,15 @@ impl<F: Opener + Send + Drop> Store for FileStore<F> {
 
     fn read(&mut self, path: &str, bytes: &mut Vec<u8>) -> Result<bool, DeviceFault> {
         self.read_file(path, bytes)
+    }
+
+    fn read_proof(
+        &mut self,
+        alloc: Global,
+        path: &str,
+        bytes: &mut Vec<u8>,
+    ) -> Result<bool, DeviceFault> {
+        self.read_proof_file(alloc, path, bytes)
     }
 
     fn spare(
@@ -437,4 +491,19 @@ impl<F: Opener + Send + Drop> Store for FileStore<F> {
     fn settle(&mut self, reader: FolderReader<F>) {
         self.failed += reader.failed();
     }
+}
+
+/// Puts in the place of the proof that begins here the text that it stands for.
+fn turn_from(alloc: Global, text: &mut Vec<u8>, begin: usize) -> Result<(), AllocError>
+    requires { begin ≤ length text.old.items }
+    ensures { OnOk result (text.new.items
+        ≡ take begin text.old.items ++ proof_text (drop begin text.old.items)) }
+{
+    let mut made = Vec::new(alloc);
+    let mut form = ProofForm::Unread;
+    if form.turn(&text[begin..], &mut made)? {
+        text.truncate(begin);
+        text.extend_from_slice(&made)?;
+    }
+    Ok(())
 }

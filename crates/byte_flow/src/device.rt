@@ -70,6 +70,13 @@ impl<T> Counted<T> {
         Counted { inner, failed: 0 }
     }
 
+    /// How many of its calls have failed so far.
+    pub fn failed(&self) -> u64
+        ensures { result ≡ self.now.failed }
+    {
+        self.failed
+    }
+
     /// The reader or the writer itself.
     pub fn into_inner(self) -> T
         ensures { result ≡ self.inner }

@@ -2,7 +2,7 @@
 use Rattle.std.proofs.Common.{◌≡◌, ◌∙◌, sym, ap, subst, refl, ℕ, ◌+◌, List, [], ◌∷◌, ◌++◌, length}
 use Rattle.std.proofs.Common.{Option, Some, None, true, false, append_assoc}
 use Rattle.std.proofs.Common.{append-nil, length-append, inl, inr}
-use Rattle.std.proofs.KnownBytes.{Consumes-nil, Consumes-trans}
+use Rattle.std.proofs.KnownBytes.{Consumes-trans}
 use Rattle.std.proofs.lemmas.Bool.{cases_Bool}
 use Rattle.std.specs.Io.KnownBytes.{Consumes, IsAtEnd}
 use Rattle.std.specs.List.{list_any}
@@ -19,9 +19,11 @@ use Rattle.split_tree.specs.declared.node.Target.{Target}
 use Rattle.case_core.specs.Bundle.{is_label, lines_of, labelled, labels_of}
 use Rattle.case_core.specs.Case.{CaseOf}
 use Rattle.case_core.specs.Watch.{has_label, holds, HasGivenLabel}
-use Rattle.case_core.specs.Inner.Reading.{IsBegun, ReadSoFar}
+use Rattle.lrat_binary.specs.Form.{proof_left}
+use Rattle.lrat_binary.specs.declared.form.ProofForm.{ProofForm}
+use Rattle.lrat_binary.proofs.FormParts.{whole_text}
+use Rattle.case_core.specs.Inner.Reading.{IsBegun, IsHanded, ReadSoFar}
 use Rattle.case_core.specs.declared.watch.LabelWatch.{LabelWatch}
-use Rattle.case_core.specs.declared.watch.LabelWatch.TheVariants.{Found}
 
 -- a judging that has begun with a target's path
 pub begun : (case : CaseOf) (target : Target) (formula : List (List Literal)) (path : List Literal)
@@ -53,35 +55,35 @@ no_labels number (line ∷ lines) none = elim (cases_Bool (is_label line)) [
 pub unlabelled : (text : List ℕ) → false ≡ has_label text → labels_of text ≡ []
 unlabelled text none = no_labels 1 (lines_of text) (sym none)
 
--- before the first read
-pub nothing_read : (now : Option (List ℕ)) (j : JudgingOf) (watch : LabelWatch) →
-    ((text : List ℕ) → holds watch text ≡ has_label text) → ReadSoFar now now j j watch 0
-nothing_read now j watch new = record {
-  read = [];
-  lost = Consumes-nil now;
-  count = refl;
-  judged = λ rest. refl;
-  watched = new;
-}
+-- what two texts are one behind the other
+onto : {A : Type 0} (f g h : List ℕ → A) (first next rest : List ℕ) → f rest ≡ g (next ++ rest) →
+    g (next ++ rest) ≡ h (first ++ (next ++ rest)) → f rest ≡ h ((first ++ next) ++ rest)
+onto f g h first next rest one two = one ∙ two ∙ ap h (sym (append_assoc first next rest))
 
 -- behind one more read
 pub more_read : (first now next : Option (List ℕ)) (begun old new : JudgingOf)
-    (before after : LabelWatch) (size : ℕ) (bytes : List ℕ) →
-    ReadSoFar first now begun old before size → Consumes now next bytes →
-    ((rest : List ℕ) → says new rest ≡ says old (bytes ++ rest)) →
-    ((rest : List ℕ) → holds after rest ≡ holds before (bytes ++ rest)) →
-    ReadSoFar first next begun new after (size + length bytes)
-more_read first now next begun old new before after size bytes so_far lost told watched = record {
-  read = so_far.read ++ bytes;
-  lost = Consumes-trans first now next so_far.read bytes so_far.lost lost;
-  count = length-append so_far.read bytes ∙ ap (λ n. n + length bytes) so_far.count;
-  judged = λ rest.
-      told rest ∙ so_far.judged (bytes ++ rest)
-      ∙ ap (says begun) (sym (append_assoc so_far.read bytes rest));
-  watched = λ rest.
-      watched rest ∙ so_far.watched (bytes ++ rest)
-      ∙ ap has_label (sym (append_assoc so_far.read bytes rest));
-}
+    (opened form turned : ProofForm) (before after : LabelWatch) (size : ℕ) (bytes : List ℕ) →
+    ReadSoFar first now begun old opened form before size → Consumes now next bytes →
+    IsHanded old new form turned before after bytes →
+    ReadSoFar first next begun new opened turned after (size + length bytes)
+more_read first now next begun old new opened form turned before after size bytes so_far lost
+    handed =
+    record {
+      read = so_far.read ++ bytes;
+      text = so_far.text ++ handed.text;
+      lost = Consumes-trans first now next so_far.read bytes so_far.lost lost;
+      count = length-append so_far.read bytes ∙ ap (λ n. n + length bytes) so_far.count;
+      turned = λ rest.
+          append_assoc so_far.text handed.text (proof_left turned rest)
+          ∙ ap (λ t. so_far.text ++ t) (handed.turned rest) ∙ so_far.turned (bytes ++ rest)
+          ∙ ap (proof_left opened) (sym (append_assoc so_far.read bytes rest));
+      judged = λ rest.
+          onto (says new) (says old) (says begun) so_far.text handed.text rest (handed.judged rest)
+          (so_far.judged (handed.text ++ rest));
+      watched = λ rest.
+          onto (holds after) (holds before) has_label so_far.text handed.text rest
+          (handed.seen rest) (so_far.watched (handed.text ++ rest));
+    }
 
 all_left : (first now : Option (List ℕ)) (read : List ℕ) → Consumes first now read → IsAtEnd now →
     IsLeft first read
@@ -90,33 +92,43 @@ all_left (Some xs) None read lost end = absurd lost
 all_left (Some xs) (Some ys) read lost end =
     sym (lost ∙ ap (λ (y : List ℕ). read ++ y) end ∙ append-nil read)
 
+-- a read that gave nothing loses nothing
+none_lost : (first now next : Option (List ℕ)) (read none : List ℕ) → Consumes first now read →
+    Consumes now next none → none ≡ [] → Consumes first next read
+none_lost first now next read none lost more is_none =
+    subst (λ (text : List ℕ). Consumes first next text)
+    (ap (λ (n : List ℕ). read ++ n) is_none ∙ append-nil read)
+    (Consumes-trans first now next read none lost more)
+
 -- at the source's end
-pub all_read : (first now next : Option (List ℕ)) (begun old : JudgingOf) (watch : LabelWatch)
-    (size : ℕ) (none : List ℕ) (judged : Judged) → ReadSoFar first now begun old watch size →
-    Consumes now next none → none ≡ [] → IsAtEnd next → false ≡ holds watch [] →
-    judged ≡ says old [] →
-    (text : List ℕ) × IsLeft first text × (labels_of text ≡ []) × (length text ≡ size)
-    × (judged ≡ says begun text)
-all_read first now next begun old watch size none judged so_far lost is_none end unheld is =
-    let last : Consumes first next (so_far.read ++ none) =
-    Consumes-trans first now next so_far.read none so_far.lost lost in (
+pub all_read : (first now next : Option (List ℕ)) (begun old : JudgingOf)
+    (opened form : ProofForm) (watch : LabelWatch) (size : ℕ) (none : List ℕ) (judged : Judged) →
+    ReadSoFar first now begun old opened form watch size → Consumes now next none → none ≡ [] →
+    IsAtEnd next → false ≡ holds watch [] → judged ≡ says old [] →
+    (bytes : List ℕ) × IsLeft first bytes × (labels_of (proof_left opened bytes) ≡ [])
+    × (length bytes ≡ size) × (judged ≡ says begun (proof_left opened bytes))
+all_read first now next begun old opened form watch size none judged so_far lost is_none end unheld
+    is =
+    let whole : so_far.text ≡ proof_left opened so_far.read =
+    whole_text opened form so_far.read so_far.text so_far.turned in (
       so_far.read,
-      all_left first next so_far.read (subst (λ (text : List ℕ). Consumes first next text)
-          (ap (λ (n : List ℕ). so_far.read ++ n) is_none ∙ append-nil so_far.read) last) end,
-      unlabelled so_far.read
-          (unheld ∙ so_far.watched [] ∙ ap has_label (append-nil so_far.read)),
+      all_left first next so_far.read
+          (none_lost first now next so_far.read none so_far.lost lost is_none) end,
+      unlabelled (proof_left opened so_far.read)
+          (unheld ∙ so_far.watched [] ∙ ap has_label (append-nil so_far.text ∙ whole)),
       so_far.count,
-      is ∙ so_far.judged [] ∙ ap (says begun) (append-nil so_far.read),
+      is ∙ so_far.judged [] ∙ ap (says begun) (append-nil so_far.text ∙ whole),
     )
 
--- behind a read with which a label line is there
-pub label_found : (first now next : Option (List ℕ)) (begun old : JudgingOf) (before : LabelWatch)
-    (size : ℕ) (bytes : List ℕ) → ReadSoFar first now begun old before size →
-    Consumes now next bytes → ((rest : List ℕ) → true ≡ holds before (bytes ++ rest)) →
-    HasGivenLabel first next
-label_found first now next begun old before size bytes so_far lost found = (
-  so_far.read ++ bytes,
-  Consumes-trans first now next so_far.read bytes so_far.lost lost,
-  sym (found [] ∙ so_far.watched (bytes ++ [])
-      ∙ ap (λ (text : List ℕ). has_label (so_far.read ++ text)) (append-nil bytes)),
+-- where a watch has met a label line, what was read has one
+pub label_given : (first now next : Option (List ℕ)) (begun old : JudgingOf)
+    (opened form : ProofForm) (watch : LabelWatch) (size : ℕ) (none : List ℕ) →
+    ReadSoFar first now begun old opened form watch size → Consumes now next none → none ≡ [] →
+    true ≡ holds watch [] → HasGivenLabel opened first next
+label_given first now next begun old opened form watch size none so_far lost is_none held = (
+  so_far.read,
+  none_lost first now next so_far.read none so_far.lost lost is_none,
+  sym (held ∙ so_far.watched []
+      ∙ ap has_label (append-nil so_far.text
+      ∙ whole_text opened form so_far.read so_far.text so_far.turned)),
 )

@@ -20,6 +20,9 @@ pub use Rattle.cnf_text.specs.Tokens
 pub use Rattle.cnf_text.specs.declared.dimacs.DimacsFault
 pub use Rattle.cnf_text.specs.declared.dimacs.Problem
 pub use Rattle.cnf_text.specs.declared.icnf.TextFault
+pub use Rattle.lrat_binary.specs.Binary
+pub use Rattle.lrat_binary.specs.Form
+pub use Rattle.lrat_binary.specs.declared.form.ProofForm
 pub use Rattle.hint_check.specs.Addition
 pub use Rattle.hint_check.specs.Grammar
 pub use Rattle.hint_check.specs.Judgement

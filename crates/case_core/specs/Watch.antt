@@ -2,6 +2,8 @@
 use Rattle.std.specs.Prelude.{◌≡◌, ℕ, Bool, true, Option, List, ◌∷◌, drop}
 use Rattle.std.specs.List.{list_any}
 use Rattle.std.specs.Io.KnownBytes.{Consumes}
+use Rattle.lrat_binary.specs.Form.{proof_left}
+use Rattle.lrat_binary.specs.declared.form.ProofForm.{ProofForm}
 use Rattle.case_core.specs.Bundle.{lines_of, is_label}
 use Rattle.case_core.specs.declared.watch.LabelWatch.{LabelWatch}
 use Rattle.case_core.specs.declared.watch.LabelWatch.TheVariants.{Blank, Letter, Other, Found}
@@ -22,6 +24,7 @@ holds Letter rest = has_label (108 ∷ rest)
 holds Other rest = has_label_below rest
 holds Found rest = true
 
--- what a source gave has a label line, by what it had left before and has now
-abbrev pub HasGivenLabel : Option (List ℕ) → Option (List ℕ) → Type 0
-HasGivenLabel first now = (text : List ℕ) × Consumes first now text × (has_label text ≡ true)
+-- the text of what a source gave, by its form, what it had left before and has now, has a label line
+abbrev pub HasGivenLabel : ProofForm → Option (List ℕ) → Option (List ℕ) → Type 0
+HasGivenLabel form first now =
+    (bytes : List ℕ) × Consumes first now bytes × (has_label (proof_left form bytes) ≡ true)

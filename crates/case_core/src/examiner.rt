@@ -3,6 +3,7 @@
 ghost use Rattle.std.specs.Prelude.{◌≡◌, ◌<◌, ◌^◌, ◌-◌, ℕ, List, [], length, IfOk, IfErr, IfSome};
 ghost use Rattle.std.specs.Prelude.{MatchOption, None, OnOk};
 ghost use Rattle.byte_flow.specs.Device.{IsDeviceFault, IsLeft};
+ghost use Rattle.lrat_binary.specs.Form.{proof_left};
 ghost use Rattle.split_tree.specs.Leaves.{HasTarget, IsTargetAt};
 ghost use Rattle.split_tree.specs.SplitTree.{SplitTree};
 ghost use Rattle.case_core.specs.Bundle.{labels_of};
@@ -17,6 +18,7 @@ use crate::finding::Finding;
 use crate::reading::{begin_proof, read_proof};
 use byte_flow::{DeviceFault, Source};
 use hint_check::{Judged, Judging};
+use lrat_binary::ProofForm;
 use split_tree::{Leaf, Target};
 use std::alloc::{AllocError, Global};
 use std::marker::Model;
@@ -30,12 +32,12 @@ pub struct Examiner<'c> {
     judging: Judging<'c>,
 }
 
-/// What is found by a proof that was read, and how many bytes that has.
+/// What is found by a proof that was read, and how many bytes were read.
 #[derive(Drop)]
 pub struct ReadFinding<'c> {
     /// What is found of the leaf.
     pub finding: Finding<'c>,
-    /// How many bytes the proof has.
+    /// How many bytes the source gave: those of a binary proof, and not of its text.
     pub length: usize,
 }
 
@@ -94,37 +96,42 @@ impl<'c> Examiner<'c> {
     }
 
     /// Judges a proof that the case doesn't hold, for a leaf of its tree that has no section there:
-    /// what a source gives up to its end. A block of it is in memory at a time, so it may be longer
-    /// than memory. `None` where one of its lines is a label line; it is read no further then.
+    /// what a source gives up to its end. It is opened as a text, or before its first byte: then a
+    /// proof that begins with an `a` or a `d` is binary LRAT, and judged as the text that it stands
+    /// for. A block of it is in memory at a time, so it may be longer than memory. `None` where one
+    /// of the text's lines is a label line; it is read no further then.
     ///
     /// `Device` where a read failed, `Memory` where a growth was refused.
     pub fn examine_read<S: Source>(
         &mut self,
         alloc: Global,
         leaf: Leaf,
+        opened: ProofForm,
         source: &mut S,
     ) -> Result<Option<ReadFinding<'c>>, DeviceFault>
         requires leaf { HasTarget self.old.tree (Target.Leaf leaf) }
         requires none { proof_for self.old.sections (Target.Leaf leaf) ≡ None }
         // One more failed read can be counted.
         requires count { S.failures source.old < 2 ^ 64 - 1 }
-        // It is what is found by all that the source had left, in which no line is a label line.
+        // It is what is found by the text of all that the source had left, in which no line is a
+        // label line.
         ensures found { IfOk result (λ some. IfSome some (λ read.
             (read.finding.case.now ≡ self.old)
             × (target_of read.finding.leaf read.finding.node ≡ Target.Leaf leaf)
-            × ((text : List ℕ) × IsLeft (S.remaining source.old) text × (labels_of text ≡ [])
-            × (length text ≡ read.length)
-            × IsFoundBy self.old (Target.Leaf leaf) text read.finding.judged))) }
+            × ((bytes : List ℕ) × IsLeft (S.remaining source.old) bytes
+            × (labels_of (proof_left opened bytes) ≡ []) × (length bytes ≡ read.length)
+            × IsFoundBy self.old (Target.Leaf leaf) (proof_left opened bytes)
+            read.finding.judged))) }
         // Without an answer one of the lines that it gave is a label line.
         ensures labelled { IfOk result (λ some. some ≡ None
-            → HasGivenLabel (S.remaining source.old) (S.remaining source.new)) }
+            → HasGivenLabel opened (S.remaining source.old) (S.remaining source.new)) }
         ensures same { self.new ≡ self.old }
         ensures ok { OnOk result (S.failures source.new ≡ S.failures source.old) }
         ensures err { IfErr result
             (λ fault. IsDeviceFault (S.failures source.old) (S.failures source.new) fault) }
     {
         begin_proof(alloc, self.case, &mut self.judging, Target::Leaf(leaf))?;
-        match read_proof(alloc, &mut self.judging, source)? {
+        match read_proof(alloc, &mut self.judging, opened, source)? {
             Some(read) => Ok(Some(ReadFinding {
                 finding: finding_of_leaf(self.case, leaf, read.judged),
                 length: read.length,

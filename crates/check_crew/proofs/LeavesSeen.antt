@@ -3,7 +3,7 @@ use Rattle.std.proofs.Common.{◌≡◌, ℕ, false, List, [], ◌∷◌, ◌++�
 use Rattle.std.proofs.Common.{sym, ap, All, ◌∙◌, subst, ◌+◌, ◌≤◌, length, arith, inl, inr}
 use Rattle.std.proofs.Common.{Result, Ok, Err, IfOk, IfErr, OnOk}
 use Rattle.std.proofs.Common.{append_assoc, append-nil}
-use Rattle.std.specs.Prelude.{IfSome}
+use Rattle.std.specs.Prelude.{IfSome, option_map}
 use Rattle.std.proofs.lemmas.List.Elements.{All-push, All-weaker}
 use Rattle.case_core.specs.Leaf.{Leaf}
 use Rattle.case_core.specs.Leaves.{IsTargetAt}
@@ -20,8 +20,10 @@ use Rattle.board_hall.specs.Clauses.{Stays}
 use Rattle.byte_flow.specs.Device.{IsDeviceFault, IsLeft}
 use Rattle.byte_flow.specs.declared.fault.DeviceFault.{DeviceFault}
 use Rattle.case_core.specs.declared.examiner.ReadFinding.{ReadFinding}
-use Rattle.check_crew.specs.LeafProofs.{IsGiven, IsLeftOf, IsOpenedOf, HasSeenAs, IsFoundAt, IsExamined}
-use Rattle.check_crew.specs.LeafProofs.{Known}
+use Rattle.case_core.specs.Form.{proof_left}
+use Rattle.case_core.specs.ProofForm.{ProofForm}
+use Rattle.check_crew.specs.LeafProofs.{IsGiven, IsLeftOf, IsOpenedOf, HasSeenAs, IsFoundAt}
+use Rattle.check_crew.specs.LeafProofs.{IsExamined, Known, left_text, text_by}
 use Rattle.check_crew.specs.Inner.Apart.{IsFoundOf}
 use Rattle.check_crew.specs.declared.leaves.ExaminedLeaf.{ExaminedLeaf}
 use Rattle.check_crew.specs.declared.leaves.Examined.{Examined}
@@ -29,31 +31,37 @@ use Rattle.check_crew.specs.declared.leaves.Examined.TheVariants.{Absent, Found,
 use Rattle.check_crew.specs.Seen.{HasSeenMark}
 use Rattle.check_crew.proofs.SeenPosted.{mark_stays}
 
--- what was read to its end is what is known to lie there
-left_given : (known : Option (Option (List ℕ))) (left : Option (List ℕ)) (text : List ℕ) →
-    IsLeftOf known left → IsLeft left text → IsGiven known (Some text)
-left_given None left text of is = tt
-left_given (Some lies) left text of is =
-    ap Some (rw of.2 at is) ∙ sym of.1
+-- the text of what was read to its end is what is known to lie there
+left_given : (turned : List ℕ → List ℕ) (known : Option (Option (List ℕ)))
+    (left : Option (List ℕ)) (bytes : List ℕ) → IsLeftOf known (option_map turned left) →
+    IsLeft left bytes → IsGiven known (Some (turned bytes))
+left_given turned None left bytes of is = tt
+left_given turned (Some lies) None bytes of is = absurd (cc of.2)
+left_given turned (Some lies) (Some all) bytes of is =
+    ap (λ (b : List ℕ). Some (turned b)) is ∙ of.2 ∙ sym of.1
 
 -- what was found by it is found by what is known to lie there
 pub found_given : {E : Type 0} (result : Result (Option ReadFinding) E)
-    (known : Option (Option (List ℕ))) (left : Option (List ℕ)) (case : CaseOf) (leaf : Leaf) →
-    IsLeftOf known left →
+    (known : Option (Option (List ℕ))) (left : Option (List ℕ)) (case : CaseOf) (leaf : Leaf)
+    (binary : Bool) (form : ProofForm) →
+    ((bytes : List ℕ) → proof_left form bytes ≡ text_by binary bytes) →
+    IsLeftOf known (left_text binary left) →
     IfOk result (λ some. IfSome some (λ read. (read.finding.case.now ≡ case)
     × (target_of read.finding.leaf read.finding.node ≡ Named leaf)
-    × ((text : List ℕ) × IsLeft left text × (labels_of text ≡ []) × (length text ≡ read.length)
-    × IsFoundBy case (Named leaf) text read.finding.judged))) →
+    × ((bytes : List ℕ) × IsLeft left bytes × (labels_of (proof_left form bytes) ≡ [])
+    × (length bytes ≡ read.length)
+    × IsFoundBy case (Named leaf) (proof_left form bytes) read.finding.judged))) →
     IfOk result (λ some. IfSome some (λ read. IsFoundOf known case leaf read))
-found_given (Err fault) known left case leaf of found = tt
-found_given (Ok None) known left case leaf of found = tt
-found_given (Ok (Some read)) known left case leaf of found = record {
+found_given (Err fault) known left case leaf binary form opened of found = tt
+found_given (Ok None) known left case leaf binary form opened of found = tt
+found_given (Ok (Some read)) known left case leaf binary form opened of found = record {
   of_case = found.0;
   of_leaf = found.1;
-  text = found.2.0;
-  given = left_given known left found.2.0 of found.2.1;
+  text = proof_left form found.2.0;
+  given =
+      subst (λ (text : List ℕ). IsGiven known (Some text)) (sym (opened found.2.0))
+      (left_given (text_by binary) known left found.2.0 of found.2.1);
   plain = found.2.2;
-  size = found.2.3;
   found = found.2.4;
 }
 

@@ -1,5 +1,7 @@
 -- What is read of the proofs that don't stand in a case, and what a worker has found of one.
-use Rattle.std.specs.Prelude.{◌≡◌, ℕ, List, [], Option, None, Some, IfSome, MatchOption}
+use Rattle.std.specs.Prelude.{◌≡◌, ℕ, List, [], Option, None, Some, IfSome, MatchOption, option_map}
+use Rattle.std.specs.Prelude.{Bool, true, false}
+use Rattle.case_core.specs.Binary.{proof_text}
 use Rattle.case_core.specs.Leaves.{IsTargetAt}
 use Rattle.case_core.specs.Leaf.{Leaf}
 use Rattle.case_core.specs.Target.{Target}
@@ -21,6 +23,15 @@ Known = Leaf → Option (Option (List ℕ))
 -- what was given for a leaf is what is known to lie there
 abbrev pub IsGiven : Option (Option (List ℕ)) → Option (List ℕ) → Type 0
 IsGiven known given = IfSome known (λ held. given ≡ held)
+
+-- the text that a proof's bytes stand for, by whether it may be binary
+abbrev pub text_by : Bool → List ℕ → List ℕ
+text_by false bytes = bytes
+text_by true bytes = proof_text bytes
+
+-- what is left to read of a proof's text
+abbrev pub left_text : Bool → Option (List ℕ) → Option (List ℕ)
+left_text binary left = option_map (text_by binary) left
 
 -- what is left to read of a proof is what is known to lie there for its leaf
 abbrev pub IsLeftOf : Option (Option (List ℕ)) → Option (List ℕ) → Type 0

@@ -1,13 +1,14 @@
 //! Where the proofs of leaves lie for which the case has no section.
 
 ghost use Rattle.std.specs.Prelude.{◌≡◌, ℕ, List, ◌<◌, ◌+◌, ◌^◌, ◌-◌, Option, IfOk, IfErr, IfSome};
-ghost use Rattle.std.specs.Prelude.{OnOk};
+ghost use Rattle.std.specs.Prelude.{OnOk, Bool};
 ghost use Rattle.byte_flow.specs.Device.{IsDeviceFault};
 ghost use Rattle.case_core.specs.Leaf.{Leaf};
-ghost use Rattle.check_crew.specs.LeafProofs.{IsOpenedOf};
+ghost use Rattle.case_core.specs.Form.{proof_left};
+ghost use Rattle.check_crew.specs.LeafProofs.{IsOpenedOf, left_text, text_by};
 
 use byte_flow::{DeviceFault, Source};
-use case_core::Leaf;
+use case_core::{Leaf, ProofForm};
 
 /// What a worker opens proofs by. Each worker of a run has one of its own, and all of a run tell of
 /// the same proofs.
@@ -15,11 +16,19 @@ pub trait LeafProofs {
     /// A proof that was opened, which is read to its end.
     type Proof: Source + Drop + Send;
 
-    // The proof that lies there for each leaf, where that is known: none, or these bytes.
+    // The proof that lies there for each leaf, where that is known: none, or this text.
     ghost held: { Self → Leaf → Option (Option (List ℕ)) };
 
     // How many calls have failed so far.
     ghost failures: { Self → ℕ };
+
+    // Whether a proof that begins with an `a` or a `d` is binary, and stands for its text.
+    ghost takes_binary: { Bool };
+
+    /// In which form a proof is opened: before its first byte, which tells whether it is binary, or
+    /// as a text.
+    fn form(&self) -> ProofForm
+        ensures { (bytes : List ℕ) → proof_left result bytes ≡ text_by takes_binary bytes };
 
     /// Opens the proof of a leaf, of which no read has failed yet; `None` where there is none.
     ///
@@ -30,7 +39,7 @@ pub trait LeafProofs {
         requires { failures self.old < 2 ^ 64 - 1 }
         ensures held { held self.new ≡ held self.old }
         ensures opened { IfOk result (λ found. IsOpenedOf (held self.old leaf)
-            (λ proof. Self.Proof.remaining proof) found) }
+            (λ proof. left_text takes_binary (Self.Proof.remaining proof)) found) }
         ensures fresh { IfOk result (λ found. IfSome found
             (λ proof. Self.Proof.failures proof ≡ 0)) }
         ensures ok { OnOk result (failures self.new ≡ failures self.old) }

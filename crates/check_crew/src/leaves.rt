@@ -11,7 +11,7 @@ ghost use Rattle.case_core.specs.Leaves.{HasTarget};
 ghost use Rattle.board_hall.specs.Halls.{core_of, shared_of, view_of, IsPassOf, IsNewPass};
 ghost use Rattle.board_hall.specs.Clauses.{Stays};
 ghost use Rattle.board_hall.specs.declared.view.View.{View};
-ghost use Rattle.check_crew.specs.LeafProofs.{IsExamined, IsLeftOf};
+ghost use Rattle.check_crew.specs.LeafProofs.{IsExamined, IsLeftOf, left_text};
 ghost use Rattle.check_crew.specs.Inner.Apart.{IsFoundOf, IsLeafShiftOf};
 
 use crate::gate::Gate;
@@ -107,7 +107,8 @@ fn read_leaf<'c, P: LeafProofs>(
 ) -> Result<Option<ReadFinding<'c>>, DeviceFault>
     requires leaf { HasTarget examiner.old.tree (Target.Leaf opened.leaf) }
     requires none { proof_for examiner.old.sections (Target.Leaf opened.leaf) ≡ None }
-    requires left { IsLeftOf (P.held proofs.old opened.leaf) (P.Proof.remaining opened.proof) }
+    requires left { IsLeftOf (P.held proofs.old opened.leaf)
+        (left_text P.takes_binary (P.Proof.remaining opened.proof)) }
     requires fresh { P.Proof.failures opened.proof ≡ 0 }
     requires count { P.failures proofs.old < 2 ^ 64 - 1 }
     ensures same { examiner.new ≡ examiner.old }
@@ -119,7 +120,8 @@ fn read_leaf<'c, P: LeafProofs>(
         (λ fault. IsDeviceFault (P.failures proofs.old) (P.failures proofs.new) fault) }
 {
     let OpenedLeaf { leaf, mut proof } = opened;
-    let found = examiner.examine_read(alloc, leaf, &mut proof);
+    let form = proofs.form();
+    let found = examiner.examine_read(alloc, leaf, form, &mut proof);
     proofs.close(proof);
     found
 }
@@ -183,7 +185,8 @@ fn examine_leaf<'c, R: Wait, G: Gate, P: LeafProofs>(
     requires elsewhere { (core_of site.core.now).elsewhere ≡ true }
     requires examiner { examiner.old ≡ site.case.now }
     requires leaf { HasTarget site.case.now.tree (Target.Leaf opened.leaf) }
-    requires left { IsLeftOf (P.held proofs.old opened.leaf) (P.Proof.remaining opened.proof) }
+    requires left { IsLeftOf (P.held proofs.old opened.leaf)
+        (left_text P.takes_binary (P.Proof.remaining opened.proof)) }
     requires fresh { P.Proof.failures opened.proof ≡ 0 }
     requires count { P.failures proofs.old < 2 ^ 64 - 1 }
     requires own { IsPassOf (shared_of site.core.now) pass.old }
@@ -256,7 +259,8 @@ fn take_leaf<'c, R: Wait, G: Gate, P: LeafProofs>(
     requires elsewhere { (core_of site.core.now).elsewhere ≡ true }
     requires examiner { examiner.old ≡ site.case.now }
     requires leaf { HasTarget site.case.now.tree (Target.Leaf opened.leaf) }
-    requires left { IsLeftOf (P.held proofs.old opened.leaf) (P.Proof.remaining opened.proof) }
+    requires left { IsLeftOf (P.held proofs.old opened.leaf)
+        (left_text P.takes_binary (P.Proof.remaining opened.proof)) }
     requires fresh { P.Proof.failures opened.proof ≡ 0 }
     requires count { P.failures proofs.old < 2 ^ 64 - 1 }
     requires own { IsPassOf (shared_of site.core.now) pass.old }
@@ -290,7 +294,8 @@ fn next_proof<R: Wait, G, P: LeafProofs>(
     ensures leaf { IfOk result (λ found. IfSome found
         (λ opened. HasTarget site.entry.case.now.tree (Target.Leaf opened.leaf))) }
     ensures left { IfOk result (λ found. IfSome found (λ opened.
-        IsLeftOf (P.held proofs.old opened.leaf) (P.Proof.remaining opened.proof))) }
+        IsLeftOf (P.held proofs.old opened.leaf)
+        (left_text P.takes_binary (P.Proof.remaining opened.proof)))) }
     ensures fresh { IfOk result (λ found. IfSome found
         (λ opened. P.Proof.failures opened.proof ≡ 0)) }
     ensures absent { OnOk result ((view : View)
@@ -333,7 +338,8 @@ fn take_leaves<'c, R: Wait, G: Gate, P: LeafProofs>(
     requires elsewhere { (core_of site.core.now).elsewhere ≡ true }
     requires examiner { examiner.old ≡ site.case.now }
     requires first { HasTarget site.case.now.tree (Target.Leaf first.leaf) }
-    requires left { IsLeftOf (P.held proofs.old first.leaf) (P.Proof.remaining first.proof) }
+    requires left { IsLeftOf (P.held proofs.old first.leaf)
+        (left_text P.takes_binary (P.Proof.remaining first.proof)) }
     requires fresh { P.Proof.failures first.proof ≡ 0 }
     requires own { IsPassOf (shared_of site.core.now) pass.old }
     requires free { (view_of pass.old).owes ≡ None }

@@ -19,8 +19,8 @@ use Rattle.byte_flow.specs.declared.fault.DeviceFault.{DeviceFault}
 use Rattle.check_crew.specs.LeafProofs.{Known, IsExamined, IsGiven}
 use Rattle.check_crew.specs.declared.leaves.ExaminedLeaf.{ExaminedLeaf}
 
--- what was found by the proof that is known to lie there for the leaf, in which no line is a label
--- line
+-- what was found by the text of the proof that is known to lie there for the leaf, in which no line
+-- is a label line
 pub record IsFoundOf (known : Option (Option (List ℕ))) (case : CaseOf) (leaf : Leaf)
     (read : ReadFinding) : Type 0 where
   pub of_case : read.finding.case.now ≡ case
@@ -28,7 +28,6 @@ pub record IsFoundOf (known : Option (Option (List ℕ))) (case : CaseOf) (leaf 
   pub text : List ℕ
   pub given : IsGiven known (Some text)
   pub plain : labels_of text ≡ []
-  pub size : length text ≡ read.length
   pub found : IsFoundBy case (Named leaf) text read.finding.judged
 
 -- What a worker over leaves hands back, by what is known of the proofs that it reads and how many

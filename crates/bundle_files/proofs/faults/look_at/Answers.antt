@@ -1,4 +1,5 @@
-use Rattle.std.proofs.Common.{rules, ◌≡◌, ◌+◌, ◌++◌, decimal}
+use Rattle.bundle_files.specs.Files.{as_proofs}
+use Rattle.std.proofs.Common.{rules, ap, ◌≡◌, ◌+◌, ◌++◌, decimal}
 use Rattle.bundle_files.proofs.FaultsSearch.{nothing_looked, looked_on}
 use Rattle.bundle_files.proofs.faults.look_at.Goals as goal
 
@@ -9,8 +10,8 @@ loop-done-init g c = record {
   allowed = λ path bytes may. may;
   same = search rules;
   looked =
-      nothing_looked (g.D.Store.held c.args.store.now) c.args.folder.now c.args.search.now.labels
-      c.args.search.now.fault;
+      nothing_looked (as_proofs (g.D.Store.held c.args.store.now)) c.args.folder.now
+      c.args.search.now.labels c.args.search.now.fault;
 }
 
 pub loop-done-preserved : goal.loop-done-preserved
@@ -25,7 +26,7 @@ loop-done-preserved g c =
           (c.loop-done.invariant.allowed path bytes may);
       same = search rules;
       looked =
-          looked_on (g.D.Store.held c.args.store.now) _ c.args.folder.now c.args.kind.now _
-          c.loop-done.done _ _ _ _ _ _ c.loop-done.invariant.held name_is
+          looked_on (as_proofs (g.D.Store.held c.args.store.now)) _ c.args.folder.now c.args.kind.now _
+          c.loop-done.done _ _ _ _ _ _ (ap as_proofs c.loop-done.invariant.held) name_is
           c.loop-done.invariant.looked c.in_ok-look_at_one.ensures.added;
     }

@@ -1,5 +1,5 @@
 use Rattle.std.proofs.Common.{◌≡◌, ◌≤◌, ◌-◌}
-use Rattle.bundle_files.specs.Files.{StaysAllowed, names_from}
+use Rattle.bundle_files.specs.Files.{StaysAllowed, as_proofs, names_from}
 use Rattle.bundle_files.proofs.FaultsSearch.{Looked}
 use Rattle.bundle_files.proofs.faults.look_at.Given as goal
 
@@ -9,8 +9,8 @@ invariant-loop-done g l = record {
   held : g.D.Store.held l.store ≡ g.D.Store.held l.initial.store;
   allowed : StaysAllowed (g.D.Store.allows l.initial.store) (g.D.Store.allows l.store);
   same : g.D.Store.failures l.store ≡ g.D.Store.failures l.initial.store;
-  looked : Looked (g.D.Store.held l.initial.store) l.folder (names_from l.kind 1 l.done)
-      l.initial.search.labels l.initial.search.fault l.search.labels l.search.fault;
+  looked : Looked (as_proofs (g.D.Store.held l.initial.store)) l.folder
+      (names_from l.kind 1 l.done) l.initial.search.labels l.initial.search.fault l.search.labels l.search.fault;
 }
 
 abbrev pub decreases-loop-done : goal.decreases-loop-done

@@ -1,5 +1,5 @@
 use Rattle.std.proofs.Common.{◌≡◌, ◌≤◌, ◌-◌}
-use Rattle.bundle_files.specs.Files.{AreAdded, StaysAllowed, names_from}
+use Rattle.bundle_files.specs.Files.{AreAdded, StaysAllowed, as_proofs, names_from}
 use Rattle.bundle_files.proofs.folder.add_sections.Given as goal
 
 abbrev pub invariant-loop-done : goal.invariant-loop-done
@@ -8,8 +8,8 @@ invariant-loop-done g l = record {
   held : g.D.Store.held l.store ≡ g.D.Store.held l.initial.store;
   allowed : StaysAllowed (g.D.Store.allows l.initial.store) (g.D.Store.allows l.store);
   same : g.D.Store.failures l.store ≡ g.D.Store.failures l.initial.store;
-  added : AreAdded (g.D.Store.held l.initial.store) l.folder (names_from l.kind 1 l.done)
-      l.initial.bundle.items l.bundle.items;
+  added : AreAdded (as_proofs (g.D.Store.held l.initial.store)) l.folder
+      (names_from l.kind 1 l.done) l.initial.bundle.items l.bundle.items;
 }
 
 abbrev pub decreases-loop-done : goal.decreases-loop-done

@@ -8,7 +8,7 @@ invariant-loop-count g l = record {
   count : g.S.Source.failures l.source ≡ g.S.Source.failures l.initial.source;
   room : length l.buffer ≡ 65536;
   read : ReadSoFar (g.S.Source.remaining l.initial.source) (g.S.Source.remaining l.source)
-      l.initial.judging l.judging l.watch l.length;
+      l.initial.judging l.judging l.initial.form l.form l.watch l.length;
 }
 
 abbrev pub decreases-loop-count : goal.decreases-loop-count

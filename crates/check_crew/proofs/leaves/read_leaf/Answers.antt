@@ -17,7 +17,8 @@ returns-clause-found g c =
     found_given c.examine_read-found.result
     (g.P.LeafProofs.held c.args.proofs.now c.args.opened.leaf)
     (g.P.Proof.Source.remaining c.args.opened.proof) c.args.examiner.now c.args.opened.leaf
-    c.requires.left c.examine_read-found.ensures.found
+    g.P.LeafProofs.takes_binary c.form-form.result c.form-form.ensures c.requires.left
+    c.examine_read-found.ensures.found
 
 pub returns-clause-ok : goal.returns-clause-ok
 returns-clause-ok g c =

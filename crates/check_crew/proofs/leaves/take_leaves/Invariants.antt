@@ -2,7 +2,7 @@ use Rattle.std.proofs.Common.{◌≡◌, None, All}
 use Rattle.case_core.specs.Leaves.{HasTarget}
 use Rattle.case_core.specs.Target.TheVariants.{Leaf as Named}
 use Rattle.board_hall.specs.Halls.{shared_of, view_of, IsPassOf}
-use Rattle.check_crew.specs.LeafProofs.{IsExamined, IsLeftOf}
+use Rattle.check_crew.specs.LeafProofs.{IsExamined, IsLeftOf, left_text}
 use Rattle.check_crew.proofs.leaves.take_leaves.Given as goal
 
 abbrev pub invariant-loop : goal.invariant-loop
@@ -10,7 +10,7 @@ invariant-loop g l = record {
   examiner : l.examiner ≡ l.site.case.now;
   leaf : HasTarget l.site.case.now.tree (Named l.opened.leaf);
   left : IsLeftOf (g.P.LeafProofs.held l.initial.proofs l.opened.leaf)
-      (g.P.Proof.Source.remaining l.opened.proof);
+      (left_text g.P.LeafProofs.takes_binary (g.P.Proof.Source.remaining l.opened.proof));
   fresh : g.P.Proof.Source.failures l.opened.proof ≡ 0;
   held : g.P.LeafProofs.held l.proofs ≡ g.P.LeafProofs.held l.initial.proofs;
   count : g.P.LeafProofs.failures l.proofs ≡ g.P.LeafProofs.failures l.initial.proofs;

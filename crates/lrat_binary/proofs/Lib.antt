@@ -1,0 +1,2 @@
+pub mod DecoderBytes
+pub mod FormParts

@@ -1,0 +1,8 @@
+use Rattle.std.proofs.Common.{◌≡◌, ℕ, List, ◌++◌, drop}
+use Rattle.lrat_binary.specs.Decoder.{text_left}
+use Rattle.lrat_binary.proofs.decoder.Decoder.append.Given as goal
+
+abbrev pub invariant-loop-byte : goal.invariant-loop-byte
+invariant-loop-byte l =
+    (more : List ℕ) → l.text.items ++ text_left l.self (drop l.byte-index l.bytes ++ more)
+    ≡ l.initial.text.items ++ text_left l.fn.self (l.bytes ++ more)

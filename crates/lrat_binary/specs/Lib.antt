@@ -1,0 +1,3 @@
+pub mod Binary
+pub mod Decoder
+pub mod Form

@@ -1,0 +1,10 @@
+//! The text that an LRAT proof stands for, binary or a text, made block by block.
+#![tactic(auto)]
+
+mod decoder;
+mod form;
+mod laws;
+
+pub use decoder::Decoder;
+pub use form::ProofForm;
+pub use laws::short_texts;
