@@ -5,7 +5,7 @@
 # - report, the report on that case, from which the path of a missing leaf is taken.
 # The proof is moved into place when it is whole, as proofs/LEAF.lrat; a leaf whose proof is there isn't solved again.
 #
-# By the environment: SOLVE, the path or the name of a command that is handed a formula and the path for its text LRAT proof, and whose status is 20
+# By the environment: SOLVE, the path or the name of a command that is handed a formula and the path for its LRAT proof, and whose status is 20
 # where the proof is there; it runs in a folder of its own. Without it cluster/solve.sh beside this file, which calls CaDiCaL.
 #
 # The status is 0 where the proof is there, 1 where the solver gave none, and 2 where the case has no such leaf.

@@ -1,6 +1,6 @@
 #!/bin/sh
-# Runs the built program on each row of tests/rows, on each beginning of the bundle of tests/prefixes, and on the
-# examples, and compares its standard output, its standard error and its status, byte for byte, with the files that say
+# Runs the built program on each row of tests/rows, on each beginning of the bundle of tests/prefixes, on each line of
+# tests/binary/proofs, and on the examples, and compares its standard output, its standard error and its status, byte for byte, with the files that say
 # what is wanted. Those were written from the formats, not by the program. A run that hasn't ended after a minute is ended,
 # and differs. The last line counts.
 #
@@ -21,6 +21,37 @@ for input in "$root"/tests/rows/*.in; do
 done
 
 beginnings
+
+# Binary proofs: each line of tests/binary/proofs, whose head says what stands there. The second cube has no proof.
+bytes_of() {
+    for byte in "$@"; do printf "\\$(printf %03o "0x$byte")"; done
+}
+binary_proof() {
+    said=$1
+    lay_out "$root/tests/binary/$2"
+    shift 2
+    mkdir "$here/run/proofs"
+    bytes_of "$@" > "$here/run/proofs/1.lrat"
+    left=0
+    weight=1152921504606846976
+    if [ "$said" = refuted ]; then
+        left="-4 0"
+        weight=576460752303423488
+    fi
+    printf 't 2 0 1152921504606846976\na 1 %s\na 2 open\no %s\nw %s\ns OPEN\n' "$said" "$left" "$weight" > "$here/wanted"
+    echo 1 > "$here/one"
+    run /dev/null --proofs proofs case.icnf
+    compare "the proof of the bytes $*" "$here/wanted" "$here/none" "$here/one"
+}
+while IFS= read -r line; do
+    case $line in
+        '' | '#'*) ;;
+        *)
+            # (the case's name and the bytes are words of their own)
+            binary_proof "${line#*: }" ${line%:*}
+            ;;
+    esac
+done < "$root/tests/binary/proofs"
 
 # A large bundle: 300,000 clauses that hold of every assignment, and then two units that don't hold together.
 awk 'BEGIN {
