@@ -194,6 +194,25 @@ proofs/2.lrat: it looks like gzip: unpack it first
 what stands there is no whole step*; look for *
 TOLD
 
+# A binary proof of the folder is told by its step as text: here by an addition of the empty clause,
+# 5 0 1 9 0, and one whose first id isn't doubled.
+with_bundle "$tree"
+printf 'a\012\0\002\022\0' > "$here/run/proofs/1.lrat"
+printf 'a\005\0\002\004\0' > "$here/run/proofs/2.lrat"
+run "$here/none" --explain --proofs proofs case.icnf
+told "binary proofs in the folder" 1 << 'TOLD'
+case.icnf: clauses: 3; *
+SHA-256 *
+case.icnf: cubes: 2; branches without a cube: 0; sections for leaves: 0, for inner nodes: 0
+proofs: files that are proofs of leaves: 2
+proof for 1: step 1 is rejected: proofs/1.lrat, binary LRAT: "5 0 1 9 0"
+proofs/1.lrat: CaDiCaL 1.7 doesn't double the ids of binary steps: have it write text (--no-binary)
+*; look for *
+proof for 2: step 1 is rejected: proofs/2.lrat, binary LRAT: "-2 0 1 2 0"
+proofs/2.lrat: CaDiCaL 1.7 doesn't double the ids of binary steps: have it write text (--no-binary)
+what stands there is no whole step*; look for *
+TOLD
+
 # With --formula the lines of a section are those of the file that has it, not the bundle's; a label
 # may have zeros in front, and so may a step's end mark.
 with_bundle ''

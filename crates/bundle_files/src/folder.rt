@@ -20,7 +20,7 @@ struct Leaves {
 
 /// Adds to a bundle the proofs of a folder: for each leaf of the bundle's tree, in the order of the
 /// cubes 1, 2, .. and then the missing leaves 1, 2, .., a line end, the leaf's label line and the
-/// bytes of `FOLDER/K.lrat` or `FOLDER/mJ.lrat`, where there is such a file. A bundle with a fault
+/// proof of `FOLDER/K.lrat` or `FOLDER/mJ.lrat`, where there is such a file. A bundle with a fault
 /// has no leaves, and stays as it is.
 ///
 /// `Device` where a file is there and can't be read, `Memory` where a growth was refused.

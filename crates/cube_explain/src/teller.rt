@@ -14,7 +14,7 @@ use crate::rejected::{Rejected, rejections_in};
 use crate::run::Run;
 use crate::shown::{Name, Shown};
 use crate::step_lines::step_line;
-use case_core::{Case, Formula, read_bundle};
+use case_core::{Case, Formula, ProofForm, read_bundle};
 use cube_report::{Asked, Explain, Fault, Target, icnf_part};
 use sha2::{Digest, Sha256};
 use std::alloc::{AllocError, Global};
@@ -235,7 +235,7 @@ fn tell_file<R: Eprint + ReadFiles>(run: &Run<'_, R>, name: &str, step: u64) -> 
     };
     let path = format!(in run.alloc; "{folder}/{name}.lrat")?;
     match read_again(run.device, run.alloc, path.as_str()) {
-        Ok(proof) => tell_step(run, name, step, &proof, 0, path.as_str()),
+        Ok(proof) => tell_proof(run, name, step, &proof, path.as_str()),
         Err(unread) => {
             let from = Name(path.as_str());
             eprintln!(run.device;
@@ -243,6 +243,48 @@ fn tell_file<R: Eprint + ReadFiles>(run: &Run<'_, R>, name: &str, step: u64) -> 
             )
         }
     }
+}
+
+/// Tells the rejected step of a folder's proof: of a text where it stands, of a binary one as text.
+fn tell_proof<R: Eprint>(
+    run: &Run<'_, R>,
+    name: &str,
+    step: u64,
+    proof: &[u8],
+    path: &str,
+) -> io::Result<()> {
+    let mut text = Vec::new(run.alloc);
+    let mut form = ProofForm::Unread;
+    if form.turn(proof, &mut text)? {
+        return tell_binary_step(run, name, step, &text, Name(path));
+    }
+    tell_step(run, name, step, proof, 0, path)
+}
+
+/// Tells a step that was rejected of a binary proof, by the text that it stands for.
+fn tell_binary_step<R: Eprint>(
+    run: &Run<'_, R>,
+    name: &str,
+    step: u64,
+    text: &[u8],
+    from: Name<'_>,
+) -> io::Result<()> {
+    match step_line(text, step) {
+        Some(line) => {
+            let text = Shown(line.text);
+            eprintln!(run.device;
+                "explain: proof for {name}: step {step} is rejected: {from}, binary LRAT: {text}"
+            )?;
+        }
+        None => eprintln!(run.device; "explain: proof for {name}: {from} has no step {step}")?,
+    }
+    if step == 1 {
+        eprintln!(run.device;
+            "explain: {from}: CaDiCaL 1.7 doesn't double the ids of binary steps: have it write \
+             text (--no-binary)"
+        )?;
+    }
+    Ok(())
 }
 
 /// Tells a step that was rejected, and where it stands, with so many lines above its proof.
