@@ -34,6 +34,10 @@ spoiled() {
     mkdir -p "$work/spoiled/work"
     ! needs cadical "proofs of a solver" || solved_proofs "$work/spoiled"
     ! needs drat-trim "proofs by drat-trim" || resolved_proofs "$work/spoiled" drat-trim 3 4 5
+    if needs rustc "proofs by drat2lrat"; then
+        tool drat2lrat
+        resolved_proofs "$work/spoiled" drat2lrat 3 4 5
+    fi
     [ -n "$(find "$work/spoiled" -name '*.lrat')" ] || return 0
     python3 "$here/lrat_spoiled.py" "$program" "$work/spoiled" 1 2
 }
@@ -44,9 +48,12 @@ leaves() {
         solved_leaf vdw97 vdw2 97 3 10
         solved_leaf rand300 rand3 300 1350 1
     fi
-    ! needs drat-trim "the leaf with RAT steps" || resolved_leaf php20-er drat-trim 20
+    if needs rustc "the leaf with RAT steps"; then
+        tool drat2lrat
+        resolved_leaf php30-er drat2lrat 30
+    fi
     set --
-    for leaf in tseitin20 vdw97 rand300 php20-er; do
+    for leaf in tseitin20 vdw97 rand300 php30-er; do
         [ ! -f "$work/leaves/$leaf/proofs/1.lrat" ] || set -- "$@" "$work/leaves/$leaf"
     done
     [ $# -gt 0 ] || return 0
