@@ -12,8 +12,8 @@ pub struct Assignment {
 pub enum Followed {
     /// All of its literals are false.
     Conflict,
-    /// All but this one, which is true from now on.
-    Unit(u32),
+    /// All but this one, which is true from now on, and may have been before.
+    Unit { literal: u32, was_true: bool },
     /// Two or more aren't false.
     Open,
 }
@@ -108,10 +108,12 @@ impl Assignment {
         match open {
             0 => Followed::Conflict,
             1 => {
-                let unit = last ^ 1;
+                let literal = last ^ 1;
                 // SAFETY: the literal has a stamp.
-                unsafe { *self.stamps.get_unchecked_mut(unit as usize) = self.now };
-                Followed::Unit(unit)
+                let stamp = unsafe { self.stamps.get_unchecked_mut(literal as usize) };
+                let was_true = *stamp == self.now;
+                *stamp = self.now;
+                Followed::Unit { literal, was_true }
             }
             _ => Followed::Open,
         }

@@ -272,7 +272,7 @@ impl<'a> Checker<'a> {
                 return self.behind_leading(tokens, hint);
             }
             match self.follow(hint as u64) {
-                Ok(Followed::Unit(_)) => {}
+                Ok(Followed::Unit { .. }) => {}
                 Ok(Followed::Conflict) => return pass_hints(tokens, Ok(())),
                 Ok(Followed::Open) => return pass_hints(tokens, Err(Reason::Unit)),
                 Err(reason) => return pass_hints(tokens, Err(reason)),
@@ -357,7 +357,9 @@ impl<'a> Checker<'a> {
     fn follow_group(&mut self, group: &[i64]) -> Result<(), Reason> {
         for &hint in group {
             match self.follow(hint as u64)? {
-                Followed::Unit(literal) => self.trail.push(literal),
+                // It stays true behind the group.
+                Followed::Unit { was_true: true, .. } => {}
+                Followed::Unit { literal, .. } => self.trail.push(literal),
                 Followed::Conflict => return Ok(()),
                 Followed::Open => return Err(Reason::Unit),
             }

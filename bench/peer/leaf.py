@@ -9,8 +9,9 @@ from steps import Addition, compressed, step_of, text_of
 
 
 def items_of(text):
-    """The clauses and the cubes of an iCNF text."""
-    words = [word for line in text.splitlines()[1:] if not line.startswith("c") for word in line.split()]
+    """The clauses and the cubes of an iCNF text; of a DIMACS text the clauses."""
+    lines = [line for line in text.splitlines() if not line.startswith(("c", "p"))]
+    words = [word for line in lines for word in line.split()]
     clauses, cubes, item, target = [], [], [], None
     for word in words:
         if word == "a":
@@ -32,14 +33,19 @@ def longest(bundle):
     return clauses, cubes[int(label) - 1], proof.splitlines()
 
 
-def write(out, clauses, steps):
-    """The three files for these clauses and steps."""
+def write_text(out, clauses, proof):
+    """The formula, and the bundle with this text for a proof."""
     lines = "".join(" ".join(map(str, [*clause, 0])) + "\n" for clause in clauses)
     variables = max(abs(literal) for clause in clauses for literal in clause)
     with open(f"{out}.cnf", "w") as file:
         file.write(f"p cnf {variables} {len(clauses)}\n{lines}")
     with open(f"{out}.icnf", "w") as file:
-        file.write(f"p inccnf\n{lines}a 0\nl 1\n{text_of(steps)}")
+        file.write(f"p inccnf\n{lines}a 0\nl 1\n{proof}")
+
+
+def write(out, clauses, steps):
+    """The three files for these clauses and steps."""
+    write_text(out, clauses, text_of(steps))
     with open(f"{out}.clrat", "wb") as file:
         file.write(compressed(steps))
 
