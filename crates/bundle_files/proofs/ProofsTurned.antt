@@ -1,13 +1,9 @@
 -- A proof that was read, and the text that it stands for in its place.
 use Rattle.std.proofs.Common.{◌≡◌, ◌∙◌, sym, ap, ap₂, ℕ, Bool, true, false, List, [], ◌++◌, length}
-use Rattle.std.proofs.Common.{Option, None, Some, take, drop, refl, take-append-drop, append-nil}
+use Rattle.std.proofs.Common.{Option, None, Some, take, drop, refl}
 use Rattle.std.specs.Prelude.{IfSome, option_map, unwrap_or, is_some}
 use Rattle.std.proofs.Math.Seq.{take-append_seam, drop-append_seam}
 use Rattle.case_core.specs.Binary.{proof_text}
-use Rattle.case_core.specs.Form.{proof_left, IsTurned}
-use Rattle.case_core.specs.ProofForm.{ProofForm}
-use Rattle.case_core.specs.ProofForm.TheVariants.{Unread}
-use Rattle.case_core.proofs.FormParts.{whole_text}
 use Rattle.bundle_files.specs.Files.{IsFound}
 
 -- what is known of a text is known of what it stands for
@@ -42,17 +38,3 @@ found_turned known old read new there begin is at (Some bytes, same, is_there, t
       ∙ ap₂ (λ (a b : List ℕ). a ++ proof_text b) (take-append_seam old bytes)
       (drop-append_seam old bytes),
 )
-
--- a text that was made of all bytes of a proof
-pub made_whole : (form : ProofForm) (made bytes : List ℕ) → IsTurned true Unread form [] made bytes
-    → made ≡ proof_text bytes
-made_whole form made bytes turned = whole_text Unread form bytes made turned
-
--- a proof whose bytes are its text stays as it is
-pub text_whole : (form : ProofForm) (made bytes text : List ℕ) (begin : ℕ)
-    → bytes ≡ drop begin text → IsTurned false Unread form [] made bytes
-    → text ≡ take begin text ++ proof_text (drop begin text)
-text_whole form made bytes text begin is turned =
-    sym (take-append-drop begin text)
-    ∙ ap (λ (t : List ℕ). take begin text ++ t)
-    (sym is ∙ whole_text Unread form bytes bytes turned ∙ ap proof_text is)

@@ -1,7 +1,6 @@
 //! What can be read and written by its path.
 ghost use Rattle.std.specs.Prelude.{◌≡◌, ◌≢◌, ℕ, List, Some, ◌<◌, ◌+◌, ◌^◌, ◌-◌, Option, None};
-ghost use Rattle.std.specs.Prelude.{IfOk, IfErr, IfSome, OnOk, OnErr, true, ◌++◌, ◌≤◌, length};
-ghost use Rattle.std.specs.Prelude.{option_map, take, drop};
+ghost use Rattle.std.specs.Prelude.{IfOk, IfErr, IfSome, OnOk, OnErr, true, option_map};
 ghost use Rattle.case_core.specs.Leaf.{Leaf};
 ghost use Rattle.cube_report.specs.Device.{IsDeviceFault};
 ghost use Rattle.check_crew.specs.LeafProofs.{IsOpenedOf};
@@ -18,7 +17,7 @@ use crate::inputs::{Inputs, Spared, is_clash, is_none_written};
 use crate::opener::Opener;
 use crate::reader::FolderReader;
 use crate::sections::SectionReader;
-use case_core::{Outline, OutlinedCase, ProofForm};
+use case_core::{Outline, OutlinedCase, turn_from};
 use check_crew::LeafProofs;
 use cube_report::{Counted, DeviceFault, read_to_end, write_all};
 use std::alloc::{AllocError, Global};
@@ -491,19 +490,4 @@ impl<F: Opener + Send + Drop> Store for FileStore<F> {
     fn settle(&mut self, reader: FolderReader<F>) {
         self.failed += reader.failed();
     }
-}
-
-/// Puts in the place of the proof that begins here the text that it stands for.
-fn turn_from(alloc: Global, text: &mut Vec<u8>, begin: usize) -> Result<(), AllocError>
-    requires { begin ≤ length text.old.items }
-    ensures { OnOk result (text.new.items
-        ≡ take begin text.old.items ++ proof_text (drop begin text.old.items)) }
-{
-    let mut made = Vec::new(alloc);
-    let mut form = ProofForm::Unread;
-    if form.turn(&text[begin..], &mut made)? {
-        text.truncate(begin);
-        text.extend_from_slice(&made)?;
-    }
-    Ok(())
 }

@@ -1,12 +1,13 @@
 //! A proof whose first byte says whether it is a text or binary.
 
-ghost use Rattle.std.specs.Prelude.{◌≡◌, ◌≢◌, [], ◌∷◌, ◌++◌, ℕ, List, IfOk};
+ghost use Rattle.std.specs.Prelude.{◌≡◌, ◌≢◌, ◌≤◌, [], ◌∷◌, ◌++◌, ℕ, List, IfOk, OnOk, length};
+ghost use Rattle.std.specs.Prelude.{take, drop};
 ghost use Rattle.lrat_binary.specs.Binary.{proof_text};
 ghost use Rattle.lrat_binary.specs.Form.{proof_left, IsTurned};
 ghost use Rattle.lrat_binary.specs.declared.form.ProofForm.TheVariants.{Unread};
 
 use crate::decoder::Decoder;
-use std::alloc::AllocError;
+use std::alloc::{AllocError, Global};
 
 /// What is known of an LRAT proof (CADE 2017) that is read block by block: a block may end
 /// anywhere. Its first byte decides: an `a` or a `d` begins a binary proof, as CaDiCaL 2 and
@@ -62,4 +63,21 @@ fn form_by(first: u8) -> ProofForm
         b'a' | b'd' => ProofForm::Binary(Decoder::new()),
         _ => ProofForm::Text,
     }
+}
+
+/// Puts in the place of the proof that begins here, whose bytes are all there, the text that it
+/// stands for. After an error, which is a refused growth, nothing is said of the text.
+pub fn turn_from(alloc: Global, text: &mut Vec<u8>, begin: usize) -> Result<(), AllocError>
+    requires { begin ≤ length text.old.items }
+    ensures { OnOk result (text.new.items
+        ≡ take begin text.old.items ++ proof_text (drop begin text.old.items)) }
+{
+    let mut made = Vec::new(alloc);
+    let mut form = ProofForm::Unread;
+    if !form.turn(&text[begin..], &mut made)? {
+        return Ok(());
+    }
+    text.truncate(begin);
+    text.extend_from_slice(&made)?;
+    Ok(())
 }

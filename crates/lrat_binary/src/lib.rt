@@ -6,5 +6,5 @@ mod form;
 mod laws;
 
 pub use decoder::Decoder;
-pub use form::ProofForm;
+pub use form::{ProofForm, turn_from};
 pub use laws::short_texts;
