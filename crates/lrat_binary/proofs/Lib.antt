@@ -1,2 +1,3 @@
 pub mod DecoderBytes
 mod FormParts
+mod PageDigits
