@@ -1,8 +1,9 @@
 #!/bin/sh
-# Runs the built program on each row of tests/rows, on each beginning of the bundle of tests/prefixes, on each line of
-# tests/binary/proofs, and on the examples, and compares its standard output, its standard error and its status, byte for byte, with the files that say
-# what is wanted. Those were written from the formats, not by the program. A run that hasn't ended after a minute is ended,
-# and differs. The last line counts.
+# Runs the built program on each row of tests/rows, on each beginning of the bundle of
+# tests/prefixes, on each line of tests/binary/proofs, and on the examples, and compares its
+# standard output, its standard error and its status, byte for byte, with the files that say what is
+# wanted. Those were written from the formats, not by the program. A run that hasn't ended after a
+# minute is ended, and differs. The last line counts.
 #
 # A row NAME has NAME.in (standard input), NAME.out, NAME.err and NAME.status. NAME.args has the program's words, one a
 # line; it runs in a folder of its own, where NAME.icnf lies as case.icnf, NAME.cnf as formula.cnf and NAME.proofs as proofs. A row without a word for the
@@ -22,7 +23,8 @@ done
 
 beginnings
 
-# Binary proofs: each line of tests/binary/proofs, whose head says what stands there. The second cube has no proof.
+# Binary proofs: each line of tests/binary/proofs, whose head says what stands there. The second
+# cube has no proof.
 bytes_of() {
     for byte in "$@"; do printf "\\$(printf %03o "0x$byte")"; done
 }
@@ -38,7 +40,8 @@ binary_proof() {
         left="-4 0"
         weight=576460752303423488
     fi
-    printf 't 2 0 1152921504606846976\na 1 %s\na 2 open\no %s\nw %s\ns OPEN\n' "$said" "$left" "$weight" > "$here/wanted"
+    printf 't 2 0 1152921504606846976\na 1 %s\na 2 open\n' "$said" > "$here/wanted"
+    printf 'o %s\nw %s\ns OPEN\n' "$left" "$weight" >> "$here/wanted"
     echo 1 > "$here/one"
     run /dev/null --proofs proofs case.icnf
     compare "the proof of the bytes $*" "$here/wanted" "$here/none" "$here/one"

@@ -1,2 +1,3 @@
 pub mod DecoderBytes
 pub mod FormParts
+mod PageDigits

@@ -1,11 +1,12 @@
 //! The text that a binary LRAT proof stands for, made block by block: the steps of LRAT (CADE 2017)
 //! in the bytes that CaDiCaL 2 and drat-trim write, with the numbers of drat-trim's binary DRAT.
 
-ghost use Rattle.std.specs.Prelude.{◌≡◌, ◌≤◌, ◌<◌, ◌+◌, ◌*◌, ◌++◌, ◌∷◌, ℕ, List, IfOk, OnOk};
-ghost use Rattle.lrat_binary.specs.Binary.{capped, ends_behind, text_for, text_of, word_of};
+ghost use Rattle.std.specs.Prelude.{◌≡◌, ◌≤◌, ◌<◌, ◌+◌, ◌*◌, ◌++◌, ◌∷◌, ℕ, List, OnOk, take};
+ghost use Rattle.std.specs.Prelude.{length};
+ghost use Rattle.lrat_binary.specs.Binary.{capped, ends_behind, text_for, text_of};
 ghost use Rattle.lrat_binary.specs.Decoder.{text_left};
 
-use itoa::Buffer;
+use crate::page::{make_room, put, put_deletion, put_stray, put_word};
 use std::alloc::AllocError;
 use std::marker::Model;
 
@@ -64,50 +65,52 @@ fn scale_behind(scale: u64) -> u64
     }
 }
 
-/// Appends the word of a number within a step.
-fn write_word(number: u64, text: &mut Vec<u8>) -> Result<(), AllocError>
-    ensures { OnOk result (text.new.items ≡ text.old.items ++ word_of number) }
-{
-    if number % 2 == 1 {
-        text.push(b'-')?;
-    }
-    text.extend_from_slice(Buffer::new().format(number / 2).as_bytes())?;
-    Ok(())
+/// How many end marks are to come, and how many bytes of a page are used.
+#[derive(Clone, Copy)]
+struct Written {
+    ends: u8,
+    used: usize,
 }
 
-/// Appends what stands for a number between steps; answers how many end marks are to come.
-fn begin_step(number: u64, text: &mut Vec<u8>) -> Result<u8, AllocError>
-    ensures text { OnOk result (text.new.items ≡ text.old.items ++ text_for 0 number) }
-    ensures ends { IfOk result (λ ends. ends ≡ ends_behind 0 number) }
+/// Appends to the page what stands for a number between steps.
+#[inline(always)]
+fn begin_step(number: u64, page: &mut [u8], used: usize) -> Written
+    requires { used + 4 ≤ length page.old }
+    ensures text { take result.used page.new ≡ take used page.old ++ text_for 0 number }
+    ensures ends { result.ends ≡ ends_behind 0 number }
+    ensures most { result.used ≤ used + 4 }
 {
     match number {
-        ADDITION => Ok(2),
-        DELETION => {
-            text.extend_from_slice(b"0 d ")?;
-            Ok(1)
-        }
-        _ => {
-            text.extend_from_slice(b"? ")?;
-            Ok(0)
-        }
+        ADDITION => Written { ends: 2, used },
+        DELETION => Written {
+            ends: 1,
+            used: put_deletion(page, used),
+        },
+        _ => Written {
+            ends: 0,
+            used: put_stray(page, used),
+        },
     }
 }
 
-/// Appends what stands for a number where so many end marks are to come; answers how many are then.
-fn write_number(ends: u8, number: u64, text: &mut Vec<u8>) -> Result<u8, AllocError>
-    ensures text { OnOk result (text.new.items ≡ text.old.items ++ text_for ends number) }
-    ensures ends { IfOk result (λ left. left ≡ ends_behind ends number) }
+/// Appends to the page what stands for a number where so many end marks are to come.
+#[inline(always)]
+fn write_number(ends: u8, number: u64, page: &mut [u8], used: usize) -> Written
+    requires { used + 22 ≤ length page.old }
+    ensures text { take result.used page.new ≡ take used page.old ++ text_for ends number }
+    ensures ends { result.ends ≡ ends_behind ends number }
+    ensures most { result.used ≤ used + 22 }
 {
     if ends == 0 {
-        return begin_step(number, text);
+        return begin_step(number, page, used);
     }
-    write_word(number, text)?;
-    if number != 0 {
-        text.push(b' ')?;
-        return Ok(ends);
+    let behind = put_word(page, used, number);
+    let last = number == 0 && ends == 1;
+    let used = put(page, behind, if last { b'\n' } else { b' ' });
+    Written {
+        ends: if number == 0 { ends - 1 } else { ends },
+        used,
     }
-    text.push(if ends == 1 { b'\n' } else { b' ' })?;
-    Ok(ends - 1)
 }
 
 impl Decoder {
@@ -123,21 +126,25 @@ impl Decoder {
         }
     }
 
-    /// Appends what a byte adds to the text.
-    fn take(&mut self, byte: u8, text: &mut Vec<u8>) -> Result<(), AllocError>
-        ensures { OnOk result ((more : List ℕ) → text.new.items ++ text_left self.new more
-            ≡ text.old.items ++ text_left self.old (byte ∷ more)) }
+    /// Appends to the page what a byte adds to the text; answers how many bytes are used then.
+    #[inline(always)]
+    fn take(&mut self, byte: u8, page: &mut [u8], used: usize) -> usize
+        requires { used + 22 ≤ length page.old }
+        ensures left { (more : List ℕ) → take result page.new ++ text_left self.new more
+            ≡ take used page.old ++ text_left self.old (byte ∷ more) }
+        ensures most { result ≤ used + 22 }
     {
         let value = value_with(self.value, self.scale, u64::from(byte % 128));
         if byte >= 128 {
             self.scale = scale_behind(self.scale);
             self.value = value;
-            return Ok(());
+            return used;
         }
         self.scale = 1;
         self.value = 0;
-        self.ends = write_number(self.ends, value, text)?;
-        Ok(())
+        let written = write_number(self.ends, value, page, used);
+        self.ends = written.ends;
+        written.used
     }
 
     /// Appends what further bytes of the proof (LRAT, CADE 2017, in binary form) add to its text:
@@ -147,9 +154,13 @@ impl Decoder {
         ensures { OnOk result ((more : List ℕ) → text.new.items ++ text_left self.new more
             ≡ text.old.items ++ text_left self.old (bytes.now ++ more)) }
     {
+        let mut page = [0u8; 4096];
+        let mut used = 0usize;
         for byte in bytes {
-            self.take(*byte, text)?;
+            used = make_room(&page, used, text)?;
+            used = self.take(*byte, &mut page, used);
         }
+        text.extend_from_slice(&page[..used])?;
         Ok(())
     }
 }

@@ -4,6 +4,7 @@
 mod decoder;
 mod form;
 mod laws;
+mod page;
 
 pub use decoder::Decoder;
 pub use form::{ProofForm, turn_from};

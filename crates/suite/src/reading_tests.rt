@@ -1,7 +1,7 @@
-//! Proofs that are judged while they are read, some bytes a read.
+//! Proofs that are judged while they are read, some bytes a read, texts and binary ones.
 use crate::cases::case;
 use byte_flow::{DeviceFault, Source};
-use case_core::{Case, Examiner, Judged, Reason};
+use case_core::{Case, Examiner, Judged, ProofForm, Reason};
 use fixtures::four;
 use fixtures::targets::{cube, has_target};
 use split_tree::{Leaf, Target};
@@ -44,27 +44,45 @@ impl<'t> Source for Pieces<'t> {
     }
 }
 
-/// What is said of a text as the proof of the first cube, and how long it is; `None` where it has a
-/// label line.
+/// Clauses 1 and 2 have no model together, and clauses 3 and 4 none with variable 2. Clause 5 is
+/// the first cube's unit.
+const FIVE: &str = "p inccnf\n1 0\n-1 0\n-2 3 0\n-2 -3 0\na 4 0\na -4 0\n";
+
+/// The same three clauses, but for the second, which is the only one that has variable 2 itself.
+const GROUPED: &str = "p inccnf\n1 0\n2 -1 0\n-2 3 0\na 4 0\na -4 0\n";
+
+/// What is said of bytes as the proof of the first cube, opened before its first byte, and how many
+/// they are; `None` where the text has a label line.
 fn read_so(
     rt: &impl Abort,
     alloc: Global,
     case: &Case,
-    text: &[u8],
+    bytes: &[u8],
     size: usize,
     fails_at: u64,
+) -> Result<Option<(Judged, usize)>, DeviceFault> {
+    read_as(rt, alloc, case, ProofForm::Unread, (bytes, size, fails_at))
+}
+
+/// The same of a proof that is opened in this form, of whose bytes so many are given by a read.
+fn read_as(
+    rt: &impl Abort,
+    alloc: Global,
+    case: &Case,
+    opened: ProofForm,
+    (bytes, size, fails_at): (&[u8], usize, u64),
 ) -> Result<Option<(Judged, usize)>, DeviceFault> {
     assert!(rt; has_target(case.tree(), cube(1)));
     assert!(rt; case.proof_for(cube(1)).is_none());
     let mut examiner = Examiner::over(alloc, case).expect(rt, "memory");
     let mut pieces = Pieces {
-        rest: text,
+        rest: bytes,
         size,
         reads: 0,
         fails_at,
         failed: 0,
     };
-    match examiner.examine_read(alloc, Leaf::Cube(1), &mut pieces)? {
+    match examiner.examine_read(alloc, Leaf::Cube(1), opened, &mut pieces)? {
         Some(read) => Ok(Some((read.finding.judged(), read.length))),
         None => Ok(None),
     }
@@ -74,10 +92,7 @@ fn read_so(
 #[test]
 fn read_in_blocks(rt: HostRuntime) {
     let case = case(&rt, rt.alloc(), CUBES);
-    let unreadable = Judged::Rejected {
-        step: 1,
-        reason: Reason::Unreadable,
-    };
+    let unreadable = rejected(1, Reason::Unreadable);
     for size in 1..20usize {
         for (text, wanted) in [
             (b"7 0 5 6 4 0\n".as_slice(), Some((Judged::Refuted, 12))),
@@ -100,4 +115,138 @@ fn a_read_of_a_block_fails(rt: HostRuntime) {
         let found = read_so(&rt, rt.alloc(), &case, b"7 0 5 6 4 0\n", 4, fails_at);
         assert!(rt; found == Err(DeviceFault::Device), "{fails_at}");
     }
+}
+
+/// A proof that is rejected at this step.
+fn rejected(step: u64, reason: Reason) -> Judged {
+    Judged::Rejected { step, reason }
+}
+
+/// Whether a proof is judged so as a whole and byte by byte, and has as many bytes as are there.
+fn is_judged(rt: &impl Abort, alloc: Global, case: &Case, proof: &[u8], judged: Judged) -> bool {
+    let wanted = Ok(Some((judged, proof.len())));
+    let whole = read_so(rt, alloc, case, proof, 100, 0);
+    let by_bytes = read_so(rt, alloc, case, proof, 1, 0);
+    whole == wanted && by_bytes == wanted
+}
+
+// The bytes of whole steps, by their texts: `6 0 1 2 0` is refuted by clauses 1 and 2.
+#[test]
+fn binary_steps(rt: HostRuntime) {
+    let case = case(&rt, rt.alloc(), FIVE);
+    for (proof, judged) in [
+        (b"".as_slice(), rejected(1, Reason::End)),
+        (b"\x61\x0c\x00\x02\x04\x00", Judged::Refuted),
+        (
+            b"\x61\x0c\x02\x05\x00\x06\x08\x00",
+            rejected(2, Reason::End),
+        ),
+        (b"\x64\x06\x0a\x00", rejected(2, Reason::End)),
+        (b"\x64\x00", rejected(2, Reason::End)),
+        (b"\x61\x0c\x00\x02\x04\x00\x64\x06\x00", Judged::Refuted),
+        (
+            b"\x61\x10\x05\x00\x02\x06\x05\x02\x00",
+            rejected(2, Reason::End),
+        ),
+        (
+            b"\x61\xa4\x03\x02\x00\x04\x00",
+            rejected(1, Reason::Candidate),
+        ),
+        (b"\x61\x8c\x00\x00\x02\x04\x80\x00", Judged::Refuted),
+        // 97 in two bytes: by its first byte it is a text.
+        (b"\xe1\x00\x0c\x00\x02\x00", rejected(1, Reason::Unreadable)),
+        (b"\x31\x20\x30", rejected(1, Reason::Unreadable)),
+        (b"\x70\x20\x64\x00", rejected(1, Reason::Unreadable)),
+    ] {
+        assert!(rt;
+            is_judged(&rt, rt.alloc(), &case, proof, judged),
+            "{proof:?}"
+        );
+    }
+}
+
+// Opened as a text, as a section is, bytes that begin as a binary proof have no step.
+#[test]
+fn binary_bytes_as_a_text(rt: HostRuntime) {
+    let case = case(&rt, rt.alloc(), FIVE);
+    let proof = b"\x61\x0c\x00\x02\x04\x00".as_slice();
+    let found = read_as(&rt, rt.alloc(), &case, ProofForm::Text, (proof, 100, 0));
+    assert!(rt; found == Ok(Some((rejected(1, Reason::Unreadable), 6))));
+}
+
+// Bytes that are cut, and numbers below and above their limits.
+#[test]
+fn binary_limits(rt: HostRuntime) {
+    let case = case(&rt, rt.alloc(), FIVE);
+    let unreadable = rejected(1, Reason::Unreadable);
+    for (proof, judged) in [
+        (b"\x61".as_slice(), rejected(1, Reason::End)),
+        (b"\x80", unreadable),
+        (b"\x61\x0c", unreadable),
+        (b"\x61\x0c\x00\x02\x80", unreadable),
+        (b"\x61\x0d\x00\x02\x00", unreadable),
+        (b"\x61\x0c\x01\x00\x02\x00", unreadable),
+        (b"\x64\x05\x00", unreadable),
+        (
+            b"\x61\x0c\xfe\xff\xff\xff\x01\x00\x02\x00",
+            rejected(2, Reason::End),
+        ),
+        (b"\x61\x0c\x80\x80\x80\x80\x02\x00\x02\x00", unreadable),
+        (
+            b"\x61\x80\x80\x80\x80\x80\x80\x80\x80\x80\x01\x00\x02\x00",
+            rejected(1, Reason::Empty),
+        ),
+        (
+            b"\x61\x82\x80\x80\x80\x80\x80\x80\x80\x80\x01\x00\x02\x00",
+            unreadable,
+        ),
+        (
+            b"\x61\xff\xff\xff\xff\xff\xff\xff\xff\xff\x7f\x00\x02\x00",
+            unreadable,
+        ),
+        (b"\x61\x00\x00\x02\x00", unreadable),
+    ] {
+        assert!(rt;
+            is_judged(&rt, rt.alloc(), &case, proof, judged),
+            "{proof:?}"
+        );
+    }
+}
+
+// The hints 1 and 3, and then the group for the second clause, which leads to no conflict.
+#[test]
+fn a_binary_group(rt: HostRuntime) {
+    let case = case(&rt, rt.alloc(), GROUPED);
+    let proof = b"\x61\x10\x05\x00\x02\x06\x05\x02\x00";
+    assert!(rt; is_judged(&rt, rt.alloc(), &case, proof, rejected(1, Reason::Group)));
+}
+
+// `6 1 -2 0 3 4 0` and `7 0 1 2 0`, cut behind each byte. Behind an `a` the step hasn't begun.
+#[test]
+fn a_binary_proof_is_cut(rt: HostRuntime) {
+    let case = case(&rt, rt.alloc(), FIVE);
+    let proof = b"\x61\x0c\x02\x05\x00\x06\x08\x00\x61\x0e\x00\x02\x04\x00";
+    for size in 0..=14usize {
+        let judged = match size {
+            0 | 1 => rejected(1, Reason::End),
+            2..=7 => rejected(1, Reason::Unreadable),
+            8 | 9 => rejected(2, Reason::End),
+            10..=13 => rejected(2, Reason::Unreadable),
+            _ => Judged::Refuted,
+        };
+        assert!(rt;
+            is_judged(&rt, rt.alloc(), &case, &proof[..size], judged),
+            "{size}"
+        );
+    }
+}
+
+// Literals whose bytes are a line `l 1`: no label line, which a text with these bytes has.
+#[test]
+fn a_label_in_binary_bytes(rt: HostRuntime) {
+    let case = case(&rt, rt.alloc(), FIVE);
+    let proof = b"\x61\x0c\nl 1\n\x00\x02\x04\x00\x61\x0e\x00\x02\x04\x00";
+    assert!(rt; is_judged(&rt, rt.alloc(), &case, proof, Judged::Refuted));
+    let text = read_so(&rt, rt.alloc(), &case, b"6\nl 1\n", 1, 0);
+    assert!(rt; text == Ok(None));
 }
