@@ -1,6 +1,6 @@
 -- A proof that was read, and the text that it stands for in its place.
 use Rattle.std.proofs.Common.{◌≡◌, ◌∙◌, sym, ap, ap₂, ℕ, Bool, true, false, List, [], ◌++◌, length}
-use Rattle.std.proofs.Common.{Option, None, Some, take, drop, refl}
+use Rattle.std.proofs.Common.{Option, None, Some, take, drop, refl, ◌≤◌, length-append, arith}
 use Rattle.std.specs.Prelude.{IfSome, option_map, unwrap_or, is_some}
 use Rattle.std.proofs.Math.Seq.{take-append_seam, drop-append_seam}
 use Rattle.case_core.specs.Binary.{proof_text}
@@ -13,6 +13,12 @@ given_as : (known : Option (Option (List ℕ))) (given : Option (List ℕ))
     (λ held. option_map proof_text given ≡ held)
 given_as None given is = tt
 given_as (Some lies) given is = ap (λ (o : Option (List ℕ)). option_map proof_text o) is
+
+-- what is read is appended
+pub found_longer : (known : Option (Option (List ℕ))) (old new : List ℕ) (there : Bool)
+    → IsFound known old new there → length old ≤ length new
+found_longer known old new there (given, same, is_there, text) =
+    rw text (rw (length-append old (unwrap_or given [])) (omega arith))
 
 -- no file, no text
 pub none_turned : (known : Option (Option (List ℕ))) (old new : List ℕ) (there : Bool)

@@ -4,7 +4,7 @@ ghost use Rattle.std.specs.Prelude.{◌≡◌, All, vec_len};
 
 use crate::cases::{case, need_count};
 use crate::gates::{Told, cube_number, need_each_once, one_of};
-use case_core::{Case, Leaf};
+use case_core::{Case, Leaf, ProofForm};
 use check_crew::{Gate, LeafProofs, NoGate, Settings};
 use cube_report::{DeviceFault, Fault, Outcome, Source, judge_apart};
 use fixtures::bundles::FOUR_CUBES_REPORT;
@@ -112,11 +112,17 @@ struct Lent<'t> {
 impl<'t> LeafProofs for Lent<'t> {
     type Proof = LentProof<'t>;
 
-    ghost use Rattle.std.specs.Prelude.{None};
+    ghost use Rattle.std.specs.Prelude.{None, true};
 
     ghost held = { λ _ _. None };
 
     ghost failures = { λ s. s.failed };
+
+    ghost takes_binary = { true };
+
+    fn form(&self) -> ProofForm {
+        ProofForm::Unread
+    }
 
     fn open(&mut self, leaf: Leaf) -> Result<Option<LentProof<'t>>, DeviceFault> {
         let cube = cube_number(leaf);
