@@ -11,6 +11,7 @@ mod SectionsTotal
 mod BundleLetters
 mod WatchLines
 mod ReadingParts
+mod BinaryLines
 pub mod BundleMore
 mod ScanLabels
 mod ScanTaken
