@@ -20,7 +20,7 @@ use Rattle.proof_folder.specs.Added.{proof_path}
 use Rattle.bundle_files.specs.Inner.Faults.{IsSearched, IsFoundIn}
 use Rattle.bundle_files.specs.Judging.{IsRefusedOf}
 use Rattle.bundle_files.proofs.FilesFormula.{first_label}
-use Rattle.bundle_files.proofs.FilesSections.{added_more, one_leaf, one_further, label_then}
+use Rattle.bundle_files.proofs.FilesSections.{added_more, one_leaf, one_further, label_then, nothing_added}
 
 -- behind its line end a section begins with its label line
 begins_with_label : (more : List ℕ) → BeginsWithLabel (108 ∷ 32 ∷ more)
@@ -195,7 +195,7 @@ pub nothing_looked : (held : Held) (folder : List ℕ) (scan : ScanOf) (fault : 
     → Looked held folder [] scan fault scan fault
 nothing_looked held folder scan fault text is = (
   text,
-  record { leaves = []; named = refl; files = All-nil _; text = sym (append-nil text) },
+  nothing_added held folder text,
   is,
 )
 

@@ -38,6 +38,15 @@ added_more held folder first second bundle part whole before after = record {
     section : Leaf → List ℕ
     section leaf = section_text leaf.0 leaf.1
 
+-- where no leaf is added, nothing is
+pub nothing_added : (held : Held) (folder bundle : List ℕ) → AreAdded held folder [] bundle bundle
+nothing_added held folder bundle = record {
+  leaves = [];
+  named = refl;
+  files = All-nil (λ (leaf : Leaf). Gives held (proof_path folder leaf.0) leaf.1);
+  text = sym (append-nil bundle);
+}
+
 pub one_leaf : (held : Held) (folder name bundle whole : List ℕ) (proof : Option (List ℕ))
     → Gives held (proof_path folder name) proof → whole ≡ bundle ++ section_text name proof
     → AreAdded held folder (name ∷ []) bundle whole

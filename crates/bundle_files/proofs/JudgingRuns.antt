@@ -17,7 +17,8 @@ use Rattle.cube_report.specs.Faults.{IsInputFault, fault_of_case}
 use Rattle.cube_report.specs.Correct.{IsFaultOn}
 use Rattle.cube_report.specs.Stated.{IsWrittenBy}
 use Rattle.proof_folder.specs.Given.{HasFewLeaves, AreFoundApart}
-use Rattle.bundle_files.specs.Files.{Held, IsWithProofs}
+use Rattle.bundle_files.specs.Files.{Held, IsWithProofs, as_proofs}
+use Rattle.bundle_files.proofs.FilesSections.{nothing_added}
 use Rattle.bundle_files.specs.Laws.{held_for}
 use Rattle.bundle_files.proofs.FilesApart.{judged_apart}
 use Rattle.bundle_files.specs.Judging.{IsOutcomeOf, IsRefusedOf}
@@ -28,12 +29,7 @@ faulty_alone : (held : Held) (folder bundle : List ℕ) (kind : CaseFault) → I
 faulty_alone held folder bundle kind is = (
   [],
   inr (kind, is, refl),
-  record {
-    leaves = [];
-    named = refl;
-    files = All-nil _;
-    text = sym (append-nil bundle);
-  },
+  nothing_added (as_proofs held) folder bundle,
 )
 
 -- the fault of a bundle is that of the bundle with the folder's proofs

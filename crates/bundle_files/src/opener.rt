@@ -16,7 +16,7 @@ use std::{fs, io};
 /// is read of them and written to them goes by the files that it hands out.
 pub trait Opener {
     /// A file that was opened, which is read from its beginning.
-    type Opened: Read + Drop + Send;
+    type Opened: Read + Drop;
 
     /// A file that was made, which is written.
     type Made: Write + Drop;
@@ -108,10 +108,7 @@ impl<'a, R> SystemFiles<'a, R> {
     }
 }
 
-impl<'a, R: Files + AllocGlobal + Clone + Drop> Opener for SystemFiles<'a, R>
-where
-    R::File: Send,
-{
+impl<'a, R: Files + AllocGlobal + Clone + Drop> Opener for SystemFiles<'a, R> {
     type Opened = R::File;
 
     type Made = R::File;

@@ -42,7 +42,10 @@ impl<F> FolderReader<F> {
     }
 }
 
-impl<F: Opener + Drop> LeafProofs for FolderReader<F> {
+impl<F: Opener + Drop> LeafProofs for FolderReader<F>
+where
+    F::Opened: Send,
+{
     type Proof = Counted<F::Opened>;
 
     ghost use Rattle.std.specs.Prelude.{true};

@@ -42,7 +42,10 @@ impl<F> SectionReader<F> {
     }
 }
 
-impl<F: Opener + Drop> LeafProofs for SectionReader<F> {
+impl<F: Opener + Drop> LeafProofs for SectionReader<F>
+where
+    F::Opened: Send,
+{
     type Proof = Part<F::Opened>;
 
     ghost use Rattle.std.specs.Prelude.{false};

@@ -384,7 +384,10 @@ impl<F: Opener> FileStore<F> {
     }
 }
 
-impl<F: Opener + Send + Drop> Store for FileStore<F> {
+impl<F: Opener + Send + Drop> Store for FileStore<F>
+where
+    F::Opened: Send,
+{
     type Reader = FolderReader<F>;
 
     type Sections = SectionReader<F>;

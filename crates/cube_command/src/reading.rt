@@ -71,7 +71,7 @@ impl<'a, F, M> MeteredFiles<'a, F, M> {
     }
 }
 
-impl<'a, F: Opener, M: Meter + Sync> Opener for MeteredFiles<'a, F, M> {
+impl<'a, F: Opener, M: Meter> Opener for MeteredFiles<'a, F, M> {
     type Opened = Metered<'a, F::Opened, M>;
 
     type Made = F::Made;

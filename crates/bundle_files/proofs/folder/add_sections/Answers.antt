@@ -1,7 +1,18 @@
 use Rattle.bundle_files.specs.Files.{as_proofs}
 use Rattle.std.proofs.Common.{rules, ap, ◌≡◌, ◌+◌, ◌++◌, decimal}
-use Rattle.bundle_files.proofs.FilesSections.{one_further}
+use Rattle.bundle_files.proofs.FilesSections.{nothing_added, one_further}
 use Rattle.bundle_files.proofs.folder.add_sections.Goals as goal
+
+pub loop-done-init : goal.loop-done-init
+loop-done-init g c = record {
+  in_range = search rules;
+  held = search rules;
+  allowed = λ path bytes may. may;
+  same = search rules;
+  added =
+      nothing_added (as_proofs (g.D.Store.held c.args.store.now)) c.args.folder.now
+      c.args.bundle.now.items;
+}
 
 pub loop-done-preserved : goal.loop-done-preserved
 loop-done-preserved g c =

@@ -1,8 +1,5 @@
-use Rattle.std.proofs.Common.{◌∙◌, subst, List, ℕ, Option}
+use Rattle.std.proofs.Common.{◌∙◌}
 use Rattle.std.proofs.lemmas.Result.{IfOk-weaker}
-use Rattle.check_crew.specs.LeafProofs.{IsOpenedOf, left_text}
-use Rattle.bundle_files.specs.Files.{held_if}
-use Rattle.bundle_files.specs.Laws.{held_for}
 use Rattle.bundle_files.proofs.FilesOpened.{opened_as_proof}
 use Rattle.bundle_files.proofs.reader.FolderReaderLeafProofs.open.Goals as goal
 
@@ -10,4 +7,5 @@ pub returns-clause-opened : goal.returns-clause-opened
 returns-clause-opened g c =
     IfOk-weaker c.open_file.result _ _
     (λ found is. opened_as_proof _ _ found
-    (rw (c.as_str-2.ensures.value ∙ c.in_ok-path.ensures) at is)) c.open_file.ensures.opened
+    (rw (c.as_str-2.ensures.value ∙ c.in_ok-path.ensures, c.as_str.ensures.value) at is))
+    c.open_file.ensures.opened
