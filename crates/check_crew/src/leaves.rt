@@ -396,15 +396,7 @@ fn examine_leaves<R: Wait, G: Gate, P: LeafProofs>(
         return Ok(());
     };
     let mut examiner = Examiner::over(site.alloc, site.case)?;
-    take_leaves(
-        site,
-        worker,
-        proofs,
-        &mut examiner,
-        pass,
-        examined,
-        first,
-    )
+    take_leaves(site, worker, proofs, &mut examiner, pass, examined, first)
 }
 
 /// Does a worker's part of the leaves.

@@ -253,7 +253,15 @@ fn each_proof_is_opened_once(rt: HostRuntime) {
         for cut in [0, 1, 6] {
             let gate = Told::new();
             let opens = AtomicU64::new(0);
-            let told = run_apart(&rt, CUBES, (workers, cut), &gate, ALL, &opens, Failing::Nothing);
+            let told = run_apart(
+                &rt,
+                CUBES,
+                (workers, cut),
+                &gate,
+                ALL,
+                &opens,
+                Failing::Nothing,
+            );
             assert!(rt; is_report(told, FOUR_CUBES_REPORT));
             need_count(&rt, "opens", &opens, 0x11110);
             need_count(&rt, "elsewhere", &gate.elsewhere, 4);
@@ -277,7 +285,15 @@ fn a_leaf_is_left_open(rt: HostRuntime) {
         ] {
             let gate = Told::new();
             let opens = AtomicU64::new(0);
-            let said = run_apart(&rt, bundle, (workers, 1), &gate, proofs, &opens, Failing::Nothing);
+            let said = run_apart(
+                &rt,
+                bundle,
+                (workers, 1),
+                &gate,
+                proofs,
+                &opens,
+                Failing::Nothing,
+            );
             assert!(rt; is_report(said, report));
             need_count(&rt, "opens", &opens, 0x11110);
             need_count(&rt, "after", &gate.after, told);
@@ -297,7 +313,15 @@ fn all_in_one_bundle(rt: HostRuntime) {
         ] {
             let gate = Told::new();
             let opens = AtomicU64::new(0);
-            let told = run_apart(&rt, bundle, (workers, 0), &gate, proofs, &opens, Failing::Nothing);
+            let told = run_apart(
+                &rt,
+                bundle,
+                (workers, 0),
+                &gate,
+                proofs,
+                &opens,
+                Failing::Nothing,
+            );
             assert!(rt; matches!(told, Said::Elsewhere));
             need_count(&rt, "fell_back", &gate.fell_back, leaf);
             assert!(rt; workers > 1 || opens.load(Ordering::SeqCst) == opened);
