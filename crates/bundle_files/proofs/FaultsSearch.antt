@@ -4,7 +4,6 @@ use Rattle.std.proofs.Common.{[], ◌∷◌, ◌++◌, append_assoc, append-nil,
 use Rattle.std.proofs.Common.{is_some, unwrap_or, inl, inr, decimal, length, take}
 use Rattle.std.proofs.Common.{drop, ◌-◌, arith, suc}
 use Rattle.std.proofs.Math.Seq.{take-length}
-use Rattle.std.proofs.lemmas.List.Elements.{All-nil}
 use Rattle.case_core.specs.Bundle.{lines_of, BeginsWithLabel}
 use Rattle.case_core.specs.Case.{CaseOf}
 use Rattle.case_core.specs.Leaves.{cube_count, missing_nodes}

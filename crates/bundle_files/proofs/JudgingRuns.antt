@@ -1,9 +1,8 @@
 -- What is said of a bundle and a folder's proofs on the way to the program's report.
 use Rattle.std.proofs.Common.{◌≡◌, ◌≢◌, ◌<◌, ◌^◌, ℕ, List, [], Bool, Option, None, Some, refl}
-use Rattle.std.proofs.Common.{sym, ap, inr, arith, append-nil, length, Result, Ok, Err, IfOk}
+use Rattle.std.proofs.Common.{ap, inr, arith, length, Result, Ok, Err, IfOk}
 use Rattle.std.proofs.Common.{IfErr}
 use Rattle.std.specs.Prelude.{IfSome}
-use Rattle.std.proofs.lemmas.List.Elements.{All-nil}
 use Rattle.case_core.specs.Sections.{IsCaseOf, IsFaultOf}
 use Rattle.case_core.specs.declared.fault.CaseFault.{CaseFault}
 use Rattle.case_core.specs.declared.fault.CaseFault.TheVariants as case

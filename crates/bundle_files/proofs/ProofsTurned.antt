@@ -1,7 +1,7 @@
 -- A proof that was read, and the text that it stands for in its place.
 use Rattle.std.proofs.Common.{◌≡◌, ◌∙◌, sym, ap, ap₂, ℕ, Bool, true, false, List, [], ◌++◌, length}
 use Rattle.std.proofs.Common.{Option, None, Some, take, drop, refl, ◌≤◌, length-append, arith}
-use Rattle.std.specs.Prelude.{IfSome, option_map, unwrap_or, is_some}
+use Rattle.std.specs.Prelude.{IfSome, option_map, unwrap_or}
 use Rattle.std.proofs.Math.Seq.{take-append_seam, drop-append_seam}
 use Rattle.case_core.specs.Binary.{proof_text}
 use Rattle.bundle_files.specs.Files.{IsFound}

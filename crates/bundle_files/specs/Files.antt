@@ -1,6 +1,6 @@
 -- Which bundle is judged, by what is known of the files: the input's or a file's, with the proofs
 -- that a folder has for its leaves.
-use Rattle.std.specs.Prelude.{◌≡◌, ◌≢◌, ℕ, zero, suc, ◌+◌, Bool, List, [], ◌∷◌, ◌++◌, map, length}
+use Rattle.std.specs.Prelude.{◌≡◌, ◌≢◌, ℕ, zero, suc, Bool, List, [], ◌∷◌, ◌++◌, map, length}
 use Rattle.std.specs.Prelude.{decimal, Option, None, Some, IfSome, is_some, unwrap_or, ◌⊎◌}
 use Rattle.std.specs.Prelude.{true, false, codes, drop}
 use Rattle.std.specs.Prelude.{option_map}

@@ -1,5 +1,5 @@
 -- What a worker has seen after it posted the finding of a leaf's proof.
-use Rattle.std.proofs.Common.{◌≡◌, ℕ, false, List, [], ◌∷◌, ◌++◌, Option, None, Some, Bool, refl}
+use Rattle.std.proofs.Common.{◌≡◌, ℕ, List, [], ◌∷◌, ◌++◌, Option, None, Some, Bool, refl}
 use Rattle.std.proofs.Common.{sym, ap, All, ◌∙◌, subst, ◌+◌, ◌≤◌, length, arith, inl, inr}
 use Rattle.std.proofs.Common.{Result, Ok, Err, IfOk, IfErr, OnOk}
 use Rattle.std.proofs.Common.{append_assoc, append-nil}

@@ -1,6 +1,6 @@
 -- What the workers over leaves hand back, and the marks that are compared with it.
 use Rattle.std.specs.Prelude.{◌≡◌, ℕ, List, [], All, Option, None, Some, MatchOption, Bool, true}
-use Rattle.std.specs.Prelude.{false, get_or, length}
+use Rattle.std.specs.Prelude.{false, get_or}
 use Rattle.case_core.specs.Bundle.{labels_of}
 use Rattle.case_core.specs.Finding.{IsFoundBy, target_of}
 use Rattle.case_core.specs.Target.TheVariants.{Leaf as Named}

@@ -1,4 +1,4 @@
-use Rattle.std.proofs.Common.{◌∙◌, ◌≡◌, refl, rules, None}
+use Rattle.std.proofs.Common.{◌∙◌, ◌≡◌, rules, None}
 use Rattle.check_crew.proofs.LeavesSeen.{examined_more, none_opened, stays_same}
 use Rattle.check_crew.proofs.leaves.next_proof.Goals as goal
 

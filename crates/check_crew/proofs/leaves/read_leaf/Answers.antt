@@ -1,5 +1,4 @@
-use Rattle.std.proofs.Common.{◌≡◌, ◌≤◌, ◌+◌, ℕ, arith, OnOk, IfErr}
-use Rattle.byte_flow.specs.Device.{IsDeviceFault}
+use Rattle.std.proofs.Common.{arith}
 use Rattle.check_crew.proofs.LeavesSeen.{found_given, failed_reads}
 use Rattle.check_crew.proofs.leaves.read_leaf.Goals as goal
 
