@@ -18,7 +18,8 @@ work=$bench/corpus/lrat
 program=$(realpath -m "${1:-$bench/../crates/cubeboard/out/cubeboard}")
 [ $# -eq 0 ] || shift
 [ $# -gt 0 ] || set -- cases spoiled leaves run
-PATH=${PEERS:+$PEERS:}$bin/debian/bin:$PATH
+PATH=$bin/debian/bin:$PATH
+[ -z "${PEERS:-}" ] || PATH=$(realpath -m "$PEERS"):$PATH
 export PATH
 
 skip() {
@@ -70,7 +71,11 @@ run() {
 needs lrat-check "all of it" || exit 0
 [ -x "$program" ] || { skip "all of it" "there is no program $program" && exit 0; }
 mkdir -p "$bin"
-[ -x "$bin/measure" ] || gcc -O2 -o "$bin/measure" "$bench/tools/measure.c"
+if [ ! -x "$bin/measure" ]; then
+    needs gcc "all of it" || exit 0
+    gcc -O2 -o "$bin/measure" "$bench/tools/measure.c"
+fi
+echo "$program beside $(command -v lrat-check)"
 failed=0
 for part in "$@"; do
     echo "$part:"

@@ -29,7 +29,7 @@ tool() {
 # Solves a formula by CaDiCaL, which has to refute it: the formula, the proof, and the form of that.
 refute() {
     status=0
-    cadical -q --no-binary ${3:-} "$1" "$2.new" > /dev/null || status=$?
+    cadical -q --no-binary ${3:-} "$1" "$2.new" < /dev/null > /dev/null || status=$?
     if [ "$status" -ne 20 ]; then
         echo "lrat_check.sh: cadical doesn't refute $1: its status is $status"
         exit 1
@@ -96,16 +96,16 @@ resolved_leaf() {
     mv "$leaf/php$3-er-$2.lrat" "$leaf/proofs/1.lrat"
 }
 
-# The run: as many leaves as are asked for at most, the words for gen.py; each leaf's formula is the
-# whole one with the literals of its cube as units.
+# The run: how many leaves it has at most, and the words for gen.py. A leaf's formula is the whole
+# one with the literals of its cube as units.
 solved_run() {
     run=$work/run
     [ ! -f "$run/made" ] || return 0
     mkdir -p "$run/proofs" "$run/leaves"
-    leaves=$1
+    most=$1
     shift
     gen "$@" > "$run/formula.cnf"
-    "$bin/cubesplit" "$run/formula.cnf" "$leaves" > "$run/cubes"
+    "$bin/cubesplit" "$run/formula.cnf" "$most" > "$run/cubes"
     number=0
     while read -r _ literals; do
         number=$((number + 1))
