@@ -149,6 +149,10 @@ A reader starts with all whole steps of its text; each call takes the next of th
 that it is unreadable.""",
      ["lrat_text/steps.rt Steps::new value",
       "lrat_text/steps.rt Steps::next_into step end err"]),
+    ("lrat_binary: the text that a proof stands for", """
+A proof whose first byte is `a` or `d` is binary, and stands for the text of its steps. Any other is its own text.""",
+     ["lrat_binary/form.rt ProofForm::turn -",
+      "lrat_binary/form.rt turn_from -"]),
     ("hint_check: the judgement of a proof", """
 The answer is the judgement of the live clauses and the proof, with RUP and RAT over all live clauses; where it is
 `Refuted`, the formula and the path have no model together.""",
@@ -159,13 +163,12 @@ The answer is the tree of the cubes, no two of which clash, or it is the first c
      ["split_tree/tree.rt build tree fit total fault"]),
     ("case_core: the case of a bundle, and what is found of a target", """
 The case is the one that the bundle stands for, or the fault is its first one. What is found of a target is the
-judgement of its section, or, for a leaf without one, of the text that is handed in, and the type of a finding keeps that
-a refuted target has no model with the formula.""",
+judgement of its section, or, for a leaf without one, of the text of a proof that a source gives, and the type of a
+finding keeps that a refuted target has no model with the formula.""",
      ["case_core/bundle.rt read_bundle ok only err",
       "case_core/examiner.rt examine -",
       "case_core/examiner.rt Examiner::examine found",
-      "case_core/examiner.rt Examiner::examine_text found",
-      "case_core/bundle.rt has_label_line -",
+      "case_core/examiner.rt Examiner::examine_read found labelled",
       "case_core/bundle.rt icnf_part -",
       "case_core/scan.rt LabelScan::new -",
       "case_core/scan.rt LabelScan::add ok err",
