@@ -31,9 +31,9 @@ bytes=$(find "$folder/proofs" -name '*.lrat' -printf '%s\n' | awk '{n += $1} END
 greatest=0
 [ -z "$ids" ] || greatest=$(tail -n 1 "$folder/proofs/1.lrat" | awk '{print $1}')
 workers=$(awk -v proofs="$proofs" 'BEGIN {print proofs < 4 ? proofs : 4}')
-# (a list of slots that grows is twice its length at most, and so is the one it is copied from)
+# (a slot has 8 bytes; a list of them that grows, beside the one that it is copied from, has up to five times as many)
 limit=$(awk -v proofs="$proofs" -v ids="$greatest" -v workers="$workers" 'BEGIN {
-    printf "%.0f", 16 + proofs / 1000 + workers * 3 * 8 * ids / 1e6
+    printf "%.0f", 16 + proofs / 1000 + workers * 5 * 8 * ids / 1e6
 }')
 failed=0
 
