@@ -19,7 +19,8 @@ use Rattle.proof_folder.specs.Added.{proof_path}
 use Rattle.bundle_files.specs.Inner.Faults.{IsSearched, IsFoundIn}
 use Rattle.bundle_files.specs.Judging.{IsRefusedOf}
 use Rattle.bundle_files.proofs.FilesFormula.{first_label}
-use Rattle.bundle_files.proofs.FilesSections.{added_more, one_leaf, one_further, label_then, nothing_added}
+use Rattle.bundle_files.proofs.FilesSections.{added_more, one_leaf, one_further, label_then}
+use Rattle.bundle_files.proofs.FilesSections.{nothing_added}
 
 -- behind its line end a section begins with its label line
 begins_with_label : (more : List ℕ) → BeginsWithLabel (108 ∷ 32 ∷ more)

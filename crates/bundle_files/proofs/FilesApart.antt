@@ -89,7 +89,8 @@ module _ (given : Given) where
 
 by_given : (held : Held) (folder bundle : List ℕ) (case : CaseOf) (given : Given)
     (marks : List Mark) → IsCaseOf bundle case → HasFewLeaves case.tree
-    → AreHeld (as_proofs held) folder case.tree given → MayBeGiven case given → AreMarksBy case given marks
+    → AreHeld (as_proofs held) folder case.tree given → MayBeGiven case given
+    → AreMarksBy case given marks
     → IsJudgedApart held folder bundle case marks
 by_given held folder bundle case given marks is few held_there may are =
     let cubes = cubes_of_case bundle case is in

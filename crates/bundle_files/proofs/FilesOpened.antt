@@ -15,8 +15,7 @@ opened_is_found (Some lies) remaining old new left read =
     let is : read.0 ≡ left.0 = rw left.2 at read.2 in
     (Some read.0, ap (λ (b : List ℕ). Some b) is ∙ sym left.1, refl, read.1)
 
--- where a file that was opened is what is known to lie there, the text of its proof is that of what is
--- known to
+-- where a file that was opened is what is known to lie there, its text is that of what is known to
 pub opened_as_proof : {T : Type 0} (known : Option (Option (List ℕ))) (left : T → Option (List ℕ))
     (found : Option T) → IsOpenedOf known left found
     → IsOpenedOf (option_map (λ lies. option_map proof_text lies) known)

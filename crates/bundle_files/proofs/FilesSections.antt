@@ -10,7 +10,8 @@ use Rattle.std.proofs.lemmas.Grind.{flat_map-append}
 use Rattle.std.proofs.lemmas.List.{map-append}
 use Rattle.std.proofs.lemmas.List.Elements.{All-append, All-cons, All-nil}
 use Rattle.std.proofs.Math.Seq.{take-append_seam}
-use Rattle.bundle_files.specs.Files.{AreAdded, AreLeavesOf, Gives, Held, IsFound, IsWithProofs, as_proofs}
+use Rattle.bundle_files.specs.Files.{AreAdded, AreLeavesOf, Gives, Held, IsFound, IsWithProofs}
+use Rattle.bundle_files.specs.Files.{as_proofs}
 use Rattle.bundle_files.specs.Files.{names_from}
 use Rattle.proof_folder.specs.Added.{section_text}
 use Rattle.proof_folder.specs.Added.{proof_path}

@@ -22,8 +22,8 @@ held_in (Some None) sections leaf = None
 held_in (Some (Some text)) sections leaf =
     Some (proof_for (map (section_in text) sections) (Named leaf))
 
--- what is left to read of a part of a file that was opened at the part's place: nothing where it has
--- no byte, and so no file
+-- what is left to read of a part of a file that was opened at the part's place: nothing where it
+-- has no byte, and so no file
 abbrev pub part_left : {T : Type 0} → (T → Option (List ℕ)) → Option (Take T) → Option (List ℕ)
 part_left left None = Some []
 part_left left (Some file) = take_remaining left file

@@ -6,7 +6,8 @@ ghost use Rattle.case_core.specs.Case.{CaseOf};
 ghost use Rattle.case_core.specs.Sections.{IsCaseOf};
 ghost use Rattle.cube_report.specs.Device.{IsDeviceFault};
 ghost use Rattle.cube_report.specs.Faults.{IsInputFault};
-ghost use Rattle.bundle_files.specs.Files.{AreAdded, IsWithProofs, StaysAllowed, as_proofs, names_from};
+ghost use Rattle.bundle_files.specs.Files.{AreAdded, IsWithProofs, StaysAllowed, as_proofs};
+ghost use Rattle.bundle_files.specs.Files.{names_from};
 ghost use Rattle.bundle_files.specs.Inner.Faults.{IsSearched, IsFoundIn};
 ghost use Rattle.bundle_files.specs.Judging.{IsRefusedOf, IsJudgingFault};
 

@@ -108,7 +108,8 @@ fn add_section<D: Store>(
     ensures held { D.held store.new ≡ D.held store.old }
     ensures allowed { StaysAllowed (D.allows store.old) (D.allows store.new) }
     ensures added { OnOk result
-        (AreAdded (as_proofs (D.held store.old)) folder.now (name.now ∷ []) bundle.old.items bundle.new.items) }
+        (AreAdded (as_proofs (D.held store.old)) folder.now (name.now ∷ []) bundle.old.items
+        bundle.new.items) }
     ensures ok { OnOk result (D.failures store.new ≡ D.failures store.old) }
     ensures err { IfErr result
         (λ fault. IsDeviceFault (D.failures store.old) (D.failures store.new) fault) }

@@ -62,8 +62,8 @@ pub trait Store {
         ensures err { IfErr result
             (λ fault. IsDeviceFault (failures self.old) (failures self.new) fault) };
 
-    /// The same of a proof: where its first byte says that it is binary, the text that it stands for
-    /// is appended.
+    /// The same of a proof: if its first byte says that it is binary, the text that it stands for is
+    /// appended.
     fn read_proof(
         &mut self,
         alloc: Global,

@@ -24,7 +24,7 @@ holds Letter rest = has_label (108 ∷ rest)
 holds Other rest = has_label_below rest
 holds Found rest = true
 
--- the text of what a source gave, by its form, what it had left before and has now, has a label line
+-- the text of what a source gave has a label line, by its form and by what is left before and now
 abbrev pub HasGivenLabel : ProofForm → Option (List ℕ) → Option (List ℕ) → Type 0
 HasGivenLabel form first now =
     (bytes : List ℕ) × Consumes first now bytes × (has_label (proof_left form bytes) ≡ true)

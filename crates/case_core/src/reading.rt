@@ -68,8 +68,8 @@ fn hand_over(
 }
 
 /// Judges the proof that a source gives up to its end, with which the text of a judging goes on and
-/// ends. It is opened in this form: before its first byte, which decides whether it is binary, or as
-/// a text. A block of the source, and the text of a binary one, are in memory at a time. `None`
+/// ends. It is opened in this form: before its first byte, which decides whether it is binary, or
+/// as a text. A block of the source, and the text of a binary one, are in memory at a time. `None`
 /// where a line of the text is a label line; it is read no further then.
 ///
 /// `Device` where a read failed, `Memory` where a growth was refused.

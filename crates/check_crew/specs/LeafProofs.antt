@@ -42,7 +42,8 @@ IsLeftOf known left =
 -- there
 abbrev pub IsOpenedOf : {T : Type 0} → Option (Option (List ℕ)) → (T → Option (List ℕ)) →
     Option T → Type 0
-IsOpenedOf known left found = MatchOption found (IsGiven known None) (λ one. IsLeftOf known (left one))
+IsOpenedOf known left found =
+    MatchOption found (IsGiven known None) (λ one. IsLeftOf known (left one))
 
 -- the mark of this judgement is among what was seen, at the node of the target
 pub record HasSeenAs (v : View) (target : Target) (judged : Judged) : Type 0 where

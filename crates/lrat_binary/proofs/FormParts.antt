@@ -29,7 +29,8 @@ whole_text opened form read text turned =
     ∙ ap (proof_left opened) (append-nil read)
 
 -- what stands from a place on, as far as there is something
-rest_from : (begin : ℕ) (text : List ℕ) → take (length text - begin) (drop begin text) ≡ drop begin text
+rest_from : (begin : ℕ) (text : List ℕ)
+    → take (length text - begin) (drop begin text) ≡ drop begin text
 rest_from begin text =
     take_all (length text - begin) (drop begin text) (rw (length-drop begin text) (omega arith))
 

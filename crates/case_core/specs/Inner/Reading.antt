@@ -23,8 +23,8 @@ pub record IsHanded (old new : JudgingOf) (before after : ProofForm) (watch watc
   pub judged : (rest : List ℕ) → says new rest ≡ says old (text ++ rest)
   pub seen : (rest : List ℕ) → holds watched rest ≡ holds watch (text ++ rest)
 
--- what a source has given so far has so many bytes, and its text by the form in which it was opened,
--- as far as it is made, was handed over to a judging and to a watch
+-- what a source has given so far has so many bytes, and its text, by the form in which it was
+-- opened and as far as it is made, was handed over to a judging and to a watch
 pub record ReadSoFar (first now : Option (List ℕ)) (begun j : JudgingOf) (opened form : ProofForm)
     (watch : LabelWatch) (size : ℕ) : Type 0 where
   pub read : List ℕ

@@ -10,7 +10,8 @@ invariant-loop-done g l = record {
   allowed : StaysAllowed (g.D.Store.allows l.initial.store) (g.D.Store.allows l.store);
   same : g.D.Store.failures l.store ≡ g.D.Store.failures l.initial.store;
   looked : Looked (as_proofs (g.D.Store.held l.initial.store)) l.folder
-      (names_from l.kind 1 l.done) l.initial.search.labels l.initial.search.fault l.search.labels l.search.fault;
+      (names_from l.kind 1 l.done) l.initial.search.labels l.initial.search.fault
+      l.search.labels l.search.fault;
 }
 
 abbrev pub decreases-loop-done : goal.decreases-loop-done

@@ -5,7 +5,8 @@ use Rattle.bundle_files.proofs.faults.look_at_one.Goals as goal
 
 pub returns-then-not-branch-clause-added : goal.returns-then-not-branch-clause-added
 returns-then-not-branch-clause-added g c =
-    none_looked (as_proofs (g.D.Store.held c.args.store.now)) c.args.folder.now c.args.name.now _ _ _
+    none_looked (as_proofs (g.D.Store.held c.args.store.now)) c.args.folder.now
+    c.args.name.now _ _ _
     c.in_ok-read_proof.field-0 c.args.search.now.labels c.args.search.now.fault (search rules)
     (c.as_str.ensures.value ∙ c.in_ok-path.ensures) c.in_ok-read_proof.ensures.found
 

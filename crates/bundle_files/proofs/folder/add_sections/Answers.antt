@@ -26,7 +26,8 @@ loop-done-preserved g c =
           (c.loop-done.invariant.allowed path bytes may);
       same = search rules;
       added =
-          one_further (as_proofs (g.D.Store.held c.args.store.now)) _ c.args.folder.now c.args.kind.now _ _ _ _
-          c.loop-done.done (ap as_proofs c.loop-done.invariant.held) name_is c.loop-done.invariant.added
+          one_further (as_proofs (g.D.Store.held c.args.store.now)) _ c.args.folder.now
+          c.args.kind.now _ _ _ _ c.loop-done.done (ap as_proofs c.loop-done.invariant.held)
+          name_is c.loop-done.invariant.added
           c.in_ok-add_section.ensures.added;
     }

@@ -1,5 +1,5 @@
-use Rattle.std.proofs.Common.{◌≡◌, ◌<◌, ◌∙◌, ap, subst, sym, refl, true, ℕ, List, [], Option, length}
-use Rattle.std.proofs.Common.{take, rules}
+use Rattle.std.proofs.Common.{◌≡◌, ◌<◌, ◌∙◌, ap, subst, sym, refl, true, ℕ, List, [], Option}
+use Rattle.std.proofs.Common.{length, take, rules}
 use Rattle.std.proofs.KnownBytes.{Consumes-nil}
 use Rattle.case_core.specs.Watch.{holds}
 use Rattle.case_core.specs.declared.watch.LabelWatch.{LabelWatch}
