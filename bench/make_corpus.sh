@@ -11,7 +11,8 @@ build() { # TOOL SOURCE COMMAND..: where a source in its folder is newer
     fi
 }
 build measure tools/measure.c gcc -O2
-for tool in cubesplit drat2lrat; do build "$tool" "tools/$tool.rs" rustc -O --edition 2024; done
+build cubesplit ../examples/split/cubesplit.rs rustc -O --edition 2024
+build drat2lrat tools/drat2lrat.rs rustc -O --edition 2024
 build lratref anchor/lratref.rs rustc -O --edition 2024
 
 gen() { python3 tools/gen.py "$@"; }

@@ -13,8 +13,8 @@ for tool in python3 rustc cadical; do
 done
 made=${1:-$here/examples}
 mkdir -p "$made" && made=$(CDPATH= cd -- "$made" && pwd) || exit 1
-for tool in cubesplit drat2lrat; do
-    rustc -O --edition 2024 -o "$here/$tool" "$root/bench/tools/$tool.rs" || exit 1
+for tool in examples/split/cubesplit bench/tools/drat2lrat; do
+    rustc -O --edition 2024 -o "$here/${tool##*/}" "$root/$tool.rs" || exit 1
 done
 
 # The input of a solver: the formula with these literals as units at its end.

@@ -1,8 +1,11 @@
 #!/bin/sh
-# Makes cubeboard-VERSION-x86_64.tar.gz of the built programs, for machines that have no kit: cubeboard and cubejoin, which are scripts/packed.sh and
-# run the programs in lib/, README, CHANGELOG, docs/USING.md, docs/FORMATS.md, the examples, the file PROVED, which says of which commit and with which
-# kit each program was proved, and the file SHA256SUMS. Then it unpacks the archive elsewhere, runs the first program out of it on every example, and
-# joins each report with itself by the second; the last line counts.
+# Makes cubeboard-VERSION-x86_64.tar.gz of the built programs, for machines that have no kit:
+# cubeboard and cubejoin, which are scripts/packed.sh and run the programs in lib/, README,
+# CHANGELOG, docs/USING.md, docs/FORMATS.md, the examples, the tool that USING compiles from
+# bench/tools, the file PROVED, which says of which commit and with which kit each program was
+# proved, and the file SHA256SUMS. Then it unpacks the archive elsewhere, runs the first program
+# out of it on every example, and joins each report with itself by the second; the last line
+# counts.
 #
 #     sh scripts/package.sh [FOLDER]
 #
@@ -40,6 +43,8 @@ lay_out_package() {
     cp "$root/README.md" "$root/CHANGELOG.md" "$package/"
     cp "$root/docs/USING.md" "$root/docs/FORMATS.md" "$package/docs/"
     cp -r "$root/examples" "$package/"
+    mkdir -p "$package/bench/tools"
+    cp "$root/bench/tools/drat2lrat.rs" "$package/bench/tools/"
     {
         echo "version: $said"
         echo "commit: ${commit:-none}$changed"

@@ -1,11 +1,16 @@
 #!/bin/sh
-# Runs the commands of docs/USING.md, its indented lines, from top to bottom in an empty folder, and looks whether what the page
-# says of them holds: of the page's example, and from the bundle on of a formula that isn't split, five pigeons in four holes with one
-# empty cube; and of the example with cubes left out, whose leaves are then solved by examples/solve_leaf.sh, too. First without a solver, up to the
-# report without proofs, and the check of an example whose proofs are there; then each way of the page to solve a leaf where there is what it needs:
-# `cadical` with `--lrat`; any `cadical` and a Rust compiler for bench/tools/drat2lrat.rs, or drat-trim; `cryptominisat5` and that compiler. The others are
-# skipped, also where CI is set: the script isn't part of `./check`. The page's run over many machines is tried by its plain loop where its solve.sh has
-# what it needs; its other engines are those of examples/cluster, which scripts/cluster.sh tries, by the same commands. The last line counts.
+# Runs the commands of docs/USING.md, its indented lines, from top to bottom in an empty folder,
+# and looks whether what the page says of them holds: of the page's example, and from the bundle
+# on of a formula that isn't split, five pigeons in four holes with one empty cube; and of the
+# example with cubes left out, whose leaves are then solved by examples/solve_leaf.sh, too. First
+# without a solver, up to the report without proofs, and the check of an example whose proofs are
+# there; the page's splitter, if there is a Rust compiler; then each way of the page to solve a
+# leaf where there is what it needs: `cadical` with `--lrat`; any `cadical` and a Rust compiler
+# for bench/tools/drat2lrat.rs, or drat-trim; `cryptominisat5` and that compiler. The others are
+# skipped, also where CI is set: the script isn't part of `./check`. The page's run over many
+# machines is tried by its plain loop where its solve.sh has what it needs; its other engines are
+# those of examples/cluster, which scripts/cluster.sh tries, by the same commands. The last line
+# counts.
 root=$(CDPATH= cd -- "$(dirname -- "$0")/.." && pwd) || exit 1
 . "$root/scripts/runs.sh"
 
@@ -198,7 +203,7 @@ fi
 
 cut_page "$root/docs/USING.md"
 blocks=$(ls "$here/page" | tr '\n' ' ')
-if [ "$blocks" != "1.1 2.1 3.1 3.2 4.1 4.2 4.3 4.4 4.5 4.6 4.7 4.8 4.9 5.1 5.2 5.3 5.4 5.5 6.1 8.1 8.2 8.3 8.4 8.5 8.6 8.7 " ]; then
+if [ "$blocks" != "1.1 2.1 2.2 3.1 3.2 4.1 4.2 4.3 4.4 4.5 4.6 4.7 4.8 4.9 5.1 5.2 5.3 5.4 5.5 6.1 8.1 8.2 8.3 8.4 8.5 8.6 8.7 " ]; then
     fail "the page has the blocks $blocks, which this script doesn't know"
     finish
 fi
@@ -210,6 +215,17 @@ awk '
     /[^ ]/ { inside = 0 }
     END { printf "%s", block }
 ' "$root/docs/FORMATS.md" > "$here/labels"
+
+# The page's splitter, whose cubes take the place of the page's own.
+if has rustc; then
+    begin "the splitter"
+    block 2.2
+    [ "$status" -eq 0 ] && [ ! -s "$here/out" ] && [ ! -s "$here/err" ]
+    count "the splitter: it is compiled, and splits the example" $?
+    to_the_bundle "the splitter: the example" 16
+else
+    skip "the splitter" "there is no Rust compiler"
+fi
 
 begin "no solver"
 cp -r "$root/examples/van-der-waerden-3-6" "$here/solved" && cd "$here/solved" && grep '^a ' case.icnf > cubes || exit 1

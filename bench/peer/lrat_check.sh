@@ -36,7 +36,7 @@ spoiled() {
     ! needs cadical "proofs of a solver" || solved_proofs "$work/spoiled"
     ! needs drat-trim "proofs by drat-trim" || resolved_proofs "$work/spoiled" drat-trim 3 4 5
     if needs rustc "proofs by drat2lrat"; then
-        tool drat2lrat
+        tool drat2lrat "$bench/tools"
         resolved_proofs "$work/spoiled" drat2lrat 3 4 5
     fi
     [ -n "$(find "$work/spoiled" -name '*.lrat')" ] || return 0
@@ -50,7 +50,7 @@ leaves() {
         solved_leaf rand300 rand3 300 1350 1
     fi
     if needs rustc "the leaf with RAT steps"; then
-        tool drat2lrat
+        tool drat2lrat "$bench/tools"
         resolved_leaf php30-er drat2lrat 30
     fi
     set --
@@ -63,7 +63,7 @@ leaves() {
 
 run() {
     needs cadical "a run of leaves" && needs rustc "a run of leaves" || return 0
-    tool cubesplit
+    tool cubesplit "$bench/../examples/split"
     solved_run 256 vdw2 97 3 10
     python3 "$here/lrat_run.py" "$program" "$work/run"
 }

@@ -19,10 +19,10 @@ needs() {
     return 1
 }
 
-# Compiles a tool in Rust if its source is newer: its name.
+# Compiles a tool in Rust if its source is newer: its name, and the folder of its source.
 tool() {
-    if [ ! -x "$bin/$1" ] || [ -n "$(find "$bench/tools/$1.rs" -newer "$bin/$1")" ]; then
-        rustc -O --edition 2024 -o "$bin/$1" "$bench/tools/$1.rs"
+    if [ ! -x "$bin/$1" ] || [ -n "$(find "$2/$1.rs" -newer "$bin/$1")" ]; then
+        rustc -O --edition 2024 -o "$bin/$1" "$2/$1.rs"
     fi
 }
 
