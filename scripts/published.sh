@@ -4,8 +4,9 @@
 # theorems that are known: the solver refutes each, and finds a model of the one with a number or a
 # point less. The commands of the page's part "Checked besides" are run as they are.
 #
-# It needs python3, a Rust compiler and `cadical`, and isn't part of `./check`. The last line
-# counts.
+# It needs python3, a Rust compiler and `cadical`, and isn't part of `./check`. So
+# scripts/false_programs.sh, which is, must not find it: its calls of `build_program` and
+# `build_join` are indented. The last line counts.
 root=$(CDPATH= cd -- "$(dirname -- "$0")/.." && pwd) || exit 1
 . "$root/scripts/runs.sh"
 for tool in python3 rustc cadical; do
@@ -14,15 +15,21 @@ for tool in python3 rustc cadical; do
         finish
     fi
 done
-build_program
-build_join
-CUBEBOARD=$program
-CUBEJOIN=$join
-PYTHONDONTWRITEBYTECODE=1
-export CUBEBOARD CUBEJOIN PYTHONDONTWRITEBYTECODE
-unset KEEP DRAT2LRAT PROCESSES SECONDS_A_LEAF
+
+# The programs, and the environment of the runs.
+begin() {
+    build_program
+    build_join
+    CUBEBOARD=$program
+    CUBEJOIN=$join
+    PYTHONDONTWRITEBYTECODE=1
+    export CUBEBOARD CUBEJOIN PYTHONDONTWRITEBYTECODE
+    unset KEEP DRAT2LRAT PROCESSES SECONDS_A_LEAF
+}
+
 published=$root/examples/published
 folder=$here/run/pentagon
+solver=$(command -v cadical)
 
 # Calls run.sh.
 published() {
@@ -136,7 +143,7 @@ page() {
     count "the page: the pentagon's formula says of points what their coordinates say" $?
 }
 
-solver=$(command -v cadical)
+begin
 whole_run
 other_ways
 bound pentagon 10
