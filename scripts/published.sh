@@ -22,8 +22,7 @@ begin() {
     build_join
     CUBEBOARD=$program
     CUBEJOIN=$join
-    PYTHONDONTWRITEBYTECODE=1
-    export CUBEBOARD CUBEJOIN PYTHONDONTWRITEBYTECODE
+    export CUBEBOARD CUBEJOIN
     unset KEEP DRAT2LRAT PROCESSES SECONDS_A_LEAF
 }
 
@@ -83,6 +82,9 @@ other_ways() {
     published squares
     is_refused "run.sh: run.sh NAME [FOLDER], where NAME is pentagon, schur or van_der_waerden"
     count "another name is refused" $?
+    published schur pentagon
+    is_refused "run.sh: the folder $folder has a run of another formula"
+    count "the folder of another formula is refused" $?
     for tool in dirname python3 rustc; do ln -s "$(command -v "$tool")" "$here/few/"; done
     note "$here/none" env PATH="$here/few" "$(command -v sh)" "$published/run.sh" pentagon
     is_refused "run.sh: it needs cadical, which isn't in the PATH"

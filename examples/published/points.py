@@ -12,6 +12,7 @@ import random
 import subprocess
 import sys
 
+sys.dont_write_bytecode = True  # nothing new stands beside formulas.py
 import formulas
 
 

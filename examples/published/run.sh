@@ -20,6 +20,15 @@ refuse() {
     exit "$1"
 }
 
+# A program's name, or its path from any folder.
+from_anywhere() {
+    case $1 in
+        /*) echo "$1" ;;
+        */*) echo "$PWD/$1" ;;
+        *) echo "$1" ;;
+    esac
+}
+
 # The words of each theorem for formulas.py, the number of its cubes, and that of the jobs.
 name=${1:-none}
 case $name in
@@ -31,24 +40,23 @@ esac
 for tool in python3 rustc cadical; do
     command -v "$tool" > /dev/null || refuse 2 "it needs $tool, which isn't in the PATH"
 done
-# A program's name, or its path from any folder.
-from_anywhere() {
-    case $1 in
-        /*) echo "$1" ;;
-        */*) echo "$PWD/$1" ;;
-        *) echo "$1" ;;
-    esac
-}
-
 CUBEBOARD=$(from_anywhere "${CUBEBOARD:-$root/cubeboard}")
 CUBEJOIN=$(from_anywhere "${CUBEJOIN:-$root/cubejoin}")
 for program in "$CUBEBOARD" "$CUBEJOIN"; do
     command -v "$program" > /dev/null || refuse 2 "there is no program $program"
 done
 
-# The formula, the splitter and the cubes.
+# The formula. A folder with another one has another run.
+formula() {
+    python3 "$examples/published/formulas.py" "$name" $words > formula.part ||
+        refuse 1 "the formula can't be made"
+    [ ! -e formula.cnf ] || cmp -s formula.part formula.cnf ||
+        refuse 2 "the folder $PWD has a run of another formula"
+    mv formula.part formula.cnf
+}
+
+# The splitter and the cubes.
 split() {
-    python3 "$examples/published/formulas.py" "$name" $words > formula.cnf || return
     rustc -O --edition 2024 -o cubesplit "$examples/split/cubesplit.rs" || return
     ./cubesplit formula.cnf "$leaves" > cubes.part && mv cubes.part cubes
 }
@@ -95,7 +103,8 @@ tell() {
 }
 
 mkdir -p "${2:-$name}" && cd "${2:-$name}" || exit 1
-[ -s cubes ] || split || refuse 1 "the formula can't be made, or can't be split"
+formula
+[ -s cubes ] || split || refuse 1 "the formula can't be split"
 lrat_tool || refuse 1 "the tool drat2lrat can't be compiled"
 echo "formula.cnf: $(grep '^p cnf' formula.cnf), SHA-256 $(sha256sum < formula.cnf | cut -c1-64)"
 solve
