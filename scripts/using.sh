@@ -216,6 +216,16 @@ awk '
     END { printf "%s", block }
 ' "$root/docs/FORMATS.md" > "$here/labels"
 
+begin "no solver"
+cp -r "$root/examples/van-der-waerden-3-6" "$here/solved" && cd "$here/solved" && grep '^a ' case.icnf > cubes || exit 1
+check "no solver: the folder van-der-waerden-3-6 of examples"
+two_days "no solver: the folder van-der-waerden-3-6 of examples" "$root/examples/van-der-waerden-3-6.report"
+sed -n 's/^    //p' "$root/examples/cluster/README.md" > "$here/commands"
+for number in 2 3 4 5; do
+    tr '\n' '~' < "$here/commands" | grep -q -F "$(tr '\n' '~' < "$here/page/8.$number")"
+    count "the page's commands $number for many machines are those of examples/cluster" $?
+done
+
 # The page's splitter, whose cubes take the place of the page's own.
 if has rustc; then
     begin "the splitter"
@@ -227,15 +237,6 @@ else
     skip "the splitter" "there is no Rust compiler"
 fi
 
-begin "no solver"
-cp -r "$root/examples/van-der-waerden-3-6" "$here/solved" && cd "$here/solved" && grep '^a ' case.icnf > cubes || exit 1
-check "no solver: the folder van-der-waerden-3-6 of examples"
-two_days "no solver: the folder van-der-waerden-3-6 of examples" "$root/examples/van-der-waerden-3-6.report"
-sed -n 's/^    //p' "$root/examples/cluster/README.md" > "$here/commands"
-for number in 2 3 4 5; do
-    tr '\n' '~' < "$here/commands" | grep -q -F "$(tr '\n' '~' < "$here/page/8.$number")"
-    count "the page's commands $number for many machines are those of examples/cluster" $?
-done
 # The way that solve_leaf.sh goes.
 way_of_a_leaf="4.6 4.7"
 if takes_lrat; then
