@@ -137,7 +137,7 @@ page() {
     cut_page "$published/README.md"
     ln -s "$root/examples" "$here/run/"
     note "$here/none" sh "$here/page/checked besides.1"
-    [ "$(sort "$here/out" | uniq -c | tr -s ' ')" = " 3 s SATISFIABLE" ] && [ ! -s "$here/err" ]
+    [ "$(sort "$here/out" | uniq -c | tr -s ' ')" = " 2 s SATISFIABLE" ] && [ ! -s "$here/err" ]
     count "the page: with a point or a number less the solver finds a model" $?
     note "$here/none" sh "$here/page/checked besides.2"
     [ "$(grep -c ' [1-9][0-9]* without an empty convex pentagon, 0 wrong$' "$here/out")" -eq 3 ] &&
