@@ -68,8 +68,8 @@ from_the_bundle() {
     check "$1"
 }
 
-# The page from its third part on where cubes are left out, and then its leaves as so many calls of solve_leaf.sh, which writes the same proofs where it
-# goes the same way: who tries it.
+# The page from its third part on where cubes are left out, and then its leaves as so many calls of
+# solve_leaf.sh, which leaves as many proofs where it goes the same way: who tries it.
 left_out() {
     rm -rf "$here/left out"
     mkdir "$here/left out"
@@ -84,8 +84,12 @@ left_out() {
     if [ "$way" = "$way_of_a_leaf" ]; then
         mv proofs solved
         block 4.5
-        [ "$status" -eq 0 ] && [ ! -s "$here/out" ] && [ ! -s "$here/err" ] && diff -r solved proofs > "$here/out"
-        count "$1: solve_leaf.sh leaves the same proofs" $?
+        # (from CaDiCaL 2 on it leaves the proofs binary, and the page's lines leave text)
+        "$root/cubeboard" --proofs solved case.icnf > "$here/told_of_solved"
+        [ "$status" -eq 0 ] && [ ! -s "$here/out" ] && [ ! -s "$here/err" ] &&
+            [ "$(ls solved)" = "$(ls proofs)" ] &&
+            "$root/cubeboard" --proofs proofs case.icnf | cmp -s - "$here/told_of_solved"
+        count "$1: solve_leaf.sh leaves proofs of the same leaves, with the same report" $?
     fi
     cd "$here/example" || exit 1
 }
