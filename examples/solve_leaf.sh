@@ -1,14 +1,18 @@
 #!/bin/sh
-# solve_leaf.sh LEAF: solves one leaf of a case, so that a run of many leaves can be as many jobs, in any order and on any machines that see the
-# folder. LEAF is K for cube K, or mJ for missing leaf J, as a report names them. The folder that it runs in has
+# solve_leaf.sh LEAF: solves one leaf of a case, so that a run of many leaves can be as many jobs, in
+# any order and on any machines that see the folder. LEAF is K for cube K, or mJ for missing leaf J,
+# as a report names them. The folder that it runs in has
 # - case.icnf, the formula and the cubes, a line each, as docs/USING.md makes them in its parts 1 to 3;
 # - report, the report on that case, from which the path of a missing leaf is taken.
-# The proof is moved into place when it is whole, as proofs/LEAF.lrat; a leaf whose proof is there isn't solved again.
+# The proof is moved into place when it is whole, as proofs/LEAF.lrat. A leaf whose proof is there
+# isn't solved again.
 #
-# By the environment: SOLVE, the path or the name of a command that is handed a formula and the path for its LRAT proof, and whose status is 20
-# where the proof is there; it runs in a folder of its own. Without it cluster/solve.sh beside this file, which calls CaDiCaL.
+# By the environment: SOLVE, the path or the name of a command that is handed a formula and the path
+# for its LRAT proof. Its status is 20 if the proof is there. It runs in a folder of its own. Without
+# it cluster/solve.sh beside this file, which calls CaDiCaL.
 #
-# The status is 0 where the proof is there, 1 where the solver gave none, and 2 where the case has no such leaf.
+# The status is 0 if the proof is there, 1 if the solver gave none, 2 if the case has no such leaf,
+# and 255 if SOLVE can't be run: `xargs` stops then. A signal ends this script and the solver.
 leaf=${1:-none}
 SOLVE=${SOLVE:-$(dirname -- "$0")/cluster/solve.sh}
 case $SOLVE in
@@ -50,11 +54,23 @@ if [ -z "$path" ]; then
     exit 2
 fi
 work=$(mktemp -d) || exit 1
-trap 'rm -rf "$work"' EXIT
+solver=
+trap '[ -z "$solver" ] || kill "$solver" 2> /dev/null; rm -rf "$work"' EXIT
 trap 'exit 1' HUP INT TERM
 formula_with "$path" > "$work/leaf.cnf"
-(cd "$work" && "$SOLVE" leaf.cnf proof.lrat) > "$work/log" 2>&1 < /dev/null
+# (in the background and waited for, so that a signal doesn't wait for the solver's end)
+(cd "$work" && exec "$SOLVE" leaf.cnf proof.lrat) > "$work/log" 2>&1 < /dev/null &
+solver=$!
+wait "$solver"
 status=$?
+solver=
+case $status in
+    126 | 127)
+        tail -n 1 "$work/log" >&2
+        echo "solve_leaf.sh: the solver $SOLVE can't be run" >&2
+        exit 255
+        ;;
+esac
 if [ "$status" -ne 20 ]; then
     tail -n 1 "$work/log" >&2
     echo "solve_leaf.sh: the leaf $leaf stays open: the solver's status is $status" >&2

@@ -19,10 +19,13 @@ NOTES=$here/notes
 CUBEBOARD=$program
 CUBEJOIN=$join
 TMPDIR="$here/the jobs' room"
-# Leaves that the solver gives up on, and one at which it is stuck.
+# Leaves that the solver gives up on, one at which it is stuck, one at which it is killed when half of
+# the proof is written, and one whose proof it ends with a label line.
 HARD=
 STUCK=
-export EXAMPLE SOLVE NOTES CUBEBOARD CUBEJOIN TMPDIR HARD STUCK
+HALF=
+LABEL=
+export EXAMPLE SOLVE NOTES CUBEBOARD CUBEJOIN TMPDIR HARD STUCK HALF LABEL
 unset WORKERS KEEP
 mkdir "$TMPDIR"
 echo 0 > "$here/zero"
@@ -41,9 +44,18 @@ number=$(grep -n -x "a ${literals}0" "$EXAMPLE/cubes" | cut -d : -f 1)
     for literal in $literals; do echo "$literal 0"; done
 } | cmp -s - "$1" || exit 1
 echo "$number" >> "$NOTES"
-[ "$number" != "$STUCK" ] || sleep 5
+[ "$number" != "$STUCK" ] || exec sleep 5
 case " $HARD " in *" $number "*) exit 0 ;; esac
-cp "$EXAMPLE/proofs/$number.lrat" "$2" && exit 20
+[ ! -p "$2" ] || echo "$number" >> "$NOTES.pipes"
+proof=$EXAMPLE/proofs/$number.lrat
+if [ "$number" = "$HALF" ]; then
+    head -c "$(($(wc -c < "$proof") / 2))" "$proof" > "$2"
+    kill -KILL $$
+fi
+if [ "$number" = "$LABEL" ]; then
+    { cat "$proof" && echo "l 1"; } > "$2" && exit 20
+fi
+cp "$proof" "$2" && exit 20
 SOLVER
 chmod +x "$SOLVE"
 
@@ -60,6 +72,7 @@ begin() {
     folder=$here/$1
     mkdir "$folder" && cp "$EXAMPLE/case.icnf" "$root/examples/cluster/"* "$folder/" || exit 1
     : > "$NOTES"
+    : > "$NOTES.pipes"
 }
 
 # Joins these records, or with --unbound these reports, of the case of this folder.
@@ -256,12 +269,85 @@ cut_short() {
 # A job that keeps its proofs, and is killed at its fourth leaf.
 killed_job() {
     (cd "$folder" && STUCK=14 KEEP="the kept" exec sh job.sh 2 4) < /dev/null > /dev/null 2>&1 &
-    tries=0
-    until [ "$(grep -c -x 14 "$NOTES")" -eq 1 ] || [ "$tries" -gt 600 ]; do sleep 0.1; tries=$((tries + 1)); done
+    wait_for 14
     kill -KILL $!
     wait $! 2> /dev/null
     [ $? -gt 128 ] && [ ! -e "$folder/2.record" ] && has_solved 2 6 10 14 && [ "$(ls "$folder/the kept" | tr '\n' ' ')" = "10.lrat 2.lrat 6.lrat " ]
     count "a job that is killed leaves no record, and of its proofs those that are whole" $?
+}
+
+# Jobs that keep no proof: each is checked while it is written.
+jobs_with_pipes() {
+    begin "jobs with pipes"
+    for number in 0 1 2 3; do job "$number" WORKERS=3; done
+    has_records 4 && has_solved $(seq 32) && [ "$(sort -n "$NOTES.pipes" | tr '\n' ' ')" = "$(seq 32 | tr '\n' ' ')" ]
+    count "by three workers each leaf is solved once, and each proof goes through a pipe" $?
+    join case.icnf 0.record 1.record 2.record 3.record
+    is_whole
+    count "such jobs, joined, give the report of one run" $?
+    rm "$folder/1.record"
+    job 1 KEEP=kept
+    [ "$(wc -l < "$NOTES.pipes")" -eq 32 ] && [ "$(ls "$folder/kept" | wc -l)" -eq 8 ] && rm "$folder/1.record"
+    count "a job that keeps its proofs has no pipe" $?
+    : > "$NOTES"
+    { job 1 HALF=13; } 2> /dev/null
+    [ "$(cat "$here/status")" -eq 0 ] && grep -q "the leaf 13 stays open: the solver's status is 137" "$here/err" && has_records 4 &&
+        has_solved 1 5 9 13 17 21 25 29 && grep -q -E '^a 13 rejected [0-9]+ (end|unreadable)$' "$folder/1.record"
+    count "a solver that is killed in the midst of a proof: its leaf is open, and the others are solved" $?
+    join case.icnf 0.record 1.record 2.record 3.record
+    is_open 1
+    count "the join has that leaf open" $?
+    rm "$folder/1.record"
+    job 1 LABEL=13
+    [ "$(cat "$here/status")" -eq 0 ] && has_records 4 && ! grep -q '^a 13 refuted$' "$folder/1.record"
+    count "a solver that ends a proof with a label line: the job comes to its end, and that leaf is open" $?
+    rm "$folder/1.record"
+    ended_jobs
+}
+
+# A check that ends at once, and a job that is told to end while its solver is at work.
+ended_jobs() {
+    : > "$NOTES"
+    printf '%s\n' '#!/bin/sh' '[ $# -gt 1 ] || exec "$PROGRAM" "$@"' 'exit 5' > "$folder/no check"
+    chmod +x "$folder/no check"
+    job 1 PROGRAM="$program" CUBEBOARD="./no check" WORKERS=2
+    [ "$(cat "$here/status")" -eq 1 ] && has_records 3 && has_solved
+    count "if the check ends at once, the job ends without a record, and solves nothing" $?
+    (cd "$folder" && STUCK=13 exec sh job.sh 1 4) < /dev/null > /dev/null 2>&1 &
+    wait_for 13
+    kill -TERM $!
+    wait $! 2> /dev/null
+    [ $? -eq 1 ] && has_records 3
+    count "a job that is told to end leaves no record, and nothing of its proofs" $?
+}
+
+# Leaves one by one, by examples/solve_leaf.sh.
+single_leaves() {
+    begin "single leaves"
+    cp "$report" "$folder/report"
+    in_folder sh "$root/examples/solve_leaf.sh" 7
+    [ "$(cat "$here/status")" -eq 0 ] && cmp -s "$folder/proofs/7.lrat" "$EXAMPLE/proofs/7.lrat" && [ "$(ls "$folder/proofs")" = 7.lrat ]
+    count "a leaf's proof is moved into place" $?
+    in_folder env HARD=8 sh "$root/examples/solve_leaf.sh" 8
+    [ "$(cat "$here/status")" -eq 1 ] && grep -q "the leaf 8 stays open: the solver's status is 0" "$here/err" && [ "$(ls "$folder/proofs")" = 7.lrat ]
+    count "a leaf that the solver gives up on has no proof" $?
+    seq 32 > "$folder/leaves"
+    in_folder sh -c 'SOLVE=./no_such_solver xargs -n 1 sh "$0" < leaves' "$root/examples/solve_leaf.sh"
+    [ "$(cat "$here/status")" -ne 0 ] && [ "$(grep -c "no_such_solver can't be run" "$here/err")" -eq 1 ] && [ "$(ls "$folder/proofs")" = 7.lrat ]
+    count "a solver that can't be run stops all leaves at the first" $?
+    : > "$NOTES"
+    (cd "$folder" && STUCK=9 exec sh "$root/examples/solve_leaf.sh" 9) < /dev/null > /dev/null 2>&1 &
+    wait_for 9
+    kill -TERM $!
+    wait $! 2> /dev/null
+    [ $? -eq 1 ] && [ "$(ls "$folder/proofs")" = 7.lrat ] && [ -z "$(ls "$TMPDIR")" ]
+    count "a leaf that is told to end leaves nothing, and doesn't wait for its solver" $?
+}
+
+# Waits until the solver has noted a leaf, for a minute at most.
+wait_for() {
+    tries=0
+    until [ "$(grep -c -x "$1" "$NOTES")" -eq 1 ] || [ "$tries" -gt 600 ]; do sleep 0.1; tries=$((tries + 1)); done
 }
 
 # A tree of one cube and a missing leaf, in two jobs, with a section for the root that doesn't hold: the missing leaf is solved as the second cube would be.
@@ -290,6 +376,8 @@ SOLVER
 four_jobs
 other_records
 jobs_that_fail
+jobs_with_pipes
+single_leaves
 missing_leaf
 for engine in $engines; do
     if is_here "$engine"; then try_engine "$engine"; fi

@@ -101,6 +101,7 @@ told "a cube without its a" 1 << TOLD
 standard input: clauses: 4; literals: 6; greatest variable: 3
 SHA-256 of formula and cubes: *
 standard input: cubes: 0; branches without a cube: 1; sections for leaves: 0, for inner nodes: 0
+standard input: a cube begins with a: a line without it is a clause
 TOLD
 with_bundle 'a 3 0\n'
 printf 'c\np cnf 2 2\n1 0\n-1 0\n' > "$here/run/formula.cnf"
@@ -121,6 +122,7 @@ case.icnf, line 2: words behind p inccnf, which are ignored: 5
 case.icnf, line 2: the line has CR bytes in it, but only LF ends a line
 SHA-256 of formula and cubes: *
 case.icnf: cubes: 0; branches without a cube: 1; sections for leaves: 0, for inner nodes: 0
+case.icnf: a cube begins with a: a line without it is a clause
 TOLD
 with_bundle 'p inccnf 3 2\r\n1 0\r\n'
 run "$here/none" --explain case.icnf
@@ -129,6 +131,7 @@ case.icnf: clauses: 1; literals: 1; greatest variable: 1
 case.icnf, line 1: words behind p inccnf, which are ignored: 2
 SHA-256 of formula and cubes: *
 case.icnf: cubes: 0; branches without a cube: 1; sections for leaves: 0, for inner nodes: 0
+case.icnf: a cube begins with a: a line without it is a clause
 TOLD
 with_bundle 'p inccnf\r\n1 0\r\n'
 run "$here/none" --explain case.icnf
@@ -136,6 +139,7 @@ told "lines that end with CR and LF" 1 << 'TOLD'
 case.icnf: clauses: 1; literals: 1; greatest variable: 1
 SHA-256 of formula and cubes: *
 case.icnf: cubes: 0; branches without a cube: 1; sections for leaves: 0, for inner nodes: 0
+case.icnf: a cube begins with a: a line without it is a clause
 TOLD
 
 # A folder: without a file, with files that name no leaf, with links, and one that isn't there. What
@@ -194,6 +198,19 @@ proofs/2.lrat: it looks like gzip: unpack it first
 what stands there is no whole step*; look for *
 TOLD
 
+with_bundle "$tree"
+printf 'o 1  1 0\na 5  0 l 1 2 0\n' > "$here/run/proofs/1.lrat"
+run "$here/none" --explain --proofs proofs case.icnf
+told "a proof in FRAT" 1 << TOLD
+case.icnf: clauses: 3; *
+SHA-256 *
+case.icnf: cubes: 2; branches without a cube: 0; sections for leaves: 0, for inner nodes: 0
+proofs: files that are proofs of leaves: 1
+proof for 1: step 1 is rejected: proofs/1.lrat, line 1: "o 1  1 0"
+proofs/1.lrat: it looks like FRAT*(CaDiCaL: --lrat)
+what stands there is no whole step*; look for *
+TOLD
+
 # A binary proof of the folder is told by its step as text: here by an addition of the empty clause,
 # 5 0 1 9 0, and one whose first id isn't doubled.
 with_bundle "$tree"
@@ -248,6 +265,13 @@ with_bundle 'p inccnf\n1 0\n%%\n0\n'
 run "$here/none" --explain case.icnf
 from "a trailer" << 'TOLD'
 case.icnf, line 3: "%"
+files of SATLIB end so: cut them off from this line on
+TOLD
+with_bundle 'c\na 3 0\na -3 0\n'
+run "$here/none" --explain case.icnf
+from "cubes without a formula" << 'TOLD'
+case.icnf, line 2: "a 3 0"
+case.icnf: it looks like cubes: name the formula by --formula; a bundle begins with p inccnf
 TOLD
 with_bundle 'p inccnf\na 3 1 0\na 3 -1 0\na 1 0\n'
 run "$here/none" --explain case.icnf

@@ -14,9 +14,11 @@ pub(crate) enum Looks {
     Bzip2,
     BinaryProof,
     ClausalProof,
+    FratProof,
     Answer,
     Dimacs,
     Icnf,
+    Cubes,
     Unknown,
 }
 
@@ -36,12 +38,17 @@ impl fmt::Display for Looks {
                 "it looks like DRAT as text, which has no ids and no hints: have the solver write \
                  LRAT, or make it of this one (drat-trim -L)"
             }
+            Looks::FratProof => {
+                "it looks like FRAT, which has hints for some steps alone: have the solver write \
+                 LRAT (CaDiCaL: --lrat)"
+            }
             Looks::Answer => "it looks like a solver's answer, and not like its proof",
             Looks::Dimacs => {
                 "it looks like a formula in DIMACS: name it by --formula, or make an iCNF text of \
                  it"
             }
             Looks::Icnf => "it looks like iCNF",
+            Looks::Cubes => "it looks like cubes: name the formula by --formula",
             Looks::Unknown => "it looks like nothing that is known here",
         })
     }
@@ -97,8 +104,18 @@ fn line_looks(line: Line<'_>) -> Looks {
         Some((b"s", _)) => Looks::Answer,
         Some((b"v", _)) => Looks::Answer,
         Some((b"d", _)) => Looks::ClausalProof,
+        Some((b"o", rest)) if begins_with_number(rest) => Looks::FratProof,
+        Some((b"a", rest)) if begins_with_number(rest) => Looks::Cubes,
         Some((_, rest)) if is_clause(rest) => Looks::ClausalProof,
         _ => Looks::Unknown,
+    }
+}
+
+/// Whether the next word is a number.
+fn begins_with_number(line: &[u8]) -> bool {
+    match first_word(line) {
+        Some((word, _)) => is_number(word),
+        None => false,
     }
 }
 

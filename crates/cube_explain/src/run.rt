@@ -42,15 +42,17 @@ impl<'r, R: Eprint> Run<'r, R> {
     /// Tells a line of a file, or that it has none with a word. An error is one of standard error,
     /// here and in each function that tells.
     pub(crate) fn tell(&self, from: &str, line: Option<Line<'_>>) -> io::Result<()> {
-        match line {
-            Some(line) => eprintln!(self.device;
-                "explain: {}, line {}: {}",
-                Name(from),
-                line.number,
-                Shown(line.text)
-            ),
-            None => eprintln!(self.device; "explain: {} has no line with words", Name(from)),
+        let Some(line) = line else {
+            return eprintln!(self.device; "explain: {} has no line with words", Name(from));
+        };
+        let (number, text) = (line.number, Shown(line.text));
+        eprintln!(self.device; "explain: {}, line {number}: {text}", Name(from))?;
+        if line.text == b"%".as_slice() {
+            return eprintln!(self.device;
+                "explain: files of SATLIB end so: cut them off from this line on"
+            );
         }
+        Ok(())
     }
 
     /// Tells the line of this number, from 1, of a file's text.

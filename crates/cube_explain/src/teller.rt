@@ -125,7 +125,13 @@ fn tell_tree<R: Eprint>(run: &Run<'_, R>, case: &Case) -> io::Result<()> {
     eprintln!(run.device;
         "explain: {from}: cubes: {cubes}; branches without a cube: {missing}; \
          sections for leaves: {leaves}, for inner nodes: {nodes}"
-    )
+    )?;
+    if cubes == 0 {
+        return eprintln!(run.device;
+            "explain: {from}: a cube begins with a: a line without it is a clause"
+        );
+    }
+    Ok(())
 }
 
 /// Tells what the folder of proofs has, where one is asked for.
