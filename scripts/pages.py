@@ -13,9 +13,9 @@ archive    Each link in a page of the archive that scripts/package.sh makes lead
            says that some don't, by the sentence LEADS_OUT.
 width      No line is wider than 100 columns. Left out are tables, whose rows can't be broken; blocks of code, which
            are commands and sources as they are; a line of one word, as a long link; and the pages of WIDE.
-examples   Each block of code in a crate's README and in the parts README_PARTS of README stands in a source. The
-           paragraph above it links the .rt or .antt file, or several, and each piece of the block, up to a blank
-           line, stands there line by line. If it is in none, that paragraph begins with "A sketch".
+examples   Each piece of code, up to a blank line, in a crate's README and in the parts README_PARTS of README stands
+           line by line in a source. The paragraph above it links the .rt or .antt file, or several. If it stands in
+           none, that paragraph begins with "A sketch".
 crates     CONTRIBUTING's table of crates has the lines of crates.txt, in their order, and says of each crate what it
            stands on. What a crate is about is text of the page.
 
@@ -52,7 +52,8 @@ ITEM = re.compile(r"^\s*(?:[-*]|\d+\.) ")
 # A full stop and its like, with what closes behind it; two dots in a row are none.
 END = re.compile(r"(?<=[^.\s][.!?])[\"')*_]*\s+")
 
-# A part of a page: what it is (code, table, heading, text or comment), the number of its first line, and its lines.
+# A part of a page: what it is (code, table, heading, text or comment), the number of its first line, and its lines. Code
+# has a part up to each blank line.
 Part = namedtuple("Part", "kind first lines")
 
 
@@ -147,12 +148,16 @@ def archived(root):
     return found[1].split() if found else ["the line packed="]
 
 
+def is_below(path, packed):
+    """Whether a path is one of these, or lies in one of them."""
+    return any(path == it or path.startswith(it + "/") for it in packed)
+
+
 def against_archive(root):
     packed = archived(root)
     yield from (("scripts/package.sh", 1, f"there is no {it}") for it in packed if not (root / it).exists())
-    has = lambda path: any(path == it or path.startswith(it + "/") for it in packed)
-    for page in filter(has, pages(root)):
-        out = [(number, target) for number, target in links(root, page) if not has(place_of(root, page, target)[0])]
+    for page in [page for page in pages(root) if is_below(page, packed)]:
+        out = [(number, target) for number, target in links(root, page) if not is_below(place_of(root, page, target)[0], packed)]
         texts = [" ".join(map(str.strip, part.lines)) for part in parts(root, page)]
         if not any(LEADS_OUT in text for text in texts):
             yield from ((page, number, f"the archive lacks {target}, and the page doesn't say so") for number, target in out)
@@ -167,15 +172,10 @@ def against_width(root):
                     yield page, number, f"{len(line)} columns"
 
 
-def pieces(block):
-    """The pieces of a block of code, parted by blank lines."""
-    return [piece.split("\n") for piece in re.split(r"\n(?:\s*\n)+", "\n".join(block.lines))]
-
-
-def stands_in(piece, source):
-    """Whether the lines of a piece stand in a source one behind the other, all of them moved by one number of columns."""
-    least = min(len(line) - len(line.lstrip()) for line in piece)
-    wanted = [line[least:].rstrip() for line in piece]
+def stands_in(lines, source):
+    """Whether lines stand in a source one behind the other, all of them moved by one number of columns."""
+    least = min(len(line) - len(line.lstrip()) for line in lines)
+    wanted = [line[least:].rstrip() for line in lines]
     for start, line in enumerate(source):
         if line.lstrip() == wanted[0].lstrip():
             depth = len(line) - len(line.lstrip()) - (len(wanted[0]) - len(wanted[0].lstrip()))
@@ -186,7 +186,7 @@ def stands_in(piece, source):
 
 
 def introduced(found):
-    """Each block of code of a page with the text of the paragraph above it, and the heading above both."""
+    """Each piece of code of a page with the text of the paragraph above it, and the heading above both."""
     told = heading = ""
     for part in found:
         if part.kind == "code":
@@ -199,19 +199,18 @@ def introduced(found):
 def against_examples(root):
     for page in pages(root):
         of_crate = re.fullmatch(r"crates/\w+/README\.md", page)
-        for block, told, heading in introduced(parts(root, page)):
+        for piece, told, heading in introduced(parts(root, page)):
             if of_crate or page == "README.md" and heading in README_PARTS:
-                yield from against_block(root, page, block, told)
+                yield from against_piece(root, page, piece, told)
 
 
-def against_block(root, page, block, told):
+def against_piece(root, page, piece, told):
     paths = [place_of(root, page, target)[0] for target in LINK.findall(told) if target.endswith((".rt", ".antt"))]
     if not paths and not told.startswith(SKETCH):
-        yield page, block.first, "the paragraph above the example links no source, and doesn't begin with " + SKETCH
+        yield page, piece.first, "the paragraph above the example links no source, and doesn't begin with " + SKETCH
     sources = [(root / path).read_text(encoding="utf-8").split("\n") for path in paths if (root / path).exists()]
-    for piece in pieces(block) if paths else []:
-        if not any(stands_in(piece, source) for source in sources):
-            yield page, block.first, f"{piece[0].strip()} .. doesn't stand in {', '.join(paths)}"
+    if paths and not any(stands_in(piece.lines, source) for source in sources):
+        yield page, piece.first, f"{piece.lines[0].strip()} .. doesn't stand in {', '.join(paths)}"
 
 
 def table_of_crates(root):
@@ -257,8 +256,8 @@ def tell_sentences(root):
     print(f"pages: sentences of more than {WORDS} words, in prose and in tables:")
     for page in pages(root):
         told = []
-        for kinds in (("text", "heading"), ("table",)):
-            counts = [len(it.split()) for part in parts(root, page) if part.kind in kinds for it in sentences(part)]
+        for kind in ("text", "table"):
+            counts = [len(it.split()) for part in parts(root, page) if part.kind == kind for it in sentences(part)]
             long = sum(count > WORDS for count in counts)
             told.append(f"{long} of {len(counts)} ({100 * long / max(len(counts), 1):.0f} %)")
         print(f"pages: {page}: {', '.join(told)}")
