@@ -1,4 +1,4 @@
-"""The tables that scripts write into docs/PROOFS.md, each between the two marks of its name."""
+"""What the scripts that write tables share: crates.txt, and the tables of docs/PROOFS.md, each between the two marks of its name."""
 import pathlib
 
 ROOT = pathlib.Path(__file__).resolve().parent.parent
