@@ -40,7 +40,7 @@ LEFT_OUT = {"out", "bench/bin", "bench/corpus"}
 WIDE = {
     "docs/DECISIONS.md", "docs/DEFINITIONS.md", "docs/PERFORMANCE.md", "docs/PROOFS.md", "docs/THEOREMS.md", "examples/cluster/README.md"
 }
-LEADS_OUT = "A link that is dead in the archive leads to a file of the repository."
+LEADS_OUT = "A link that is dead in the archive of the programs leads to a file of the repository."
 SKETCH = "A sketch"
 # The parts of README whose blocks are no commands.
 README_PARTS = {"What a report means", "As a library"}

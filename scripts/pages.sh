@@ -18,7 +18,7 @@ printf '%s\n' '| Crate | What it is about | Stands on |' '|---|---|---|' '| low 
     '| high | another | low, hex |' '' '- an item whose link [goes' '  on](docs/IN.md#a-heading-of-it)' \
     '' '    `no [link](nowhere) in a block`' > "$right/CONTRIBUTING.md"
 printf '%s\n' '# A page' '' 'See [it](docs/IN.md), `no [link](nowhere)` and [out](docs/OUT.md).' '' \
-    'A link that is dead in the archive leads to a file of the repository.' '' '## As a library' '' \
+    'A link that is dead in the archive of the programs leads to a file of the repository.' '' '## As a library' '' \
     'From [lib.rt](crates/low/src/lib.rt):' '' '    // a line' '    one();' '' '    two();' > "$right/README.md"
 printf '%s\n' '# In the archive' '' '## A `heading`, of it' '' 'See [above](#a-heading-of-it).' > "$right/docs/IN.md"
 printf '%s\n' '# Out of it' '' 'See [README](../README.md).' > "$right/docs/OUT.md"
