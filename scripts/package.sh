@@ -30,21 +30,19 @@ commit=$(git -C "$root" rev-parse HEAD 2> /dev/null)
 [ -z "$(git -C "$root" status --porcelain 2> /dev/null)" ] || changed=", with changes that aren't committed"
 date=$(git -C "$root" log -1 --format=@%ct 2> /dev/null)
 
+# What of the repository the archive has, as it is; scripts/pages.py looks at its links by this line.
+packed="README.md CHANGELOG.md docs/USING.md docs/FORMATS.md examples bench/tools/drat2lrat.rs"
+
 # The folder that is packed.
 lay_out_package() {
     package=$here/$archived
-    mkdir -p "$package/docs"
-    mkdir "$package/lib"
+    mkdir -p "$package/lib"
     cp "$program" "$package/lib/cubeboard"
     cp "$join" "$package/lib/cubejoin"
     for name in cubeboard cubejoin; do
         cp "$root/scripts/packed.sh" "$package/$name"
     done
-    cp "$root/README.md" "$root/CHANGELOG.md" "$package/"
-    cp "$root/docs/USING.md" "$root/docs/FORMATS.md" "$package/docs/"
-    cp -r "$root/examples" "$package/"
-    mkdir -p "$package/bench/tools"
-    cp "$root/bench/tools/drat2lrat.rs" "$package/bench/tools/"
+    (cd "$root" && cp -r --parents $packed "$package/")
     {
         echo "version: $said"
         echo "commit: ${commit:-none}$changed"

@@ -2,7 +2,7 @@
 # Runs the commands of README.md, its indented lines, from top to bottom in a folder with the launchers and the examples, and looks whether what the page
 # says of them holds. A block that begins with `$ ` is a command and what it prints, where the line `..` stands for any lines. The other blocks of commands
 # run on the example van-der-waerden-3-6; no solver is called, in its place the leaf gets the example's proof, and only for a formula with the bytes of the
-# leaf. The lines of a library have to stand in crates/own_threads/src as they are, and so have the names of docs/WORDS.md in the files that it says.
+# leaf. The names of docs/WORDS.md have to stand in the files that it says. Links, and lines that aren't commands, are for scripts/pages.sh.
 # `./check` and scripts/package.sh, which the page names, aren't run. The last line counts.
 root=$(CDPATH= cd -- "$(dirname -- "$0")/.." && pwd) || exit 1
 . "$root/scripts/runs.sh"
@@ -111,20 +111,9 @@ note "$here/none" ./cubeboard --record other.record other.icnf
 refused "records: one of another formula is refused" 3 "cubejoin: F15 report 2" ./cubejoin case.icnf 1.record other.record
 
 # What else the page says that can be looked up.
-for part in 1 2; do
-    tr '\n' '~' < "$here/page/as a library.$part" > "$here/lines"
-    for source in "$root"/crates/own_threads/src/*.rt; do sed 's/^ *//' "$source" | tr '\n' '~'; done | grep -q -F "$(cat "$here/lines")"
-    count "as a library: the lines $part are those of own_threads" $?
-done
-grep -q -x -F "    $(cat "$here/page/what a report means.1")" "$root/crates/cube_command/specs/Headline.antt"
-count "what a report means: the theorem stands in Headline.antt" $?
 told=$(sed -n 's/^.*\[\([0-9]* definitions in [0-9]* lines\)\].*$/\1/p' "$root/README.md")
 [ "$told" = "$(sed -n 's/^\([0-9]* definitions\), \([0-9]* lines\):$/\1 in \2/p' "$root/docs/DEFINITIONS.md" | head -n 1)" ]
 count "what a report means: so many definitions" $?
-for path in $(grep -o '](\([^)#]*\)' "$root/README.md" | cut -c3- | sort -u); do
-    [ -e "$root/$path" ]
-    count "the link to $path" $?
-done
 
 # The names of docs/WORDS.md, each of which stands in the file behind it: a line for each, the name and the file.
 tr '\n' ' ' < "$root/docs/WORDS.md" | tr -s ' ' | sed 's/` \(and\|in\) `/`\1`/g' | grep -o '\(`[^` ]*`and\)*`[^` ]*`in`[a-z_]*/[^` ]*`' |

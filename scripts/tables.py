@@ -1,14 +1,19 @@
-"""The tables that scripts write into docs/PROOFS.md, each between the two marks of its name."""
+"""What the scripts that write tables share: crates.txt, and the tables of docs/PROOFS.md, each between the two marks of its name."""
 import pathlib
 
 ROOT = pathlib.Path(__file__).resolve().parent.parent
 DOCUMENT = ROOT / "docs" / "PROOFS.md"
 
 
+def crate_lines(root=ROOT):
+    """What each crate of crates.txt stands on, in its order."""
+    lines = [line.partition("#")[0].partition(":") for line in (root / "crates.txt").read_text(encoding="utf-8").splitlines()]
+    return {crate.split()[0]: lower.split() for crate, _, lower in lines if crate.strip()}
+
+
 def crates():
     """The names of crates.txt, in its order."""
-    text = (ROOT / "crates.txt").read_text(encoding="utf-8")
-    return [line.partition(":")[0].split()[0] for line in text.splitlines() if line.partition("#")[0].strip()]
+    return list(crate_lines())
 
 
 def parts(name):

@@ -1,0 +1,293 @@
+#!/usr/bin/env python3
+"""Looks at the pages: all *.md of the repository but those below out/, bench/bin and bench/corpus.
+
+    python3 scripts/pages.py [DIR ..]        prints each place that is against a claim; the status is 1 if there is one
+    python3 scripts/pages.py --sentences     prints for each page how many of its sentences are long
+    python3 scripts/pages.py --write         writes the last column of CONTRIBUTING's table of crates
+
+DIR is a repository, by default the one of this script. The claims:
+
+links      Each link in the repository leads to a file or a folder that is there. If it has an anchor, the page there
+           has a heading of that name. Links to the net are not looked up.
+archive    Each link in a page of the archive that scripts/package.sh makes leads to what the archive has, or the page
+           says that some don't, by the sentence LEADS_OUT.
+width      No line is wider than 100 columns. Left out are tables, whose rows can't be broken; blocks of code, which
+           are commands and sources as they are; a line of one word, as a long link; and the pages of WIDE.
+examples   Each piece of code, up to a blank line, in a crate's README and in the parts README_PARTS of README stands
+           line by line in a source. The paragraph above it links the .rt or .antt file, or several. If it stands in
+           none, that paragraph begins with "A sketch".
+crates     CONTRIBUTING's table of crates has the lines of crates.txt, in their order, and says of each crate what it
+           stands on. What a crate is about is text of the page.
+
+A sentence is long if it has more than 40 words. A code span is one word. Each paragraph, item of a list and cell of a
+table ends its last sentence. The share is printed, and no status follows from it.
+"""
+import argparse
+import itertools
+import os
+import re
+import sys
+from collections import namedtuple
+from functools import lru_cache
+from pathlib import Path
+
+import tables
+
+COLUMNS = 100
+WORDS = 40
+LEFT_OUT = {"out", "bench/bin", "bench/corpus"}
+# Pages whose lines aren't broken yet, and the one that scripts/definitions.py writes.
+WIDE = {
+    "docs/DECISIONS.md", "docs/DEFINITIONS.md", "docs/PERFORMANCE.md", "docs/PROOFS.md", "docs/THEOREMS.md", "examples/cluster/README.md"
+}
+LEADS_OUT = "A link that is dead in the archive of the programs leads to a file of the repository."
+SKETCH = "A sketch"
+# The parts of README whose blocks are no commands.
+README_PARTS = {"What a report means", "As a library"}
+HEADS = ("Crate", "What it is about", "Stands on")
+UNSAID = "(say what it is about)"
+
+LINK = re.compile(r"!?\[(?:[^\[\]]|\[[^\]]*\])*\]\(([^()\s]+)\)")
+ITEM = re.compile(r"^\s*(?:[-*]|\d+\.) ")
+# A full stop and its like, with what closes behind it; two dots in a row are none.
+END = re.compile(r"(?<=[^.\s][.!?])[\"')*_]*\s+")
+
+# A part of a page: what it is (code, table, heading, text or comment), the number of its first line, and its lines. Code
+# has a part up to each blank line.
+Part = namedtuple("Part", "kind first lines")
+
+
+@lru_cache(maxsize=None)
+def pages(root):
+    """The paths of all pages, from the root on."""
+    found = []
+    for folder, inner, names in os.walk(root):
+        at = Path(folder).relative_to(root)
+        inner[:] = [name for name in inner if not name.startswith(".") and name not in LEFT_OUT and str(at / name) not in LEFT_OUT]
+        found += [str(at / name) for name in names if name.endswith(".md")]
+    return sorted(found)
+
+
+def kind_of(line, before, is_fenced):
+    """What a line is, by the kind of the line before it, which is empty behind a blank line."""
+    if is_fenced or line.startswith("```") or line.startswith("    ") and before in ("", "code"):
+        return "code"
+    if line.startswith("|"):
+        return "table"
+    if line.startswith("#"):
+        return "heading"
+    if line.startswith("<!--"):
+        return "comment"
+    return "text"
+
+
+@lru_cache(maxsize=None)
+def parts(root, page):
+    """The parts of a page. A paragraph is one, and so are an item of a list, a heading and a row of a table."""
+    found, before, is_fenced = [], "", False
+    for number, line in enumerate((root / page).read_text(encoding="utf-8").split("\n"), 1):
+        if not line.strip() and not is_fenced:
+            before = ""
+            continue
+        kind = kind_of(line, before, is_fenced)
+        is_fenced ^= line.startswith("```")
+        if kind == before == "code" or kind == before == "text" and not ITEM.match(line):
+            found[-1].lines.append(line)
+        else:
+            found.append(Part(kind, number, [line]))
+        before = kind
+    return found
+
+
+def without_code(text):
+    """A text whose code spans are one word each."""
+    return re.sub(r"(`+)(?!`).*?(?<!`)\1(?!`)", "CODE", text)
+
+
+def links(root, page):
+    """The links of a page, each with the number of the first line of its part."""
+    for part in parts(root, page):
+        if part.kind != "code":
+            for target in LINK.findall(without_code(" ".join(part.lines))):
+                if not re.match(r"[a-z]+:", target):
+                    yield part.first, target
+
+
+@lru_cache(maxsize=None)
+def anchors(root, page):
+    """The anchors of a page's headings, as the readers of Markdown make them."""
+    found, counts = set(), {}
+    for part in parts(root, page):
+        if part.kind == "heading":
+            name = LINK.sub(lambda link: link[0].split("]")[0], part.lines[0].lstrip("#").strip())
+            name = re.sub(r"[^\w\- ]", "", name.lower()).replace(" ", "-")
+            counts[name] = counts.get(name, -1) + 1
+            found.add(f"{name}-{counts[name]}" if counts[name] else name)
+    return found
+
+
+def place_of(root, page, target):
+    """The path that a link leads to, from the root on, or above it, and its anchor."""
+    path, _, anchor = target.partition("#")
+    return os.path.normpath(Path(page).parent / path if path else page), anchor
+
+
+def against_links(root):
+    for page in pages(root):
+        for number, target in links(root, page):
+            path, anchor = place_of(root, page, target)
+            if path.startswith("..") or not (root / path).exists():
+                yield page, number, f"the link {target} leads nowhere"
+            elif anchor and anchor not in anchors(root, path):
+                yield page, number, f"{path} has no heading for the link {target}"
+
+
+def archived(root):
+    """What the archive has: files, and folders with all that is in them."""
+    found = re.search(r'(?m)^packed="([^"]*)"$', (root / "scripts/package.sh").read_text(encoding="utf-8"))
+    return found[1].split() if found else ["the line packed="]
+
+
+def is_below(path, packed):
+    """Whether a path is one of these, or lies in one of them."""
+    return any(path == it or path.startswith(it + "/") for it in packed)
+
+
+def against_archive(root):
+    packed = archived(root)
+    yield from (("scripts/package.sh", 1, f"there is no {it}") for it in packed if not (root / it).exists())
+    for page in [page for page in pages(root) if is_below(page, packed)]:
+        out = [(number, target) for number, target in links(root, page) if not is_below(place_of(root, page, target)[0], packed)]
+        texts = [" ".join(map(str.strip, part.lines)) for part in parts(root, page)]
+        if not any(LEADS_OUT in text for text in texts):
+            yield from ((page, number, f"the archive lacks {target}, and the page doesn't say so") for number, target in out)
+
+
+def against_width(root):
+    for page in set(pages(root)) - WIDE:
+        for part in parts(root, page):
+            for number, line in enumerate(part.lines, part.first):
+                words = ITEM.sub("", line, count=1).split()
+                if part.kind not in ("code", "table") and len(line) > COLUMNS and len(words) > 1:
+                    yield page, number, f"{len(line)} columns"
+
+
+def stands_in(lines, source):
+    """Whether lines stand in a source one behind the other, all of them moved by one number of columns."""
+    least = min(len(line) - len(line.lstrip()) for line in lines)
+    wanted = [line[least:].rstrip() for line in lines]
+    for start, line in enumerate(source):
+        if line.lstrip() == wanted[0].lstrip():
+            depth = len(line) - len(line.lstrip()) - (len(wanted[0]) - len(wanted[0].lstrip()))
+            moved = [" " * depth + it if it else it for it in wanted]
+            if depth >= 0 and source[start:start + len(moved)] == moved:
+                return True
+    return False
+
+
+def introduced(found):
+    """Each piece of code of a page with the text of the paragraph above it, and the heading above both."""
+    told = heading = ""
+    for part in found:
+        if part.kind == "code":
+            yield part, told, heading
+        else:
+            told = " ".join(map(str.strip, part.lines))
+            heading = told.lstrip("# ") if part.kind == "heading" else heading
+
+
+def against_examples(root):
+    for page in pages(root):
+        of_crate = re.fullmatch(r"crates/\w+/README\.md", page)
+        for piece, told, heading in introduced(parts(root, page)):
+            if of_crate or page == "README.md" and heading in README_PARTS:
+                yield from against_piece(root, page, piece, told)
+
+
+def against_piece(root, page, piece, told):
+    paths = [place_of(root, page, target)[0] for target in LINK.findall(told) if target.endswith((".rt", ".antt"))]
+    if not paths and not told.startswith(SKETCH):
+        yield page, piece.first, "the paragraph above the example links no source, and doesn't begin with " + SKETCH
+    sources = [(root / path).read_text(encoding="utf-8").split("\n") for path in paths if (root / path).exists()]
+    if paths and not any(stands_in(piece.lines, source) for source in sources):
+        yield page, piece.first, f"{piece.lines[0].strip()} .. doesn't stand in {', '.join(paths)}"
+
+
+def table_of_crates(root):
+    """CONTRIBUTING's lines, and where its table of crates has its rows."""
+    lines = (root / "CONTRIBUTING.md").read_text(encoding="utf-8").split("\n")
+    first = lines.index(tables.row(*HEADS)) + 2
+    last = first
+    while lines[last].startswith("|"):
+        last += 1
+    return lines, first, last
+
+
+def rows_of_crates(root):
+    """The rows that the table has, by its own text of each crate and by crates.txt."""
+    lines, first, last = table_of_crates(root)
+    about = {cells[0].strip(): cells[1].strip() for cells in (line.strip("|").split("|") for line in lines[first:last])}
+    rows = [(name, about.get(name, UNSAID), ", ".join(lower)) for name, lower in tables.crate_lines(root).items()]
+    return [tables.row(*cells).replace("|  |", "| |") for cells in rows]
+
+
+def against_crates(root):
+    lines, first, last = table_of_crates(root)
+    for place, (row, wanted) in enumerate(itertools.zip_longest(lines[first:last], rows_of_crates(root), fillvalue="no row")):
+        if row != wanted or UNSAID in row:
+            yield "CONTRIBUTING.md", first + place + 1, f"{row} has to be {wanted}"
+
+
+def write_crates(root):
+    lines, first, last = table_of_crates(root)
+    lines[first:last] = rows_of_crates(root)
+    (root / "CONTRIBUTING.md").write_text("\n".join(lines), encoding="utf-8")
+
+
+def sentences(part):
+    """The sentences of a part of a page."""
+    text = LINK.sub(lambda link: link[0].lstrip("![").split("](")[0], without_code(" ".join(part.lines)))
+    for cell in text.strip("|").split("|") if part.kind == "table" else [ITEM.sub("", text, count=1)]:
+        yield from (it for it in END.split(cell.strip()) if re.search(r"\w", it))
+
+
+def tell_sentences(root):
+    """Prints for each page how many of its sentences are long, in prose and in cells of tables."""
+    print(f"pages: sentences of more than {WORDS} words, in prose and in tables:")
+    for page in pages(root):
+        told = []
+        for kind in ("text", "table"):
+            counts = [len(it.split()) for part in parts(root, page) if part.kind == kind for it in sentences(part)]
+            long = sum(count > WORDS for count in counts)
+            told.append(f"{long} of {len(counts)} ({100 * long / max(len(counts), 1):.0f} %)")
+        print(f"pages: {page}: {', '.join(told)}")
+
+
+CLAIMS = {
+    "links": against_links,
+    "archive": against_archive,
+    "width": against_width,
+    "examples": against_examples,
+    "crates": against_crates,
+}
+
+
+def look(root):
+    """Prints what is against each claim; whether nothing is."""
+    told = [f"{claim}: {root / page}:{number}: {text}" for claim, against in CLAIMS.items() for page, number, text in sorted(set(against(root)))]
+    print(*told, sep="\n", end="\n" if told else "")
+    return not told
+
+
+def main():
+    parser = argparse.ArgumentParser(description=__doc__, formatter_class=argparse.RawDescriptionHelpFormatter)
+    does = parser.add_mutually_exclusive_group()
+    does.add_argument("--sentences", dest="does", action="store_const", const=tell_sentences, default=look)
+    does.add_argument("--write", dest="does", action="store_const", const=write_crates)
+    parser.add_argument("roots", metavar="DIR", nargs="*", type=Path, default=[Path(os.path.relpath(tables.ROOT))])
+    options = parser.parse_args()
+    return 0 if all([options.does(root) in (True, None) for root in options.roots]) else 1
+
+
+if __name__ == "__main__":
+    sys.exit(main())

@@ -1,0 +1,80 @@
+#!/bin/sh
+# Looks at the pages by scripts/pages.py, whose head has the claims: links that lead nowhere, also
+# in the archive of scripts/package.sh; lines wider than 100 columns; examples that are in no
+# source; CONTRIBUTING's table of crates. Then it tries each claim on wrong pages, each of which it
+# has to refuse, and on right ones. It prints how many sentences of each page are long, and no
+# claim follows from that. It runs no program. The last line counts.
+root=$(CDPATH= cd -- "$(dirname -- "$0")/.." && pwd) || exit 1
+. "$root/scripts/runs.sh"
+claims="links archive width examples crates"
+
+# A small repository whose pages are right.
+right=$here/right
+mkdir -p "$right/docs" "$right/scripts" "$right/crates/low/src"
+printf 'packed="README.md docs/IN.md"\n' > "$right/scripts/package.sh"
+printf 'fn main() {\n    // a line\n    one();\n\n    two();\n}\n' > "$right/crates/low/src/lib.rt"
+printf '%s\n' 'low: clap' 'high tests_may=Wait: low hex  # above it' > "$right/crates.txt"
+printf '%s\n' '| Crate | What it is about | Stands on |' '|---|---|---|' '| low | one | clap |' \
+    '| high | another | low, hex |' '' '- an item whose link [goes' '  on](docs/IN.md#a-heading-of-it)' \
+    '' '    `no [link](nowhere) in a block`' > "$right/CONTRIBUTING.md"
+printf '%s\n' '# A page' '' 'See [it](docs/IN.md), `no [link](nowhere)` and [out](docs/OUT.md).' '' \
+    'A link that is dead in the archive of the programs leads to a file of the repository.' '' '## As a library' '' \
+    'From [lib.rt](crates/low/src/lib.rt):' '' '    // a line' '    one();' '' '    two();' > "$right/README.md"
+printf '%s\n' '# In the archive' '' '## A `heading`, of it' '' 'See [above](#a-heading-of-it).' > "$right/docs/IN.md"
+printf '%s\n' '# Out of it' '' 'See [README](../README.md).' > "$right/docs/OUT.md"
+printf '%s\n' '# low' '' 'A sketch, which is in no source:' '' '    three();' > "$right/crates/low/README.md"
+
+# Makes a wrong page: the claim that has to refuse it, what is wrong, the file, and the sed that makes it so.
+wrong() {
+    made=$((made + 1))
+    cp -r "$right" "$here/wrong.$made"
+    sed -i "$4" "$here/wrong.$made/$3"
+    cmp -s "$right/$3" "$here/wrong.$made/$3" || echo "$made $1 $2" >> "$here/wrongs"
+}
+
+made=0
+wide=$(printf '%099d' 0)
+wrong links "a file that isn't there" README.md 's/docs.IN.md/docs\/ON.md/'
+wrong links "a heading that isn't there" docs/IN.md 's/#a-heading-of-it/#a-heading/'
+wrong links "a heading in another page that isn't there, by a link over two lines" CONTRIBUTING.md 's/#a-heading/#heading/'
+wrong links "a path out of the repository" docs/OUT.md 's/\.\.\/README/..\/..\/README/'
+wrong archive "a link out of it" README.md '/^A link that is dead/d'
+wrong archive "a link out of it on another page" docs/IN.md '$a [out](OUT.md)'
+wrong archive "a page of it that isn't there" scripts/package.sh 's/IN/ON/'
+wrong width "a wide line" docs/OUT.md "3s/^/$wide /"
+wrong width "a wide item of a list" CONTRIBUTING.md "s/^- an item/- $wide an item/"
+wrong examples "a line that isn't in the source" README.md 's/^    one();/    three();/'
+wrong examples "a line that is left out" README.md '/^    one();/{N;d}'
+wrong examples "a source that doesn't have it any more" crates/low/src/lib.rt 's/two/three/'
+wrong examples "an example without a source" README.md 's/(crates.low.src.lib.rt)//'
+wrong examples "one that isn't called a sketch" crates/low/README.md 's/^A sketch, w/W/'
+wrong crates "a crate that stands on another one" crates.txt 's/low: clap/low: hex/'
+wrong crates "a crate that isn't in the table" crates.txt '$a top: high'
+wrong crates "a crate that isn't in crates.txt" crates.txt '/^high/d'
+wrong crates "another order" crates.txt '1h; 1d; 2G'
+
+# One call looks at all of them. What it prints begins with the claim and the folder.
+python3 "$root/scripts/pages.py" "$root" "$right" "$here"/wrong.* > "$here/found" 2> "$here/err"
+[ $? -eq 1 ] && [ ! -s "$here/err" ]
+count "pages.py looks at all of it: $(tail -n 1 "$here/err")" $?
+for claim in $claims; do
+    ! grep -F "$claim: $root/" "$here/found"
+    count "the claim $claim" $?
+    ! grep -F "$claim: $right/" "$here/found"
+    count "the claim $claim on pages that are right" $?
+done
+[ "$(wc -l < "$here/wrongs")" -eq "$made" ]
+count "each wrong page differs from the right one" $?
+while read -r number claim what; do
+    [ "$(sed -n "s|: $here/wrong.$number/.*||p" "$here/found" | uniq)" = "$claim" ]
+    count "the claim $claim, and no other, refuses $what" $?
+done < "$here/wrongs"
+
+# What is written into a wrong table is the right one.
+cp -r "$right" "$here/written"
+sed -i 's/low, hex/low/' "$here/written/CONTRIBUTING.md"
+python3 "$root/scripts/pages.py" --write "$here/written" && cmp -s "$right/CONTRIBUTING.md" "$here/written/CONTRIBUTING.md"
+count "the table of crates is written" $?
+
+python3 "$root/scripts/pages.py" --sentences "$root"
+finish
