@@ -174,6 +174,9 @@ try() {
     case $way in
         4.2 | "4.6 4.7") many_machines "$2: the example" ;;
     esac
+    block 5.6
+    [ "$status" -eq 0 ] && [ "$(tail -n 3 "$here/out" | tr '\n' ' ')" = "a 1 refuted w 0 s REFUTED " ] && [ ! -s "$here/err" ]
+    count "$2: the example: one proof of the whole formula" $?
     rm proofs/1.lrat proofs/2.lrat proofs/14.lrat
     echo 'garbage' > proofs/8.lrat
     block 6.1
@@ -207,7 +210,7 @@ fi
 
 cut_page "$root/docs/USING.md"
 blocks=$(ls "$here/page" | tr '\n' ' ')
-if [ "$blocks" != "1.1 2.1 2.2 3.1 3.2 4.1 4.2 4.3 4.4 4.5 4.6 4.7 4.8 4.9 5.1 5.2 5.3 5.4 5.5 6.1 8.1 8.2 8.3 8.4 8.5 8.6 8.7 " ]; then
+if [ "$blocks" != "1.1 2.1 2.2 3.1 3.2 4.1 4.2 4.3 4.4 4.5 4.6 4.7 4.8 4.9 5.1 5.2 5.3 5.4 5.5 5.6 6.1 8.1 8.2 8.3 8.4 8.5 8.6 8.7 " ]; then
     fail "the page has the blocks $blocks, which this script doesn't know"
     finish
 fi
