@@ -1,6 +1,7 @@
 #!/usr/bin/env python3
-"""Runs ./check in a clean clone of what is committed, and writes into docs/PROOFS.md what it took: the wall time, the processor time in all, and the processor
-seconds of each crate's proof, tests and must-fail edits. Run it with nothing else running. The status is that of ./check.
+"""Runs the gate, .ci/run, in a clean clone of what is committed, and writes into docs/PROOFS.md what
+it took: the wall time, the processor time in all, and the processor seconds of each crate's proof,
+tests and must-fail edits. Run it with nothing else running. The status is that of the gate.
 
 What each process of the prover has used is read from /proc a few times a second; its command line says of which crate it is, and
 whether it proves the crate, its tests, or the crate with an edit."""
@@ -55,9 +56,9 @@ def look(labels, used, session):
 
 
 def run(folder):
-    """Runs ./check: its status, the wall seconds, the processor seconds, and those of each crate's parts."""
+    """Runs the gate: its status, the wall seconds, the processor seconds, and those of each crate's parts."""
     labels, used, begun = {}, {}, time.monotonic()
-    started = subprocess.Popen(["./check"], cwd=folder, stdin=subprocess.DEVNULL, start_new_session=True)
+    started = subprocess.Popen(["sh", ".ci/run"], cwd=folder, stdin=subprocess.DEVNULL, start_new_session=True)
     while started.poll() is None:
         look(labels, used, started.pid)
         time.sleep(0.2)
