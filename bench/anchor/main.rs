@@ -28,6 +28,12 @@ use std::path::Path;
 use words::Words;
 
 fn main() {
+    if !vectors::are_supported() {
+        stop(
+            "anchor: a processor without AVX2, BMI, LZCNT or POPCNT",
+            127,
+        );
+    }
     let words = Words::read(std::env::args_os().skip(1)).unwrap_or_else(|| stop(words::USAGE, 2));
     let mut text = input::read(words.file.as_deref()).unwrap_or_else(|_| device());
     if let Some(folder) = &words.proofs {
