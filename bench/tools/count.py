@@ -10,6 +10,9 @@ from typing import NamedTuple
 
 ANCHOR = os.path.abspath(os.environ.get("ANCHOR", "bin/anchor"))
 CALLGRIND = ["valgrind", "--tool=callgrind", "--branch-sim=yes"]
+# The C library clears and copies by vectors: callgrind would count each byte of a `rep stosb`.
+LIMIT = "0x7fffffff"
+TUNABLES = ":".join(f"glibc.cpu.x86_rep_{name}_threshold={LIMIT}" for name in ("movsb", "stosb"))
 # The sizes of a hostile kind that are counted.
 SIZES = (1, 2)
 
@@ -28,7 +31,8 @@ def count(program, path):
     with tempfile.TemporaryDirectory() as folder:
         out = os.path.join(folder, "out")
         words = [*CALLGRIND, f"--callgrind-out-file={out}", program, "--workers", "1", path]
-        told = subprocess.run(words, capture_output=True)
+        environment = {**os.environ, "GLIBC_TUNABLES": TUNABLES}
+        told = subprocess.run(words, capture_output=True, env=environment)
         with open(out, encoding="ascii", errors="replace") as file:
             lines = [line.split(":") for line in file if line.startswith(("events:", "totals:"))]
     found = {name: words.split() for name, words in lines}
