@@ -1,5 +1,5 @@
 #!/bin/bash
-# make_corpus.sh [smoke|medium|all|hostile]      builds the tools into bin/ and the bundles into corpus/, one after another.
+# make_corpus.sh [smoke|medium|all|cuts|hostile]      builds the tools into bin/ and the bundles into corpus/, one after another.
 # Needs cadical, python3, rustc and gcc. A bundle that is there is kept; remove it to make it again.
 set -eu
 cd "$(dirname "$0")"
@@ -13,7 +13,7 @@ build() { # TOOL SOURCE COMMAND..: where a source in its folder is newer
 build measure tools/measure.c gcc -O2
 build cubesplit ../examples/split/cubesplit.rs rustc -O --edition 2024
 build drat2lrat tools/drat2lrat.rs rustc -O --edition 2024
-build lratref anchor/lratref.rs rustc -O --edition 2024
+build anchor anchor/main.rs rustc -O --edition 2024
 
 gen() { python3 tools/gen.py "$@"; }
 split() { # FORMULA LEAVES
@@ -84,6 +84,18 @@ medium() {
     fi
 }
 
+# the same formulas and cubes, of which the first ones alone have proofs
+cuts() {
+    mkdir -p corpus/cuts
+    corpus cuts php9 32 "php 9" --first 2
+    corpus cuts tseitin25-trim 64 "tseitin 25 4 1" --trim --first 2
+    corpus cuts mul8-trim 56 "miter_mul 8" --trim --first 5
+    corpus cuts vdw97 64 "vdw2 97 3 10" --first 2
+    corpus cuts sparse-rat 256 "sparse 200 900 4000 5500 1" --pure --first 12
+    resolution 20
+    corpus cuts php20-er 16 "php 20" --drat corpus/resolution.drat --first 1
+}
+
 hostile() {
     mkdir -p corpus/hostile
     python3 tools/hostile.py corpus/hostile
@@ -96,8 +108,9 @@ case "${1:-smoke}" in
         smoke
         medium
         ;;
+    cuts) cuts ;;
     hostile) hostile ;;
-    *) echo "make_corpus.sh [smoke|medium|all|hostile]" >&2 && exit 2 ;;
+    *) echo "make_corpus.sh [smoke|medium|all|cuts|hostile]" >&2 && exit 2 ;;
 esac
 rm -f corpus/formula.cnf corpus/cubes corpus/resolution.drat corpus/new.icnf
 du -sh corpus/*/

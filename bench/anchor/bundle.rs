@@ -1,7 +1,7 @@
 //! A bundle: its formula, its tree, and the sections below its label lines.
 use crate::formula::{Formula, read_icnf};
 use crate::literal::{code, is_literal_or_end};
-use crate::text::{Text, find_byte, is_blank, line_at, line_of, number_of, words_of};
+use crate::text::{find_byte, is_blank, line_at, line_of, number_of, words_of};
 use crate::tree::{Tree, build_tree};
 use std::ops::Range;
 
@@ -12,7 +12,7 @@ pub struct Section {
 }
 
 pub struct Bundle<'a> {
-    pub text: &'a Text,
+    pub text: &'a [u8],
     pub formula: Formula,
     pub tree: Tree,
     pub sections: Vec<Section>,
@@ -20,15 +20,14 @@ pub struct Bundle<'a> {
 
 impl<'a> Bundle<'a> {
     /// The bundle that the text has, or the first fault.
-    pub fn read(text: &'a Text) -> Result<Self, String> {
-        let bytes = text.bytes();
-        let mut label = next_label(bytes, 0);
-        let (formula, cubes) = read_icnf(text, start_of(&label, bytes))?;
+    pub fn read(text: &'a [u8]) -> Result<Self, String> {
+        let mut label = next_label(text, 0);
+        let (formula, cubes) = read_icnf(text, start_of(&label, text))?;
         let tree = build_tree(&cubes)?;
         let mut sections: Vec<Section> = Vec::new();
         let mut named = vec![false; tree.nodes.len()];
         while let Some(line) = label {
-            let words: Vec<&[u8]> = words_of(&bytes[line.clone()]).skip(1).collect();
+            let words: Vec<&[u8]> = words_of(&text[line.clone()]).skip(1).collect();
             let node = node_of(&words, &tree).and_then(|node| {
                 let again = std::mem::replace(&mut named[node as usize], true);
                 if again {
@@ -38,11 +37,11 @@ impl<'a> Bundle<'a> {
                 }
             });
             let at = line.start;
-            let node = node.map_err(|fault| format!("{fault}, line {}", line_of(bytes, at)))?;
-            label = next_label(bytes, line.end);
+            let node = node.map_err(|fault| format!("{fault}, line {}", line_of(text, at)))?;
+            label = next_label(text, line.end);
             sections.push(Section {
                 node,
-                proof: line.end..start_of(&label, bytes),
+                proof: line.end..start_of(&label, text),
             });
         }
         Ok(Bundle {

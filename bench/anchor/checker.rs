@@ -7,10 +7,8 @@ use crate::formula::Formula;
 use crate::index::{FormulaIndex, OwnIndex};
 use crate::literal::{code, is_literal_or_end};
 use crate::numbers::Numbers;
-use crate::text::Text;
 use crate::tokens::{END, MAX_ID, Tokens, WORD_D};
 use std::collections::HashSet;
-use std::ops::Range;
 
 /// Why a proof is rejected.
 #[derive(Clone, Copy, PartialEq)]
@@ -100,21 +98,20 @@ impl<'a> Checker<'a> {
         checker
     }
 
-    /// Judges the proof at this place of the text for the leaf with this path.
-    pub fn judge(&mut self, path: &[u32], text: &Text, proof: Range<usize>) -> Finding {
-        self.start_leaf(path, proof.len());
+    /// Judges the proof of these tokens, which has so many bytes, for the leaf with this path.
+    pub fn judge(&mut self, path: &[u32], tokens: &mut Tokens, proof_bytes: usize) -> Finding {
+        self.start_leaf(path, proof_bytes);
         if self.has_empty_clause {
             return Finding::Refuted;
         }
-        let mut tokens = Tokens::new(text, proof);
         let mut step = 0;
         loop {
             step += 1;
-            let first = tokens.plain();
+            let first = tokens.next();
             if first == END {
                 return Finding::Rejected(step, Reason::End);
             }
-            match self.step(&mut tokens, first) {
+            match self.step(tokens, first) {
                 Ok(true) => return Finding::Refuted,
                 Ok(false) => {}
                 Err(reason) => return Finding::Rejected(step, reason),
@@ -171,11 +168,7 @@ impl<'a> Checker<'a> {
         if !(0..=MAX_ID).contains(&first) {
             return Err(Reason::Unreadable);
         }
-        let token = if tokens.begins_with_d() {
-            tokens.any()
-        } else {
-            tokens.signed()
-        };
+        let token = tokens.next();
         self.counts.steps += 1;
         if token == WORD_D {
             return self.deletion(tokens).map(|()| false);
@@ -187,7 +180,7 @@ impl<'a> Checker<'a> {
     #[inline(always)]
     fn deletion(&mut self, tokens: &mut Tokens) -> Result<(), Reason> {
         loop {
-            match tokens.plain() {
+            match tokens.next() {
                 0 => break,
                 id if (1..=MAX_ID).contains(&id) => {
                     self.counts.deleted += u64::from(self.clauses.delete(id as u64));
@@ -238,7 +231,7 @@ impl<'a> Checker<'a> {
             let literal = code(token);
             greatest = greatest.max(literal);
             self.literals.push(literal);
-            token = tokens.signed();
+            token = tokens.next();
         }
         self.admit(greatest);
         true
@@ -267,7 +260,7 @@ impl<'a> Checker<'a> {
     #[inline(always)]
     fn follow_hints(&mut self, tokens: &mut Tokens) -> Result<(), Reason> {
         loop {
-            let hint = tokens.plain();
+            let hint = tokens.next();
             if hint <= 0 {
                 return self.behind_leading(tokens, hint);
             }
@@ -300,7 +293,7 @@ impl<'a> Checker<'a> {
                 return Err(Reason::Unreadable);
             }
             self.hints.push(hint);
-            hint = tokens.signed();
+            hint = tokens.next();
         }
         match self.literals.first() {
             None => Err(Reason::Empty),
@@ -406,7 +399,7 @@ impl<'a> Checker<'a> {
 #[inline(never)]
 fn pass_hints<T>(tokens: &mut Tokens, found: Result<T, Reason>) -> Result<T, Reason> {
     loop {
-        match tokens.signed() {
+        match tokens.next() {
             0 => return found,
             hint if (-MAX_ID..=MAX_ID).contains(&hint) => {}
             _ => return Err(Reason::Unreadable),

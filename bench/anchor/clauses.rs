@@ -125,11 +125,21 @@ impl Clauses {
             offset + size <= u32::MAX as usize,
             "more literals than the anchor has room for"
         );
-        let head = (literals.len() as u32) << 1 | u32::from(tautology);
-        let zeros = std::iter::repeat_n(0, size - 1 - literals.len());
-        let negated = literals.iter().map(|literal| literal ^ 1);
+        self.list.reserve(size);
         self.list
-            .extend(std::iter::once(head).chain(negated).chain(zeros));
+            .push((literals.len() as u32) << 1 | u32::from(tautology));
+        let (blocks, rest) = literals.as_chunks::<BLOCK>();
+        for block in blocks {
+            self.list
+                .extend_from_slice(&block.map(|literal| literal ^ 1));
+        }
+        if !rest.is_empty() {
+            let mut block = [0; BLOCK];
+            for (place, literal) in block.iter_mut().zip(rest) {
+                *place = literal ^ 1;
+            }
+            self.list.extend_from_slice(&block);
+        }
         self.live += size;
         self.place(id, offset as u32);
     }

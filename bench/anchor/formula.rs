@@ -1,8 +1,10 @@
 //! The iCNF text: its clauses and its cubes.
 use crate::literal::{code, is_literal_or_end};
 use crate::numbers::Numbers;
-use crate::text::{Text, line_of, number_of, words_of};
+use crate::scan::Scan;
+use crate::text::{line_of, number_of, words_of};
 use crate::tokens::{END, Tokens, WORD_A};
+use std::ops::Range;
 
 const MAX_CLAUSES: usize = 16_777_216;
 const MAX_CUBES: usize = 1_048_576;
@@ -101,35 +103,43 @@ fn within(count: usize, limit: usize) -> Result<(), String> {
 }
 
 /// The formula and the cubes of the text before `end`.
-pub fn read_icnf(text: &Text, end: usize) -> Result<(Formula, Vec<Vec<u32>>), String> {
-    let mut tokens = Tokens::new(text, 0..end);
-    tokens.seek();
-    if !words_of(tokens.line()).take(2).eq([&b"p"[..], b"inccnf"]) {
-        return Err("F1 header".into());
-    }
-    tokens.skip_line();
-    let mut items = Items {
+pub fn read_icnf(text: &[u8], end: usize) -> Result<(Formula, Vec<Vec<u32>>), String> {
+    let items = behind_header(text, end)?;
+    let mut tokens = Tokens::new(text, items.clone());
+    let mut read = Items {
         starts: vec![0],
         ..Items::default()
     };
-    loop {
-        let place = tokens.place();
-        match tokens.signed() {
-            END if items.inside => return Err("F3 unfinished".into()),
-            END => return Ok((Formula::new(items.literals, items.starts), items.cubes)),
-            WORD_A if !items.inside => items.start_cube()?,
-            number if is_literal_or_end(number) => items.number(number)?,
-            _ => {
-                tokens.back_to(place);
-                return Err(fault_of(text, tokens));
-            }
+    for count in 0.. {
+        match tokens.next() {
+            END if read.inside => return Err("F3 unfinished".into()),
+            END => break,
+            WORD_A if !read.inside => read.start_cube()?,
+            number if is_literal_or_end(number) => read.number(number)?,
+            _ => return Err(fault_of(text, items, count)),
         }
     }
+    Ok((Formula::new(read.literals, read.starts), read.cubes))
 }
 
-/// The fault of the next token, which can't stand where it does.
-fn fault_of(text: &Text, mut tokens: Tokens) -> String {
-    tokens.seek();
-    let fault = number_of(tokens.word()).map_or("F2 token", |_| "F4 too large");
-    format!("{fault}, line {}", line_of(text.bytes(), tokens.place()))
+/// The part of the text behind the header's line and before `end`.
+fn behind_header(text: &[u8], end: usize) -> Result<Range<usize>, String> {
+    let mut scan = Scan::new(text, 0..end);
+    scan.seek();
+    if !words_of(scan.line()).take(2).eq([&b"p"[..], b"inccnf"]) {
+        return Err("F1 header".into());
+    }
+    scan.skip_line();
+    Ok(scan.place()..end)
+}
+
+/// The fault of the token behind so many others, which can't stand where it does.
+fn fault_of(text: &[u8], items: Range<usize>, count: usize) -> String {
+    let mut scan = Scan::new(text, items);
+    (0..count).for_each(|_| {
+        scan.token();
+    });
+    scan.seek();
+    let fault = number_of(scan.word()).map_or("F2 token", |_| "F4 too large");
+    format!("{fault}, line {}", line_of(text, scan.place()))
 }

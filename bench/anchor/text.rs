@@ -1,39 +1,4 @@
-//! The bytes of a bundle: blanks, lines, and words that are numbers.
-
-/// So many line ends stand behind the text: eight bytes can be read at each of its places and at
-/// its end.
-const PADDING: usize = 16;
-
-/// A bundle's bytes, with line ends behind them that don't belong to it.
-pub struct Text {
-    padded: Vec<u8>,
-    size: usize,
-}
-
-impl Text {
-    pub fn new(mut bytes: Vec<u8>) -> Self {
-        let size = bytes.len();
-        bytes.reserve_exact(PADDING);
-        bytes.resize(size + PADDING, b'\n');
-        Text {
-            padded: bytes,
-            size,
-        }
-    }
-
-    pub fn bytes(&self) -> &[u8] {
-        &self.padded[..self.size]
-    }
-
-    pub fn padded(&self) -> &[u8] {
-        &self.padded
-    }
-
-    pub fn into_bytes(mut self) -> Vec<u8> {
-        self.padded.truncate(self.size);
-        self.padded
-    }
-}
+//! Texts: blanks, lines, and words that are numbers.
 
 pub fn is_blank(byte: u8) -> bool {
     matches!(byte, b' ' | b'\n' | b'\r' | b'\t')

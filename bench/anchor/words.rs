@@ -1,7 +1,7 @@
 //! The words that the program is called with.
 use std::ffi::OsString;
 
-pub const USAGE: &str = "Usage: lratref [--workers N] [--cut D] [--proofs DIR] [--stats] [FILE]";
+pub const USAGE: &str = "Usage: anchor [--workers N] [--cut D] [--proofs DIR] [--stats] [FILE]";
 
 /// What the words say.
 pub struct Words {

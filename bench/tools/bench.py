@@ -8,7 +8,7 @@ import subprocess
 import sys
 from typing import NamedTuple
 
-ANCHOR = os.path.abspath(os.environ.get("ANCHOR", "bin/lratref"))
+ANCHOR = os.path.abspath(os.environ.get("ANCHOR", "bin/anchor"))
 RUNS = int(os.environ.get("RUNS", "5"))
 # Both get the option `--workers` with each of these numbers.
 WORKERS = os.environ.get("WORKERS", "1").split()

@@ -26,6 +26,7 @@ def words():
     parser.add_argument("--lead", action="store_true", help="RAT steps have leading hints too")
     parser.add_argument("--drat", help="a DRAT proof to take instead of the solver's")
     parser.add_argument("--noproof", default="", help="numbers of cubes that stay without a proof")
+    parser.add_argument("--first", type=int, help="only so many cubes get a proof, the first ones")
     parser.add_argument("--drop", default="", help="numbers of cubes that are left out")
     parser.add_argument("--shuffle", type=int, help="seed of another order of the cubes and of the sections")
     parser.add_argument("--folder", help="writes the proofs to this folder instead of the bundle")
@@ -59,6 +60,7 @@ def main():
     if options.shuffle is not None:
         random.Random(options.shuffle).shuffle(cubes)
         random.Random(options.shuffle + 1).shuffle(order)
+    order = order[: options.first]
     if options.folder:
         os.makedirs(options.folder, exist_ok=True)
     clauses = [line for line in open(options.formula) if line[0] not in "cp"]
