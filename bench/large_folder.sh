@@ -2,9 +2,9 @@
 # large_folder.sh PROGRAM [GIGABYTES=2] [PROOFS=4096] [rising]
 # Runs PROGRAM with four workers on a folder of so many proofs, a power of two, that are so many
 # gigabytes in all, and then on one bundle of the same proofs in a file, and says how much memory each
-# took. With `rising` the ids of a proof rise. The status is 1 if a run took more than 16 MB and a
-# thousand bytes for each leaf, with `rising` and 8 bytes for each id of a worker's proof, or if a
-# report isn't that all leaves are refuted.
+# took. With `rising` the ids of a proof rise, beside old clauses that stay. The status is 1 if a run
+# took more than 16 MB and a thousand bytes for each leaf, or if a report isn't that all leaves are
+# refuted.
 # What is made is in TMPDIR (/tmp), where there has to be room for twice the proofs, and removed.
 set -eu
 program=$(realpath "${1:?a program}")
@@ -28,13 +28,7 @@ trap 'rm -rf "$folder"' EXIT
 
 python3 tools/large_folder.py "$folder" "$gigabytes" "$proofs" $ids
 bytes=$(find "$folder/proofs" -name '*.lrat' -printf '%s\n' | awk '{n += $1} END {printf "%.0f", n}')
-greatest=0
-[ -z "$ids" ] || greatest=$(tail -n 1 "$folder/proofs/1.lrat" | awk '{print $1}')
-workers=$(awk -v proofs="$proofs" 'BEGIN {print proofs < 4 ? proofs : 4}')
-# (a slot has 8 bytes; a list of them that grows, beside the one that it is copied from, has up to five times as many)
-limit=$(awk -v proofs="$proofs" -v ids="$greatest" -v workers="$workers" 'BEGIN {
-    printf "%.0f", 16 + proofs / 1000 + workers * 5 * 8 * ids / 1e6
-}')
+limit=$(awk -v proofs="$proofs" 'BEGIN {printf "%.0f", 16 + proofs / 1000}')
 failed=0
 
 # A run on these words, which is named so.

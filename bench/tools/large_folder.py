@@ -5,7 +5,7 @@
 
 In FOLDER: case.icnf, proofs/K.lrat and report. PROOFS is a power of two. A proof adds and deletes
 100 clauses again and again before it refutes its leaf: the same ones, or with `rising` new ones by
-ids that rise, as solvers write them.
+ids that rise, as solvers write them, beside 100 of the first ids that stay.
 """
 import os
 import sys
@@ -24,7 +24,11 @@ def round_of(first: int) -> str:
 
 def write_proof(file: TextIO, first: int, size: int, is_rising: bool) -> None:
     """A proof of about so many bytes, by ids from the first on."""
-    written, begin, block = 0, first, round_of(first)
+    written, begin = 0, first
+    if is_rising:
+        file.write("\n".join([*lemmas(range(first, first + LEMMAS), LEMMAS), ""]))
+        begin += LEMMAS
+    block = round_of(begin)
     while written < size:
         file.write(block)
         written += len(block)

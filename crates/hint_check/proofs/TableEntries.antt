@@ -55,13 +55,13 @@ updated before after k w h q =
 
 -- ---- what stands under an id
 
-near-below : (blocks : List Block) (first : ℕ) (slots : List Slot) (q : ℕ) → q < first
+pub near-below : (blocks : List Block) (first : ℕ) (slots : List Slot) (q : ℕ) → q < first
     → near_at blocks first slots q ≡ None
 near-below blocks first slots q low =
     cond-true (nat_lt q first) None (slot_clause blocks (slot_at slots (q - first)))
     (lt-ltb q first low)
 
-near-from : (blocks : List Block) (first : ℕ) (slots : List Slot) (q : ℕ) → first ≤ q
+pub near-from : (blocks : List Block) (first : ℕ) (slots : List Slot) (q : ℕ) → first ≤ q
     → near_at blocks first slots q ≡ slot_clause blocks (slot_at slots (q - first))
 near-from blocks first slots q high =
     cond-false (nat_lt q first) None (slot_clause blocks (slot_at slots (q - first)))
@@ -87,7 +87,7 @@ or_none : {A : Type 0} (x : Option A) → option_or x None ≡ x
 or_none None = refl
 or_none (Some x) = refl
 
-no_slots : (blocks : List Block) (n q : ℕ) → None ≡ near_at blocks n [] q
+pub no_slots : (blocks : List Block) (n q : ℕ) → None ≡ near_at blocks n [] q
 no_slots blocks n q =
     elim (nat_lt q n) as (λ b. None ≡ (if b then None else slot_clause blocks no_slot))
     [ true ↦ refl | false ↦ refl ]
@@ -382,7 +382,7 @@ module _ (blocks : List Block) (far far' : List (ℕ × Span)) (id : ℕ) where
   mapped_cond true x y = refl
   mapped_cond false x y = refl
 
-  far-put : (span : Span)
+  pub far-put : (span : Span)
       →
       ((q : ℕ) → lookup (nat_eq q) far' ≡ cond (nat_eq id q) (Some span) (lookup (nat_eq q) far)) →
       (q : ℕ)

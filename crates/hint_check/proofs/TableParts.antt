@@ -2,7 +2,7 @@
 use Rattle.std.proofs.Common.{◌≡◌, ◌+◌, ◌^◌, ◌<◌, ◌≤◌, ℕ, zero, suc, Bool, true, false, cond}
 use Rattle.std.proofs.Common.{nat_eq}
 use Rattle.std.proofs.Common.{Some, None, List, [], ◌∷◌, ◌++◌, length, take, drop, refl, sym}
-use Rattle.std.proofs.Common.{ap, ◌∙◌, ◌||◌, subst, arith, inl, inr}
+use Rattle.std.proofs.Common.{ap, ◌∙◌, ◌||◌, ◌⊎◌, subst, arith, inl, inr}
 use Rattle.std.specs.Prelude.{if◌then◌else◌}
 use Rattle.std.specs.Map.{lookup}
 use Rattle.std.proofs.lemmas.Bool.{cases_Bool, cases_lt, both_ways, cond-true, cond-false, eqb-true}
@@ -115,7 +115,7 @@ pub taken_ends : (blocks : List Block) (count : ℕ) (front : List Slot) → Slo
 taken_ends blocks count front ends less =
     subst (SlotsEndBy front) (sym (take-long count blocks less)) ends
 
-drop-none : (n : ℕ) (slots : List Slot) → length slots ≤ n → drop n slots ≡ []
+pub drop-none : (n : ℕ) (slots : List Slot) → length slots ≤ n → drop n slots ≡ []
 drop-none zero [] h = refl
 drop-none zero (slot ∷ slots) h = absurd (omega arith)
 drop-none (suc n) [] h = refl
@@ -164,19 +164,26 @@ KeepsFront-near slots slots' front emptied named id slot behind sets more kept q
       | inr gone ↦ inr (more q gone.0, same ∙ gone.1)
     ]
 
--- a slot was emptied whose id is named, if it is the front's
+-- a slot was emptied whose id is named, if it is the front's and wasn't empty before
 pub KeepsFront-emptied : (slots slots' front : List Slot) (emptied named : List ℕ) (id : ℕ) →
-    SetsSlot slots slots' id no_slot → (id < length front → is_named named id ≡ true) →
+    SetsSlot slots slots' id no_slot →
+    (id < length front → (is_named named id ≡ true) ⊎ (slot_at slots id ≡ no_slot)) →
     ((q : ℕ) → is_named emptied q ≡ true → is_named named q ≡ true) →
     KeepsFront slots front emptied → KeepsFront slots' front named
 unfolding KeepsFront SetsSlot
 KeepsFront-emptied slots slots' front emptied named id sets noted more kept q within =
     elim (cases_Bool (nat_eq id q)) [
       | inl here ↦ let e : id ≡ q = eqb-true id q here in
-          inr (
-            subst (λ k. is_named named k ≡ true) e (noted (omega (arith, e, within))),
-            sets q ∙ cond-true (nat_eq id q) no_slot (slot_at slots q) here,
-          )
+          let empty : slot_at slots' q ≡ no_slot =
+          sets q ∙ cond-true (nat_eq id q) no_slot (slot_at slots q) here in
+          elim (noted (omega (arith, e, within))) [
+            | inl told ↦ inr (subst (λ k. is_named named k ≡ true) e told, empty)
+            | inr was ↦ elim (kept q within) [
+              | inl as_was ↦
+                  inl (empty ∙ sym was ∙ ap (slot_at slots) e ∙ as_was)
+              | inr gone ↦ inr (more q gone.0, empty)
+            ]
+          ]
       | inr apart ↦
           let same : slot_at slots' q ≡ slot_at slots q =
           sets q ∙ cond-false (nat_eq id q) no_slot (slot_at slots q) apart in
@@ -292,7 +299,8 @@ pub IsTable-emptied : (blocks : List Block) (reach : ℕ) (slots slots' : List S
     (far far' : List (ℕ × Span)) (front : Ahead) (emptied named : List ℕ) (id : ℕ) →
     IsTable blocks reach slots far front emptied → SetsSlot slots slots' id no_slot →
     length slots' ≡ length slots → SpansEndBy far' (length blocks) →
-    (id < length front.slots.items → is_named named id ≡ true) →
+    (id < length front.slots.items →
+    (is_named named id ≡ true) ⊎ (slot_at slots id ≡ no_slot)) →
     ((q : ℕ) → is_named emptied q ≡ true → is_named named q ≡ true) →
     IsTable blocks reach slots' far' front named
 IsTable-emptied blocks reach slots slots' far far' front emptied named id is sets long spans noted

@@ -2,15 +2,17 @@
 ghost use Rattle.std.specs.Prelude.{◌≡◌, ℕ, ◌<◌, ◌≤◌, ◌+◌, ◌^◌, nat_eq, cond, length, max, true};
 ghost use Rattle.std.specs.Prelude.{None, Some, IfSome, IfOk, OnOk, OnErr, if◌then◌else◌};
 ghost use Rattle.std.specs.Prelude.{List, ◌++◌};
+ghost use Rattle.std.specs.Option.{option_or};
 ghost use Rattle.std.specs.Map.{lookup};
+ghost use Rattle.hint_check.specs.declared.block.Block.{Block};
 ghost use Rattle.hint_check.specs.Inner.Stamps.{is_named};
 ghost use Rattle.hint_check.specs.Inner.Table.{no_slot, slot_at, far_at, slot_clause};
 ghost use Rattle.hint_check.specs.declared.slots.Slot.{Slot};
 ghost use Rattle.hint_check.specs.Inner.Table.{SlotsEndBy, SpansEndBy, SetsSlot, SlotsMove};
-ghost use Rattle.hint_check.specs.Inner.Table.{GrowsFrom};
+ghost use Rattle.hint_check.specs.Inner.Table.{GrowsFrom, BecomeFar, StayAlike};
 
 use crate::block::{Block, Blocks, Run, push_blocks};
-use crate::far::Far;
+use crate::far::{Far, Span, put_far};
 use std::alloc::AllocError;
 
 /// Where the blocks of a near id's clause stand: from the start up to the end. There is no clause
@@ -33,6 +35,15 @@ fn slot_at(slots: &[Slot], place: usize) -> Slot
         Some(slot) => *slot,
         None => NO_SLOT,
     }
+}
+
+/// Whether the slot at a place is that of an id that has no clause.
+#[inline(always)]
+pub fn has_no_slot(slots: &[Slot], place: usize) -> bool
+    ensures { result ≡ true → slot_at slots.now place ≡ no_slot }
+{
+    let slot = slot_at(slots, place);
+    slot.start == NO_SLOT.start && slot.end == NO_SLOT.end
 }
 
 /// The clause that stands where a slot says.
@@ -194,4 +205,44 @@ pub fn move_slots(
         moved.push(next)?;
     }
     Ok(())
+}
+
+/// Makes a far id of one whose clause this slot has, and answers how many blocks it had as a far
+/// one before.
+fn make_one_far(far: &mut Far, slot: Slot, id: u64) -> Result<usize, AllocError>
+    ensures put { OnOk result ((blocks : List Block) → (q : ℕ) → far_at blocks far.new q
+        ≡ cond (nat_eq id q) (option_or (slot_clause blocks slot) (far_at blocks far.old q))
+        (far_at blocks far.old q)) }
+    ensures ends { OnOk result ((count : ℕ) → slot.end ≤ count → SpansEndBy far.old count
+        → SpansEndBy far.new count) }
+    ensures same { OnErr result ((q : ℕ) → lookup (nat_eq q) far.new
+        ≡ lookup (nat_eq q) far.old) }
+    ensures kept { OnErr result ((count : ℕ) → SpansEndBy far.old count
+        → SpansEndBy far.new count) }
+{
+    if slot.end < slot.start {
+        return Ok(0);
+    }
+    let span = Span {
+        start: slot.start as usize,
+        end: slot.end as usize,
+    };
+    Ok(put_far(far, id, span)?)
+}
+
+/// Makes far ids of those whose clauses these slots have, by ids from the first on, and answers how
+/// many blocks they had as far ones before. After an error some of them may be far ids, too.
+pub fn make_far(far: &mut Far, slots: &[Slot], first: u64) -> Result<usize, AllocError>
+    requires { first + length slots.now ≤ 2 ^ 64 }
+    ensures put { OnOk result (BecomeFar first slots.now far.old far.new) }
+    ensures alike { StayAlike first slots.now far.old far.new }
+    ensures ends { (count : ℕ) → SlotsEndBy slots.now count → SpansEndBy far.old count
+        → SpansEndBy far.new count }
+{
+    let mut replaced = 0usize;
+    for (place, slot) in slots.iter().enumerate() {
+        let blocks = make_one_far(far, *slot, first + place as u64)?;
+        replaced = replaced.saturating_add(blocks);
+    }
+    Ok(replaced)
 }

@@ -1,12 +1,12 @@
 //! Clauses by their ids. All their blocks stand in one list, each clause's behind those put in
 //! before it, and at its front those of a formula, to which it goes back.
-ghost use Rattle.std.specs.Prelude.{◌≡◌, ℕ, ◌≤◌, ◌<◌, ◌+◌, ◌^◌, length, drop, true};
+ghost use Rattle.std.specs.Prelude.{◌≡◌, ℕ, ◌≤◌, ◌<◌, ◌+◌, ◌^◌, ◌⊎◌, length, drop, true};
 ghost use Rattle.std.specs.Prelude.{IfSome, IfOk, OnOk};
 ghost use Rattle.hint_check.specs.Inner.Far.{placed};
 ghost use Rattle.hint_check.specs.Inner.Index.{Lists, indexed_part};
 ghost use Rattle.hint_check.specs.Inner.Stamps.{is_named};
 ghost use Rattle.hint_check.specs.Inner.Table.{SlotsEndBy, SpansEndBy, near_entries, far_entries};
-ghost use Rattle.hint_check.specs.Inner.Table.{ListsAll};
+ghost use Rattle.hint_check.specs.Inner.Table.{ListsAll, slot_at, no_slot};
 
 use crate::block::{Block, Blocks, Run, push_clause};
 use crate::far::{Far, Known, Span, put_far, take_far};
@@ -14,7 +14,8 @@ use crate::front::Front;
 use crate::index::Index;
 use crate::scratch::ClauseScratch;
 use crate::slots::{
-    Slot, empty_slot, far_clause, move_slots, near_clause, put_back, put_slot, slot_clause,
+    Slot, empty_slot, far_clause, has_no_slot, make_far, move_slots, near_clause, put_back,
+    put_slot, slot_clause,
 };
 use crate::tautology::indexed_part;
 use cnf_text::literal::Lit;
@@ -25,6 +26,12 @@ use std::mem;
 
 /// So many blocks of own clauses that are gone are left where they are.
 const FEW_BLOCKS: usize = 65_536;
+
+/// So many slots behind the front's are kept, whether they are in use or not.
+const FEW_SLOTS: usize = 60_000;
+
+/// So many are kept for each block of a clause that is there.
+const SLOTS_PER_BLOCK: usize = 8;
 
 /// So many slots may be made before any clause is there.
 const FIRST_SLOTS: u64 = 1024;
@@ -42,7 +49,9 @@ pub struct Ahead {
 }
 
 /// Clauses by their ids. An id has a slot, as far as there are slots; any other id that has a
-/// clause is a far one, and so is one of the front's whose clause is another now.
+/// clause is a far one, and so is one of the front's whose clause is another now. Where ids have
+/// risen so far that few of the slots are in use, those behind the front are left: then each own
+/// clause has a far id.
 #[derive(Drop)]
 pub struct Table {
     /// The blocks of all clauses that were put in.
@@ -57,6 +66,8 @@ pub struct Table {
     emptied: Vec<u64>,
     /// How many clauses were put in.
     inserted: u64,
+    /// Whether the slots behind the front were left, until it goes back to the front.
+    is_left: bool,
     /// How many blocks the slots and the spans behind the front have.
     held: usize,
     /// Room for the blocks that are kept when those of clauses that are gone are given back.
@@ -108,6 +119,7 @@ impl Table {
             front: ahead,
             emptied: Vec::new(alloc),
             inserted,
+            is_left: false,
             held: 0,
             spare: Vec::new(alloc),
             alloc,
@@ -125,6 +137,7 @@ impl Table {
         self.emptied.clear();
         self.far.clear();
         self.inserted = self.front.slots.len() as u64;
+        self.is_left = false;
         self.held = 0;
     }
 
@@ -149,12 +162,12 @@ impl Table {
         ensures ok { OnOk result (self.new ≡ with_clause self.old id lits.now) }
         ensures err { OnErr result (self.new ≡ self.old) }
     {
-        note(&mut self.emptied, self.front.slots.len(), id)?;
+        note(&mut self.emptied, &self.slots, self.front.slots.len(), id)?;
         let start = self.blocks.len();
         push_clause(&mut self.blocks, &mut self.reach, lits)?;
         let end = self.blocks.len();
         self.inserted = self.inserted.saturating_add(1);
-        let reach = slots_allowed(self.slots.len() as u64, self.inserted);
+        let reach = slots_allowed(self.slots.len() as u64, self.inserted, self.is_left);
         match near_place(self.front.slots.len(), id, reach, end) {
             Some(place) => {
                 let slot = Slot {
@@ -179,7 +192,7 @@ impl Table {
         ensures ok { OnOk result (self.new ≡ without_clause self.old id) }
         ensures err { OnErr result (self.new ≡ self.old) }
     {
-        note(&mut self.emptied, self.front.slots.len(), id)?;
+        note(&mut self.emptied, &self.slots, self.front.slots.len(), id)?;
         let emptied = empty_slot(&mut self.slots, id);
         let taken = take_far(&mut self.far, id);
         self.held = held_after(self.held, 0, emptied.saturating_add(taken));
@@ -187,7 +200,9 @@ impl Table {
     }
 
     /// Gives the blocks of clauses that are gone back, where they are three of four, and many beside
-    /// the slots and the blocks of the front, which are gone through. An error is a refused growth.
+    /// the slots, the seats of far ids and the blocks of the front, which are gone through. It gives
+    /// back the slots behind the front, too, where few of them are in use. An error is a refused
+    /// growth.
     #[inline(always)]
     pub fn tidy(&mut self) -> Result<(), AllocError>
         ensures { self.new ≡ self.old }
@@ -196,11 +211,35 @@ impl Table {
         if own < FEW_BLOCKS || own / 4 < self.held {
             return Ok(());
         }
-        let others = self.slots.len().saturating_add(self.front.blocks);
-        if own < others / 4 {
+        let places = self.slots.len().saturating_add(self.far.places());
+        if own < places.saturating_add(self.front.blocks) / 4 {
             return Ok(());
         }
+        if self.has_slack() {
+            self.leave_slots()?;
+        }
         self.move_all()
+    }
+
+    /// Whether few of the slots behind the front are in use.
+    fn has_slack(&self) -> bool {
+        let slots = self.slots.len().saturating_sub(self.front.slots.len());
+        slots > self.held.saturating_mul(SLOTS_PER_BLOCK).max(FEW_SLOTS)
+    }
+
+    /// Gives the slots behind the front back: the ids of their clauses become far ones.
+    #[inline(never)]
+    fn leave_slots(&mut self) -> Result<(), AllocError>
+        ensures { self.new ≡ self.old }
+    {
+        let first = self.front.slots.len();
+        let kept = copy_of(self.alloc, &self.slots[..first])?;
+        let behind = slots_from(&self.slots, first);
+        let replaced = make_far(&mut self.far, behind, first as u64)?;
+        self.slots = kept;
+        self.held = held_after(self.held, 0, replaced);
+        self.is_left = true;
+        Ok(())
     }
 
     /// Puts the blocks of all clauses into a list of their own.
@@ -312,14 +351,16 @@ fn slots_from(slots: &[Slot], first: usize) -> &[Slot]
     &slots[slots.len().min(first)..]
 }
 
-/// Notes an id whose clause may be one of the front's, which has so many slots.
+/// Notes an id whose clause may be one of the front's, which has so many slots. One that has no
+/// clause there any more was noted before.
 #[inline(always)]
-fn note(emptied: &mut Vec<u64>, front: usize, id: u64) -> Result<(), AllocError>
-    ensures noted { OnOk result (id < front → is_named emptied.new.items id ≡ true) }
+fn note(emptied: &mut Vec<u64>, slots: &[Slot], front: usize, id: u64) -> Result<(), AllocError>
+    ensures noted { OnOk result (id < front → (is_named emptied.new.items id ≡ true)
+        ⊎ (slot_at slots.now id ≡ no_slot)) }
     ensures kept { (q : ℕ) → is_named emptied.old.items q ≡ true
         → is_named emptied.new.items q ≡ true }
 {
-    if id < front as u64 {
+    if id < front as u64 && !has_no_slot(slots, id as usize) {
         emptied.push(id)?;
     }
     Ok(())
@@ -331,7 +372,10 @@ fn held_after(held: usize, more: usize, gone: usize) -> usize {
 }
 
 /// How many slots there may be.
-fn slots_allowed(made: u64, inserted: u64) -> u64 {
+fn slots_allowed(made: u64, inserted: u64, is_left: bool) -> u64 {
+    if is_left {
+        return made;
+    }
     let more = inserted.saturating_mul(SLOTS_PER_CLAUSE);
     made.max(more.saturating_add(FIRST_SLOTS))
 }

@@ -1,10 +1,14 @@
-//! Proofs with so many clauses that are deleted that the room of these is given back.
-use crate::judging_tests::{expected, judged_over};
-use crate::literals::formula;
+//! Proofs with so many clauses that are deleted that the room of these is given back, and so are the
+//! slots of their ids, which rise.
+use crate::judges::{Work, with_judge};
+use crate::judging_tests::{expected, judged_by};
 use fixtures::bundles::FOUR;
-use hint_check::{Base, Reason};
+use hint_check::{Base, Judge, Reason};
 use std::alloc::{AllocError, Global};
 use std::process::Abort;
+
+/// Steps, and the number of the one that isn't good with what is wrong with it, or nothing.
+type End = (&'static str, Option<(u64, Reason)>);
 
 /// Lemmas that stay, with ids that are near and far, over the four clauses.
 const STAYING: &str = "5 1 10 0 1 2 0\n1000000 1 11 0 1 2 0\n1000233 1 12 0 1 2 0\n";
@@ -17,10 +21,21 @@ const BEHIND: u64 = 70_006;
 /// Steps that need what stays: three, behind 140,003.
 const NEEDING: &str = "80000 1 10 0 5 0\n80001 1 11 0 1000000 0\n80002 1 12 0 1000233 0\n";
 
-/// What follows: a refutation, or a hint that is no id any more.
-const ENDS: &[(&str, Option<(u64, Reason)>)] = &[
-    ("80003 1 0 1 2 0\n80004 0 80003 3 4 0\n", None),
+/// What follows: a lemma that is replaced, an id that comes back and a refutation; or a hint that is
+/// no id any more.
+const ENDS: &[End] = &[
+    (
+        "0 d 5 0\n5 1 13 0 1 2 0\n80003 1 13 0 5 0\n40000 1 14 0 1 2 0\n80004 1 14 0 40000 0\n\
+         80005 1 0 1 2 0\n80006 0 80005 3 4 0\n",
+        None,
+    ),
     ("80003 1 0 70005 0\n", Some((140_007, Reason::Hint))),
+];
+
+/// What the same judge is given then: proofs by ids near those of the formula.
+const NEXT: &[End] = &[
+    ("5 1 0 1 2 0\n6 0 5 3 4 0\n", None),
+    ("6 1 10 0 5 0\n", Some((1, Reason::Hint))),
 ];
 
 /// The steps that put in and delete the others.
@@ -41,13 +56,25 @@ fn tidy_text(alloc: Global, end: &str) -> Result<Vec<u8>, AllocError> {
     Ok(text)
 }
 
+/// Judges each of these texts by one judge.
+#[derive(Drop)]
+struct OneAfterTheOther;
+
+impl Work for OneAfterTheOther {
+    fn with<R: Abort>(&mut self, rt: &R, alloc: Global, judge: &mut Judge, _base: &Base) {
+        for (end, fault) in ENDS {
+            let text = tidy_text(alloc, end).expect(rt, "memory");
+            let judged = judged_by(rt, alloc, judge, &[], &text);
+            assert_eq!(rt; judged, expected(*fault));
+            for (text, fault) in NEXT {
+                let judged = judged_by(rt, alloc, judge, &[], text.as_bytes());
+                assert_eq!(rt; judged, expected(*fault));
+            }
+        }
+    }
+}
+
 #[test]
 fn lemmas_that_stay_are_kept(rt: HostRuntime) {
-    let formula = formula(&rt, rt.alloc(), FOUR);
-    let base = Base::new(rt.alloc(), &formula).expect(&rt, "memory");
-    for (end, fault) in ENDS {
-        let text = tidy_text(rt.alloc(), end).expect(&rt, "memory");
-        let judged = judged_over(&rt, rt.alloc(), &base, &[], &text);
-        assert_eq!(rt; judged, expected(*fault));
-    }
+    with_judge(&rt, rt.alloc(), FOUR, &mut OneAfterTheOther);
 }

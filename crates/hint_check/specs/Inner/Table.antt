@@ -4,7 +4,7 @@ use Rattle.std.specs.Prelude.{cond}
 use Rattle.std.specs.Prelude.{if◌then◌else◌, slice_index_or, slice_range, Option, None, Some, List}
 use Rattle.std.specs.Prelude.{[]}
 use Rattle.std.specs.Prelude.{◌∷◌, ◌++◌, length, drop, take, true}
-use Rattle.std.specs.Option.{option_map}
+use Rattle.std.specs.Option.{option_map, option_or}
 use Rattle.std.specs.Map.{lookup}
 use Rattle.std.specs.FinMap as map
 use Rattle.std.specs.Coded.{Coded, code_by, coded×, coded_ℕ, coded_list}
@@ -41,6 +41,11 @@ near_at blocks first slots id =
 -- the clause of an id in the map
 abbrev pub far_at : List Block → List (ℕ × Span) → ℕ → Option (List Literal)
 far_at blocks far id = option_map (span_clause blocks) (lookup (nat_eq id) far)
+
+-- the clause of an id, by its slot or else as a far one
+abbrev pub clause_at : List Block → ℕ → List Slot → List (ℕ × Span) → ℕ → Option (List Literal)
+clause_at blocks first slots far id =
+    option_or (near_at blocks first slots id) (far_at blocks far id)
 
 abbrev pub entry_of : ℕ → Option (List Literal) → List (ℕ × List Literal)
 entry_of id None = []
@@ -113,6 +118,20 @@ SpansMove blocks moved (entry ∷ before) [] = ⊥
 SpansMove blocks moved (entry ∷ before) (other ∷ after) =
     ((entry.0 ≡ other.0) × SpanMoves blocks moved entry.1 other.1)
     × SpansMove blocks moved before after
+
+-- ---- clauses of slots that become those of far ids
+
+-- each id has as a far one now the clause that it had by its slot, or else as a far one
+unfoldable pub BecomeFar : ℕ → List Slot → List (ℕ × Span) → List (ℕ × Span) → Type 0
+BecomeFar first slots before after =
+    (blocks : List Block) (id : ℕ) →
+    far_at blocks after id ≡ clause_at blocks first slots before id
+
+-- beside the slots each id has the clause that it had
+unfoldable pub StayAlike : ℕ → List Slot → List (ℕ × Span) → List (ℕ × Span) → Type 0
+StayAlike first slots before after =
+    (blocks : List Block) (id : ℕ) →
+    clause_at blocks first slots after id ≡ clause_at blocks first slots before id
 
 -- ---- a table
 

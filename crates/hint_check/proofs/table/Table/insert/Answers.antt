@@ -1,9 +1,11 @@
-use Rattle.std.proofs.Common.{◌≡◌, ◌+◌, ◌≤◌, length, refl, sym, ap, ◌∙◌, arith}
+use Rattle.std.proofs.Common.{◌≡◌, ◌+◌, ◌≤◌, ◌⊎◌, List, true, length, refl, sym, ap, ◌∙◌, subst}
+use Rattle.std.proofs.Common.{arith}
 use Rattle.std.proofs.lemmas.List.{length-append}
 use Rattle.hint_check.specs.declared.slots.Slot.{Slot}
 use Rattle.hint_check.specs.declared.far.Span.{Span}
 use Rattle.hint_check.specs.Inner.Blocks.{clause_of}
-use Rattle.hint_check.specs.Inner.Table.{no_slot, tabled, with_clause}
+use Rattle.hint_check.specs.Inner.Stamps.{is_named}
+use Rattle.hint_check.specs.Inner.Table.{no_slot, slot_at, tabled, with_clause}
 use Rattle.hint_check.proofs.LiveParts.{OnErr-always}
 use Rattle.hint_check.proofs.TableEntries.{SlotsEndBy-same, SlotsEndBy-set, SlotsEndBy-more}
 use Rattle.hint_check.proofs.TableParts.{tabled-same, tabled-near, tabled-far, IsTable-named}
@@ -205,7 +207,9 @@ invariant_of-self-in-None c =
     (let same = c.empty_slot-emptied.ensures.length in omega (arith, same))
     (KeepsFront-emptied slots cleared inside.front.slots.items inside.emptied.items
     c.note.new.emptied.items c.args.id sets
-    (λ low. c.in_ok-note.ensures.noted (omega (arith, low, c.len.ensures))) c.note.ensures.kept
+    (λ low. subst (λ (ss : List Slot). (is_named c.note.new.emptied.items c.args.id ≡ true)
+    ⊎ (slot_at ss c.args.id ≡ no_slot)) c.deref.ensures.value
+    (c.in_ok-note.ensures.noted (omega (arith, low, c.len.ensures)))) c.note.ensures.kept
     c.self.invariant.kept)
 
 pub returns-in_ok-replaced-in-None-clause-ok : goal.returns-in_ok-replaced-in-None-clause-ok

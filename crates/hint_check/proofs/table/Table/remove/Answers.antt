@@ -1,5 +1,7 @@
-use Rattle.std.proofs.Common.{length, ap, ◌∙◌, arith}
-use Rattle.hint_check.specs.Inner.Table.{without_clause}
+use Rattle.std.proofs.Common.{◌≡◌, ◌⊎◌, List, true, length, ap, ◌∙◌, subst, arith}
+use Rattle.hint_check.specs.declared.slots.Slot.{Slot}
+use Rattle.hint_check.specs.Inner.Stamps.{is_named}
+use Rattle.hint_check.specs.Inner.Table.{no_slot, slot_at, without_clause}
 use Rattle.hint_check.proofs.TableParts.{tabled-remove, IsTable-named, IsTable-emptied}
 use Rattle.hint_check.proofs.table.Table.remove.Goals as goal
 
@@ -18,7 +20,9 @@ invariant_of-self-2 c =
     c.note.new.emptied.items c.args.id c.self.invariant c.empty_slot-emptied.ensures.emptied
     c.empty_slot-emptied.ensures.length
     (c.take_far-taken.ensures.ends (length blocks) c.self.invariant.spans)
-    (λ low. c.in_ok-note.ensures.noted (omega (arith, low, c.len.ensures))) c.note.ensures.kept
+    (λ low. subst (λ (ss : List Slot). (is_named c.note.new.emptied.items c.args.id ≡ true)
+    ⊎ (slot_at ss c.args.id ≡ no_slot)) c.deref.ensures.value
+    (c.in_ok-note.ensures.noted (omega (arith, low, c.len.ensures)))) c.note.ensures.kept
 
 pub returns-clause-ok : goal.returns-clause-ok
 returns-clause-ok c =
