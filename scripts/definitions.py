@@ -172,7 +172,7 @@ finding keeps that a refuted target has no model with the formula.""",
       "case_core/bundle.rt icnf_part -",
       "case_core/scan.rt LabelScan::new -",
       "case_core/scan.rt LabelScan::add ok err",
-      "case_core/finding.rt Finding here only may_be is sound"]),
+      "case_core/finding.rt Finding here only is sound"]),
     ("mark_board: marks, open weight and open branches", """
 A post marks the node of its finding and no other. Marks, open weight and open branches are the definition's, by all
 nodes' marks. A refuted target has no model with its path, and where the root is marked the formula has none. On a
@@ -198,9 +198,10 @@ number of passes that the hall was opened with. What a rule means is the kit's w
 steps of any threads, since a call may take a step only where the rule holds again after it, and that is proved where the step is taken. `Hall::close` says it of the
 state in which a hall ends.""",
      ["board_hall/laws.rt free_is_whole -",
-      "board_hall/laws.rt free_is_whole_of_leaves -",
+      "board_hall/laws.rt free_is_whole_of_leaves posts sections",
       "board_hall/opening.rt Hall::open hall count passes",
       "board_hall/opening.rt Hall::open_for_proofs_elsewhere hall count passes",
+      "board_hall/opening.rt Hall::open_for_any_proofs_elsewhere hall count passes",
       "board_hall/hall.rt Hall::post own stays posted back",
       "board_hall/hall.rt Hall::post_part own stays posted",
       "board_hall/hall.rt Hall::mark_of own stays nothing mark",

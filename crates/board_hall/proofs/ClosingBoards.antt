@@ -29,6 +29,7 @@ use Rattle.board_hall.specs.declared.pass.Pass.{Pass}
 use Rattle.board_hall.specs.declared.view.View.{View}
 use Rattle.board_hall.specs.declared.view.CutCase.{CutCase}
 use Rattle.board_hall.specs.declared.view.Post.{Post}
+use Rattle.board_hall.specs.declared.view.Proofs.{Proofs}
 use Rattle.board_hall.specs.Posts.{parts_in, board_count, place_of, mark_in, root_by, one_if}
 use Rattle.board_hall.specs.Posts.{placed, Among, AreReal, IsFindingPost, IsPartPost, posts_of}
 use Rattle.board_hall.specs.Hall.{HallState, IsBoardOf, Reached, meeting}
@@ -151,9 +152,9 @@ rebase k b place board above is e f g = record {
   long = is.long ∙ (λ i. size (board_tree (sym f i) (sym e i).tree (g i)));
 }
 
-module _ (e : Bool) (posts : List Post) (above : BoardOf) (parts : List BoardOf) where
+module _ (e : Proofs) (posts : List Post) (above : BoardOf) (parts : List BoardOf) where
   abbrev k : CutCase
-  k = record { case = above.case; cut = above.cut; elsewhere = e }
+  k = record { case = above.case; cut = above.cut; proofs = e }
 
   module _ (low : above.cut ≤ 6) (count : length parts ≡ parts_in k)
       (top : IsBoardOf k (parts_in k) posts above)
@@ -258,11 +259,11 @@ pub together : (k : CutCase) (posts : List Post) (above : BoardOf) (parts : List
     → AreBoards above parts × HoldPosts k posts (boards_together above parts)
 together k posts above parts low count top each settled =
     let here : CutCase =
-    record { case = above.case; cut = above.cut; elsewhere = k.elsewhere } in
+    record { case = above.case; cut = above.cut; proofs = k.proofs } in
     let same : here ≡ k = (λ i. record {
       case = top.is_at.case_is i;
       cut = top.is_at.cut_is i;
-      elsewhere = k.elsewhere;
+      proofs = k.proofs;
     }) in
     let low' : above.cut ≤ 6 = subst (λ (z : CutCase). z.cut ≤ 6) (sym same) low in
     let count' : length parts ≡ parts_in here = count ∙ (λ i. parts_in (sym same i)) in
@@ -278,7 +279,7 @@ together k posts above parts low count top each settled =
     subst (λ (z : CutCase). (part : ℕ) → part < parts_in z →
     mark_in posts (parts_in z) (part_place z.cut z.case.tree part)
     ≡ part_mark (root_by z part (mark_in posts part))) (sym same) settled in (
-      are_boards k.elsewhere posts above parts low' count' top' each' settled',
+      are_boards k.proofs posts above parts low' count' top' each' settled',
       subst (λ z. HoldPosts z posts (boards_together above parts)) same
-          (hold k.elsewhere posts above parts low' count' top' each' settled'),
+          (hold k.proofs posts above parts low' count' top' each' settled'),
     )

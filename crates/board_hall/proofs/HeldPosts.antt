@@ -11,7 +11,7 @@ use Rattle.split_tree.specs.SplitTree.{SplitTree, size, path_at}
 use Rattle.split_tree.specs.Leaves.{IsTargetAt}
 use Rattle.split_tree.specs.declared.node.Target.{Target}
 use Rattle.case_core.specs.Case.{CaseOf}
-use Rattle.case_core.specs.Finding.{IsFinding, HasSection, MayBeFound, IsSoundFinding, target_of}
+use Rattle.case_core.specs.Finding.{IsFinding, HasSection, IsSoundFinding, target_of}
 use Rattle.case_core.specs.declared.finding.Finding.{Finding}
 use Rattle.mark_board.specs.declared.mark.Mark.{Mark}
 use Rattle.mark_board.specs.declared.mark.Mark.TheVariants.{Open, Refuted, Rejected}
@@ -38,7 +38,7 @@ use Rattle.board_hall.specs.declared.view.CutCase.{CutCase}
 use Rattle.board_hall.specs.declared.view.Post.{Post}
 use Rattle.board_hall.specs.Posts.{parts_in, board_count, place_if, place_of, tree_at, node_of}
 use Rattle.board_hall.specs.Posts.{is_at, mark_by, mark_in, open_by, root_by, covered, owed_if}
-use Rattle.board_hall.specs.Posts.{IsFindingPost, IsPartPost}
+use Rattle.board_hall.specs.Posts.{IsFindingPost, IsPartPost, NeedsSection}
 use Rattle.board_hall.specs.Hall.{IsBoard, IsBoardOf, posting, MayPost, in_part, on_top}
 use Rattle.board_hall.specs.Inner.Plays.{Hand}
 use Rattle.board_hall.specs.Clauses.{IsHome}
@@ -217,10 +217,9 @@ on_top_only k b e =
 -- Findings as posts.
 pub finding_post : (k : CutCase) (b row node : ℕ) (target : Target) (judged : Judged)
     (case : CaseOf) → case ≡ k.case → IsHome k node b row → IsTargetAt case.tree node target →
-    MayBeFound case target → (k.elsewhere ≡ false → HasSection case target)
-    → IsFinding case target judged
+    (NeedsSection k.proofs target → HasSection case target) → IsFinding case target judged
     → IsSoundFinding case target judged → IsFindingPost k record { board = b; row = row; judged = judged }
-finding_post k b row node target judged case e home here may section is sound =
+finding_post k b row node target judged case e home here section is sound =
     let there : IsTargetAt k.case.tree (node_of k b row) target =
     subst (λ (p : CaseOf × ℕ). IsTargetAt p.0.tree p.1 target) (λ i. (e i, sym home.is_row.here i))
     here in record {
@@ -229,10 +228,7 @@ finding_post k b row node target judged case e home here may section is sound =
       has_targets = home.has_targets;
       target = target;
       here = there;
-      may = record {
-        here_alone = λ alone. subst (λ c. HasSection c target) e (section alone);
-        may_be = subst (λ c. MayBeFound c target) e may;
-      };
+      may = λ needs. subst (λ c. HasSection c target) e (section needs);
       is = subst (λ c. IsFinding c target judged) e is;
       sound =
           λ refuted. subst (λ c. IsSoundFinding c target judged) e sound refuted
@@ -256,7 +252,8 @@ pub record FindingHeld (k : CutCase) (old new : BoardOf) (found : Finding) (post
 pub finding_held : (k : CutCase) (known : List Post) (old new : BoardOf) (found : Finding)
     (post : Post) (node : ℕ) (answer : Answer) → IsBoardOf k post.board known old →
     post.board < board_count k → found.case.now ≡ k.case →
-    (k.elsewhere ≡ false → HasSection found.case.now (target_of found.leaf found.node)) →
+    (NeedsSection k.proofs (target_of found.leaf found.node) →
+    HasSection found.case.now (target_of found.leaf found.node)) →
     node ≡ found.node → post.judged ≡ found.judged →
     IsFinding found.case.now (target_of found.leaf found.node) post.judged →
     IsTargetRow old node post.row →
@@ -277,7 +274,7 @@ finding_held k known old new found post node answer is inside case section here 
       home = home;
       real =
           finding_post k post.board post.row found.node target post.judged found.case.now case home
-          found.here found.may_be section finding
+          found.here section finding
           (subst (IsSoundFinding found.case.now target) (sym said) found.sound);
       answers =
           posted_of old new found.node node post.row found.judged post.judged answer here said

@@ -1,7 +1,7 @@
--- What a free board is where the case's sections name leaves alone.
-use Rattle.std.proofs.Common.{◌≡◌, ◌⊎◌, ◌+◌, ◌-◌, ◌<◌, ◌==◌, ℕ, zero, suc, Bool, true, false, List}
-use Rattle.std.proofs.Common.{get_or, refl, sym, ap, ◌∙◌, subst, inl, inr, ⊎_elim, arith, add-zero}
-use Rattle.std.proofs.Common.{eq-eqb}
+-- What a free board is where no inner node has a finding.
+use Rattle.std.proofs.Common.{◌≡◌, ◌≢◌, ◌⊎◌, ◌+◌, ◌-◌, ◌<◌, ◌==◌, ℕ, zero, suc, Bool, true, false}
+use Rattle.std.proofs.Common.{List, get_or, refl, sym, ap, ◌∙◌, subst, inl, inr, ⊎_elim, arith}
+use Rattle.std.proofs.Common.{add-zero, eq-eqb}
 use Rattle.std.proofs.lemmas.Bool.{cases_Bool, cases_lt, eqb-false}
 use Rattle.split_tree.specs.SplitTree.{SplitTree, missing, cube, split, size, subtree_at, IsSplit}
 use Rattle.split_tree.specs.SplitTree.{IsLeaf}
@@ -10,7 +10,6 @@ use Rattle.split_tree.specs.Parts.{top}
 use Rattle.split_tree.specs.declared.node.Target.TheVariants.{Node}
 use Rattle.split_tree.proofs.NodesCoding.{in_positive, in_negative, some_node}
 use Rattle.split_tree.proofs.SplitTreeLabels.{below, inside}
-use Rattle.case_core.specs.Finding.{HasSection}
 use Rattle.case_core.proofs.CaseTables.{one_target}
 use Rattle.mark_board.specs.Marking.{marked, is_refuted, refuted_by}
 use Rattle.mark_board.specs.TopPlaces.{part_root}
@@ -20,9 +19,12 @@ use Rattle.mark_board.proofs.TopPlacesParts.{part_within}
 use Rattle.mark_board.proofs.TopPlacesNodes.{split_at_top}
 use Rattle.board_hall.specs.declared.view.CutCase.{CutCase}
 use Rattle.board_hall.specs.declared.view.Post.{Post}
+use Rattle.board_hall.specs.declared.view.Proofs.{Proofs}
+use Rattle.board_hall.specs.declared.view.Proofs.TheVariants.{InCase, OfLeavesElsewhere, Elsewhere}
 use Rattle.board_hall.specs.Posts.{parts_in, board_count, tree_at, node_of, posts_of, AreReal}
 use Rattle.board_hall.specs.Hall.{HallState, Reached, lock_word}
-use Rattle.board_hall.specs.Laws.{IsRefutedBy, IsWholeOfLeaves, NamesNoNode}
+use Rattle.board_hall.specs.Posts.{NeedsSection, MayBePosted}
+use Rattle.board_hall.specs.Laws.{IsRefutedBy, IsWholeOfLeaves, PostsNoNode, NamesNoNode}
 use Rattle.board_hall.proofs.HallLawful.{reached_lawful, all_real}
 use Rattle.board_hall.proofs.LawsWhole.{whole, either_of, not_both, false_of, posted_refuted}
 
@@ -55,10 +57,10 @@ split_there k b row few within is = elim (cases_Bool (b == parts_in k)) [
 ]
 
 -- no refutation of an inner node was posted
-none_inner : (k : CutCase) (posts : List Post) → NamesNoNode k → AreReal k posts → (b row : ℕ) →
-    b < board_count k → row < size (tree_at k b) → IsSplit (subtree_at (tree_at k b) row)
-    → IsRefutedBy posts b row → ⊥
-none_inner k posts names real b row few within is p =
+none_inner : (k : CutCase) (s : HallState) → PostsNoNode k s → AreReal k (posts_of s.views) →
+    (b row : ℕ) → b < board_count k → row < size (tree_at k b) →
+    IsSplit (subtree_at (tree_at k b) row) → IsRefutedBy (posts_of s.views) b row → ⊥
+none_inner k s none real b row few within is p =
     let x : Post = p.0 in
     let within' : x.row < size (tree_at k x.board) = rw (p.2, p.3) within in
     let is' : IsSplit (subtree_at (tree_at k x.board) x.row) = rw (p.2, p.3) is in
@@ -69,7 +71,7 @@ none_inner k posts names real b row few within is p =
           let node : ℕ = node_of k x.board x.row in
           let same : f.target ≡ Node node =
           one_target k.case.tree node f.target (Node node) f.here (refl, there.0, there.1) in
-          names node (subst (HasSection k.case) same (f.may.may_be node same))
+          none x p.1 f node same
       | inr of_part ↦
           let on_top : (x.board == parts_in k) ≡ true =
           eq-eqb x.board (parts_in k) of_part.1.on_top in
@@ -152,18 +154,18 @@ itself_below tree row =
     let s = some_node (subtree_at tree row) in
     record { reached = omega arith; before_end = omega (arith, s) }
 
--- where sections name leaves alone, a free board is that of its leaves' posts
-pub whole_of_leaves : (k : CutCase) (passes : ℕ) (s : HallState) → NamesNoNode k →
+-- where no inner node has a finding, a free board is that of its leaves' posts
+pub whole_of_leaves : (k : CutCase) (passes : ℕ) (s : HallState) → PostsNoNode k s →
     Reached k passes s → (b : ℕ) → b < board_count k → get_or s.words (lock_word b) 0 ≡ 0 →
     IsWholeOfLeaves k b s
-whole_of_leaves k passes s names g b within free =
+whole_of_leaves k passes s none g b within free =
     let w = whole k passes s g b within free in let tree : SplitTree = tree_at k b in
     let real = all_real k s (reached_lawful k passes s g) in
     let posts : List Post = posts_of s.views in
     let refuted : ℕ → Bool = refuted_by (stored_board k.case w.stored).marks in
-    let none : (r : ℕ) → r < size tree → IsSplit (subtree_at tree r) → refuted r ≡ false =
+    let apart : (r : ℕ) → r < size tree → IsSplit (subtree_at tree r) → refuted r ≡ false =
     λ r l is. false_of (refuted r) (λ e.
-    none_inner k posts names real b r within l is
+    none_inner k s none real b r within l is
     (posted_refuted posts b r (sym (ap is_refuted (w.is_board.is_board.marks r)) ∙ e))) in record {
       stored = w.stored;
       at_home = w.at_home;
@@ -175,7 +177,7 @@ whole_of_leaves k passes s names g b within free =
           let in_tree : row < size tree =
           (let a = br.first_is in let c = br.second_is in let d = br.within in
           omega (arith, a, c, d)) in (
-            (λ m. ⊎_elim (λ p. absurd (none_inner k posts names real b row within in_tree split_ p))
+            (λ m. ⊎_elim (λ p. absurd (none_inner k s none real b row within in_tree split_ p))
                 (λ both. both) (i.0 m)),
             (λ both. i.1 (inr both)),
           );
@@ -194,9 +196,21 @@ whole_of_leaves k passes s names g b within free =
             leaf = o.leaf;
             under_none =
                 λ above under m.
-                o.unmarked (under_marked refuted tree none above row o.within under o.leaf m);
+                o.unmarked (under_marked refuted tree apart above row o.within under o.leaf m);
           }),
         );
         sum_is = w.open_is.sum_is;
       };
     }
+
+-- an inner node's proof stands elsewhere in a hall for any proofs alone
+node_needs : (proofs : Proofs) (node : ℕ) → proofs ≢ Elsewhere → NeedsSection proofs (Node node)
+node_needs InCase node apart = tt
+node_needs OfLeavesElsewhere node apart = tt
+node_needs Elsewhere node apart = absurd (apart refl)
+
+-- where sections name leaves alone, no inner node has a finding
+pub none_posted : (k : CutCase) (s : HallState) → NamesNoNode k → PostsNoNode k s
+none_posted k s names x among finding node same =
+    let may : MayBePosted k (Node node) = subst (MayBePosted k) same finding.may in
+    names.1 node (may (node_needs k.proofs node names.0))

@@ -7,7 +7,7 @@ use Rattle.board_hall.specs.declared.view.View.{View}
 use Rattle.board_hall.specs.declared.view.CutCase.{CutCase}
 use Rattle.board_hall.specs.declared.view.Post.{Post}
 use Rattle.board_hall.specs.Posts.{parts_in, mark_in, Among, AreReal, board_count, place_of}
-use Rattle.board_hall.specs.Posts.{posts_of, root_by, IsPartPost, node_of}
+use Rattle.board_hall.specs.Posts.{posts_of, root_by, IsPartPost, node_of, NeedsSection}
 use Rattle.case_core.specs.Finding.{HasSection, target_of}
 use Rattle.case_core.specs.declared.finding.Finding.{Finding}
 use Rattle.board_hall.specs.Hall.{HallState, Reached}
@@ -89,10 +89,11 @@ pub record IsVerdictOf (k : CutCase) (part : ℕ) (verdict : PartVerdict) : Type
   pub part_is : (verdict_of verdict).part ≡ part
   pub within : part < parts_in k
 
--- where all proofs stand in the case, the finding's target has its section there
+-- where the proof of the finding's target can only be its section, the target has one
 abbrev pub IsOfSection : CutCase → Finding → Type 0
 IsOfSection k finding =
-    k.elsewhere ≡ false → HasSection finding.case.now (target_of finding.leaf finding.node)
+    NeedsSection k.proofs (target_of finding.leaf finding.node)
+    → HasSection finding.case.now (target_of finding.leaf finding.node)
 
 -- the target at the row of x's board has a section
 abbrev pub HasSectionAt : CutCase → Post → Type 0

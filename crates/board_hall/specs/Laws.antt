@@ -1,5 +1,5 @@
 -- What a free board is.
-use Rattle.std.specs.Prelude.{◌≡◌, ◌⊎◌, ◌↔◌, ℕ, suc, ◌<◌, ◌≤◌, true, List, [], ◌∷◌, Some}
+use Rattle.std.specs.Prelude.{◌≡◌, ◌≢◌, ◌⊎◌, ◌↔◌, ℕ, suc, ◌<◌, ◌≤◌, true, List, [], ◌∷◌, Some}
 use Rattle.std.specs.Prelude.{slice_index}
 use Rattle.std.specs.List.{Contains, sum_by}
 use mathlib.Core.Option.{some}
@@ -15,7 +15,9 @@ use Rattle.mark_board.specs.Marking.{marked, refuted_by}
 use Rattle.mark_board.specs.BoardData.{stored_board}
 use Rattle.board_hall.specs.declared.view.CutCase.{CutCase}
 use Rattle.board_hall.specs.declared.view.Post.{Post}
+use Rattle.board_hall.specs.declared.view.Proofs.TheVariants.{Elsewhere}
 use Rattle.board_hall.specs.Posts.{tree_at, node_of, weight_of, posts_of, Among}
+use Rattle.board_hall.specs.Posts.{IsFindingPost}
 use Rattle.board_hall.specs.Hall.{HallState, IsBoard, open_word}
 
 -- the refutation of the node at this row of board b was posted
@@ -65,9 +67,16 @@ pub record IsWhole (k : CutCase) (b : ℕ) (s : HallState) : Type 0 where
   pub open_is : AddsUp (tree_at k b) (weight_of k b) (IsOpenLeaf k b stored)
       (slice_index s.words (open_word b))
 
--- no section of the case is for an inner node
+-- no post of a pass is the finding of an inner node
+abbrev pub PostsNoNode : CutCase → HallState → Type 0
+PostsNoNode k s =
+    (x : Post) → Among x (posts_of s.views) → (finding : IsFindingPost k x) → (node : ℕ)
+    → finding.target ≢ Node node
+
+-- no section of the case is for an inner node, and no such node has its proof elsewhere
 abbrev pub NamesNoNode : CutCase → Type 0
-NamesNoNode k = (node : ℕ) → HasSection k.case (Node node) → ⊥
+NamesNoNode k =
+    (k.proofs ≢ Elsewhere) × ((node : ℕ) → HasSection k.case (Node node) → ⊥)
 
 -- a leaf of board b that the board doesn't mark
 pub record IsUnmarkedLeaf (k : CutCase) (b : ℕ) (stored : BoardData) (row : ℕ) : Type 0 where
@@ -75,9 +84,9 @@ pub record IsUnmarkedLeaf (k : CutCase) (b : ℕ) (stored : BoardData) (row : �
   pub leaf : IsLeaf (subtree_at (tree_at k b) row)
   pub unmarked : Marks k b stored row → ⊥
 
--- Of a case whose sections name leaves alone: each leaf that is marked has no model together with
--- the formula, an inner node is marked exactly where both its branches are, and the open word is
--- the sum of the weights of the unmarked leaves.
+-- Where no inner node has a finding: each leaf that is marked has no model together with the
+-- formula, an inner node is marked exactly where both its branches are, and the open word is the
+-- sum of the weights of the unmarked leaves.
 pub record IsWholeOfLeaves (k : CutCase) (b : ℕ) (s : HallState) : Type 0 where
   pub stored : BoardData
   pub at_home : get_elem? s.homes b ≡ some (some (Some stored))

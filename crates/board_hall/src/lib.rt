@@ -22,4 +22,4 @@ pub use pass::Pass;
 pub use rule::{InHall, Terms};
 pub use same_hall::SameHall;
 pub use table::Core;
-pub use view::{CutCase, Post, View};
+pub use view::{CutCase, Post, Proofs, View};

@@ -1,6 +1,6 @@
 //! How a hall is opened.
 
-ghost use Rattle.std.specs.Prelude.{◌≡◌, ◌+◌, ◌≤◌, ◌<◌, [], true, IfOk, All, vec_len, length};
+ghost use Rattle.std.specs.Prelude.{◌≡◌, ◌+◌, ◌≤◌, ◌<◌, [], IfOk, All, vec_len, length};
 ghost use Rattle.mark_board.specs.Board.{IsPlace};
 ghost use Rattle.mark_board.specs.TopPlaces.{part_count};
 ghost use Rattle.board_hall.specs.Posts.{board_count, place_of};
@@ -8,12 +8,14 @@ ghost use Rattle.board_hall.specs.Hall.{newcomer};
 ghost use Rattle.board_hall.specs.Terms.{cut_case, cut_case_as};
 ghost use Rattle.board_hall.specs.Halls.{core_of, shared_of, hall_of, IsNewPass};
 ghost use Rattle.board_hall.specs.Inner.Opening.{IsOpened};
+ghost use Rattle.board_hall.specs.declared.view.Proofs.TheVariants.{OfLeavesElsewhere, Elsewhere};
 
 use crate::hall::Hall;
 use crate::pass::Pass;
 use crate::plays::Deal;
 use crate::rule::{HallSeat, Terms};
 use crate::table::Core;
+use crate::view::Proofs;
 use atomic_table::{Refused, Table};
 use case_core::Case;
 use mark_board::{Board, BoardData, Place};
@@ -32,19 +34,19 @@ fn with_board(
     alloc: Global,
     case: &Case,
     cut: u32,
-    elsewhere: bool,
+    proofs: Proofs,
     place: Place,
     opened: Opened,
 ) -> Result<Opened, AllocError>
     requires cut { cut ≤ 6 }
     requires place { IsPlace cut case.now.tree place }
-    requires next { (length opened.slots.items < board_count (cut_case_as elsewhere case.now cut))
-        × (place_of (cut_case_as elsewhere case.now cut) (length opened.slots.items) ≡ place) }
-    requires opened { IsOpened (cut_case_as elsewhere case.now cut) (length opened.slots.items)
+    requires next { (length opened.slots.items < board_count (cut_case_as proofs case.now cut))
+        × (place_of (cut_case_as proofs case.now cut) (length opened.slots.items) ≡ place) }
+    requires opened { IsOpened (cut_case_as proofs case.now cut) (length opened.slots.items)
         opened.words.items opened.slots.items }
     ensures count { IfOk result (λ o. length o.slots.items ≡ length opened.slots.items + 1) }
     ensures opened { IfOk result
-        (λ o. IsOpened (cut_case_as elsewhere case.now cut) (length o.slots.items) o.words.items
+        (λ o. IsOpened (cut_case_as proofs case.now cut) (length o.slots.items) o.words.items
         o.slots.items) }
 {
     let board = Board::new(alloc, case, cut, place)?;
@@ -58,20 +60,19 @@ fn with_board(
     Ok(Opened { words, slots })
 }
 
-/// All boards: each part's, and the one above the parts; leaves may have their proofs `elsewhere`
-/// or not.
+/// All boards: each part's, and the one above the parts.
 fn all_boards(
     alloc: Global,
     case: &Case,
     cut: u32,
-    elsewhere: bool,
+    proofs: Proofs,
     parts: u32,
 ) -> Result<Opened, AllocError>
     requires cut { cut ≤ 6 }
     requires parts { parts ≡ part_count cut case.now.tree }
     ensures { IfOk result
-        (λ o. IsOpened (cut_case_as elsewhere case.now cut)
-        (board_count (cut_case_as elsewhere case.now cut)) o.words.items
+        (λ o. IsOpened (cut_case_as proofs case.now cut)
+        (board_count (cut_case_as proofs case.now cut)) o.words.items
         o.slots.items) }
 {
     let mut opened = Opened {
@@ -79,9 +80,9 @@ fn all_boards(
         slots: Vec::new(alloc),
     };
     for part in 0..parts {
-        opened = with_board(alloc, case, cut, elsewhere, Place::Part(part), opened)?;
+        opened = with_board(alloc, case, cut, proofs, Place::Part(part), opened)?;
     }
-    with_board(alloc, case, cut, elsewhere, Place::Top, opened)
+    with_board(alloc, case, cut, proofs, Place::Top, opened)
 }
 
 impl Core {
@@ -121,7 +122,7 @@ impl<'c> Hall<'c> {
         ensures count { IfOk result (λ r. vec_len r.1 ≡ passes) }
         ensures passes { IfOk result (λ r. All (IsNewPass (hall_of r.0)) r.1.items) }
     {
-        Hall::open_as(alloc, case, cut, passes, false)
+        Hall::open_as(alloc, case, cut, passes, Proofs::InCase)
     }
 
     /// Opens a hall that also takes findings of leaves without a section, by proofs that the case
@@ -138,40 +139,63 @@ impl<'c> Hall<'c> {
         requires passes { (0 < passes) × (passes ≤ 64) }
         // A hall of this case and cut, with as many passes, each of them new.
         ensures hall { IfOk result
-            (λ r. ((hall_of r.0).of ≡ cut_case_as true case.now cut)
+            (λ r. ((hall_of r.0).of ≡ cut_case_as OfLeavesElsewhere case.now cut)
             × ((hall_of r.0).passes ≡ passes)) }
         ensures count { IfOk result (λ r. vec_len r.1 ≡ passes) }
         ensures passes { IfOk result (λ r. All (IsNewPass (hall_of r.0)) r.1.items) }
     {
-        Hall::open_as(alloc, case, cut, passes, true)
+        Hall::open_as(alloc, case, cut, passes, Proofs::OfLeavesElsewhere)
     }
 
-    /// A hall with no posts, where leaves may have their proofs `elsewhere` or not.
-    fn open_as(
+    /// Opens a hall that also takes findings of leaves and of inner nodes without a section, by
+    /// proofs that the case doesn't hold. Such a finding is sound, and nothing else is said of it.
+    /// As `open` it asks for a cut from 0 to 6, and for 1 to 64 passes. `AllocError` where a growth
+    /// was refused.
+    pub fn open_for_any_proofs_elsewhere(
         alloc: Global,
         case: &'c Case,
         cut: u32,
         passes: usize,
-        elsewhere: bool,
     ) -> Result<(Hall<'c>, Vec<Pass>), AllocError>
         // A cut, and a number of passes.
         requires cut { cut ≤ 6 }
         requires passes { (0 < passes) × (passes ≤ 64) }
         // A hall of this case and cut, with as many passes, each of them new.
         ensures hall { IfOk result
-            (λ r. ((hall_of r.0).of ≡ cut_case_as elsewhere case.now cut)
+            (λ r. ((hall_of r.0).of ≡ cut_case_as Elsewhere case.now cut)
+            × ((hall_of r.0).passes ≡ passes)) }
+        ensures count { IfOk result (λ r. vec_len r.1 ≡ passes) }
+        ensures passes { IfOk result (λ r. All (IsNewPass (hall_of r.0)) r.1.items) }
+    {
+        Hall::open_as(alloc, case, cut, passes, Proofs::Elsewhere)
+    }
+
+    /// A hall with no posts, which takes findings by proofs that stand so.
+    fn open_as(
+        alloc: Global,
+        case: &'c Case,
+        cut: u32,
+        passes: usize,
+        proofs: Proofs,
+    ) -> Result<(Hall<'c>, Vec<Pass>), AllocError>
+        // A cut, and a number of passes.
+        requires cut { cut ≤ 6 }
+        requires passes { (0 < passes) × (passes ≤ 64) }
+        // A hall of this case and cut, with as many passes, each of them new.
+        ensures hall { IfOk result
+            (λ r. ((hall_of r.0).of ≡ cut_case_as proofs case.now cut)
             × ((hall_of r.0).passes ≡ passes)) }
         ensures count { IfOk result (λ r. vec_len r.1 ≡ passes) }
         ensures passes { IfOk result (λ r. All (IsNewPass (hall_of r.0)) r.1.items) }
     {
         let roots = case.tree().parts(alloc, cut)?;
-        let Opened { words, slots } = all_boards(alloc, case, cut, elsewhere, roots.len() as u32)?;
+        let Opened { words, slots } = all_boards(alloc, case, cut, proofs, roots.len() as u32)?;
         let room = Vec::with_capacity(alloc, roots.len())?;
         let terms = Terms {
             case: Snapshot::of(case),
             cut,
             passes,
-            elsewhere,
+            proofs,
         };
         let (table, first) = match Table::new(alloc, words.as_slice(), slots, &terms) {
             Ok(made) => made,

@@ -1,9 +1,7 @@
 -- A judgement of a proof from a target's path is the finding of the target.
 use Rattle.std.proofs.Common.{◌≡◌, ◌≢◌, ℕ, List, Option, None, Some, refl, sym, ◌∙◌, ap, subst}
 use Rattle.std.proofs.Common.{Result, Ok, Err}
-use Rattle.split_tree.specs.declared.node.Leaf.{Leaf}
-use Rattle.split_tree.specs.declared.node.Target.TheVariants.{Leaf as Named}
-use Rattle.case_core.specs.Finding.{IsFoundBy, MayBeFound}
+use Rattle.case_core.specs.Finding.{IsFoundBy}
 use Rattle.std.specs.Prelude.{IfOk}
 use Rattle.cnf_text.specs.Literal.{Literal}
 use Rattle.cnf_text.specs.Formula.{IsRefuted}
@@ -128,7 +126,3 @@ pub none_found : (case : CaseOf) (target : Target) (judged : Judged)
     → proof_for case.sections target ≡ None → IsFinding case target judged
 none_found case target judged none path text proof of is of_text =
     let clash : Some text ≡ None = sym is ∙ none in absurd (cc)
-
--- on boards of any case a leaf may be found
-pub leaf_may : (case : CaseOf) (leaf : Leaf) → MayBeFound case (Named leaf)
-leaf_may case leaf node same = absurd (cc)

@@ -28,11 +28,6 @@ IsFinding case target judged =
 abbrev pub HasSection : CaseOf → Target → Type 0
 HasSection case target = proof_for case.sections target ≢ None
 
--- A finding of the target may stand on the case's boards: an inner node has a section, and a leaf
--- may have its proof elsewhere.
-abbrev pub MayBeFound : CaseOf → Target → Type 0
-MayBeFound case target = (node : ℕ) → target ≡ Node node → HasSection case target
-
 -- this text, as a proof for the target, is judged so: from the formula and the literals of the
 -- target's path
 abbrev pub IsFoundBy : CaseOf → Target → List ℕ → Judged → Type 0

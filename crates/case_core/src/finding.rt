@@ -2,7 +2,7 @@
 
 ghost use Rattle.std.specs.Prelude.{◌≡◌, ℕ};
 ghost use Rattle.split_tree.specs.Leaves.{IsTargetAt};
-ghost use Rattle.case_core.specs.Finding.{IsFinding, MayBeFound, IsSoundFinding, target_of};
+ghost use Rattle.case_core.specs.Finding.{IsFinding, IsSoundFinding, target_of};
 ghost use Rattle.case_core.specs.Inner.Finding.{IsTargetAt-prop};
 
 use crate::case::Case;
@@ -25,7 +25,6 @@ pub struct Finding<'c> {
     pub(crate) judged: Judged,
     pub ghost here: { IsTargetAt case.now.tree node (target_of leaf node) } by { IsTargetAt-prop _ _ _ },
     pub ghost only: { (i : ℕ) → IsTargetAt case.now.tree i (target_of leaf node) → i ≡ node },
-    pub ghost may_be: { MayBeFound case.now (target_of leaf node) },
     pub ghost is: { IsFinding case.now (target_of leaf node) judged },
     pub ghost sound: { IsSoundFinding case.now (target_of leaf node) judged },
 }

@@ -27,7 +27,9 @@ use Rattle.cube_jobs.specs.Places.{times, EachOnce}
 use Rattle.cube_jobs.specs.Jobs.{JobPassOf, claims_of, has_found_empty}
 use Rattle.board_hall.specs.declared.pass.Pass.{Pass}
 use Rattle.board_hall.specs.declared.view.Post.{Post}
-use Rattle.board_hall.specs.Posts.{mark_in, Among, posts_of}
+use Rattle.board_hall.specs.declared.view.Proofs.{Proofs}
+use Rattle.board_hall.specs.declared.view.Proofs.TheVariants.{InCase, OfLeavesElsewhere}
+use Rattle.board_hall.specs.Posts.{mark_in, Among, posts_of, NeedsSection}
 use Rattle.board_hall.specs.Halls.{HallOf, IsPassOf, view_of}
 use Rattle.board_hall.specs.Clauses.{Gathers}
 use Rattle.mark_board.specs.Findings.{IsMarkOf, AreFindings}
@@ -35,11 +37,10 @@ use Rattle.check_crew.specs.Inner.Order.{IsOrder}
 use Rattle.check_crew.specs.Seen.{HasSeen, HaveSeenSections}
 use Rattle.check_crew.specs.Inner.Crew.{HasSeenTurn, HaveSeenClaims}
 use Rattle.check_crew.proofs.SeenMarks.{open_or_not, marked_more, real_mark, home_of}
-use Rattle.check_crew.proofs.SeenMarks.{marked_section, marked_node}
+use Rattle.check_crew.proofs.SeenMarks.{marked_section}
 use Rattle.case_core.specs.Finding.{HasSection}
 use Rattle.case_core.specs.Target.TheVariants.{Node}
 use Rattle.board_hall.specs.Clauses.{IsHome}
-use Rattle.std.proofs.Common.{false}
 
 contains_from_times : (place : ℕ) (xs : List ℕ) → 0 < times place xs → Contains xs place
 contains_from_times place [] some_times = absurd (omega arith)
@@ -146,26 +147,34 @@ module _ (hall : HallOf) (passes : List Pass) (boards : BoardsOf)
   section_mark own seen node target at has =
       mark_where own seen node target at (λ board row home some. has)
 
-  -- and so has each inner node, also where leaves have their proofs elsewhere
-  pub node_mark : All (IsPassOf hall) passes → HaveSeenSections hall.of.case passes
-      → (node number : ℕ) → IsTargetAt hall.of.case.tree node (Node number)
-      → IsMarkOf hall.of.case (Node number) (mark_at boards.marks node)
-  node_mark own seen node number at =
-      mark_where own seen node (Node number) at
+  -- and so has a target whose proof can only be its section
+  needed_mark : All (IsPassOf hall) passes → HaveSeenSections hall.of.case passes
+      → (node : ℕ) (target : Target) → NeedsSection hall.of.proofs target →
+      IsTargetAt hall.of.case.tree node target →
+      IsMarkOf hall.of.case target (mark_at boards.marks node)
+  needed_mark own seen node target needs at =
+      mark_where own seen node target at
       (λ board row home some.
-      marked_node hall.of (posts_of gathered.state.views) gathered.real node board row number home
-      at some)
+      marked_section hall.of (posts_of gathered.state.views) gathered.real node board row target
+      needs home at some)
+
+  -- each inner node, where leaves alone have their proofs elsewhere
+  pub node_mark : hall.of.proofs ≡ OfLeavesElsewhere → All (IsPassOf hall) passes
+      → HaveSeenSections hall.of.case passes → (node number : ℕ)
+      → IsTargetAt hall.of.case.tree node (Node number)
+      → IsMarkOf hall.of.case (Node number) (mark_at boards.marks node)
+  node_mark leaves own seen node number at =
+      needed_mark own seen node (Node number)
+      (subst (λ (p : Proofs). NeedsSection p (Node number)) (sym leaves) tt) at
 
   -- where no proof is elsewhere, each node has the mark of its finding
-  pub are_findings : hall.of.elsewhere ≡ false → All (IsPassOf hall) passes
+  pub are_findings : hall.of.proofs ≡ InCase → All (IsPassOf hall) passes
       → HaveSeenSections hall.of.case passes → AreFindings hall.of.case boards.marks
   are_findings alone own seen = record {
     long = gathered.hold.long;
     each = λ node target at.
-        mark_where own seen node target at
-        (λ board row home some.
-        marked_section hall.of (posts_of gathered.state.views) alone gathered.real node board row
-        target home at some);
+        needed_mark own seen node target
+        (subst (λ (p : Proofs). NeedsSection p target) (sym alone) tt) at;
   }
 
 -- where each turn was claimed by some pass, the finding of each section was seen

@@ -11,7 +11,6 @@ use Rattle.case_core.specs.SplitTree.{size, subtree_at, IsSplit}
 use Rattle.case_core.specs.Parts.{top}
 use Rattle.case_core.specs.Leaves.{IsTargetAt, IsPathOf}
 use Rattle.case_core.specs.Target.{Target}
-use Rattle.case_core.specs.Target.TheVariants.{Node}
 use Rattle.case_core.specs.Case.{CaseOf, proof_for}
 use Rattle.case_core.specs.Finding.{HasSection, IsFinding}
 use Rattle.case_core.proofs.CaseTables.{one_target}
@@ -25,6 +24,7 @@ use Rattle.mark_board.proofs.BoardsTogether.{is_own, is_in, where_is}
 use Rattle.board_hall.specs.declared.view.CutCase.{CutCase}
 use Rattle.board_hall.specs.declared.view.Post.{Post}
 use Rattle.board_hall.specs.Posts.{parts_in, mark_in, is_at, node_of, Among, AreReal}
+use Rattle.board_hall.specs.Posts.{NeedsSection, MayBePosted}
 use Rattle.board_hall.specs.Clauses.{IsHome, board_number}
 use Rattle.board_hall.proofs.PostsLists.{never_open, marked_among}
 use Rattle.board_hall.proofs.PostsOneFinding.{no_part_here}
@@ -97,31 +97,12 @@ real_mark k posts real node board row target home at has marked =
           (no_part_here k node board row of_part.0 post home of_part.1 there.2 there.3)
     ]
 
--- an inner node with a mark has a section
-pub marked_node : (k : CutCase) (posts : List Post) → AreReal k posts →
-    (node board row number : ℕ) → IsHome k node board row →
-    IsTargetAt k.case.tree node (Node number)
-    → mark_in posts board row ≢ Open → HasSection k.case (Node number)
-marked_node k posts real node board row number home at marked =
-    let there = marked_among posts board row marked in let post : Post = there.0 in
-    elim (real post there.1) [
-      | inl finding ↦
-          let here : node_of k post.board post.row ≡ node =
-          ap (λ (b : ℕ). node_of k b post.row) there.2
-          ∙ (ap (λ (r : ℕ). node_of k board r) there.3 ∙ home.is_row.here) in
-          let same : finding.target ≡ Node number =
-          one_target k.case.tree node finding.target (Node number) (rw here at finding.here) at in
-          subst (HasSection k.case) same (finding.may.may_be number same)
-      | inr of_part ↦ absurd
-          (no_part_here k node board row of_part.0 post home of_part.1 there.2 there.3)
-    ]
-
--- where all proofs stand in the case, a target with a mark has a section
-pub marked_section : (k : CutCase) (posts : List Post) → k.elsewhere ≡ false → AreReal k posts →
-    (node board row : ℕ) (target : Target) → IsHome k node board row →
-    IsTargetAt k.case.tree node target
+-- a target whose proof can only be its section has one where it has a mark
+pub marked_section : (k : CutCase) (posts : List Post) → AreReal k posts →
+    (node board row : ℕ) (target : Target) → NeedsSection k.proofs target →
+    IsHome k node board row → IsTargetAt k.case.tree node target
     → mark_in posts board row ≢ Open → HasSection k.case target
-marked_section k posts alone real node board row target home at marked =
+marked_section k posts real node board row target needs home at marked =
     let there = marked_among posts board row marked in let post : Post = there.0 in
     elim (real post there.1) [
       | inl finding ↦
@@ -130,7 +111,7 @@ marked_section k posts alone real node board row target home at marked =
           ∙ (ap (λ (r : ℕ). node_of k board r) there.3 ∙ home.is_row.here) in
           let same : finding.target ≡ target =
           one_target k.case.tree node finding.target target (rw here at finding.here) at in
-          subst (HasSection k.case) same (finding.may.here_alone alone)
+          subst (MayBePosted k) same finding.may needs
       | inr of_part ↦ absurd
           (no_part_here k node board row of_part.0 post home of_part.1 there.2 there.3)
     ]

@@ -1,11 +1,12 @@
 //! A run whose leaves have their proofs elsewhere: each worker judges one while it reads it.
 
-ghost use Rattle.std.specs.Prelude.{◌≡◌, ◌+◌, ◌*◌, ◌<◌, ◌≤◌, ◌≢◌, ℕ, true, None, Some, All, IfOk};
+ghost use Rattle.std.specs.Prelude.{◌≡◌, ◌+◌, ◌*◌, ◌<◌, ◌≤◌, ◌≢◌, ℕ, None, Some, All, IfOk};
 ghost use Rattle.std.specs.Prelude.{IfErr, IfSome, List, Option, vec_len, MatchOption};
 ghost use Rattle.byte_flow.specs.Device.{IsDeviceFault};
 ghost use Rattle.case_core.specs.Leaf.{Leaf};
 ghost use Rattle.board_hall.specs.Halls.{core_of, hall_of, shared_of, view_of, IsPassOf, IsNewPass};
 ghost use Rattle.board_hall.specs.Terms.{cut_case_as};
+ghost use Rattle.board_hall.specs.declared.view.Proofs.TheVariants.{OfLeavesElsewhere};
 ghost use Rattle.proof_folder.specs.Given.{AreFoundApart};
 ghost use Rattle.check_crew.specs.Seen.{HaveSeenSections};
 ghost use Rattle.case_core.specs.Leaves.{IsLeafAt};
@@ -91,7 +92,7 @@ fn run_leaves<'c, R: Threads + Wait + Sync, G: Gate + Sync, P: LeafProofs + Send
     requires workers { vec_len proofs ≡ settings.workers }
     requires fresh { All (λ one. P.failures one ≡ 0) proofs.items }
     ensures hall { IfOk result (λ run.
-        (hall_of run.hall).of ≡ cut_case_as true case.now settings.cut) }
+        (hall_of run.hall).of ≡ cut_case_as OfLeavesElsewhere case.now settings.cut) }
     ensures count { IfOk result (λ run.
         vec_len run.passes + vec_len run.shifts ≡ (hall_of run.hall).passes) }
     ensures own { IfOk result (λ run. All (IsPassOf (hall_of run.hall)) run.passes.items) }
@@ -152,7 +153,7 @@ fn open_hall<'c, P: LeafProofs + Drop>(
     requires workers { vec_len proofs ≡ settings.workers }
     requires fresh { All (λ one. P.failures one ≡ 0) proofs.items }
     ensures hall { IfOk result (λ opened.
-        (hall_of opened.hall).of ≡ cut_case_as true case.now settings.cut) }
+        (hall_of opened.hall).of ≡ cut_case_as OfLeavesElsewhere case.now settings.cut) }
     ensures count { IfOk result (λ opened. (0 < vec_len opened.passes)
         × (vec_len opened.passes ≤ 32)
         × (vec_len opened.passes + vec_len opened.jobs ≡ (hall_of opened.hall).passes)) }
@@ -229,7 +230,7 @@ fn run_both<R: Threads + Wait + Sync, G: Gate + Sync, P: LeafProofs + Send + Dro
     jobs: Vec<LeafJob<P>>,
 ) -> Result<(Vec<Pass>, Vec<LeafShift<P>>), CrewFault>
     requires case { site.case.now ≡ (core_of site.core.now).case }
-    requires elsewhere { (core_of site.core.now).elsewhere ≡ true }
+    requires elsewhere { (core_of site.core.now).proofs ≡ OfLeavesElsewhere }
     requires count { (0 < vec_len passes) × (vec_len passes ≤ 32) }
     requires passes { All (IsNewPass (shared_of site.core.now)) passes.items }
     requires new { All (λ job. IsNewPass (shared_of site.core.now) job.pass) jobs.items }
@@ -259,7 +260,7 @@ fn examine_elsewhere<R: Threads + Wait + Sync, G: Gate + Sync, P: LeafProofs + S
     jobs: Vec<LeafJob<P>>,
 ) -> Result<Vec<LeafShift<P>>, AllocError>
     requires case { site.case.now ≡ (core_of site.core.now).case }
-    requires elsewhere { (core_of site.core.now).elsewhere ≡ true }
+    requires elsewhere { (core_of site.core.now).proofs ≡ OfLeavesElsewhere }
     requires new { All (λ job. IsNewPass (shared_of site.core.now) job.pass) jobs.items }
     requires fresh { All (λ job. P.failures job.proofs ≡ 0) jobs.items }
     ensures count { IfOk result (λ shifts. vec_len shifts ≡ vec_len jobs) }
@@ -276,7 +277,7 @@ fn examine_elsewhere<R: Threads + Wait + Sync, G: Gate + Sync, P: LeafProofs + S
         jobs,
         &move |job: LeafJob<P>| -> LeafShift<P>
             requires case { site.case.now ≡ (core_of site.core.now).case }
-            requires elsewhere { (core_of site.core.now).elsewhere ≡ true }
+            requires elsewhere { (core_of site.core.now).proofs ≡ OfLeavesElsewhere }
             requires new { IsNewPass (shared_of site.core.now) job.pass }
             requires fresh { P.failures job.proofs ≡ 0 }
             ensures held { P.held result.proofs ≡ P.held job.proofs }
@@ -355,6 +356,7 @@ fn close_leaves<'c, P: LeafProofs + Drop>(
     alloc: Global,
     run: LeafRun<'c, P>,
 ) -> Result<Result<Option<Boards<'c>>, CrewFault>, P>
+    requires elsewhere { (hall_of run.hall).of.proofs ≡ OfLeavesElsewhere }
     requires count { vec_len run.passes + vec_len run.shifts ≡ (hall_of run.hall).passes }
     requires own { All (IsPassOf (hall_of run.hall)) run.passes.items }
     requires free { All (λ pass. (view_of pass).owes ≡ None) run.passes.items }
@@ -387,6 +389,7 @@ fn boards_of<'c, P: LeafProofs + Drop>(
     passes: Vec<Pass>,
     shifts: Vec<LeafShift<P>>,
 ) -> Result<Option<Boards<'c>>, CrewFault>
+    requires elsewhere { (hall_of hall).of.proofs ≡ OfLeavesElsewhere }
     requires count { vec_len passes + vec_len shifts ≡ (hall_of hall).passes }
     requires own { All (IsPassOf (hall_of hall)) passes.items }
     requires free { All (λ pass. (view_of pass).owes ≡ None) passes.items }

@@ -1,6 +1,6 @@
 //! What a worker does of leaves whose proofs don't stand in the case.
 
-ghost use Rattle.std.specs.Prelude.{◌≡◌, ◌<◌, ◌^◌, ◌-◌, [], true, None, All, IfOk, IfErr, IfSome};
+ghost use Rattle.std.specs.Prelude.{◌≡◌, ◌<◌, ◌^◌, ◌-◌, [], None, All, IfOk, IfErr, IfSome};
 ghost use Rattle.std.specs.Prelude.{false, List, Option, ℕ};
 ghost use Rattle.byte_flow.specs.Device.{IsDeviceFault};
 ghost use Rattle.case_core.specs.Case.{proof_for};
@@ -11,6 +11,7 @@ ghost use Rattle.case_core.specs.Leaves.{HasTarget};
 ghost use Rattle.board_hall.specs.Halls.{core_of, shared_of, view_of, IsPassOf, IsNewPass};
 ghost use Rattle.board_hall.specs.Clauses.{Stays};
 ghost use Rattle.board_hall.specs.declared.view.View.{View};
+ghost use Rattle.board_hall.specs.declared.view.Proofs.TheVariants.{OfLeavesElsewhere};
 ghost use Rattle.check_crew.specs.LeafProofs.{IsExamined, IsLeftOf, left_text};
 ghost use Rattle.check_crew.specs.Inner.Apart.{IsFoundOf, IsLeafShiftOf};
 
@@ -136,7 +137,7 @@ fn post_leaf<'c, R: Wait, G: Gate>(
     read: ReadFinding<'c>,
 ) -> Examined
     requires case { site.case.now ≡ (core_of site.core.now).case }
-    requires elsewhere { (core_of site.core.now).elsewhere ≡ true }
+    requires elsewhere { (core_of site.core.now).proofs ≡ OfLeavesElsewhere }
     requires free { proof_for site.case.now.sections (Target.Leaf leaf) ≡ None }
     requires own { IsPassOf (shared_of site.core.now) pass.old }
     requires owes { (view_of pass.old).owes ≡ None }
@@ -182,7 +183,7 @@ fn examine_leaf<'c, R: Wait, G: Gate, P: LeafProofs>(
     opened: OpenedLeaf<P::Proof>,
 ) -> Result<Examined, DeviceFault>
     requires case { site.case.now ≡ (core_of site.core.now).case }
-    requires elsewhere { (core_of site.core.now).elsewhere ≡ true }
+    requires elsewhere { (core_of site.core.now).proofs ≡ OfLeavesElsewhere }
     requires examiner { examiner.old ≡ site.case.now }
     requires leaf { HasTarget site.case.now.tree (Target.Leaf opened.leaf) }
     requires left { IsLeftOf (P.held proofs.old opened.leaf)
@@ -256,7 +257,7 @@ fn take_leaf<'c, R: Wait, G: Gate, P: LeafProofs>(
     opened: OpenedLeaf<P::Proof>,
 ) -> Result<ExaminedLeaf, DeviceFault>
     requires case { site.case.now ≡ (core_of site.core.now).case }
-    requires elsewhere { (core_of site.core.now).elsewhere ≡ true }
+    requires elsewhere { (core_of site.core.now).proofs ≡ OfLeavesElsewhere }
     requires examiner { examiner.old ≡ site.case.now }
     requires leaf { HasTarget site.case.now.tree (Target.Leaf opened.leaf) }
     requires left { IsLeftOf (P.held proofs.old opened.leaf)
@@ -335,7 +336,7 @@ fn take_leaves<'c, R: Wait, G: Gate, P: LeafProofs>(
     first: OpenedLeaf<P::Proof>,
 ) -> Result<(), DeviceFault>
     requires case { site.case.now ≡ (core_of site.core.now).case }
-    requires elsewhere { (core_of site.core.now).elsewhere ≡ true }
+    requires elsewhere { (core_of site.core.now).proofs ≡ OfLeavesElsewhere }
     requires examiner { examiner.old ≡ site.case.now }
     requires first { HasTarget site.case.now.tree (Target.Leaf first.leaf) }
     requires left { IsLeftOf (P.held proofs.old first.leaf)
@@ -378,7 +379,7 @@ fn examine_leaves<R: Wait, G: Gate, P: LeafProofs>(
     examined: &mut Vec<ExaminedLeaf>,
 ) -> Result<(), DeviceFault>
     requires case { site.case.now ≡ (core_of site.core.now).case }
-    requires elsewhere { (core_of site.core.now).elsewhere ≡ true }
+    requires elsewhere { (core_of site.core.now).proofs ≡ OfLeavesElsewhere }
     requires own { IsPassOf (shared_of site.core.now) pass.old }
     requires free { (view_of pass.old).owes ≡ None }
     requires count { P.failures proofs.old < 2 ^ 64 - 1 }
@@ -405,7 +406,7 @@ pub(crate) fn work_leaves<R: Wait, G: Gate, P: LeafProofs>(
     job: LeafJob<P>,
 ) -> LeafShift<P>
     requires case { site.case.now ≡ (core_of site.core.now).case }
-    requires elsewhere { (core_of site.core.now).elsewhere ≡ true }
+    requires elsewhere { (core_of site.core.now).proofs ≡ OfLeavesElsewhere }
     requires new { IsNewPass (shared_of site.core.now) job.pass }
     requires fresh { P.failures job.proofs ≡ 0 }
     ensures held { P.held result.proofs ≡ P.held job.proofs }

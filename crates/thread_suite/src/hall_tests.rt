@@ -331,6 +331,23 @@ fn two_passes_owe(rt: HostRuntime) {
     assert!(rt; both_see_parts(&rt, rt.alloc(), &case(&rt, rt.alloc(), ROOT_AND_LEAVES)));
 }
 
+/// Whether a hall that takes any proofs, with the finding of the root alone, is closed with the
+/// root marked.
+fn takes_any_proofs<R: Wait + Abort>(rt: &R, alloc: Global, case: &Case) -> bool {
+    let opened = Hall::open_for_any_proofs_elsewhere(alloc, case, 1, 1);
+    let (hall, mut passes) = opened.expect(rt, "memory");
+    let mut pass = next_pass(rt, &hall, &mut passes);
+    let top = post(rt, alloc, &hall, &mut pass, inner(0)) == Became::TopMarked;
+    let passes = one(rt, alloc, &hall, pass);
+    top && closed(hall, passes) == Some((true, 0))
+}
+
+// A hall that takes any proofs takes the finding of an inner node's section.
+#[test]
+fn any_proofs_elsewhere(rt: HostRuntime) {
+    assert!(rt; takes_any_proofs(&rt, rt.alloc(), &case(&rt, rt.alloc(), ROOT_AND_LEAVES)));
+}
+
 /// The place of the board on which findings of a node are posted.
 fn place_of(rt: &impl Abort, core: &Core, case: &Case, node: u32) -> Place
     requires { case.now ≡ (core_of core.now).case }

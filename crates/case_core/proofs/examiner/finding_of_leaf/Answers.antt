@@ -1,7 +1,7 @@
 use Rattle.std.proofs.Common.{◌≡◌, ℕ, refl}
 use Rattle.split_tree.specs.Leaves.{IsTargetAt}
 use Rattle.split_tree.specs.declared.node.Target.TheVariants.{Leaf as Named}
-use Rattle.case_core.proofs.FindingUnique.{stands_there, found_by, none_found, leaf_may, only_there}
+use Rattle.case_core.proofs.FindingUnique.{stands_there, found_by, none_found, only_there}
 use Rattle.case_core.proofs.examiner.finding_of_leaf.Goals.{After-number-node}
 use Rattle.case_core.proofs.examiner.finding_of_leaf.Goals as goal
 
@@ -19,7 +19,6 @@ invariant_of-result c = record {
       stands_there _ _ _ c.number-node.result (Named c.args.leaf) c.tree.ensures.tree
       c.number-node.ensures c.node_of_target.ensures.here;
   only = only c;
-  may_be = leaf_may c.args.case.now c.args.leaf;
   is = none_found c.args.case.now (Named c.args.leaf) c.args.judged c.requires.none;
   sound =
       (found_by c.args.case.now (Named c.args.leaf) c.requires.judged.0 c.args.judged

@@ -24,6 +24,6 @@ returns-clause-findings g c =
     c.in_ok-passes.ensures.own in
     subst (λ (case : CaseOf). AreFindings case c.in-Ok.boards.marks) of_case
     (are_findings hall c.in_ok-passes.passes.items c.in-Ok.boards c.in-Ok.ensures.boards
-    (ap (λ (k : CutCase). k.elsewhere) c.in_ok-hall.ensures.hall.0) own
+    (ap (λ (k : CutCase). k.proofs) c.in_ok-hall.ensures.hall.0) own
     (subst (λ (case : CaseOf). HaveSeenSections case c.in_ok-passes.passes.items) (sym of_case)
     c.in_ok-passes.ensures.seen))

@@ -13,7 +13,8 @@ use Rattle.check_crew.proofs.LeavesSeen.{as_stays, seen_as, found_at, stays_on}
 use Rattle.check_crew.proofs.leaves.post_leaf.Goals as goal
 
 pub post-requires-clause-section : goal.post-requires-clause-section
-post-requires-clause-section g c = λ alone. absurd (cc (c.requires.elsewhere, alone))
+post-requires-clause-section g c = λ needs.
+    absurd (rw (c.requires.elsewhere, c.requires.of.1) at needs)
 
 pub tell-requires-clause-here : goal.tell-requires-clause-here
 tell-requires-clause-here g c =

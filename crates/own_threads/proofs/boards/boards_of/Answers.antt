@@ -23,4 +23,4 @@ returns-clause-findings g c =
     c.in_ok-passes.ensures.seen in
     subst (λ (case : CaseOf). AreFindings case boards.marks) of_case
     (are_findings hall passes boards c.in-Ok.ensures.boards
-    (ap (λ (k : CutCase). k.elsewhere) c.in_ok-hall.ensures.hall.0) own seen)
+    (ap (λ (k : CutCase). k.proofs) c.in_ok-hall.ensures.hall.0) own seen)

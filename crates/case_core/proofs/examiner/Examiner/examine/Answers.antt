@@ -19,7 +19,6 @@ invariant_of-result c =
           only_there _ _ c.args.target _ c.node_of_target.result c.number-node.result
           c.tree.ensures.tree c.number-node.ensures (c.leaf_of.ensures _ _ here)
           c.node_of_target.ensures.only;
-      may_be = λ _ _. found.1;
       is = found.2;
       sound = found.3;
     }
