@@ -37,7 +37,7 @@ COLUMNS = 100
 WORDS = 40
 LEFT_OUT = {"out", "bench/bin", "bench/corpus"}
 # Pages whose lines aren't broken yet, and the one that scripts/definitions.py writes.
-WIDE = {"docs/DEFINITIONS.md", "docs/PERFORMANCE.md"}
+WIDE = {"docs/DEFINITIONS.md"}
 LEADS_OUT = "A link that is dead in the archive of the programs leads to a file of the repository."
 SKETCH = "A sketch"
 # The parts of README whose blocks are no commands.
