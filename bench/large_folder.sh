@@ -2,9 +2,9 @@
 # large_folder.sh PROGRAM [GIGABYTES=2] [PROOFS=4096] [rising]
 # Runs PROGRAM with four workers on a folder of so many proofs, a power of two, that are so many
 # gigabytes in all, and then on one bundle of the same proofs in a file, and says how much memory each
-# took. With `rising` the ids of a proof rise, beside old clauses that stay. The status is 1 if a run
-# took more than 16 MB and a thousand bytes for each leaf, or if a report isn't that all leaves are
-# refuted.
+# took. With `rising` the ids of a proof rise, beside old clauses that stay. The status is 1 if a
+# run took more than 16 MB and a thousand bytes for each leaf, or if a report isn't that all leaves
+# are refuted.
 # What is made is in TMPDIR (/tmp), where there has to be room for twice the proofs, and removed.
 set -eu
 program=$(realpath "${1:?a program}")

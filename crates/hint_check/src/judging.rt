@@ -64,7 +64,7 @@ impl<'b> Model for Judging<'b> {
 }
 
 impl<'b> Judging<'b> {
-    ghost use Rattle.std.specs.Prelude.{◌≡◌, ◌++◌, [], ℕ, List, IfOk, OnOk};
+    ghost use Rattle.std.specs.Prelude.{◌≡◌, ◌++◌, ◌∷◌, [], ℕ, List, IfOk, OnOk, drop};
     ghost use Rattle.lrat_text.specs.Proof.{Proof, IsProofOf};
     ghost use Rattle.hint_check.specs.Judgement.{judgement};
     ghost use Rattle.hint_check.specs.Judging.{says};
@@ -117,6 +117,37 @@ impl<'b> Judging<'b> {
             → says self.new rest ≡ says self.old (text.now ++ rest)) }
         ensures same { self.new.formula ≡ self.old.formula }
     {
+        let Some(end) = memchr(b'\n', text) else {
+            return self.add(alloc, text);
+        };
+        self.add(alloc, &text[..end + 1])?;
+        self.go_on(alloc, &text[end..])
+    }
+
+    /// The text goes on behind the line end with which these bytes begin. They are judged where
+    /// they lie if nothing is left of what was handed over before.
+    fn go_on(&mut self, alloc: Global, text: &[u8]) -> Result<(), AllocError>
+        requires { text.now ≡ 10 ∷ drop 1 text.now }
+        ensures told { OnOk result ((rest : List ℕ)
+            → says self.new rest ≡ says self.old (drop 1 text.now ++ rest)) }
+        ensures same { self.new.formula ≡ self.old.formula }
+    {
+        if self.decided.is_some() {
+            return Ok(());
+        }
+        if !is_line_end(&self.unread) {
+            return self.add(alloc, &text[1..]);
+        }
+        self.unread.clear();
+        self.judge_text(alloc, text)
+    }
+
+    /// The text goes on with these bytes, which are put behind what isn't judged yet.
+    fn add(&mut self, alloc: Global, text: &[u8]) -> Result<(), AllocError>
+        ensures told { OnOk result ((rest : List ℕ)
+            → says self.new rest ≡ says self.old (text.now ++ rest)) }
+        ensures same { self.new.formula ≡ self.old.formula }
+    {
         if self.decided.is_some() {
             return Ok(());
         }
@@ -126,6 +157,33 @@ impl<'b> Judging<'b> {
             return Ok(());
         }
         self.judge_lines(alloc)
+    }
+
+    /// Judges these bytes, where nothing is left of what was handed over before, as far as lines
+    /// have ended and steps are whole.
+    fn judge_text(&mut self, alloc: Global, text: &[u8]) -> Result<(), AllocError>
+        requires { self.old.unread ≡ [] }
+        ensures told { OnOk result ((rest : List ℕ)
+            → says self.new rest ≡ says self.old (text.now ++ rest)) }
+        ensures same { self.new.formula ≡ self.old.formula }
+    {
+        if self.decided.is_some() {
+            return Ok(());
+        }
+        self.decided = Some(NOT_JUDGED);
+        let (decided, number) = judge_lines(
+            alloc,
+            &mut self.live,
+            &mut self.scratch,
+            self.number,
+            text,
+            &mut self.unread,
+        )?;
+        self.number = number;
+        self.decided = decided;
+        self.ended = false;
+        self.wanted = awaited(&self.unread);
+        Ok(())
     }
 
     /// Judges what was handed over, as far as lines have ended and steps are whole.
@@ -149,7 +207,7 @@ impl<'b> Judging<'b> {
         self.decided = decided;
         mem::swap(&mut self.unread, &mut self.left);
         self.ended = false;
-        self.wanted = self.unread.len().saturating_mul(2);
+        self.wanted = awaited(&self.unread);
         Ok(())
     }
 
@@ -190,6 +248,15 @@ impl<'b> Judging<'b> {
         ensures same { self.new.formula ≡ self.old.formula }
     {
         self.last(alloc, &[])
+    }
+}
+
+/// How many bytes are awaited before steps are read again: none where no step is begun, and else
+/// twice as many as are left.
+fn awaited(unread: &[u8]) -> usize {
+    match memrchr(b'\n', unread) {
+        Some(0) => 0,
+        _ => unread.len().saturating_mul(2),
     }
 }
 
