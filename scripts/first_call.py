@@ -11,11 +11,14 @@ import re
 import subprocess
 import sys
 import tempfile
+import textwrap
 import time
 
 import tables
 
 ROOT = tables.ROOT
+# The columns of a page.
+WIDTH = 100
 NAMED = r"\d+ minutes and [\d,]+ processor seconds on \d+ cores"
 # The texts that name the time, and what stands before it there.
 TEXTS = {"README.md": r"The first call took ", "scripts/build.py": r'FIRST_CALL = "', "docs/PROOFS.md": r"The first call from a clean clone: "}
@@ -39,10 +42,13 @@ def measured(folder):
 def table(named, rows):
     """The part of docs/PROOFS.md."""
     used = sum(row[2] for row in rows)
-    return [
+    told = [
         f"The first call from a clean clone: {named} (a virtual machine, its processor an {processor()}).",
         f"On two cores it takes some {used / 2 / 60 * 1.1:.0f} minutes, reckoned: half of the processor seconds and a tenth more.",
         "Crates that don't stand on each other are proved side by side, so the minutes are fewer than the sum of the second column.",
+    ]
+    return [
+        *textwrap.wrap(" ".join(told), WIDTH),
         "",
         tables.row("Crate", "seconds from start to end", "processor seconds"),
         "|---|---|---|",

@@ -1,9 +1,11 @@
 #!/usr/bin/env python3
 """The gate: `rt ci` proves all from nothing, builds it and runs it, and beside it all wrong bodies are tried, many at a time.
 
-    python3 scripts/gate.py FOLDER
+    python3 scripts/gate.py FOLDER MARK
 
-FOLDER is made: a copy of this one without the must-fail edits. In it `rt ci` works, and what that has made is handed over to the crates' folders out/ in the end.
+FOLDER is made: a copy of this one without the must-fail edits, in which `rt ci` works. As soon as that has said that the programs and the tests of suite are
+proved, what it has made so far is copied to the crates' folders out/, and the file MARK is made: from then on ./check tries the programs, beside what is still
+to be proved.
 
 `rt ci` would try each edit in a check of its own, which takes longer than all proofs together. And it proves a chain of crates one after the other, each by one
 processor, so that two of four are idle. Those try the wrong bodies of a crate as soon as `rt ci` has said that each library below it is proved, over the
@@ -21,10 +23,11 @@ import sys
 import tempfile
 
 import build
+import turn
 import wrong_bodies
 
 # (a crate that an earlier run on this machine proved is told as kept)
-PROVED = re.compile(r"rt: (\w+) (?:proved$|is kept:)")
+PROVED = re.compile(r"rt: (\w+)(?:(: its tests are)? proved$| is kept:)")
 LEFT_OUT = shutil.ignore_patterns("out", "must-fail", ".git")
 # The lowest priority: wrong bodies have what `rt ci` leaves idle.
 LOWEST = 19
@@ -48,8 +51,9 @@ class Bodies:
 
     def __init__(self, kept, room):
         self.kit, self.kept, self.room = build.Kit(), kept, room
-        self.lanes = concurrent.futures.ThreadPoolExecutor(wrong_bodies.lane_count())
         self.left = wrong_bodies.crates_of([])
+        self.beside = concurrent.futures.ThreadPoolExecutor(len(self.left))
+        self.lanes = wrong_bodies.Lanes(wrong_bodies.lane_count())
         self.below = {it.name: {low.name for low in build.below(it.name)[:-1]} for it in self.left}
         self.proved, self.given = set(), []
 
@@ -60,52 +64,75 @@ class Bodies:
         self.left = [it for it in self.left if it not in ready]
         for crate in ready:
             edits = wrong_bodies.edits_of(crate.folder, [])
-            self.given.append(self.lanes.submit(wrong_bodies.try_crate, self.kit, self.kept, crate, edits, self.room, False))
+            self.given.append(self.beside.submit(wrong_bodies.try_crate, self.kit, self.kept, crate, edits, self.room, False, self.lanes))
 
     def told(self, is_well):
         """Whether each is refused; those that are not begun are given up where `rt ci` has failed."""
-        self.lanes.shutdown(cancel_futures=not is_well)
-        return [it for one in self.given if not one.cancelled() for it in one.result()]
+        if not is_well:
+            self.lanes.close()
+        self.beside.shutdown()
+        wanted = [it for it in self.given if not isinstance(it.exception(), wrong_bodies.GivenUp)]
+        return [it for one in wanted for it in one.result()]
 
 
-def run_beside(copy, room):
+class Made:
+    """What `rt ci` makes in the copy: what ./check tries is handed over as soon as it is proved."""
+
+    # What the scripts try: both programs, and by refused.sh the tests of suite.
+    TRIED = {*turn.PROGRAMS, "suite: its tests are"}
+
+    def __init__(self, copy, mark):
+        self.copy, self.mark, self.proved = copy, mark, set()
+
+    def note(self, name):
+        """This is proved: a crate, or the tests of one."""
+        self.proved.add(name)
+        if self.TRIED <= self.proved:
+            self.hand_over()
+
+    def hand_over(self):
+        """Copies what is proved so far to where `rt ci` would have put it here, once."""
+        if self.mark.exists():
+            return
+        for name in sorted({it.partition(":")[0] for it in self.proved}):
+            for made in (self.copy / "crates" / name / "out").iterdir():
+                to = build.ROOT / made.relative_to(self.copy)
+                to.parent.mkdir(exist_ok=True)
+                shutil.rmtree(to, ignore_errors=True)
+                to.unlink(missing_ok=True)
+                (shutil.copytree if made.is_dir() else shutil.copy2)(made, to)
+        self.mark.touch()
+
+
+def run_beside(copy, mark, room):
     """Runs `rt ci` in the copy and tries the wrong bodies beside it. Answers the status of `rt ci`, whether each body is refused, and the crates left out."""
     ran = subprocess.Popen(["rt", "ci"], cwd=copy, stdin=subprocess.DEVNULL, stdout=subprocess.PIPE, text=True, errors="replace")
     # (what is started from here on has the lowest priority, and `rt ci` has not)
     os.nice(LOWEST)
-    bodies = Bodies(Kept(copy), room)
+    bodies, made = Bodies(Kept(copy), room), Made(copy, mark)
     bodies.note([])
     for line in ran.stdout:
         print(line, end="", flush=True)
         if found := PROVED.match(line.rstrip()):
-            bodies.note([found[1]])
+            made.note(found[1] + (found[2] or ""))
+            bodies.note([] if found[2] else [found[1]])
     status = ran.wait()
+    if not status:
+        # (of tests that an earlier run has proved `rt ci` says nothing)
+        made.hand_over()
     return status, bodies.told(not status), [it.name for it in bodies.left]
 
 
-def hand_over(copy):
-    """Moves what `rt ci` has made in the copy to where it would have put it here."""
-    for made in sorted((copy / "crates").glob("*/out/*")):
-        to = build.ROOT / made.relative_to(copy)
-        to.parent.mkdir(exist_ok=True)
-        shutil.rmtree(to, ignore_errors=True)
-        to.unlink(missing_ok=True)
-        shutil.move(made, to)
-
-
-def main(folder):
+def main(folder, mark):
     copy = pathlib.Path(folder).resolve()
     shutil.copytree(build.ROOT, copy, ignore=LEFT_OUT, symlinks=True)
     with tempfile.TemporaryDirectory(prefix=wrong_bodies.ROOM) as room:
-        status, told, left = run_beside(copy, pathlib.Path(room))
+        status, told, left = run_beside(copy, pathlib.Path(mark), pathlib.Path(room))
     if left:
         print(f"gate.py: not tried, since a library below isn't proved: the wrong bodies of {', '.join(left)}")
     print(f"wrong_bodies: {sum(told)} passed, {len(told) - sum(told)} failed")
-    if status or left or not told or not all(told):
-        return 1
-    hand_over(copy)
-    return 0
+    return 1 if status or left or not told or not all(told) else 0
 
 
 if __name__ == "__main__":
-    sys.exit(main(sys.argv[1]))
+    sys.exit(main(*sys.argv[1:]))

@@ -1,6 +1,6 @@
 #!/bin/sh
-# Tries scripts/gate.py on a repository of three crates, each on the one before, under a stand-in for the kit, which proves nothing: when wrong bodies are
-# tried, over which libraries, what the status is, and what is handed over. Then it tries wrong gates, each of which a claim has to refuse. It takes no proof.
+# Tries scripts/gate.py on a repository of five crates under a stand-in for the kit, which proves nothing: when wrong bodies are tried, over which libraries, what
+# the status is, and what is handed over, when. Then it tries wrong gates, each of which a claim has to refuse. It takes no proof.
 # The last line counts.
 root=$(CDPATH= cd -- "$(dirname -- "$0")/.." && pwd) || exit 1
 here=$(mktemp -d) || exit 1
@@ -23,16 +23,19 @@ case $1 in
     ci)
         find crates -path '*must-fail*' -name '*.edit' > "$HERE/edits"
         nice > "$HERE/priority"
-        for crate in low mid top; do
+        for crate in low suite cubeboard cubejoin top; do
             [ "$crate" != "$UNPROVED" ] || { echo "rt: $crate NOT PROVED"; echo "0 passed, 1 failed"; exit 1; }
-            sleep 0.3
+            sleep 0.2
+            tries=0
+            while [ "$crate" = top ] && [ ! -e "$HERE/mark" ] && [ "$tries" -lt 30 ]; do sleep 0.1 && tries=$((tries + 1)); done
+            [ ! -e "$HERE/mark" ] || echo "$crate" >> "$HERE/behind"
             mkdir -p "crates/$crate/out/rlib/$crate.rlib"
             if [ "$crate" = "$KEPT" ]; then
                 echo "rt: $crate is kept: an earlier run on this machine proved the same files"
             else
                 echo "rt: $crate proved"
             fi
-            echo "rt: $crate: its tests are proved"
+            [ "$crate" = "$KEPT" ] || echo "rt: $crate: its tests are proved"
         done
         sleep 0.3
         echo "${FAILS:-0} failed"
@@ -57,7 +60,7 @@ for it in $lower; do
     case $it in */kit/*) ;; *) [ -d "$it" ] || { echo "error: $it isn't there"; exit 1; } ;; esac
 done
 case "$crate $searched" in
-    top*/low/out/rlib* | mid* | low*) ;;
+    top*/low/out/rlib* | cubeboard* | cubejoin* | suite* | low*) ;;
     *) echo "error: low isn't found"; exit 1 ;;
 esac
 for it in $functions; do
@@ -67,14 +70,14 @@ exit 1
 RATTLE
 }
 
-# A repository of three crates with a wrong body each.
-copy_of_three() {
+# A repository of crates with a wrong body each.
+copy_of_crates() {
     rm -rf "$here/copy"
     mkdir -p "$here/copy/scripts"
     cp "$root/HANDLES" "$here/copy/"
     cp "$root/scripts/build.py" "$root/scripts/turn.py" "$root/scripts/wrong_bodies.py" "$root/scripts/gate.py" "$here/copy/scripts/"
-    printf 'low:\nmid: low\ntop: mid\n' > "$here/copy/crates.txt"
-    for crate in low mid top; do
+    printf 'low:\nsuite: low\ncubeboard: low\ncubejoin: low\ntop: cubeboard\n' > "$here/copy/crates.txt"
+    for crate in low suite cubeboard cubejoin top; do
         mkdir -p "$here/copy/crates/$crate/src" "$here/copy/crates/$crate/must-fail"
         printf '1\n' > "$here/copy/crates/$crate/src/lib.rt"
         printf '# function: one\nfile: src/lib.rt\nold: 1\nnew: 2\n' > "$here/copy/crates/$crate/must-fail/01-one-two.edit"
@@ -89,56 +92,65 @@ tried() {
 # Calls the gate: the claim and the status that is wanted; and where `rt ci` doesn't fail, so that nothing is given up, the crates whose wrong bodies have to be
 # tried, and the last line.
 gate() {
-    rm -rf "$here"/copy/crates/*/out "$here/made"
+    rm -rf "$here"/copy/crates/*/out "$here/made" "$here/mark"
     : > "$here/notes"
-    python3 "$here/copy/scripts/gate.py" "$here/made" < /dev/null > "$here/out" 2>&1
+    : > "$here/behind"
+    python3 "$here/copy/scripts/gate.py" "$here/made" "$here/mark" < /dev/null > "$here/out" 2>&1
     [ $? -eq "$2" ] && { [ $# -eq 2 ] || { [ "$(tried)" = "$3" ] && [ "$(tail -n 1 "$here/out")" = "$4" ]; }; }
     count "$1" $? || cat "$here/out"
 }
 
-# Whether what `rt ci` made has been handed over.
+# Whether what `rt ci` made of these crates has been handed over, and of no others.
 is_handed_over() {
-    [ -d "$here/copy/crates/low/out/rlib/low.rlib" ] && [ -d "$here/copy/crates/top/out/rlib/top.rlib" ]
+    [ "$(cd "$here/copy/crates" && find . -path '*/out/rlib/*.rlib' | sed 's/.*\///; s/[.]rlib$//' | sort | tr '\n' ' ')" = "$1" ]
 }
 
 claims_of_gates() {
-    gate "where each is refused the status is 0, and each is counted" 0 "low mid top " "wrong_bodies: 3 passed, 0 failed"
-    is_handed_over
-    count "what rt ci made is handed over" $?
-    [ ! -s "$here/edits" ] && [ "$(ls "$here"/copy/crates/*/must-fail/*.edit | wc -l)" -eq 3 ]
+    all="cubeboard cubejoin low suite top "
+    gate "where each is refused the status is 0, and each is counted" 0 "$all" "wrong_bodies: 5 passed, 0 failed"
+    is_handed_over "cubeboard cubejoin low suite " && [ -e "$here/mark" ] && [ "$(cat "$here/behind")" = top ]
+    count "what rt ci made is handed over as soon as both programs and the tests of suite are proved" $?
+    [ ! -s "$here/edits" ] && [ "$(ls "$here"/copy/crates/*/must-fail/*.edit | wc -l)" -eq 5 ]
     count "rt ci is given no edit, and they stay where they are" $?
     [ "$(cat "$here/priority")" -lt 19 ] && ! grep -v -q ' 19$' "$here/notes"
     count "wrong bodies have the lowest priority, and rt ci has not" $?
-    RIGHT=mid
+    RIGHT=cubejoin
     export RIGHT
-    gate "where one isn't refused the status is 1" 1 "low mid top " "wrong_bodies: 2 passed, 1 failed"
-    grep -q '^wrong body mid/01-one-two: FAILED: NOT REFUSED' "$here/out" && ! is_handed_over
-    count "it is told, and nothing is handed over" $?
+    gate "where one isn't refused the status is 1" 1 "$all" "wrong_bodies: 4 passed, 1 failed"
+    grep -q '^wrong body cubejoin/01-one-two: FAILED: NOT REFUSED' "$here/out"
+    count "it is told" $?
     RIGHT=
     FAILS=1
     export FAILS
     gate "where rt ci fails at its end the status is 1" 1
-    ! is_handed_over
-    count "and nothing is handed over" $?
     FAILS=
-    UNPROVED=mid
+    UNPROVED=cubeboard
     export UNPROVED
-    gate "where a crate isn't proved the status is 1" 1
+    gate "where a program isn't proved the status is 1" 1
+    is_handed_over "" && [ ! -e "$here/mark" ]
+    count "and nothing is handed over" $?
     grep -q "isn't proved: the wrong bodies of top$" "$here/out" && [ "$(tried | grep -c top)" -eq 0 ]
     count "what stands on it isn't tried, and that is told" $?
     UNPROVED=
-    KEPT=mid
+    KEPT=low
     export KEPT
-    gate "what an earlier run has proved is proved" 0 "low mid top " "wrong_bodies: 3 passed, 0 failed"
+    gate "what an earlier run has proved is proved" 0 "$all" "wrong_bodies: 5 passed, 0 failed"
+    KEPT=suite
+    gate "where an earlier run has proved the tests of suite the status is 0" 0 "$all" "wrong_bodies: 5 passed, 0 failed"
+    is_handed_over "$all" && [ -e "$here/mark" ]
+    count "and all is handed over at the end of rt ci" $?
     KEPT=
-    echo > "$here/copy/crates/mid/must-fail/02-two.edits"
-    gate "a file that is no edit has to be none" 1 "low mid top " "wrong_bodies: 3 passed, 1 failed"
-    rm "$here/copy/crates/mid/must-fail/02-two.edits"
+    echo > "$here/copy/crates/low/must-fail/02-two.edits"
+    gate "a file that is no edit has to be none" 1 "$all" "wrong_bodies: 5 passed, 1 failed"
+    rm "$here/copy/crates/low/must-fail/02-two.edits"
+    ln -s nowhere "$here/copy/crates/low/lost"
+    gate "where a trial breaks off the status is 1" 1
+    rm "$here/copy/crates/low/lost"
 }
 
 # Wrong gates: the name and what `sed` makes of gate.py.
 wrong() {
-    copy_of_three
+    copy_of_crates
     sed "$2" "$root/scripts/gate.py" > "$here/copy/scripts/gate.py"
     if cmp -s "$root/scripts/gate.py" "$here/copy/scripts/gate.py"; then
         count "the wrong gate \"$1\" can be made" 1
@@ -150,17 +162,22 @@ wrong() {
 }
 
 stand_in_for_gates
-copy_of_three
+copy_of_crates
 claims_of_gates
 wrong "the edits left to rt ci" 's/"must-fail", //'
-wrong "the status of rt ci passed over" 's/^    if status or left/    if left/'
+wrong "the status of rt ci passed over" 's/ if status or left/ if left/'
 wrong "right bodies passed over" 's/ or not all(told)//'
 wrong "no wrong bodies" 's/^        ready = .*/        ready = [] if self.left else []; self.left = []/'
+wrong "a trial that breaks off passed over" 's/not isinstance(it.exception(), wrong_bodies.GivenUp)/not it.exception()/'
 wrong "no wait for libraries" 's/ if self.below\[it.name\] <= self.proved\]/]/'
 wrong "libraries by name alone" 's/^        return \[self.library(low).parent .*/        return []/'
-wrong "crates left out" 's/^    if status or left or not told/    if not told/; s/^    if left:/    if False:/'
-wrong "what an earlier run has proved left out" 's/(?:proved.|is kept:)/proved$/'
-wrong "nothing handed over" 's/^    hand_over(copy)/    pass/'
+wrong "crates left out" 's/ if status or left or not told/ if not told/; s/^    if left:/    if False:/'
+wrong "what an earlier run has proved left out" 's/proved.| is kept:)/proved$)/'
+wrong "nothing handed over" 's/^        self.mark.touch()/        pass/'
+wrong "all handed over at the end" 's/^        if self.TRIED <= self.proved:/        if False:/'
+wrong "a program handed over before it is proved" 's/ in sorted({it.partition/ in sorted(set(build.lines_of_crates()) | {it.partition/'
+wrong "programs handed over before the tests of suite" 's/, "suite: its tests are"//'
+wrong "tests that an earlier run has proved waited for" 's/^        made.hand_over()/        pass/'
 wrong "no priority" 's/^    os.nice(LOWEST)/    pass/'
 echo "$name: $passed passed, $failed failed"
 [ "$failed" -eq 0 ]

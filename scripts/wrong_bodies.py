@@ -29,6 +29,7 @@ or a type. Whether that is so is for a reader to judge: the line stands in the v
 The last line tells how many were refused; the status is 0 where all of them were.
 """
 import concurrent.futures
+import contextlib
 import os
 import pathlib
 import re
@@ -36,6 +37,7 @@ import shutil
 import subprocess
 import sys
 import tempfile
+import threading
 
 import build
 import turn
@@ -178,53 +180,99 @@ def linked(one, other):
         shutil.copy2(one, other)
 
 
+class GivenUp(Exception):
+    """A check that is no longer wanted."""
+
+
+class Lanes:
+    """How many checks run at once. A check that runs beside fewer has the jobs that the others would have."""
+
+    def __init__(self, count):
+        self.count, self.free, self.lock = count, threading.Semaphore(count), threading.Lock()
+        self.wanted, self.is_open = 0, True
+
+    def close(self):
+        """Begins no more checks."""
+        self.is_open = False
+
+    @contextlib.contextmanager
+    def lane(self):
+        """Waits for a lane, and lends it with the number of jobs for its check."""
+        with self.lock:
+            self.wanted += 1
+        try:
+            with self.free:
+                if not self.is_open:
+                    raise GivenUp
+                yield max(self.count // self.wanted, 1)
+        finally:
+            with self.lock:
+                self.wanted -= 1
+
+
 class Tries:
-    """The checks of one crate, each of which begins with what those before it have proved."""
+    """The checks of one crate. The first proves what it stands on, and each of the others begins with a copy of what that has left."""
 
-    def __init__(self, kit, kept, crate, room):
-        self.crate, self.room, self.kit = crate, room / crate.name, kit
-        self.words = [*build.Prover(kit, kept, None).words(crate), "--logic-built", f"{kit.folder}/logic_built", "--jobs", "1"]
-        self.words += ["--incremental", str(self.room / "proved")]
-        shutil.copytree(crate.folder, self.room / "crate", ignore=shutil.ignore_patterns("out", "must-fail"))
+    def __init__(self, kit, kept, crate, room, lanes):
+        self.crate, self.room, self.kit, self.lanes = crate, room / crate.name, kit, lanes
+        self.words = [*build.Prover(kit, kept, None).words(crate), "--logic-built", f"{kit.folder}/logic_built"]
         before = crate.folder / "out" / "incremental"
-        if isinstance(kept, turn.Kept) and before.is_dir():
-            shutil.copytree(before, self.room / "proved", copy_function=linked)
-        else:
-            (self.room / "proved").mkdir()
+        self.proved = before if isinstance(kept, turn.Kept) and before.is_dir() else None
 
-    def check(self, edits, texts):
-        """What a check says of the functions of these edits where the files have these texts."""
-        shutil.rmtree(self.room / "crate/src")
-        shutil.copytree(self.crate.folder / "src", self.room / "crate/src")
+    def folder_of(self, edits, texts):
+        """A folder for one check: the crate, in which the files have these texts, and what was proved."""
+        folder = self.room / edits[0].name
+        shutil.copytree(self.crate.folder, folder / "crate", ignore=shutil.ignore_patterns("out", "must-fail"))
         for path, text in texts.items():
-            (self.room / "crate" / path).write_text(text)
-        words = [f"{self.kit.folder}/bin/rattle", "check", *self.words]
+            (folder / "crate" / path).write_text(text)
+        if self.proved:
+            shutil.copytree(self.proved, folder / "proved", copy_function=linked)
+        else:
+            (folder / "proved").mkdir()
+        return folder
+
+    def check(self, edits, folder):
+        """What a check of this folder says of the functions of these edits."""
+        words = [f"{self.kit.folder}/bin/rattle", "check", *self.words, "--incremental", str(folder / "proved")]
         words += [it for edit in edits for it in ("--only", edit.function)]
-        how = {"cwd": self.room / "crate", "stdin": subprocess.DEVNULL, "stdout": subprocess.PIPE, "stderr": subprocess.STDOUT, "text": True}
-        for _ in range(TRIES):
-            ran = subprocess.run(words, **how)
-            if ran.returncode >= 0:
-                break
-        return Answer(self.crate.name, ran.stdout, self.room / "crate")
+        how = {"cwd": folder / "crate", "stdin": subprocess.DEVNULL, "stdout": subprocess.PIPE, "stderr": subprocess.STDOUT, "text": True}
+        with self.lanes.lane() as jobs:
+            for _ in range(TRIES):
+                ran = subprocess.run([*words, "--jobs", str(jobs)], **how)
+                if ran.returncode >= 0:
+                    break
+                jobs = 1
+        return Answer(self.crate.name, ran.stdout, folder / "crate")
 
     def round(self, edits, texts):
         """Whether each of these edits is refused, and what is told of it. Where the check doesn't come to functions, each is tried by itself."""
-        answer = self.check(edits, texts)
+        folder = self.folder_of(edits, texts)
+        answer = self.check(edits, folder)
+        if not self.proved:
+            self.proved = self.room / "proved"
+            (folder / "proved").rename(self.proved)
+        shutil.rmtree(folder)
         if answer.verdicts or len(edits) == 1:
             lost = "" if answer.verdicts else "; ".join(it for it in answer.said.splitlines() if "error" in it)[:300]
             return [(it, *((False, f"FAILED: BAD: {lost}") if lost else answer.refusal(it))) for it in edits]
-        return [told for alone, text in rounds_of(edits, self.crate.folder, True) for told in self.round(alone, text)]
+        return self.rounds(rounds_of(edits, self.crate.folder, True))
+
+    def rounds(self, rounds):
+        """The same of these rounds: of the first by itself where nothing is proved yet, and then of all others side by side."""
+        alone = 0 if self.proved else 1
+        told = [it for one in rounds[:alone] for it in self.round(*one)]
+        with concurrent.futures.ThreadPoolExecutor(len(rounds) + 1) as beside:
+            return told + [it for one in beside.map(lambda one: self.round(*one), rounds[alone:]) for it in one]
 
 
-def try_crate(kit, kept, crate, edits, room, is_each):
+def try_crate(kit, kept, crate, edits, room, is_each, lanes):
     """Tries the edits of a crate, prints a line for each, and answers for each whether it is refused."""
     strangers = strangers_of(crate.folder)
     faults = [(it, False, f"FAILED: BAD: {why}") for it in edits if (why := it.fault(crate.folder))]
     bad = {it for it, _, _ in faults}
-    tries, told = Tries(kit, kept, crate, room), faults
-    for taken, texts in rounds_of([it for it in edits if it not in bad], crate.folder, is_each):
-        told = [*told, *tries.round(taken, texts)]
-    shutil.rmtree(tries.room)
+    tries = Tries(kit, kept, crate, room, lanes)
+    told = faults + tries.rounds(rounds_of([it for it in edits if it not in bad], crate.folder, is_each))
+    shutil.rmtree(tries.room, ignore_errors=True)
     for edit, _, why in told:
         print(f"wrong body {crate.name}/{edit.name}: {' '.join(why.split())[:200]}", flush=True)
     for name in strangers:
@@ -259,9 +307,9 @@ def tried(names, is_each, is_turn=False):
         sys.exit("wrong_bodies.py: there is no such crate with wrong bodies")
     # (all programs share their libraries)
     kit, kept = build.Kit(), turn.kept_of() if is_turn else build.Kept(crates[0])
-    with tempfile.TemporaryDirectory(prefix=ROOM) as at, concurrent.futures.ThreadPoolExecutor(lane_count()) as lanes:
-        room = pathlib.Path(at)
-        given = [lanes.submit(try_crate, kit, kept, it, edits_of(it.folder, names[1:]), room, is_each) for it in crates]
+    with tempfile.TemporaryDirectory(prefix=ROOM) as at, concurrent.futures.ThreadPoolExecutor(len(crates)) as beside:
+        room, lanes = pathlib.Path(at), Lanes(lane_count())
+        given = [beside.submit(try_crate, kit, kept, it, edits_of(it.folder, names[1:]), room, is_each, lanes) for it in crates]
         told = [it for one in given for it in one.result()]
     print(f"wrong_bodies: {sum(told)} passed, {len(told) - sum(told)} failed")
     return 0 if told and all(told) else 1

@@ -49,25 +49,29 @@ const VERSION: &str = "0.1.0 (proved by a Rattle kit with logic dac8208d650f15bf
 
 /// What `--help` says below the words.
 const FORMATS: &str = "\
-A bundle is a formula and cubes in iCNF, and then proofs, each below a label line:
+FILE is a bundle: a formula and cubes in iCNF, then proofs, each below a label line.
   p inccnf      the header
   1 -2 0        a clause; clause number i has the id i
-  a 1 0         a cube; all cubes have to come from one tree of splits
-  l 1           the text LRAT proof below is for cube 1; its k literals are unit
-  6 0 5 3 4 0   clauses with the ids m+1 to m+k, where m is the number of clauses
-  l m1          the same for the first branch that the cubes don't cover
+  a 1 0         a cube; the cubes must be leaves of one tree of splits, and list
+                their literals in the order of the splits
+  l 1           the text LRAT proof below is for cube 1. It starts from the m clauses
+  6 0 5 3 4 0   and the k literals of the cube, unit clauses with the ids m+1 to m+k
+  l m1          the same for the first branch that no cube covers
   l n 1 -2 0    the same for the inner node with this path
-With --proofs, DIR/1.lrat, .. and DIR/m1.lrat, .. are added as if below such labels.
+--proofs DIR adds DIR/1.lrat, .. and DIR/m1.lrat, .. as if below such labels; these
+may be binary LRAT.
 
-The report is the same for every N and D:
-  t   numbers of cubes and of missing branches, and the weight of the whole tree
-  a   a cube; m  a missing branch; n  an inner node that has a proof:
+The report, which is the same for every N and D:
+  t   the number of cubes, of branches that no cube covers, the weight of the tree
+  a   a cube; m  a branch that no cube covers; n  an inner node with a proof:
       refuted, open (no proof), or rejected with the step and the reason
   o   a branch that is wholly open
-  w   the open weight; 0 where nothing is open
-  s   REFUTED: the formula has no model; OPEN: that isn't shown
+  w   the open weight; 0 if nothing is open
+  s   REFUTED: the formula has no model; OPEN: that is not shown
 
-Status: 0 REFUTED, 1 OPEN, 2 words or help, 3 input, 4 memory or threads, 5 device.
+Exit status: 0 REFUTED, 1 OPEN, 2 arguments or help, 3 input refused,
+4 memory or threads, 5 a read or write failed. To see why a proof or the input is
+refused, add --explain.
 Example: printf 'p inccnf\\n1 0\\n-1 0\\na 0\\nl 1\\n3 0 1 2 0\\n' | cubeboard";
 
 /// What these words, without the program's name, ask for; or the parser's text, which is the help
@@ -270,7 +274,7 @@ fn outputs<'a>(alloc: Global) -> Result<Command<'a>, AllocError>
         alloc,
         "log",
         "LOG",
-        "A file for a line of each proof as it is judged, made anew",
+        "Write the report's line of each proof to this file as it is judged, replacing it",
     ))
 }
 
@@ -283,13 +287,13 @@ fn results<'a>(alloc: Global) -> Result<Command<'a>, AllocError>
             alloc,
             "map",
             "SVG",
-            "A file for a picture of the tree, which is made anew",
+            "Write a picture of the tree (SVG) to this file, replacing it",
         ))?
         .arg(path_word(
             alloc,
             "record",
             "OUT",
-            "A file for the report under the SHA-256 of the formula's text, made anew",
+            "Write a record, the report with the SHA-256 of formula and cubes, replacing it",
         ))
 }
 
@@ -301,12 +305,12 @@ fn flags<'a>(alloc: Global) -> Result<Command<'a>, AllocError>
         .arg(flag_word(
             alloc,
             "progress",
-            "Tells on standard error how far the run is, once a second",
+            "Print progress to standard error, once a second",
         ))?
         .arg(flag_word(
             alloc,
             "explain",
-            "Tells on standard error what was read, and why a proof or the input is refused",
+            "Print what was read, and why a proof or the input is refused, to standard error",
         ))
 }
 
@@ -319,9 +323,14 @@ fn inputs<'a>(alloc: Global) -> Result<Command<'a>, AllocError>
             alloc,
             "formula",
             "CNF",
-            "A DIMACS file with the formula; FILE then has the cubes",
+            "Take the clauses from this DIMACS file; FILE has the cubes",
         ))?
-        .arg(path_word(alloc, "proofs", "DIR", "A folder with the proofs of leaves"))
+        .arg(path_word(
+            alloc,
+            "proofs",
+            "DIR",
+            "Add the proofs DIR/K.lrat and DIR/mJ.lrat",
+        ))
 }
 
 /// A parser that takes the numbers of workers and of the cut.
@@ -352,7 +361,7 @@ fn workers_word<'a>(alloc: Global) -> Arg<'a>
         .value_name("N")
         .value_parser(value_parser!(u32).range(1..=32))
         .default_value("4")
-        .help("How many workers check the proofs, from 1 to 32")
+        .help("Number of threads that check proofs, 1 to 32")
 }
 
 /// The depth at which the tree is cut.
@@ -365,7 +374,7 @@ fn cut_word<'a>(alloc: Global) -> Arg<'a>
         .value_name("D")
         .value_parser(value_parser!(u32).range(0..=6))
         .default_value("3")
-        .help("The depth at which the tree is cut into parts, from 0 to 6")
+        .help("Depth at which the tree is cut into parts that threads mark apart, 0 to 6")
 }
 
 /// A word with a path, which isn't empty.
@@ -398,5 +407,5 @@ fn file_word<'a>(alloc: Global) -> Arg<'a>
 {
     Arg::new(alloc, "file")
         .value_name("FILE")
-        .help("The bundle; without it, standard input")
+        .help("The bundle [default: standard input]")
 }

@@ -117,7 +117,7 @@ fn formula_word<'a>(alloc: Global) -> Arg<'a>
         .long("formula")
         .value_name("CNF")
         .value_parser(ValueParser::NonEmptyString)
-        .help("A DIMACS file with the formula; FILE then has the cubes")
+        .help("Take the clauses from this DIMACS file; FILE has the cubes")
 }
 
 /// Whether the records are plain reports.
