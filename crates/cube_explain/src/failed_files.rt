@@ -1,142 +1,121 @@
 //! Which file a device's fault comes from, of those that a run reads or writes.
 
 use crate::fault_places::{is_absent, path_of};
-use crate::files::{ReadFiles, Unread, tell_unread, try_read, try_write};
+use crate::files::{ReadFiles, Unread, try_read, try_write};
 use crate::run::Run;
 use case_core::{Tree, read_bundle};
-use std::io;
 use std::io::Eprint;
-
-/// Which files are looked for.
-#[derive(Clone, Copy, PartialEq, Eq)]
-enum Wanted {
-    /// One that can't be read, or whose folder isn't there.
-    Failing,
-    /// One of which that isn't known, since it can't be read again.
-    Unknown,
-}
 
 /// Tells the first file that fails, in the order in which the run comes to them: the log, the
 /// formula, the file with the cubes, the proofs of leaves, the picture and the record. Where none
 /// does, tells that no cause is seen, and before it the first that can't be read again, if there is
 /// one.
-pub(crate) fn tell_device<R: Eprint + ReadFiles>(run: &Run<'_, R>) -> io::Result<()> {
-    if tell_first(run, Wanted::Failing)? {
-        return Ok(());
+pub(crate) fn tell_device<R: Eprint + ReadFiles>(run: &Run<'_, R>) {
+    if tell_first(run, true) {
+        return;
     }
-    tell_first(run, Wanted::Unknown)?;
-    eprintln!(run.device;
-        "explain: no cause is seen: a file may be read-only, a disk full, a call failed in its \
-         middle, or a file to be written is also read, by another name"
-    )
+    tell_first(run, false);
+    run.say(
+        "no cause is seen: a file may be read-only, a disk full, a call failed in its middle, or a \
+         file to be written is also read, by another name",
+    );
 }
 
-/// Tells the first file that is wanted, and answers whether there is one.
-fn tell_first<R: Eprint + ReadFiles>(run: &Run<'_, R>, wanted: Wanted) -> io::Result<bool> {
-    Ok(
-        tell_written(run, [run.asked.log, None], wanted)?
-            || tell_read(run, wanted)?
-            || tell_proofs(run, wanted)?
-            || tell_written(run, [run.asked.map, run.asked.out], wanted)?,
-    )
+/// Tells the first file that fails, also as its folder isn't there, or else the first of which that
+/// isn't known, since it can't be read again. Answers whether there is one.
+fn tell_first<R: Eprint + ReadFiles>(run: &Run<'_, R>, fails: bool) -> bool {
+    let asked = run.asked;
+    let first = [
+        (asked.log, true),
+        (asked.formula, false),
+        (asked.file, false),
+    ];
+    tell_one(run, &first, fails)
+        || tell_proofs(run, fails)
+        || tell_one(run, &[(asked.map, true), (asked.out, true)], fails)
 }
 
-/// Tells the first that is wanted of files that are written, and answers whether there is one.
-fn tell_written<R: Eprint + ReadFiles>(
+/// The same of files that are given with whether they are written.
+fn tell_one<R: Eprint + ReadFiles>(
     run: &Run<'_, R>,
-    paths: [Option<&str>; 2],
-    wanted: Wanted,
-) -> io::Result<bool> {
-    for path in paths {
-        if let Some(path) = path {
-            if tell_wanted(run, path, try_write(run.device, path), wanted)? {
-                return Ok(true);
-            }
+    files: &[(Option<&str>, bool)],
+    fails: bool,
+) -> bool {
+    for (path, is_written) in files {
+        if let Some(path) = path
+            && tell_file(run, path, *is_written, fails)
+        {
+            return true;
         }
     }
-    Ok(false)
+    false
 }
 
-/// Tells the first that is wanted of the formula's file and that with the cubes, and answers
-/// whether there is one.
-fn tell_read<R: Eprint + ReadFiles>(run: &Run<'_, R>, wanted: Wanted) -> io::Result<bool> {
-    for path in [run.asked.formula, run.asked.file] {
-        if let Some(path) = path {
-            if tell_wanted(run, path, try_read(run.device, path), wanted)? {
-                return Ok(true);
-            }
-        }
-    }
-    Ok(false)
+/// The same of the file at this path.
+fn tell_file<R: Eprint + ReadFiles>(
+    run: &Run<'_, R>,
+    path: &str,
+    is_written: bool,
+    fails: bool,
+) -> bool {
+    let tried = if is_written {
+        try_write(run.device, path)
+    } else {
+        try_read(run.device, path)
+    };
+    tell_tried(run, path, tried, fails)
 }
 
-/// Tells the first that is wanted of a folder's proofs of leaves, and answers whether there is one.
-/// None is looked at where the run has read no bundle.
-fn tell_proofs<R: Eprint + ReadFiles>(run: &Run<'_, R>, wanted: Wanted) -> io::Result<bool> {
+/// The same of a folder's proofs of leaves. None is looked at where the run has read no bundle.
+fn tell_proofs<R: Eprint + ReadFiles>(run: &Run<'_, R>, fails: bool) -> bool {
     let Some(folder) = run.asked.proofs else {
-        return Ok(false);
+        return false;
     };
     match read_bundle(run.alloc, run.bundle) {
-        Ok(case) => tell_leaves(run, folder, case.tree(), wanted),
-        Err(_) => Ok(false),
+        Ok(case) => tell_leaves(run, folder, case.tree(), fails),
+        Err(_) => false,
     }
 }
 
-/// Tells the first that is wanted of the proofs of a tree's leaves, and answers whether there is
-/// one.
+/// The same of the proofs of a tree's leaves. No other file is told where memory is refused.
 fn tell_leaves<R: Eprint + ReadFiles>(
     run: &Run<'_, R>,
     folder: &str,
     tree: &Tree,
-    wanted: Wanted,
-) -> io::Result<bool> {
+    fails: bool,
+) -> bool {
     let cubes = tree.cube_count();
     for place in 0..tree.leaf_count() {
-        if tell_leaf(run, folder, cubes, place, wanted)? {
-            return Ok(true);
+        let Ok(path) = path_of(run.alloc, folder, cubes, place) else {
+            return true;
+        };
+        if tell_leaf(run, path.as_str(), fails) {
+            return true;
         }
     }
-    Ok(false)
+    false
 }
 
-/// Tells the proof of the leaf in this place where it is wanted, and answers whether it is. One
-/// that isn't there is none.
-fn tell_leaf<R: Eprint + ReadFiles>(
-    run: &Run<'_, R>,
-    folder: &str,
-    cubes: u32,
-    place: u32,
-    wanted: Wanted,
-) -> io::Result<bool> {
-    let path = path_of(run.alloc, folder, cubes, place)?;
-    match try_read(run.device, path.as_str()) {
-        Err(unread) if is_absent(&unread) => Ok(false),
-        tried => tell_wanted(run, path.as_str(), tried, wanted),
+/// The same of the proof of a leaf. One that isn't there is none.
+fn tell_leaf<R: Eprint + ReadFiles>(run: &Run<'_, R>, path: &str, fails: bool) -> bool {
+    match try_read(run.device, path) {
+        Err(unread) if is_absent(&unread) => false,
+        tried => tell_tried(run, path, tried, fails),
     }
 }
 
-/// Tells why the file at this path isn't read or written where that is wanted, and answers whether
-/// it is.
-fn tell_wanted<R: Eprint>(
+/// The same of the file at this path, which was tried so.
+fn tell_tried<R: Eprint>(
     run: &Run<'_, R>,
     path: &str,
     tried: Result<(), Unread>,
-    wanted: Wanted,
-) -> io::Result<bool> {
-    let Err(unread) = tried else {
-        return Ok(false);
-    };
-    let is_wanted = wanted_in(&unread) == wanted;
-    if is_wanted {
-        tell_unread(run.device, path, &unread)?;
-    }
-    Ok(is_wanted)
-}
-
-/// As what a file is wanted that isn't read.
-fn wanted_in(unread: &Unread) -> Wanted {
-    match unread {
-        Unread::Failed(_) => Wanted::Failing,
-        Unread::Once | Unread::Changed => Wanted::Unknown,
+    fails: bool,
+) -> bool {
+    match tried {
+        Err(unread) if matches!(unread, Unread::Failed(_)) == fails => {
+            run.say_of(path, unread);
+            true
+        }
+        _ => false,
     }
 }

@@ -1,52 +1,51 @@
 //! Where a line of a bundle stands: in which file, and on which of its lines.
 
-use crate::files::{ReadFiles, Unread, read_again, tell_unread};
+use crate::files::{ReadFiles, Unread, read_again};
 use crate::lines::{line_at, line_count};
 use crate::parts::{BUNDLE, file_part};
 use crate::run::Run;
 use crate::shown::Name;
 use case_core::{Tree, read_bundle};
-use std::alloc::Global;
-use std::io;
-use std::io::Eprint;
+use std::alloc::{AllocError, Global};
+use std::io::{Eprint, ErrorKind};
 
 /// Tells the line of a bundle that has this number, by the file that it stands in. Where there is a
 /// bundle, its faults are those of the file with the cubes: a line above that file's is one of the
 /// bundle, since the file has changed.
-pub(crate) fn tell_line<R: Eprint + ReadFiles>(run: &Run<'_, R>, number: u64) -> io::Result<()> {
+pub(crate) fn tell_line<R: Eprint + ReadFiles>(run: &Run<'_, R>, number: u64) {
     if let Some(path) = run.formula_alone() {
         return tell_unbundled(run, path, number);
     }
-    let part = file_part(run)?;
+    let part = file_part(run);
     if number > part.above {
-        let below = number.saturating_sub(part.above);
-        return run.tell_numbered(part.from, part.text, below);
+        run.tell_numbered(part.from, part.text, number.saturating_sub(part.above));
+    } else {
+        run.tell_numbered(BUNDLE, run.bundle, number);
     }
-    run.tell_numbered(BUNDLE, run.bundle, number)
 }
 
 /// Tells the line that has this number in the text of the formula's file, which has this path, and
 /// below it of the file with the cubes.
-fn tell_unbundled<R: Eprint + ReadFiles>(
-    run: &Run<'_, R>,
-    path: &str,
-    number: u64,
-) -> io::Result<()> {
-    let Some(formula) = run.read_or_tell(path)? else {
-        return Ok(());
-    };
-    let above = line_count(&formula);
-    if number <= above {
-        return run.tell_numbered(path, &formula, number);
+fn tell_unbundled<R: Eprint + ReadFiles>(run: &Run<'_, R>, path: &str, number: u64) {
+    if let Some(formula) = run.read_or_tell(path) {
+        let above = line_count(&formula);
+        if number <= above {
+            run.tell_numbered(path, &formula, number);
+        } else {
+            tell_in_file(run, number.saturating_sub(above));
+        }
     }
-    match run.read_file_or_tell()? {
-        Some(text) => run.tell_numbered(run.file(), &text, number.saturating_sub(above)),
-        None => Ok(()),
+}
+
+/// Tells the line that has this number in the file with the cubes.
+fn tell_in_file<R: Eprint + ReadFiles>(run: &Run<'_, R>, number: u64) {
+    if let Some(text) = run.read_file_or_tell() {
+        run.tell_numbered(run.file(), &text, number);
     }
 }
 
 /// Tells the line of a bundle with a folder's proofs that has this number.
-pub(crate) fn tell_label<R: Eprint + ReadFiles>(run: &Run<'_, R>, number: u64) -> io::Result<()> {
+pub(crate) fn tell_label<R: Eprint + ReadFiles>(run: &Run<'_, R>, number: u64) {
     let above = line_count(run.bundle);
     match run.asked.proofs {
         Some(folder) if number > above => tell_in_folder(run, folder, number.saturating_sub(above)),
@@ -56,71 +55,51 @@ pub(crate) fn tell_label<R: Eprint + ReadFiles>(run: &Run<'_, R>, number: u64) -
 
 /// Tells the line of this number among those that a folder's proofs add to a bundle, a label line
 /// above each.
-fn tell_in_folder<R: Eprint + ReadFiles>(
-    run: &Run<'_, R>,
-    folder: &str,
-    number: u64,
-) -> io::Result<()> {
-    match read_bundle(run.alloc, run.bundle) {
-        Ok(case) => tell_in_tree(run, folder, case.tree(), number),
-        Err(_) => Ok(()),
+fn tell_in_folder<R: Eprint + ReadFiles>(run: &Run<'_, R>, folder: &str, number: u64) {
+    if let Ok(case) = read_bundle(run.alloc, run.bundle) {
+        tell_in_tree(run, folder, case.tree(), number);
     }
 }
 
 /// Tells the line of this number among those that a folder's proofs add to the bundle of a tree.
-fn tell_in_tree<R: Eprint + ReadFiles>(
-    run: &Run<'_, R>,
-    folder: &str,
-    tree: &Tree,
-    number: u64,
-) -> io::Result<()> {
+fn tell_in_tree<R: Eprint + ReadFiles>(run: &Run<'_, R>, folder: &str, tree: &Tree, number: u64) {
     let cubes = tree.cube_count();
     let mut left = number;
     for place in 0..tree.leaf_count() {
-        match tell_in_place(run, folder, cubes, place, left)? {
+        let Ok(path) = path_of(run.alloc, folder, cubes, place) else {
+            return;
+        };
+        match tell_behind(run, path.as_str(), left) {
             Some(behind) => left = behind,
-            None => return Ok(()),
+            None => return,
         }
     }
-    Ok(())
-}
-
-/// Tells the line of this number from the label line on of the proof of the leaf in this place,
-/// where the proof has it; otherwise answers its number from behind the proof on.
-fn tell_in_place<R: Eprint + ReadFiles>(
-    run: &Run<'_, R>,
-    folder: &str,
-    cubes: u32,
-    place: u32,
-    number: u64,
-) -> io::Result<Option<u64>> {
-    let path = path_of(run.alloc, folder, cubes, place)?;
-    tell_behind(run, path.as_str(), number)
 }
 
 /// Where a folder has the proof of the leaf in this place, where the cubes come first.
-pub(crate) fn path_of(alloc: Global, folder: &str, cubes: u32, place: u32) -> io::Result<String> {
+pub(crate) fn path_of(
+    alloc: Global,
+    folder: &str,
+    cubes: u32,
+    place: u32,
+) -> Result<String, AllocError> {
     let (kind, leaf) = match place.checked_sub(cubes) {
-        None => ("", place.saturating_add(1)),
-        Some(missing) => ("m", missing.saturating_add(1)),
+        None => ("", place),
+        Some(missing) => ("m", missing),
     };
-    Ok(format!(in alloc; "{folder}/{kind}{leaf}.lrat")?)
+    format!(in alloc; "{folder}/{kind}{}.lrat", leaf.saturating_add(1))
 }
 
 /// Tells the line of this number from a proof's label line on, where the proof has it; otherwise
 /// answers its number from behind the proof on. Where the proof can't be read again, so that its
 /// lines can't be counted, that is told in the line's place.
-fn tell_behind<R: Eprint + ReadFiles>(
-    run: &Run<'_, R>,
-    path: &str,
-    number: u64,
-) -> io::Result<Option<u64>> {
+fn tell_behind<R: Eprint + ReadFiles>(run: &Run<'_, R>, path: &str, number: u64) -> Option<u64> {
     match read_again(run.device, run.alloc, path) {
         Ok(proof) => tell_in_or_behind(run, path, &proof, number),
-        Err(unread) if is_absent(&unread) => Ok(Some(number)),
+        Err(unread) if is_absent(&unread) => Some(number),
         Err(unread) => {
-            tell_unread(run.device, path, &unread)?;
-            Ok(None)
+            run.say_of(path, unread);
+            None
         }
     }
 }
@@ -128,39 +107,33 @@ fn tell_behind<R: Eprint + ReadFiles>(
 /// Whether a file isn't read again since there is none.
 pub(crate) fn is_absent(unread: &Unread) -> bool {
     match unread {
-        Unread::Failed(error) => error.kind() == io::ErrorKind::NotFound,
+        Unread::Failed(error) => error.kind() == ErrorKind::NotFound,
         Unread::Once | Unread::Changed => false,
     }
 }
 
 /// Tells the line of this number from the label line on of a proof with these bytes, where it has
 /// the line; otherwise answers its number from behind the proof on.
-fn tell_in_or_behind<R: Eprint + ReadFiles>(
+fn tell_in_or_behind<R: Eprint>(
     run: &Run<'_, R>,
     path: &str,
     proof: &[u8],
     number: u64,
-) -> io::Result<Option<u64>> {
+) -> Option<u64> {
     let lines = line_count(proof).saturating_add(1);
     if number > lines {
-        return Ok(Some(number.saturating_sub(lines)));
+        return Some(number.saturating_sub(lines));
     }
-    tell_in_proof(run, path, proof, number)?;
-    Ok(None)
+    tell_in_proof(run, path, proof, number);
+    None
 }
 
 /// Tells a line of a folder's proof, where 1 is the label line above it, which the file hasn't.
-fn tell_in_proof<R: Eprint>(
-    run: &Run<'_, R>,
-    path: &str,
-    proof: &[u8],
-    number: u64,
-) -> io::Result<()> {
+fn tell_in_proof<R: Eprint>(run: &Run<'_, R>, path: &str, proof: &[u8], number: u64) {
     if number <= 1 {
-        return eprintln!(run.device; "explain: {} is a second proof for its leaf", Name(path));
+        run.say(format_args!("{} is a second proof for its leaf", Name(path)));
+    } else {
+        run.tell(path, line_at(proof, number.saturating_sub(1)));
+        run.say("a line that begins with l is a label line, also in a file of the folder");
     }
-    run.tell(path, line_at(proof, number.saturating_sub(1)))?;
-    eprintln!(run.device;
-        "explain: a line that begins with l is a label line, also in a file of the folder"
-    )
 }

@@ -1,9 +1,8 @@
 //! The files of a run, for reading alone.
 
-use crate::shown::Name;
 use std::alloc::Global;
 use std::fs::Metadata;
-use std::io::{Eprint, Read};
+use std::io::Read;
 use std::rt::Files;
 use std::{fmt, fs, io};
 
@@ -144,9 +143,4 @@ fn folder_of(path: &str) -> &str {
         Some((folder, _)) => folder,
         None => ".",
     }
-}
-
-/// Tells why the file at this path isn't read again.
-pub(crate) fn tell_unread<R: Eprint>(device: &R, path: &str, unread: &Unread) -> io::Result<()> {
-    eprintln!(device; "explain: {}: {unread}", Name(path))
 }

@@ -2,9 +2,10 @@
 
 use crate::files::ReadFiles;
 use crate::rejected::number_of;
+use crate::shown::Shown;
 use std::alloc::{AllocError, Global};
-use std::io;
 use std::io::Read;
+use std::{fmt, io};
 
 /// The most names that are told.
 const MOST: usize = 10;
@@ -16,7 +17,7 @@ const WINDOW: usize = 4096;
 #[derive(Drop)]
 pub(crate) struct Few {
     pub(crate) count: u64,
-    pub(crate) first: Vec<Vec<u8>>,
+    first: Vec<Vec<u8>>,
 }
 
 /// What the files of a folder name.
@@ -30,30 +31,26 @@ pub(crate) struct Names {
     pub(crate) strays: Few,
 }
 
-/// The leaves of a tree: how many cubes it has, and how many missing leaves.
-#[derive(Clone, Copy)]
-pub(crate) struct Leaves {
+/// A folder of proofs, by what it is read; and the leaves of the tree: how many cubes it has, and
+/// how many missing leaves.
+#[derive(Drop)]
+pub(crate) struct Folder<'f, R> {
+    pub(crate) device: &'f R,
+    pub(crate) alloc: Global,
+    pub(crate) path: &'f str,
     pub(crate) cubes: u32,
     pub(crate) missing: u32,
 }
 
-/// Whether a file of this name is the proof of a leaf: `K.lrat` or `mJ.lrat`.
-fn names_leaf(name: &[u8], leaves: Leaves) -> bool {
-    let Some(leaf) = name.strip_suffix(b".lrat") else {
-        return false;
-    };
-    match leaf.strip_prefix(b"m") {
-        Some(number) => is_number_up_to(number, leaves.missing),
-        None => is_number_up_to(leaf, leaves.cubes),
-    }
-}
-
 /// Whether digits without a zero in front spell a number from 1 up to this one.
 fn is_number_up_to(digits: &[u8], most: u32) -> bool {
-    let plain = digits
-        .first()
-        .is_some_and(|digit| (b'1'..=b'9').contains(digit));
-    plain && number_of(digits).is_some_and(|number| number <= u64::from(most))
+    match digits {
+        [b'1'..=b'9', ..] => match number_of(digits) {
+            Some(number) => number <= u64::from(most),
+            None => false,
+        },
+        _ => false,
+    }
 }
 
 /// Whether a byte ends a name.
@@ -61,43 +58,84 @@ fn is_name_end(byte: &u8) -> bool {
     *byte == 0
 }
 
-/// What the files of a folder name. An error says why the folder can't be read.
-pub(crate) fn names_in<R: ReadFiles>(
-    device: &R,
-    alloc: Global,
-    folder: &str,
-    leaves: Leaves,
-) -> io::Result<Names> {
-    let mut names = Names::new(alloc);
-    let path = format!(in alloc; "{folder}/")?;
-    let mut listing = device.open_names(path.as_str())?;
-    let mut window = [0u8; WINDOW];
-    for _ in 0..u64::MAX {
-        let count = listing.read(&mut window)?;
-        if count == 0 {
-            break;
-        }
-        let read = window.get(..count).unwrap_or(&[]);
-        names.add_all(device, alloc, folder, read, leaves)?;
+impl<'f, R: ReadFiles> Folder<'f, R> {
+    /// What the folder's files name. An error says why the folder can't be read.
+    pub(crate) fn names(&self) -> io::Result<Names> {
+        let mut names = Names {
+            proofs: 0,
+            dangling: Few::new(self.alloc),
+            strays: Few::new(self.alloc),
+        };
+        self.read_into(&mut names)?;
+        Ok(names)
     }
-    names.dangling.first.sort()?;
-    names.strays.first.sort()?;
-    Ok(names)
-}
 
-/// Whether a folder's file of this name is a link to a file that isn't there.
-fn is_dangling<R: ReadFiles>(
-    device: &R,
-    alloc: Global,
-    folder: &str,
-    name: &[u8],
-) -> Result<bool, AllocError> {
-    let name = String::from_utf8_lossy(alloc, name)?;
-    let path = format!(in alloc; "{folder}/{name}")?;
-    Ok(match device.look_at(path.as_str()) {
-        Ok(_) => false,
-        Err(error) => error.kind() == io::ErrorKind::NotFound,
-    })
+    /// Counts the folder's files, and sorts the names that are kept.
+    fn read_into(&self, names: &mut Names) -> io::Result<()> {
+        let path = format!(in self.alloc; "{}/", self.path)?;
+        let mut listing = self.device.open_names(path.as_str())?;
+        self.add_read(&mut listing, names)?;
+        names.dangling.first.sort()?;
+        names.strays.first.sort()?;
+        Ok(())
+    }
+
+    /// Counts the files of all names that are read.
+    fn add_read<N: Read>(&self, listing: &mut N, names: &mut Names) -> io::Result<()> {
+        let mut window = [0u8; WINDOW];
+        for _ in 0..u64::MAX {
+            let count = listing.read(&mut window)?;
+            if count == 0 {
+                break;
+            }
+            self.add_all(window.get(..count).unwrap_or(&[]), names)?;
+        }
+        Ok(())
+    }
+
+    /// Counts the files of names each of which ends with a NUL. A folder's names of itself and of
+    /// the one above it are none of a file.
+    fn add_all(&self, read: &[u8], names: &mut Names) -> Result<(), AllocError> {
+        for name in read.split(is_name_end) {
+            if !matches!(name, b"" | b"." | b"..") {
+                self.add(name, names)?;
+            }
+        }
+        Ok(())
+    }
+
+    /// Counts a file by its name.
+    fn add(&self, name: &[u8], names: &mut Names) -> Result<(), AllocError> {
+        if !self.names_leaf(name) {
+            names.strays.add(self.alloc, name)
+        } else if self.is_dangling(name)? {
+            names.dangling.add(self.alloc, name)
+        } else {
+            names.proofs = names.proofs.saturating_add(1);
+            Ok(())
+        }
+    }
+
+    /// Whether a file of this name is the proof of a leaf: `K.lrat` or `mJ.lrat`.
+    fn names_leaf(&self, name: &[u8]) -> bool {
+        let Some(leaf) = name.strip_suffix(b".lrat") else {
+            return false;
+        };
+        match leaf.strip_prefix(b"m") {
+            Some(number) => is_number_up_to(number, self.missing),
+            None => is_number_up_to(leaf, self.cubes),
+        }
+    }
+
+    /// Whether a file of this name is a link to a file that isn't there.
+    fn is_dangling(&self, name: &[u8]) -> Result<bool, AllocError> {
+        let name = String::from_utf8_lossy(self.alloc, name)?;
+        let path = format!(in self.alloc; "{}/{name}", self.path)?;
+        Ok(match self.device.look_at(path.as_str()) {
+            Ok(_) => false,
+            Err(error) => error.kind() == io::ErrorKind::NotFound,
+        })
+    }
 }
 
 impl Few {
@@ -113,58 +151,22 @@ impl Few {
     fn add(&mut self, alloc: Global, name: &[u8]) -> Result<(), AllocError> {
         self.count = self.count.saturating_add(1);
         if self.first.len() < MOST {
-            let mut kept = Vec::new(alloc);
-            kept.extend_from_slice(name)?;
-            self.first.push(kept)?;
+            self.first.push(Vec::from_slice(alloc, name)?)?;
         }
         Ok(())
     }
 }
 
-impl Names {
-    /// None yet.
-    fn new(alloc: Global) -> Names {
-        Names {
-            proofs: 0,
-            dangling: Few::new(alloc),
-            strays: Few::new(alloc),
+impl fmt::Display for Few {
+    fn fmt<W: fmt::Write>(&self, f: &mut fmt::Formatter<W>) -> fmt::Result {
+        write!(f, "{}:", self.count)?;
+        for name in &self.first {
+            write!(f, " {}", Shown(name.as_slice()))?;
         }
-    }
-
-    /// Counts the files of these names, each of which ends with a NUL. A folder's names of itself
-    /// and of the one above it are none of a file.
-    fn add_all<R: ReadFiles>(
-        &mut self,
-        device: &R,
-        alloc: Global,
-        folder: &str,
-        names: &[u8],
-        leaves: Leaves,
-    ) -> Result<(), AllocError> {
-        for name in names.split(is_name_end) {
-            if !matches!(name, b"" | b"." | b"..") {
-                self.add(device, alloc, folder, name, leaves)?;
-            }
-        }
-        Ok(())
-    }
-
-    /// Counts a file by its name.
-    fn add<R: ReadFiles>(
-        &mut self,
-        device: &R,
-        alloc: Global,
-        folder: &str,
-        name: &[u8],
-        leaves: Leaves,
-    ) -> Result<(), AllocError> {
-        if !names_leaf(name, leaves) {
-            return self.strays.add(alloc, name);
-        }
-        if is_dangling(device, alloc, folder, name)? {
-            return self.dangling.add(alloc, name);
-        }
-        self.proofs = self.proofs.saturating_add(1);
-        Ok(())
+        f.write_str(if self.count > self.first.len() as u64 {
+            " .."
+        } else {
+            ""
+        })
     }
 }

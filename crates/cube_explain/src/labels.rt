@@ -1,6 +1,6 @@
 //! The label lines of a bundle, and what stands below them.
 
-use crate::lines::{is_blank, is_line_end, line_in};
+use crate::lines::{is_line_end, line_in};
 use case_core::first_word;
 use std::alloc::{AllocError, Global};
 
@@ -8,7 +8,7 @@ use std::alloc::{AllocError, Global};
 #[derive(Clone, Copy)]
 pub(crate) struct Label<'t> {
     /// The line's number, from 1.
-    pub(crate) line: u64,
+    line: u64,
     /// What stands behind its `l`.
     name: &'t [u8],
     /// Where the line begins in the bundle, and where the line below it does.
@@ -47,30 +47,34 @@ fn plain(word: &[u8]) -> (&[u8], &[u8]) {
 
 /// Whether two texts have the same words, where zeros in front of a number don't count.
 fn have_same_words(one: &[u8], other: &[u8]) -> bool {
-    let mut others = other.split(is_blank).filter(|word| !word.is_empty());
-    for word in one.split(is_blank).filter(|word| !word.is_empty()) {
-        if others.next().map(plain) != Some(plain(word)) {
-            return false;
+    let (mut left, mut behind) = (one, other);
+    for _ in 0..=one.len() {
+        match (first_word(left), first_word(behind)) {
+            (None, None) => return true,
+            (Some((word, rest)), Some((beside, others))) if plain(word) == plain(beside) => {
+                (left, behind) = (rest, others);
+            }
+            _ => return false,
         }
     }
-    others.next().is_none()
+    false
 }
 
-/// The place of the label that has this name, among a bundle's.
-pub(crate) fn place_of(labels: &[Label<'_>], name: &[u8]) -> Option<usize> {
-    labels
-        .iter()
-        .position(|label| have_same_words(label.name, name))
-}
-
-/// What stands below the label in this place, up to the next one.
-pub(crate) fn section_at<'t>(bundle: &'t [u8], labels: &[Label<'t>], place: usize) -> &'t [u8] {
-    let Some(label) = labels.get(place) else {
-        return &[];
-    };
-    let end = match labels.get(place.saturating_add(1)) {
-        Some(next) => next.start,
-        None => bundle.len(),
-    };
-    bundle.get(label.below..end).unwrap_or(&[])
+/// The line of the label that has this name, among a bundle's, and what stands below it, up to the
+/// next label.
+pub(crate) fn section_of<'t>(
+    bundle: &'t [u8],
+    labels: &[Label<'t>],
+    name: &[u8],
+) -> Option<(u64, &'t [u8])> {
+    for (place, label) in labels.iter().enumerate() {
+        if have_same_words(label.name, name) {
+            let end = match labels.get(place.saturating_add(1)) {
+                Some(next) => next.start,
+                None => bundle.len(),
+            };
+            return Some((label.line, bundle.get(label.below..end).unwrap_or(&[])));
+        }
+    }
+    None
 }

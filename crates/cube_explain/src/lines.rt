@@ -77,12 +77,12 @@ pub(crate) fn is_end_mark(word: &[u8]) -> bool {
 /// Goes past a line of cubes: whether a clause begins on it, where `is_inside` says whether the
 /// line begins inside a cube, and then whether the line below does.
 fn begins_clause(line: &[u8], is_inside: &mut bool) -> bool {
-    for word in line.split(is_blank).filter(|word| !word.is_empty()) {
+    for word in line.split(is_blank) {
         if *is_inside {
             *is_inside = !is_end_mark(word);
         } else if word == b"a".as_slice() {
             *is_inside = true;
-        } else {
+        } else if !word.is_empty() {
             return true;
         }
     }
@@ -120,7 +120,18 @@ fn cubes_on(line: &[u8]) -> u64 {
     if matches!(first_word(line), Some((b"p", _))) {
         return 0;
     }
-    line.split(is_blank)
-        .filter(|word| *word == b"a".as_slice())
-        .count() as u64
+    let mut count = 0u64;
+    for word in line.split(is_blank) {
+        count = count.saturating_add(u64::from(word == b"a".as_slice()));
+    }
+    count
+}
+
+/// How many words a line has.
+pub(crate) fn word_count(line: &[u8]) -> u64 {
+    let mut count = 0u64;
+    for word in line.split(is_blank) {
+        count = count.saturating_add(u64::from(!word.is_empty()));
+    }
+    count
 }

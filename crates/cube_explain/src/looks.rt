@@ -5,7 +5,7 @@ use case_core::first_word;
 use std::fmt;
 
 /// What a text looks like.
-#[derive(Clone, Copy, PartialEq, Eq)]
+#[derive(Clone, Copy)]
 pub(crate) enum Looks {
     Empty,
     Gzip,

@@ -1,9 +1,8 @@
 //! Which lines of a bundle are the lines of which file.
 
-use crate::files::{ReadFiles, Unread, read_again, tell_unread};
+use crate::files::{ReadFiles, Unread, read_again};
 use crate::lines::{is_line_end, line_count};
 use crate::run::Run;
-use std::io;
 use std::io::Eprint;
 
 /// What lines are told to be of where it isn't known on which line the second file begins.
@@ -23,15 +22,15 @@ pub(crate) struct Part<'t> {
 /// The part of a run's bundle that the file with the cubes gave. Where the formula has a file of
 /// its own, that file, or else the other one, is read again to see where it ends. Where neither can
 /// be, that is told, and the part is the whole bundle, by that name.
-pub(crate) fn file_part<'r, R: Eprint + ReadFiles>(run: &Run<'r, R>) -> io::Result<Part<'r>> {
+pub(crate) fn file_part<'r, R: Eprint + ReadFiles>(run: &Run<'r, R>) -> Part<'r> {
     let Some(path) = run.asked.formula else {
-        return Ok(part_of(run.file(), run.bundle, run.bundle));
+        return part_of(run.file(), run.bundle, run.bundle);
     };
     match text_below(run, path) {
-        Ok(text) => Ok(part_of(run.file(), text, run.bundle)),
+        Ok(text) => part_of(run.file(), text, run.bundle),
         Err(unread) => {
-            tell_unread(run.device, path, &unread)?;
-            Ok(part_of(BUNDLE, run.bundle, run.bundle))
+            run.say_of(path, unread);
+            part_of(BUNDLE, run.bundle, run.bundle)
         }
     }
 }

@@ -1,11 +1,11 @@
 //! A run that is told of.
 
-use crate::files::{ReadFiles, read_again, tell_unread};
+use crate::files::{ReadFiles, Unread, read_again};
 use crate::lines::{Line, line_at};
 use crate::shown::{Name, Shown};
 use cube_report::Asked;
 use std::alloc::Global;
-use std::io;
+use std::fmt::Display;
 use std::io::Eprint;
 
 /// What the program's input is called.
@@ -13,7 +13,7 @@ const INPUT: &str = "standard input";
 
 /// A run that is told of: on whose standard error, and by what its files are read again; what it
 /// was asked for; and the bundle that it has read, which is empty where it has read none.
-#[derive(Clone, Copy)]
+#[derive(Drop)]
 pub(crate) struct Run<'r, R> {
     pub(crate) device: &'r R,
     pub(crate) alloc: Global,
@@ -39,50 +39,65 @@ impl<'r, R> Run<'r, R> {
 }
 
 impl<'r, R: Eprint> Run<'r, R> {
-    /// Tells a line of a file, or that it has none with a word. An error is one of standard error,
-    /// here and in each function that tells.
-    pub(crate) fn tell(&self, from: &str, line: Option<Line<'_>>) -> io::Result<()> {
-        let Some(line) = line else {
-            return eprintln!(self.device; "explain: {} has no line with words", Name(from));
-        };
-        let (number, text) = (line.number, Shown(line.text));
-        eprintln!(self.device; "explain: {}, line {number}: {text}", Name(from))?;
-        if line.text == b"%".as_slice() {
-            return eprintln!(self.device;
-                "explain: files of SATLIB end so: cut them off from this line on"
-            );
+    /// Tells a line. One that can't be written is left out.
+    pub(crate) fn say<D: Display + Drop>(&self, line: D) {
+        let _ = eprintln!(self.device; "explain: {line}");
+    }
+
+    /// Tells what there is to say of a file.
+    pub(crate) fn say_of<D: Display + Drop>(&self, from: &str, what: D) {
+        self.say(format_args!("{}: {what}", Name(from)));
+    }
+
+    /// Tells what there is to say of the line of this number in a file.
+    pub(crate) fn say_at<D: Display + Drop>(&self, from: &str, number: u64, what: D) {
+        self.say(format_args!("{}, line {number}: {what}", Name(from)));
+    }
+
+    /// Tells a line of a file, or that it has none with a word.
+    pub(crate) fn tell(&self, from: &str, line: Option<Line<'_>>) {
+        match line {
+            Some(line) => self.tell_line(from, line),
+            None => self.say(format_args!("{} has no line with words", Name(from))),
         }
-        Ok(())
+    }
+
+    /// Tells a line that a file has.
+    fn tell_line(&self, from: &str, line: Line<'_>) {
+        self.say_at(from, line.number, Shown(line.text));
+        if line.text == b"%".as_slice() {
+            self.say("files of SATLIB end so: cut them off from this line on");
+        }
     }
 
     /// Tells the line of this number, from 1, of a file's text.
-    pub(crate) fn tell_numbered(&self, from: &str, text: &[u8], number: u64) -> io::Result<()> {
+    pub(crate) fn tell_numbered(&self, from: &str, text: &[u8], number: u64) {
         match line_at(text, number) {
-            Some(line) => self.tell(from, Some(line)),
-            None => eprintln!(self.device; "explain: {} has no line {number}", Name(from)),
+            Some(line) => self.tell_line(from, line),
+            None => self.say(format_args!("{} has no line {number}", Name(from))),
         }
     }
 }
 
 impl<'r, R: Eprint + ReadFiles> Run<'r, R> {
     /// The bytes of the file at this path, read again; `None` where they can't be, which is told.
-    pub(crate) fn read_or_tell(&self, path: &str) -> io::Result<Option<Vec<u8>>> {
+    pub(crate) fn read_or_tell(&self, path: &str) -> Option<Vec<u8>> {
         match read_again(self.device, self.alloc, path) {
-            Ok(bytes) => Ok(Some(bytes)),
+            Ok(bytes) => Some(bytes),
             Err(unread) => {
-                tell_unread(self.device, path, &unread)?;
-                Ok(None)
+                self.say_of(path, unread);
+                None
             }
         }
     }
 
     /// The same of the file with the cubes. The program's input can't be read again.
-    pub(crate) fn read_file_or_tell(&self) -> io::Result<Option<Vec<u8>>> {
+    pub(crate) fn read_file_or_tell(&self) -> Option<Vec<u8>> {
         match self.asked.file {
             Some(path) => self.read_or_tell(path),
             None => {
-                eprintln!(self.device; "explain: {INPUT}: can't be read again")?;
-                Ok(None)
+                self.say_of(INPUT, Unread::Once);
+                None
             }
         }
     }

@@ -4,13 +4,13 @@ ghost use Rattle.std.specs.Prelude.{◌≡◌};
 
 use crate::faults::tell_fault;
 use crate::files::{ReadFiles, read_again};
-use crate::folder::{Few, Leaves, names_in};
+use crate::folder::{Few, Folder, Names};
 use crate::header::tell_ignored;
-use crate::labels::{Label, labels_in, place_of, section_at};
+use crate::labels::{Label, labels_in, section_of};
 use crate::looks::{Looks, looks_of};
 use crate::parts::{Part, file_part};
 use crate::reasons::advice_on;
-use crate::rejected::{Rejected, rejections_in};
+use crate::rejected::{Rejected, Rejections, rejections_in};
 use crate::run::Run;
 use crate::shown::{Name, Shown};
 use crate::step_lines::step_line;
@@ -18,8 +18,8 @@ use case_core::{Case, Formula, ProofForm, read_bundle};
 use cube_report::{Asked, Explain, Fault, Target, icnf_part};
 use sha2::{Digest, Sha256};
 use std::alloc::{AllocError, Global};
-use std::io;
-use std::io::Eprint;
+use std::fmt::Display;
+use std::io::{Eprint, ErrorKind};
 
 /// Tells a person of a run in lines on the standard error of a device, each of which begins with
 /// `explain: `. For that it reads files of the run again by that device, and it can do nothing else
@@ -40,20 +40,17 @@ impl<'a, R> Teller<'a, R> {
 
 impl<'a, R: Eprint + ReadFiles> Explain for Teller<'a, R> {
     fn tell_read(&self, alloc: Global, asked: &Asked<'_>, bundle: &[u8]) {
-        let run = run_of(self.device, alloc, asked, bundle);
         if let Ok(case) = read_bundle(alloc, bundle) {
-            let _ = tell_case(&run, &case);
+            tell_case(&run_of(self.device, alloc, asked, bundle), &case);
         }
     }
 
     fn tell_report(&self, alloc: Global, asked: &Asked<'_>, bundle: &[u8], report: &[u8]) {
-        let run = run_of(self.device, alloc, asked, bundle);
-        let _ = tell_rejections(&run, report);
+        tell_rejections(&run_of(self.device, alloc, asked, bundle), report);
     }
 
     fn tell_fault(&self, alloc: Global, asked: &Asked<'_>, bundle: &[u8], fault: Fault) {
-        let run = run_of(self.device, alloc, asked, bundle);
-        let _ = tell_fault(&run, fault);
+        tell_fault(&run_of(self.device, alloc, asked, bundle), fault);
     }
 }
 
@@ -90,240 +87,238 @@ fn sections_of(case: &Case) -> (u64, u64) {
 }
 
 /// Tells what was read, where it is this case.
-fn tell_case<R: Eprint + ReadFiles>(run: &Run<'_, R>, case: &Case) -> io::Result<()> {
-    tell_formula(run, case.formula())?;
-    tell_ignored(run)?;
-    tell_digest(run)?;
-    tell_tree(run, case)?;
-    tell_folder(run, case)
+fn tell_case<R: Eprint + ReadFiles>(run: &Run<'_, R>, case: &Case) {
+    tell_formula(run, case.formula());
+    tell_ignored(run);
+    tell_digest(run);
+    tell_tree(run, case);
+    tell_folder(run, case);
 }
 
 /// Tells which formula was read.
-fn tell_formula<R: Eprint>(run: &Run<'_, R>, formula: &Formula) -> io::Result<()> {
+fn tell_formula<R: Eprint>(run: &Run<'_, R>, formula: &Formula) {
     let clauses = formula.clauses().len();
     let literals = literals_of(formula);
     let greatest = formula.greatest_variable();
-    let from = Name(run.asked.formula.unwrap_or(run.file()));
-    eprintln!(run.device;
-        "explain: {from}: clauses: {clauses}; literals: {literals}; \
-         greatest variable: {greatest}"
-    )
+    let what = format_args!(
+        "clauses: {clauses}; literals: {literals}; greatest variable: {greatest}"
+    );
+    run.say_of(run.asked.formula.unwrap_or(run.file()), what);
 }
 
 /// Tells the digest of the iCNF text, which a record names.
-fn tell_digest<R: Eprint>(run: &Run<'_, R>) -> io::Result<()> {
-    let digits = hex::encode(run.alloc, Sha256::digest(icnf_part(run.bundle)))?;
-    eprintln!(run.device; "explain: SHA-256 of formula and cubes: {digits}")
+fn tell_digest<R: Eprint>(run: &Run<'_, R>) {
+    if let Ok(digits) = hex::encode(run.alloc, Sha256::digest(icnf_part(run.bundle))) {
+        run.say(format_args!("SHA-256 of formula and cubes: {digits}"));
+    }
 }
 
 /// Tells which tree was read, and the sections that stand in the bundle.
-fn tell_tree<R: Eprint>(run: &Run<'_, R>, case: &Case) -> io::Result<()> {
+fn tell_tree<R: Eprint>(run: &Run<'_, R>, case: &Case) {
     let cubes = case.tree().cube_count();
     let missing = case.tree().missing_count();
     let (leaves, nodes) = sections_of(case);
-    let from = Name(run.file());
-    eprintln!(run.device;
-        "explain: {from}: cubes: {cubes}; branches without a cube: {missing}; \
+    let what = format_args!(
+        "cubes: {cubes}; branches without a cube: {missing}; \
          sections for leaves: {leaves}, for inner nodes: {nodes}"
-    )?;
+    );
+    run.say_of(run.file(), what);
     if cubes == 0 {
-        return eprintln!(run.device;
-            "explain: {from}: a cube begins with a: a line without it is a clause"
-        );
+        let what = "a cube begins with a: a line without it is a clause";
+        run.say_of(run.file(), what);
     }
-    Ok(())
 }
 
 /// Tells what the folder of proofs has, where one is asked for.
-fn tell_folder<R: Eprint + ReadFiles>(run: &Run<'_, R>, case: &Case) -> io::Result<()> {
-    let Some(folder) = run.asked.proofs else {
-        return Ok(());
+fn tell_folder<R: Eprint + ReadFiles>(run: &Run<'_, R>, case: &Case) {
+    let Some(path) = run.asked.proofs else {
+        return;
     };
-    let leaves = Leaves {
+    let folder = Folder {
+        device: run.device,
+        alloc: run.alloc,
+        path,
         cubes: case.tree().cube_count(),
         missing: case.tree().missing_count(),
     };
-    let from = Name(folder);
-    match names_in(run.device, run.alloc, folder, leaves) {
-        Ok(names) => {
-            let proofs = names.proofs;
-            eprintln!(run.device; "explain: {from}: files that are proofs of leaves: {proofs}")?;
-            tell_few(
-                run,
-                folder,
-                "links to files that aren't there",
-                &names.dangling,
-            )?;
-            tell_few(run, folder, "files that name no leaf", &names.strays)
+    match folder.names() {
+        Ok(names) => tell_names(run, path, &names),
+        Err(error) if error.kind() == ErrorKind::NotFound => {
+            run.say_of(path, "there is no such folder, so no proof is added");
         }
-        Err(error) if error.kind() == io::ErrorKind::NotFound => {
-            eprintln!(run.device; "explain: {from}: there is no such folder, so no proof is added")
-        }
-        Err(error) => eprintln!(run.device; "explain: {from}: {error}"),
+        Err(error) => run.say_of(path, error),
     }
+}
+
+/// Tells what the files of a folder name.
+fn tell_names<R: Eprint>(run: &Run<'_, R>, folder: &str, names: &Names) {
+    let proofs = names.proofs;
+    run.say_of(
+        folder,
+        format_args!("files that are proofs of leaves: {proofs}"),
+    );
+    tell_few(
+        run,
+        folder,
+        "links to files that aren't there",
+        &names.dangling,
+    );
+    tell_few(run, folder, "files that name no leaf", &names.strays);
 }
 
 /// Tells of which kind some files of a folder are, and their first names, where there are any.
-fn tell_few<R: Eprint>(run: &Run<'_, R>, folder: &str, kind: &str, few: &Few) -> io::Result<()> {
-    if few.count == 0 {
-        return Ok(());
+fn tell_few<R: Eprint>(run: &Run<'_, R>, folder: &str, kind: &str, few: &Few) {
+    if few.count > 0 {
+        run.say_of(folder, format_args!("{kind}: {few}"));
     }
-    eprint!(run.device; "explain: {}: {kind}: {}:", Name(folder), few.count)?;
-    for name in &few.first {
-        eprint!(run.device; " {}", Shown(name.as_slice()))?;
-    }
-    let more = if few.count > few.first.len() as u64 {
-        " .."
-    } else {
-        ""
-    };
-    eprintln!(run.device; "{more}")
 }
 
 /// Tells of the proofs that a report rejects.
-fn tell_rejections<R: Eprint + ReadFiles>(run: &Run<'_, R>, report: &[u8]) -> io::Result<()> {
-    let rejections = rejections_in(run.alloc, report)?;
-    let labels = labels_in(run.alloc, run.bundle)?;
+fn tell_rejections<R: Eprint + ReadFiles>(run: &Run<'_, R>, report: &[u8]) {
+    if let Ok(rejections) = rejections_in(run.alloc, report)
+        && let Ok(labels) = labels_in(run.alloc, run.bundle)
+    {
+        tell_each(run, &rejections, &labels);
+    }
+}
+
+/// Tells of these rejected proofs, where these are the label lines of the bundle.
+fn tell_each<'r, R: Eprint + ReadFiles>(
+    run: &Run<'r, R>,
+    rejections: &Rejections<'_>,
+    labels: &[Label<'r>],
+) {
     let mut part = None;
     for rejected in &rejections.first {
-        tell_rejection(run, &labels, &mut part, rejected)?;
+        tell_rejection(run, labels, &mut part, rejected);
+        run.say(advice_on(rejected.reason));
     }
     let more = rejections.more;
     if more > 0 {
-        eprintln!(run.device; "explain: {more} more proofs are rejected")?;
+        run.say(format_args!("{more} more proofs are rejected"));
     }
-    Ok(())
 }
 
-/// Tells of a proof that is rejected: a section of the bundle, or a file of the folder. The part of
-/// the bundle that has its sections is found at the first of them.
+/// A step of a proof that was rejected: the name of the proof's leaf or node, the step's number,
+/// and the file in which the proof stands.
+#[derive(Clone, Copy)]
+struct Step<'t> {
+    name: &'t str,
+    number: u64,
+    from: &'t str,
+}
+
+/// Tells the step of a proof that is rejected: of a section of the bundle, or of a file of the
+/// folder. The part of the bundle that has its sections is found at the first of them.
 fn tell_rejection<'r, R: Eprint + ReadFiles>(
     run: &Run<'r, R>,
-    labels: &[Label<'_>],
+    labels: &[Label<'r>],
     part: &mut Option<Part<'r>>,
     rejected: &Rejected<'_>,
-) -> io::Result<()> {
-    let name = label_of(run.alloc, rejected)?;
-    match place_of(labels, name.as_bytes()) {
-        Some(place) => {
-            let found = match *part {
-                Some(found) => found,
-                None => file_part(run)?,
-            };
-            *part = Some(found);
-            tell_section(run, labels, place, found, name.as_str(), rejected.step)?;
-        }
-        None => tell_file(run, name.as_str(), rejected.step)?,
-    }
-    tell_reason(run, rejected.reason)
-}
-
-/// Tells the rejected step of the section below the label in this place.
-fn tell_section<R: Eprint>(
-    run: &Run<'_, R>,
-    labels: &[Label<'_>],
-    place: usize,
-    part: Part<'_>,
-    name: &str,
-    step: u64,
-) -> io::Result<()> {
-    let line = labels.get(place).map(|label| label.line).unwrap_or(0);
-    let proof = section_at(run.bundle, labels, place);
-    let above = line.saturating_sub(part.above);
-    tell_step(run, name, step, proof, above, part.from)
-}
-
-/// Tells the rejected step of the folder's proof of the leaf of this name, or why that file can't
-/// be read again.
-fn tell_file<R: Eprint + ReadFiles>(run: &Run<'_, R>, name: &str, step: u64) -> io::Result<()> {
-    let Some(folder) = run.asked.proofs else {
-        return Ok(());
+) {
+    let Ok(name) = label_of(run.alloc, rejected) else {
+        return;
     };
-    let path = format!(in run.alloc; "{folder}/{name}.lrat")?;
-    match read_again(run.device, run.alloc, path.as_str()) {
-        Ok(proof) => tell_proof(run, name, step, &proof, path.as_str()),
-        Err(unread) => {
-            let from = Name(path.as_str());
-            eprintln!(run.device;
-                "explain: proof for {name}: step {step} is rejected: {from}: {unread}"
-            )
+    match section_of(run.bundle, labels, name.as_bytes()) {
+        Some((line, proof)) => {
+            let part = part_at_first(run, part);
+            let step = Step {
+                name: name.as_str(),
+                number: rejected.step,
+                from: part.from,
+            };
+            tell_step(run, step, proof, line.saturating_sub(part.above));
         }
+        None => tell_file(run, name.as_str(), rejected.step),
+    }
+}
+
+/// The part that was found at the first call, by which it is kept.
+fn part_at_first<'r, R: Eprint + ReadFiles>(
+    run: &Run<'r, R>,
+    part: &mut Option<Part<'r>>,
+) -> Part<'r> {
+    if let Some(found) = *part {
+        return found;
+    }
+    let found = file_part(run);
+    *part = Some(found);
+    found
+}
+
+/// Tells the rejected step of the folder's proof of the leaf of this name.
+fn tell_file<R: Eprint + ReadFiles>(run: &Run<'_, R>, name: &str, number: u64) {
+    if let Some(folder) = run.asked.proofs
+        && let Ok(path) = format!(in run.alloc; "{folder}/{name}.lrat")
+    {
+        let from = path.as_str();
+        tell_in_file(run, Step { name, number, from });
+    }
+}
+
+/// Tells the rejected step of a file, or why it can't be read again.
+fn tell_in_file<R: Eprint + ReadFiles>(run: &Run<'_, R>, step: Step<'_>) {
+    match read_again(run.device, run.alloc, step.from) {
+        Ok(proof) => tell_proof(run, step, &proof),
+        Err(unread) => say_rejected(run, step, format_args!(": {unread}")),
     }
 }
 
 /// Tells the rejected step of a folder's proof: of a text where it stands, of a binary one as text.
-fn tell_proof<R: Eprint>(
-    run: &Run<'_, R>,
-    name: &str,
-    step: u64,
-    proof: &[u8],
-    path: &str,
-) -> io::Result<()> {
+fn tell_proof<R: Eprint>(run: &Run<'_, R>, step: Step<'_>, proof: &[u8]) {
     let mut text = Vec::new(run.alloc);
     let mut form = ProofForm::Unread;
-    if form.turn(proof, &mut text)? {
-        return tell_binary_step(run, name, step, &text, Name(path));
+    match form.turn(proof, &mut text) {
+        Ok(true) => tell_binary_step(run, step, &text),
+        Ok(false) => tell_step(run, step, proof, 0),
+        Err(_) => {}
     }
-    tell_step(run, name, step, proof, 0, path)
 }
 
 /// Tells a step that was rejected of a binary proof, by the text that it stands for.
-fn tell_binary_step<R: Eprint>(
-    run: &Run<'_, R>,
-    name: &str,
-    step: u64,
-    text: &[u8],
-    from: Name<'_>,
-) -> io::Result<()> {
-    match step_line(text, step) {
-        Some(line) => {
-            let text = Shown(line.text);
-            eprintln!(run.device;
-                "explain: proof for {name}: step {step} is rejected: {from}, binary LRAT: {text}"
-            )?;
-        }
-        None => eprintln!(run.device; "explain: proof for {name}: {from} has no step {step}")?,
+fn tell_binary_step<R: Eprint>(run: &Run<'_, R>, step: Step<'_>, text: &[u8]) {
+    match step_line(text, step.number) {
+        Some(line) => say_rejected(
+            run,
+            step,
+            format_args!(", binary LRAT: {}", Shown(line.text)),
+        ),
+        None => say_absent(run, step),
     }
-    if step == 1 {
-        eprintln!(run.device;
-            "explain: {from}: CaDiCaL 1.7 doesn't double the ids of binary steps: have it write \
-             text (--no-binary)"
-        )?;
+    if step.number == 1 {
+        let what = "CaDiCaL 1.7 doesn't double the ids of binary steps: have it write text \
+                    (--no-binary)";
+        run.say_of(step.from, what);
     }
-    Ok(())
 }
 
 /// Tells a step that was rejected, and where it stands, with so many lines above its proof.
-fn tell_step<R: Eprint>(
-    run: &Run<'_, R>,
-    name: &str,
-    step: u64,
-    proof: &[u8],
-    above: u64,
-    from: &str,
-) -> io::Result<()> {
-    let from = Name(from);
-    match step_line(proof, step) {
+fn tell_step<R: Eprint>(run: &Run<'_, R>, step: Step<'_>, proof: &[u8], above: u64) {
+    match step_line(proof, step.number) {
         Some(line) => {
             let (number, text) = (above.saturating_add(line.number), Shown(line.text));
-            eprintln!(run.device;
-                "explain: proof for {name}: step {step} is rejected: {from}, line {number}: {text}"
-            )?;
+            say_rejected(run, step, format_args!(", line {number}: {text}"));
         }
-        None => eprintln!(run.device; "explain: proof for {name}: {from} has no step {step}")?,
+        None => say_absent(run, step),
     }
-    let looks = looks_of(proof);
-    if step == 1 && looks != Looks::Unknown {
-        eprintln!(run.device; "explain: {from}: {looks}")?;
+    if step.number == 1 {
+        match looks_of(proof) {
+            Looks::Unknown => {}
+            looks => run.say_of(step.from, looks),
+        }
     }
-    Ok(())
 }
 
-/// Tells what the reason of a rejection says.
-fn tell_reason<R: Eprint>(run: &Run<'_, R>, reason: &[u8]) -> io::Result<()> {
-    let advice = advice_on(reason);
-    let (says, look_for) = (advice.says, advice.look_for);
-    eprintln!(run.device; "explain: {says}; look for {look_for}")
+/// Tells that a step is rejected, and how the line goes on behind its file.
+fn say_rejected<R: Eprint, D: Display + Drop>(run: &Run<'_, R>, step: Step<'_>, what: D) {
+    let (name, number, from) = (step.name, step.number, Name(step.from));
+    run.say(format_args!("proof for {name}: step {number} is rejected: {from}{what}"));
+}
+
+/// Tells that a file doesn't have the step that was rejected.
+fn say_absent<R: Eprint>(run: &Run<'_, R>, step: Step<'_>) {
+    let (name, number, from) = (step.name, step.number, Name(step.from));
+    run.say(format_args!("proof for {name}: {from} has no step {number}"));
 }
 
 /// What a label for the node of a rejected proof says behind its `l`.
