@@ -101,7 +101,7 @@ told "a cube without its a" 1 << TOLD
 standard input: clauses: 4; literals: 6; greatest variable: 3
 SHA-256 of formula and cubes: *
 standard input: cubes: 0; branches without a cube: 1; sections for leaves: 0, for inner nodes: 0
-standard input: a cube begins with a: a line without it is a clause
+standard input: a cube begins with "a"; a line without it is a clause
 TOLD
 with_bundle 'a 3 0\n'
 printf 'c\np cnf 2 2\n1 0\n-1 0\n' > "$here/run/formula.cnf"
@@ -122,7 +122,7 @@ case.icnf, line 2: words behind p inccnf, which are ignored: 5
 case.icnf, line 2: the line has CR bytes in it, but only LF ends a line
 SHA-256 of formula and cubes: *
 case.icnf: cubes: 0; branches without a cube: 1; sections for leaves: 0, for inner nodes: 0
-case.icnf: a cube begins with a: a line without it is a clause
+case.icnf: a cube begins with "a"; a line without it is a clause
 TOLD
 with_bundle 'p inccnf 3 2\r\n1 0\r\n'
 run "$here/none" --explain case.icnf
@@ -131,7 +131,7 @@ case.icnf: clauses: 1; literals: 1; greatest variable: 1
 case.icnf, line 1: words behind p inccnf, which are ignored: 2
 SHA-256 of formula and cubes: *
 case.icnf: cubes: 0; branches without a cube: 1; sections for leaves: 0, for inner nodes: 0
-case.icnf: a cube begins with a: a line without it is a clause
+case.icnf: a cube begins with "a"; a line without it is a clause
 TOLD
 with_bundle 'p inccnf\r\n1 0\r\n'
 run "$here/none" --explain case.icnf
@@ -139,7 +139,7 @@ told "lines that end with CR and LF" 1 << 'TOLD'
 case.icnf: clauses: 1; literals: 1; greatest variable: 1
 SHA-256 of formula and cubes: *
 case.icnf: cubes: 0; branches without a cube: 1; sections for leaves: 0, for inner nodes: 0
-case.icnf: a cube begins with a: a line without it is a clause
+case.icnf: a cube begins with "a"; a line without it is a clause
 TOLD
 
 # A folder: without a file, with files that name no leaf, with links, and one that isn't there. What
@@ -278,7 +278,7 @@ run "$here/none" --explain case.icnf
 from "cubes of two trees" << 'TOLD'
 case.icnf, line 2: "a 3 1 0"
 case.icnf, line 4: "a 1 0"
-after 0 literals the one goes on with "3", the other with "1"
+the cubes agree on 0 literals; then one has "3", the other "1"
 each cube has to have its literals in the order of its splits
 TOLD
 with_bundle "$tree"
@@ -294,7 +294,7 @@ run "$here/none" --explain --formula formula.cnf case.icnf
 from "a clause beside the formula's" << 'TOLD'
 formula.cnf, line 1: "p cnf 2 1"
 case.icnf, line 2: "1 0"
-that is a clause: a cube begins with a
+this is a clause; a cube begins with "a"
 TOLD
 printf 'p inccnf\n1 2 0\n' > "$here/run/formula.cnf"
 run "$here/none" --explain --formula formula.cnf case.icnf
@@ -345,13 +345,13 @@ TOLD
 below "cubes of two trees" 'c\na 1 2 0\na 3 0\n' << 'TOLD'
 cubes, line 2: "a 1 2 0"
 cubes, line 3: "a 3 0"
-after 0 literals the one goes on with "1", the other with "3"
+the cubes agree on 0 literals; then one has "1", the other "3"
 each cube has to have its literals in the order of its splits
 TOLD
 below "cubes that overlap" 'c\na 1 2 0\na 1 0\n' << 'TOLD'
 cubes, line 2: "a 1 2 0"
 cubes, line 3: "a 1 0"
-after 1 literals the one goes on with "2", the other with "0"
+the second is the beginning of the first
 each cube has to have its literals in the order of its splits
 TOLD
 below "a bad label" 'c\na 1 0\nl x\n' << 'TOLD'
@@ -366,7 +366,7 @@ TOLD
 below "a clause behind a cube of two lines" 'c\na 1\n2 0\n1 0\n' << 'TOLD'
 formula.cnf, line 2: "p cnf 2 2"
 cubes, line 4: "1 0"
-that is a clause: a cube begins with a
+this is a clause; a cube begins with "a"
 TOLD
 # A fault of the formula's file comes before the other is read, which isn't blamed.
 above() {
@@ -440,7 +440,7 @@ once "cubes below a formula in a pipe" formula "$dimacs" --formula formula cubes
 told "cubes of two trees below a formula in a pipe" 3 << 'TOLD'
 cubes, line 2: "a 1 0"
 cubes, line 3: "a 2 0"
-after 0 literals the one goes on with "1", the other with "2"
+the cubes agree on 0 literals; then one has "1", the other "2"
 each cube has to have its literals in the order of its splits
 TOLD
 with_bundle ''

@@ -28,7 +28,7 @@ pub(crate) fn tell_fault<R: Eprint + ReadFiles>(run: &Run<'_, R>, fault: Fault) 
         Fault::Device => tell_device(run),
         Fault::NoProblem => tell_problem(run),
         Fault::Counts { .. } => tell_counts(run),
-        Fault::Limit => run.say("docs/FORMATS.md has the limits of each count"),
+        Fault::Limit => run.say("see the limits in docs/FORMATS.md"),
         Fault::Memory => run.say("fewer workers take less memory"),
         Fault::Thread => run.say("fewer workers need fewer threads"),
     }
@@ -94,7 +94,7 @@ fn tell_clause<R: Eprint + ReadFiles>(run: &Run<'_, R>) {
 fn tell_clause_of<R: Eprint>(run: &Run<'_, R>, text: &[u8]) {
     if let Some(line) = first_clause(icnf_part(text)) {
         run.tell(run.file(), Some(line));
-        run.say("that is a clause: a cube begins with a");
+        run.say("this is a clause; a cube begins with \"a\"");
     }
 }
 
@@ -117,15 +117,27 @@ fn tell_cubes<R: Eprint + ReadFiles>(run: &Run<'_, R>, first: u32, second: u32) 
     run.say("each cube has to have its literals in the order of its splits");
 }
 
-/// Tells on which words two cubes part.
+/// Tells on which words two cubes part, or which of them the other begins with.
 fn tell_parting<R: Eprint>(run: &Run<'_, R>, one: &[u8], other: &[u8]) {
-    if let Some((same, word, beside)) = parting(one, other) {
-        let (word, beside) = (Shown(word), Shown(beside));
-        let after = same.saturating_sub(1);
-        run.say(format_args!(
-            "after {after} literals the one goes on with {word}, the other with {beside}"
-        ));
+    let Some((same, word, beside)) = parting(one, other) else {
+        return;
+    };
+    if word == b"0".as_slice() {
+        run.say("the first is the beginning of the second");
+    } else if beside == b"0".as_slice() {
+        run.say("the second is the beginning of the first");
+    } else {
+        tell_words(run, same.saturating_sub(1), word, beside);
     }
+}
+
+/// Tells with which words two cubes go on behind so many literals.
+fn tell_words<R: Eprint>(run: &Run<'_, R>, after: u64, word: &[u8], beside: &[u8]) {
+    let (word, beside) = (Shown(word), Shown(beside));
+    let literals = if after == 1 { "literal" } else { "literals" };
+    run.say(format_args!(
+        "the cubes agree on {after} {literals}; then one has {word}, the other {beside}"
+    ));
 }
 
 /// How many words of two lines are the same, and those with which they then go on, if the first

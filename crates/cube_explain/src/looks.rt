@@ -35,8 +35,8 @@ impl fmt::Display for Looks {
                  --lrat --no-binary)"
             }
             Looks::ClausalProof => {
-                "it looks like DRAT as text, which has no ids and no hints: have the solver write \
-                 LRAT, or make it of this one (drat-trim -L)"
+                "it looks like text DRAT, without ids and hints: let the solver write LRAT, or \
+                 convert it (drat2lrat, drat-trim -L)"
             }
             Looks::FratProof => {
                 "it looks like FRAT, which has hints for some steps alone: have the solver write \
@@ -49,7 +49,7 @@ impl fmt::Display for Looks {
             }
             Looks::Icnf => "it looks like iCNF",
             Looks::Cubes => "it looks like cubes: name the formula by --formula",
-            Looks::Unknown => "it looks like nothing that is known here",
+            Looks::Unknown => "its format is not recognized",
         })
     }
 }

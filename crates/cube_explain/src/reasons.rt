@@ -9,8 +9,8 @@ pub(crate) fn advice_on(reason: &[u8]) -> &'static str {
              look for a file that was cut off, or is no text LRAT; a variable above 268435455"
         }
         b"id" => {
-            "the step's id belongs to a live clause; look for fewer clauses than m+k in the \
-             solver's input: a clause or a unit of the cube was left out"
+            "the step's id belongs to a live clause; look for fewer than m+k clauses in the \
+             solver's input: a clause, or a unit clause of the cube, was left out"
         }
         b"hint" => {
             "a hint names a clause that isn't live; look for more clauses than m+k in the \

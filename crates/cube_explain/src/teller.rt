@@ -124,7 +124,7 @@ fn tell_tree<R: Eprint>(run: &Run<'_, R>, case: &Case) {
     );
     run.say_of(run.file(), what);
     if cubes == 0 {
-        let what = "a cube begins with a: a line without it is a clause";
+        let what = "a cube begins with \"a\"; a line without it is a clause";
         run.say_of(run.file(), what);
     }
 }
