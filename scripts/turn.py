@@ -19,6 +19,7 @@ import concurrent.futures
 import contextlib
 import fcntl
 import os
+import shutil
 import subprocess
 import sys
 import time
@@ -57,6 +58,15 @@ class Kept(build.Kept):
 
     def searched(self, crate):
         return [self.libraries, self.launcher.libraries]
+
+    def settle(self, crates):
+        """Forgets each library of a turn that one of the launchers' takes the place of, since the prover would find both, and what was proved over it."""
+        for crate in crates:
+            made = self.libraries / f"{crate.name}.rlib"
+            if self.is_launchers(crate) and made.exists():
+                shutil.rmtree(made)
+                for name in [crate.name, *build.above(crate.name)]:
+                    (self.libraries / f"{name}.sum").unlink(missing_ok=True)
 
     def made(self, crate):
         return crate.folder / "out" / f"turn.{crate.name}" if crate.is_program else self.library(crate)
@@ -144,6 +154,7 @@ def prove(crates, kept, sums):
     kept.make_folders()
     with open(build.SHARED / "lock", "w") as lock:
         fcntl.flock(lock, fcntl.LOCK_EX)
+        kept.settle(crates)
         run = build.Build(crates, kit, kept, sums)
         run.prover = Prover(kit, kept, run.teller)
         stale = [it.name for it in crates if it.name not in run.proved]

@@ -97,6 +97,9 @@ claims_beside_launchers() {
     changes mark_board
     turn "what has changed is proved" 0 "$(reach above mark_board | grep -x -F "$all")" "$mark"
     call "and proved once more for the launcher" 7 "$(reach above mark_board | of_program)"
+    turn "then a turn takes the launcher's, and proves what it has proved over its own" 0 "$(lines cube_join cubejoin join_command)" "rows "
+    [ ! -e "$here/copy/crates/cubeboard/out/rlib/turn/mark_board.rlib" ]
+    count "and its own is gone" $?
     sh "$here/copy/check" --other > /dev/null 2>&1
     [ $? -eq 2 ]
     count "other words are refused" $?
@@ -132,6 +135,8 @@ wrong "no tests" 's/^    for name in above:/    for name in []:/'
 wrong "only the first program" 's/^PROGRAMS = .*/PROGRAMS = ("cubeboard",)/'
 wrong "what is named left out" 's/^    tried = {\*names} | /    tried = /'
 wrong "libraries laid over the launcher's" 's/^        self.libraries = build.SHARED .*/        pass/'
+wrong "libraries left beside the launcher's" 's/^        kept.settle(crates)/        pass/'
+wrong "what was proved over a library that is gone taken as proved" 's/for name in \[crate.name, .*\]:/for name in [crate.name]:/'
 wrong "silence on what is left out" 's/^    build.say(f"left out: .*/    pass/'
 wrong "a word of a gate" 's/and no gate: that is/as good as/'
 finish_turn() {
