@@ -6,8 +6,8 @@ use Rattle.board_hall.specs.Halls.{HallOf, hall_of}
 use Rattle.check_crew.proofs.SeenFindings.{are_findings}
 use Rattle.check_crew.proofs.crew.conquer.Goals as goal
 
-pub returns-clause-findings : goal.returns-clause-findings
-returns-clause-findings g c =
+pub returns-in-Ok-clause-findings : goal.returns-in-Ok-clause-findings
+returns-in-Ok-clause-findings g c =
     let hall : HallOf = hall_of c.in_ok-hall.hall in
     let is = c.in_ok-hall.ensures.hall.0 in let closed = c.in-Ok.ensures.closed in
     subst (λ (case : CaseOf). AreFindings case c.in-Ok.boards.marks)

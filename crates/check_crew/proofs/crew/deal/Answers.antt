@@ -1,4 +1,4 @@
-use Rattle.std.proofs.Common.{◌≡◌, arith, rules, Contains, Some}
+use Rattle.std.proofs.Common.{◌≡◌, All, arith, rules, Contains, Some}
 use Rattle.std.proofs.lemmas.List.Elements.{All-nil, All-pop, All-push, All-rest}
 use Rattle.std.proofs.lemmas.List.Elements.{All-contains_itself}
 use Rattle.cube_jobs.specs.Jobs.{JobPassOf, new_pass}
@@ -7,18 +7,20 @@ use Rattle.check_crew.specs.Inner.Crew.{IsDealtBy}
 use Rattle.check_crew.proofs.crew.deal.Goals as goal
 
 pub loop-one-init : goal.loop-one-init
-loop-one-init g c = record {
-  passes_left = search rules;
-  job_passes_left = search rules;
-  dealt = search rules;
-  room = search rules;
-  worker = search rules;
-  passes = c.requires.passes;
-  job_passes = c.requires.job_passes;
-  fresh = search rules;
-  among = search (rules, rw c.requires.readers (All-contains_itself c.args.proofs.items));
-  jobs = rw c.in_ok-jobs.ensures.items (All-nil _);
-}
+loop-one-init g c =
+    let all : All (Contains c.args.crew.readers.now.value.items) c.args.proofs.items =
+    rw c.requires.readers (All-contains_itself c.args.proofs.items) in record {
+      passes_left = search rules;
+      job_passes_left = search rules;
+      dealt = search rules;
+      room = search rules;
+      worker = search rules;
+      passes = c.requires.passes;
+      job_passes = c.requires.job_passes;
+      fresh = search rules;
+      among = rw c.into_iter-one-iterator.ensures.into_iter_gives.0 all;
+      jobs = rw c.in_ok-jobs.ensures.items (All-nil _);
+    }
 
 pub loop-one-preserved : goal.loop-one-preserved
 loop-one-preserved g c =

@@ -8,8 +8,17 @@ loop-job-init g c = record {
   started = search rules;
   room = search rules;
   promised = search rules;
-  jobs = rw c.into_iter-job-iterator.ensures.into_iter_gives c.requires.jobs;
+  jobs = rw c.into_iter-job-iterator.ensures.into_iter_gives.0 c.requires.jobs;
 }
+
+pub spawn_with-requires-clause-runs : goal.spawn_with-requires-clause-runs
+spawn_with-requires-clause-runs g c κs within =
+    let was = c.loop-job.invariant in let next = c.in-Some.ensures.steps in
+    let mine = (rw next.0 at was.jobs) 0 c.in-Some.job (omega arith) in
+    let bounds = c.type_bounds in (
+      c.requires.ready,
+      (mine.is, (bounds.send-P, bounds.send-P-Proof, bounds.sync-R, bounds.sync-G)),
+    )
 
 pub spawn_with-requires-clause-keeps : goal.spawn_with-requires-clause-keeps
 spawn_with-requires-clause-keeps g c κs within = λ shift kept.
