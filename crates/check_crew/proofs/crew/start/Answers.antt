@@ -1,3 +1,5 @@
+use denote.Exit.{no}
+use denote.Param.Send.{arg_send, arg_sync, param_send, param_sync}
 use Rattle.std.proofs.Common.{◌≡◌, arith, rules}
 use Rattle.std.proofs.lemmas.List.Elements.{All-push, All-rest}
 use Rattle.check_crew.specs.Inner.Crew.{IsDealtBy}
@@ -17,14 +19,22 @@ spawn_with-requires-clause-runs g c κs within =
     let mine = (rw next.0 at was.jobs) 0 c.in-Some.job (omega arith) in
     let bounds = c.type_bounds in (
       c.requires.ready,
-      (mine.is, (bounds.send-P, bounds.send-P-Proof, bounds.sync-R, bounds.sync-G)),
+      (
+        mine.is,
+        (
+          param_send 2 _ (arg_send _ no _ bounds.send-P),
+          param_send 3 _ (arg_send _ no _ bounds.send-P-Proof),
+          param_sync 0 _ (arg_sync _ no _ bounds.sync-R),
+          param_sync 1 _ (arg_sync _ no _ bounds.sync-G),
+        ),
+      ),
     )
 
 pub spawn_with-requires-clause-keeps : goal.spawn_with-requires-clause-keeps
 spawn_with-requires-clause-keeps g c κs within = λ shift kept.
     let was = c.loop-job.invariant in let next = c.in-Some.ensures.steps in
     let mine = (rw next.0 at was.jobs) 0 c.in-Some.job (omega arith) in
-    record { reader = c.in-Some.job.proofs; among = mine.among; is = kept; }
+    record { reader = c.in-Some.job.proofs; among = mine.among; is = kept }
 
 pub loop-job-preserved : goal.loop-job-preserved
 loop-job-preserved g c =
