@@ -27,14 +27,15 @@ use std::thread::Threads;
 /// makes them, and of its leaves by proofs that lie elsewhere. Each worker has one of `proofs`, by
 /// which it opens the proof of a leaf when the leaf's turn comes, and judges it while it reads; the
 /// leaves of longer proofs come first. All of `proofs` tell of the same proofs, and there is one
-/// for each worker. The case's own sections are examined before them.
+/// for each worker. A worker takes leaves when no section of the case is left to take.
 ///
 /// `None` where the run has to be made with all proofs in one bundle: where the proof of a leaf has
 /// a label line, or the leaf has a section, too. The gate is called as `conquer` says, beside each
 /// section and beside each proof that is there.
 ///
 /// An outer fault says that a read failed, and gives what met that; it stands before each other
-/// answer. All workers that were started are joined before it answers.
+/// answer. All workers that were started are joined before it answers. Where the start of one was
+/// refused, or memory over sections, nobody takes another leaf.
 pub fn conquer_leaves<'c, R: Threads + Wait + Sync, G: Gate + Sync, P: LeafProofs + Send + Drop>(
     rt: &R,
     alloc: Global,
@@ -63,7 +64,7 @@ pub fn conquer_leaves<'c, R: Threads + Wait + Sync, G: Gate + Sync, P: LeafProof
     }
 }
 
-/// What `conquer_leaves` answers, with one kind of fault.
+/// What `conquer_leaves` answers, with its two faults in one.
 fn run_leaves<'c, R: Threads + Wait + Sync, G: Gate + Sync, P: LeafProofs + Send + Drop>(
     rt: &R,
     alloc: Global,
