@@ -42,6 +42,7 @@ struct Crew<'a, R, G, P> {
     readers: &'a Snapshot<Vec<P>>,
 }
 
+// A derive would ask that `R`, `G` and `P` are `Copy`, too.
 impl<'a, R, G, P> Clone for Crew<'a, R, G, P> {
     fn clone(&self) -> Result<Self, AllocError> {
         Ok(*self)
@@ -264,8 +265,8 @@ fn run_crew<R: Threads + Wait + Sync, G: Gate + Sync, P: LeafProofs + Send + Dro
     Ok(hand_in(crew, shifts)?)
 }
 
-/// Gives each worker a pass of the hall, one of the queue, and what it reads proofs by. The last one
-/// is worker 0.
+/// Gives each worker a pass of the hall, one of the queue, and what it reads proofs by. The last
+/// one is worker 0.
 fn deal<R, G, P: LeafProofs + Drop>(
     crew: Crew<'_, R, G, P>,
     mut passes: Vec<Pass>,
@@ -301,8 +302,8 @@ fn deal<R, G, P: LeafProofs + Drop>(
     Ok(jobs)
 }
 
-/// Runs a worker for each job, the last job's in the calling thread. Answers fewer shifts than there
-/// are jobs where the start of one was refused.
+/// Runs a worker for each job, the last job's in the calling thread. Answers fewer shifts than
+/// there are jobs where the start of one was refused.
 fn run_all<R: Threads + Wait + Sync, G: Gate + Sync, P: LeafProofs + Send + Drop>(
     crew: Crew<'_, R, G, P>,
     jobs: Vec<Job<P>>,
@@ -432,8 +433,8 @@ fn failed_first<P: LeafProofs + Drop>(
     Ok(shifts)
 }
 
-/// Puts together what workers hand back. `AllocError` where a fault stopped one of them, or a growth
-/// is refused now.
+/// Puts together what workers hand back. `AllocError` where a fault stopped one of them, or a
+/// growth is refused now.
 fn hand_in<R, G, P: LeafProofs + Drop>(
     crew: Crew<'_, R, G, P>,
     shifts: Vec<Shift<P>>,
