@@ -3,7 +3,6 @@ use Rattle.std.specs.Prelude.{◌≡◌, ◌<◌, ℕ, List, length, slice_index
 use Rattle.std.specs.Prelude.{MatchOption, OnOk, Result}
 use Rattle.std.specs.List.{Contains}
 use Rattle.byte_flow.specs.Device.{IsDeviceFault}
-use Rattle.case_core.specs.Case.{CaseOf}
 use Rattle.mark_board.specs.Boards.{BoardsOf}
 use Rattle.board_hall.specs.declared.pass.Pass.{Pass}
 use Rattle.board_hall.specs.declared.view.View.{View}
