@@ -1,42 +1,53 @@
--- What the workers over leaves hand back, all together.
-use Rattle.std.proofs.Common.{◌≡◌, ℕ, List, [], ◌∷◌, ◌++◌, Option, None, Some, refl}
-use Rattle.std.proofs.Common.{ap, subst, false, is_some}
-use Rattle.std.proofs.lemmas.List.Elements.{All-weaker, Contains-append_left}
+-- What a worker hands back.
+use Rattle.std.proofs.Common.{◌≡◌, ℕ, List, Option, None, Some, refl, All, Result, Ok, Err}
+use Rattle.std.proofs.Common.{ap, subst, sym, true, false, is_some, ◌∙◌}
+use Rattle.std.specs.Prelude.{OnOk}
+use Rattle.std.proofs.lemmas.List.Elements.{All-weaker}
 use Rattle.case_core.specs.Leaf.{Leaf}
 use Rattle.case_core.specs.Case.{CaseOf}
 use Rattle.board_hall.specs.declared.pass.Pass.{Pass}
 use Rattle.board_hall.specs.declared.view.CutCase.{CutCase}
-use Rattle.board_hall.specs.Halls.{HallOf, view_of}
+use Rattle.board_hall.specs.declared.view.View.{View}
+use Rattle.board_hall.specs.Clauses.{Stays}
+use Rattle.board_hall.specs.Halls.{HallOf, IsPassOf, view_of}
 use Rattle.check_crew.specs.LeafProofs.{Known, IsExamined}
 use Rattle.byte_flow.specs.declared.fault.DeviceFault.{DeviceFault}
 use Rattle.check_crew.specs.declared.leaves.ExaminedLeaf.{ExaminedLeaf}
-use Rattle.check_crew.specs.Seen.{HaveSeenSections}
-use Rattle.check_crew.specs.Inner.Apart.{IsLeafShiftOf, IsListOf}
+use Rattle.check_crew.specs.Inner.Apart.{IsListOf}
+use Rattle.check_crew.specs.Inner.Crew.{HasSeenTurn}
+use Rattle.check_crew.proofs.SeenTurns.{section_stays}
+use Rattle.cube_jobs.specs.Jobs.{JobPassOf}
+
+-- what a worker has done of sections is done when it has ended well over leaves
+pub turns_stay : {T E : Type 0} (order : List ℕ) (before after : View) (job_pass : JobPassOf)
+    (end : Result T E) → job_pass.found_empty ≡ true
+    → All (HasSeenTurn order before) job_pass.claims → OnOk end (Stays before after)
+    → OnOk end (job_pass.found_empty ≡ true)
+    × OnOk end (All (HasSeenTurn order after) job_pass.claims)
+turns_stay order before after job_pass (Ok value) empty seen stays = (
+  empty,
+  All-weaker (HasSeenTurn order before) (HasSeenTurn order after)
+      (λ turn. section_stays before after stays _) job_pass.claims seen,
+)
+turns_stay order before after job_pass (Err fault) empty seen stays = (tt, tt)
 
 -- where no fault is, there is none
 pub no_fault : (fault : Option DeviceFault) → is_some fault ≡ false → fault ≡ None
 no_fault None is = refl
 no_fault (Some fault) is = absurd (cc)
 
--- one pass more takes nothing away
-pub sections_more : (case : CaseOf) (passes : List Pass) (pass : Pass) →
-    HaveSeenSections case passes → HaveSeenSections case (passes ++ pass ∷ [])
-sections_more case passes pass seen place within =
-    let some = seen place within in
-    (some.0, Contains-append_left passes (pass ∷ []) some.0 some.1, some.2)
-
 -- the list of a worker that no fault stopped
-pub list_of : (hall : HallOf) (held known : Known) (failures : ℕ) (pass : Pass)
-    (examined : List ExaminedLeaf) (fault : Option DeviceFault)
-    → IsLeafShiftOf hall held failures pass examined fault → fault ≡ None
-    → ((leaf : Leaf) → held leaf ≡ known leaf) → IsListOf known hall.of.case examined
-list_of hall held known failures pass examined fault shift none same = record {
+pub list_of : (hall : HallOf) (case : CaseOf) (held known : Known) (pass : Pass)
+    (examined : List ExaminedLeaf) → case ≡ hall.of.case → IsPassOf hall pass
+    → All (λ one. IsExamined (held one.leaf) (view_of pass) one.leaf one.examined) examined
+    → ((leaf : Leaf) → held leaf ≡ known leaf) → IsListOf known case examined
+list_of hall case held known pass examined of own each same = record {
   view = view_of pass;
-  of_case = ap (λ (k : CutCase). k.case) shift.own.1;
+  of_case = ap (λ (k : CutCase). k.case) own.1 ∙ sym of;
   all =
       All-weaker (λ one. IsExamined (held one.leaf) (view_of pass) one.leaf one.examined)
       (λ one. IsExamined (known one.leaf) (view_of pass) one.leaf one.examined)
       (λ one.
       subst (λ (k : Option (Option (List ℕ))). IsExamined k (view_of pass) one.leaf one.examined)
-      (same one.leaf)) examined (shift.each none);
+      (same one.leaf)) examined each;
 }

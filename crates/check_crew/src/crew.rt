@@ -1,29 +1,63 @@
 //! A run: the calling thread is a worker, and each other worker has a thread of its own.
 
-ghost use Rattle.std.specs.Prelude.{◌≡◌, ◌+◌, ◌<◌, ◌≤◌, true, None, All, IfOk, vec_len};
-ghost use Rattle.std.specs.Prelude.{vec_capacity};
+ghost use Rattle.std.specs.Prelude.{◌≡◌, ◌+◌, ◌<◌, ◌≤◌, ◌≢◌, true, None, Some, All, IfOk, IfErr};
+ghost use Rattle.std.specs.Prelude.{vec_len, vec_capacity, MatchOption, length};
+ghost use Rattle.byte_flow.specs.Device.{IsDeviceFault};
+ghost use Rattle.case_core.specs.Leaf.{Leaf};
 ghost use Rattle.cube_jobs.specs.Jobs as queue;
 ghost use Rattle.cube_jobs.specs.Jobs.{new_pass};
-ghost use Rattle.board_hall.specs.Halls.{core_of, shared_of, view_of, IsPassOf, IsNewPass};
+ghost use Rattle.board_hall.specs.Halls.{core_of, hall_of, shared_of, view_of, IsPassOf, IsNewPass};
+ghost use Rattle.board_hall.specs.declared.view.Proofs.TheVariants.{OfLeavesElsewhere};
 ghost use Rattle.mark_board.specs.Findings.{AreFindings};
+ghost use Rattle.check_crew.specs.LeafProofs.{Known};
 ghost use Rattle.check_crew.specs.Seen.{HaveSeenSections};
-ghost use Rattle.check_crew.specs.Inner.Crew.{IsShiftOf, AreReady, AreNew, HaveSeenClaims};
+ghost use Rattle.check_crew.specs.Inner.Apart.{IsListOf};
+ghost use Rattle.check_crew.specs.Inner.Crew.{IsReady, IsJobOf, IsDealtBy, IsShiftOf, IsHandedBy};
+ghost use Rattle.check_crew.specs.Inner.Crew.{HaveSeenClaims, IsRunFault, AreClosed};
 
-use crate::fault::CrewFault;
+use crate::fault::{CrewFault, RunFault};
 use crate::gate::{Elsewhere, Gate};
+use crate::leaf_order::LeafOrder;
+use crate::leaf_proofs::{LeafProofs, NoProofs};
+use crate::leaves::{ExaminedLeaf, end_leaves};
 use crate::order::long_proofs_first;
 use crate::settings::Settings;
-use crate::worker::{Shift, Site, work};
+use crate::worker::{Job, Shift, Site, work};
 use board_hall::{Core, Hall, Pass};
-use case_core::Case;
+use byte_flow::DeviceFault;
+use case_core::{Case, Leaf};
 use cube_jobs::{JobPass, Jobs};
 use mark_board::Boards;
 use std::alloc::{AllocError, Global};
+use std::snapshot::Snapshot;
 use std::sync::Wait;
+use std::sync::atomic::AtomicU64;
 use std::thread;
-use std::thread::{PromisedHandle, Scope, Threads};
+use std::thread::{Promise, PromisedHandle, Scope, Threads};
 
-type Handle<'a, R, G> = PromisedHandle<Shift, Site<'a, R, G>>;
+/// A site, and what its workers read proofs of leaves by, as it was before they began. As a promise
+/// it says what each of them hands back.
+struct Crew<'a, R, G, P> {
+    site: Site<'a, R, G>,
+    readers: &'a Snapshot<Vec<P>>,
+}
+
+// A derive would ask that `R`, `G` and `P` are `Copy`, too.
+impl<'a, R, G, P> Clone for Crew<'a, R, G, P> {
+    fn clone(&self) -> Result<Self, AllocError> {
+        Ok(*self)
+    }
+}
+
+impl<'a, R, G, P> Copy for Crew<'a, R, G, P> {}
+
+impl<'a, R, G, P: LeafProofs> Promise<Shift<P>> for Crew<'a, R, G, P> {
+    ghost use Rattle.check_crew.specs.Inner.Crew.{IsHandedBy};
+
+    ghost kept_by = { λ crew shift. IsHandedBy crew P.held P.failures shift };
+}
+
+type Handle<'a, R, G, P> = PromisedHandle<Shift<P>, Crew<'a, R, G, P>>;
 
 /// The boards of `case` at the cut of `settings` with the findings of all its sections, by as many
 /// workers as `settings` says. The calling thread is worker 0, and each other worker has a thread
@@ -46,157 +80,313 @@ pub fn conquer<'c, R: Threads + Wait + Sync, G: Gate + Sync>(
 {
     let workers = settings.workers() as usize;
     let (hall, passes) = Hall::open(alloc, case, settings.cut(), workers)?;
-    let elsewhere = Elsewhere {
-        proofs: 0,
-        bytes: 0,
+    let proofs = vec![in alloc; NoProofs; workers]?;
+    let opened = Opened {
+        hall,
+        passes,
+        order: LeafOrder {
+            leaves: Vec::new(alloc),
+            elsewhere: Elsewhere {
+                proofs: 0,
+                bytes: 0,
+            },
+        },
     };
-    gate.start(alloc, case, settings.cut(), elsewhere)?;
-    let examined = examine_all(rt, alloc, case, hall.core(), gate, passes);
+    match run(rt, alloc, case, settings.cut(), gate, opened, proofs) {
+        Ok((boards, _)) => Ok(boards),
+        Err(RunFault::Crew(fault)) => Err(fault),
+        Err(RunFault::Read(_)) => unreachable!(),
+    }
+}
+
+/// A hall before its workers begin: their passes, and the order of the leaves whose proofs lie
+/// elsewhere.
+#[derive(Drop)]
+pub(crate) struct Opened<'c> {
+    pub(crate) hall: Hall<'c>,
+    pub(crate) passes: Vec<Pass>,
+    pub(crate) order: LeafOrder,
+}
+
+/// Has a worker for each of `proofs`, which examine the sections of the case and then the leaves of
+/// the order, between the gate's start and its end, and closes the hall. Answers its boards, and a
+/// list of leaves of each worker.
+pub(crate) fn run<'c, R: Threads + Wait + Sync, G: Gate + Sync, P: LeafProofs + Send + Drop>(
+    rt: &R,
+    alloc: Global,
+    case: &'c Case,
+    cut: u32,
+    gate: &G,
+    opened: Opened<'c>,
+    proofs: Vec<P>,
+) -> Result<(Boards<'c>, Vec<Vec<ExaminedLeaf>>), RunFault<P>>
+    requires cut { cut ≤ 6 }
+    requires case { case.now ≡ (hall_of opened.hall).of.case }
+    requires elsewhere { 0 < vec_len opened.order.leaves
+        → (hall_of opened.hall).of.proofs ≡ OfLeavesElsewhere }
+    requires count { (0 < vec_len proofs) × (vec_len proofs ≤ 32) }
+    requires passes { (vec_len opened.passes ≡ vec_len proofs)
+        × ((hall_of opened.hall).passes ≡ vec_len proofs) }
+    requires new { All (IsNewPass (hall_of opened.hall)) opened.passes.items }
+    requires fresh { All (λ one. P.failures one ≡ 0) proofs.items }
+    ensures closed { IfOk result (λ run. AreClosed (hall_of opened.entry.hall) run.0) }
+    ensures lists { (known : Known)
+        → All (λ one. (leaf : Leaf) → P.held one leaf ≡ known leaf) proofs.items
+        → IfOk result (λ run. All (λ list. IsListOf known case.now list.items) run.1.items) }
+    ensures failed { IfErr result (IsRunFault P.failures) }
+{
+    let Opened {
+        hall,
+        passes,
+        order,
+    } = opened;
+    gate.start(alloc, case, cut, order.elsewhere)?;
+    let examined = examine_all(
+        rt,
+        alloc,
+        case,
+        hall.core(),
+        gate,
+        &order.leaves,
+        passes,
+        proofs,
+    );
     gate.end();
-    let passes = examined?;
+    let (passes, lists) = examined?;
     match hall.close(passes) {
-        Ok(boards) => Ok(boards),
+        Ok(boards) => Ok((boards, lists)),
         Err(_) => unreachable!(),
     }
 }
 
-/// Has a worker for each pass, which claim the sections of the case, examine them and post what
-/// they find. The passes that come back owe nothing, and what was found of each section is among
-/// what one of them has seen.
-pub(crate) fn examine_all<R: Threads + Wait + Sync, G: Gate + Sync>(
+/// Has a worker for each of `proofs`, which claim the sections of the case, examine them and post
+/// what they find, and then take the leaves in turn. The passes that come back owe nothing, and
+/// what was found of each section is among what one of them has seen; beside them there is a list
+/// of leaves of each worker.
+fn examine_all<R: Threads + Wait + Sync, G: Gate + Sync, P: LeafProofs + Send + Drop>(
     rt: &R,
     alloc: Global,
     case: &Case,
     core: &Core,
     gate: &G,
+    leaves: &[Leaf],
     passes: Vec<Pass>,
-) -> Result<Vec<Pass>, CrewFault>
+    proofs: Vec<P>,
+) -> Result<(Vec<Pass>, Vec<Vec<ExaminedLeaf>>), RunFault<P>>
     requires case { case.now ≡ (core_of core.now).case }
-    requires count { (0 < vec_len passes) × (vec_len passes ≤ 32) }
+    requires elsewhere { 0 < length leaves.now → (core_of core.now).proofs ≡ OfLeavesElsewhere }
+    requires count { (0 < vec_len proofs) × (vec_len proofs ≤ 32) }
+    requires pairs { vec_len passes ≡ vec_len proofs }
     requires new { All (IsNewPass (shared_of core.now)) passes.items }
-    ensures count { IfOk result (λ handed. vec_len handed ≡ vec_len passes) }
-    ensures own { IfOk result (λ handed. All (IsPassOf (shared_of core.now)) handed.items) }
-    ensures free { IfOk result (λ handed. All (λ pass. (view_of pass).owes ≡ None) handed.items) }
-    ensures seen { IfOk result (λ handed. HaveSeenSections case.now handed.items) }
+    requires fresh { All (λ one. P.failures one ≡ 0) proofs.items }
+    ensures count { IfOk result (λ handed. vec_len handed.0 ≡ vec_len proofs) }
+    ensures own { IfOk result (λ handed. All (IsPassOf (shared_of core.now)) handed.0.items) }
+    ensures free { IfOk result
+        (λ handed. All (λ pass. (view_of pass).owes ≡ None) handed.0.items) }
+    ensures seen { IfOk result (λ handed. HaveSeenSections case.now handed.0.items) }
+    ensures lists { (known : Known)
+        → All (λ one. (leaf : Leaf) → P.held one leaf ≡ known leaf) proofs.items
+        → IfOk result (λ handed. All (λ list. IsListOf known case.now list.items) handed.1.items) }
+    ensures failed { IfErr result (IsRunFault P.failures) }
 {
     let order = long_proofs_first(alloc, case)?;
     let (jobs, job_passes) = Jobs::fill(rt, alloc, case, passes.len())?;
+    let next = AtomicU64::new(0);
     let site = Site {
         rt,
         alloc,
         case,
         core,
+        gate,
         jobs: &jobs,
         order: &order,
-        gate,
+        leaves,
+        next: &next,
     };
-    let shifts = run_all(site, passes, job_passes)?;
-    let (passes, job_passes) = hand_in(site, shifts)?;
-    if !jobs.finish(rt, job_passes) {
+    let handed = run_crew(site, passes, job_passes, proofs)?;
+    if !jobs.finish(rt, handed.job_passes) {
         unreachable!()
     }
-    Ok(passes)
+    Ok((handed.passes, handed.lists))
 }
 
-/// Runs a worker for each pass, the last pass's in the calling thread.
-fn run_all<R: Threads + Wait + Sync, G: Gate + Sync>(
+/// What the workers of a crew hand back together: the passes of the hall and those of the queue,
+/// and a list of leaves of each.
+#[derive(Drop)]
+struct Handed {
+    passes: Vec<Pass>,
+    job_passes: Vec<JobPass>,
+    lists: Vec<Vec<ExaminedLeaf>>,
+}
+
+/// Has a worker for each of `proofs`, and puts together what they hand back. A failed read stands
+/// before a refused start, and that before want of memory.
+fn run_crew<R: Threads + Wait + Sync, G: Gate + Sync, P: LeafProofs + Send + Drop>(
     site: Site<'_, R, G>,
     passes: Vec<Pass>,
     job_passes: Vec<JobPass>,
-) -> Result<Vec<Shift>, CrewFault>
-    requires ready { AreReady site.case.now (shared_of site.core.now) site.jobs.now site.order.now }
-    requires count { (0 < vec_len passes) × (vec_len passes ≤ 32) }
-    requires pairs { vec_len job_passes ≡ vec_len passes }
-    requires new { AreNew (shared_of site.core.now) site.jobs.now passes.items job_passes.items }
-    ensures count { IfOk result (λ shifts. vec_len shifts ≡ vec_len passes) }
-    ensures kept { IfOk result (λ shifts. All (IsShiftOf (shared_of site.entry.core.now)
-        site.entry.jobs.now site.entry.order.now) shifts.items) }
+    proofs: Vec<P>,
+) -> Result<Handed, RunFault<P>>
+    requires ready { IsReady site }
+    requires count { (0 < vec_len proofs) × (vec_len proofs ≤ 32) }
+    requires pairs { (vec_len passes ≡ vec_len proofs) × (vec_len job_passes ≡ vec_len proofs) }
+    requires passes { All (IsNewPass (shared_of site.core.now)) passes.items }
+    requires job_passes { All (λ pass. pass ≡ new_pass site.jobs.now) job_passes.items }
+    requires fresh { All (λ one. P.failures one ≡ 0) proofs.items }
+    ensures count { IfOk result (λ handed. (vec_len handed.passes ≡ vec_len proofs)
+        × (vec_len handed.job_passes ≡ vec_len proofs)) }
+    ensures own { IfOk result (λ handed.
+        All (IsPassOf (shared_of site.entry.core.now)) handed.passes.items) }
+    ensures free { IfOk result (λ handed.
+        All (λ pass. (view_of pass).owes ≡ None) handed.passes.items) }
+    ensures jobs { IfOk result (λ handed.
+        All (queue.IsPassOf site.entry.jobs.now) handed.job_passes.items) }
+    ensures empty { IfOk result (λ handed.
+        All (λ pass. pass.found_empty ≡ true) handed.job_passes.items) }
+    ensures seen { IfOk result (λ handed.
+        HaveSeenClaims site.entry.order.now handed.passes.items handed.job_passes.items) }
+    ensures lists { (known : Known)
+        → All (λ one. (leaf : Leaf) → P.held one leaf ≡ known leaf) proofs.items
+        → IfOk result (λ handed. All (λ list. IsListOf known site.entry.case.now list.items)
+        handed.lists.items) }
+    ensures failed { IfErr result (IsRunFault P.failures) }
 {
-    thread::scope(
-        thread::scope_env(),
-        site.rt,
-        move |scope| -> Result<Vec<Shift>, CrewFault>
-            requires ready { AreReady site.case.now (shared_of site.core.now) site.jobs.now
-                site.order.now }
-            requires count { (0 < vec_len passes) × (vec_len passes ≤ 32) }
-            requires pairs { vec_len job_passes ≡ vec_len passes }
-            requires new { AreNew (shared_of site.core.now) site.jobs.now passes.items
-                job_passes.items }
-            ensures count { IfOk result (λ shifts. vec_len shifts ≡ vec_len passes) }
-            ensures kept { IfOk result (λ shifts. All
-                (IsShiftOf (shared_of site.entry.core.now) site.entry.jobs.now
-                site.entry.order.now) shifts.items) }
-        { start_and_join(scope, site, passes, job_passes) },
-    )
+    let count = proofs.len();
+    let readers = Snapshot::of(&proofs);
+    let crew = Crew {
+        site,
+        readers: &readers,
+    };
+    let jobs = deal(crew, passes, job_passes, proofs)?;
+    let shifts = failed_first(run_all(crew, jobs)?)?;
+    if shifts.len() < count {
+        return Err(RunFault::Crew(CrewFault::Thread));
+    }
+    Ok(hand_in(crew, shifts)?)
 }
 
-/// Starts a worker for each pass but the last, works with the last, and joins all that were
-/// started. `Thread` where the start of one was refused, and then it doesn't work itself.
-fn start_and_join<'s, 'e: 's, R: Threads + Wait + Sync, G: Gate + Sync>(
-    scope: &'s Scope<'s, &'e ()>,
-    site: Site<'e, R, G>,
+/// Gives each worker a pass of the hall, one of the queue, and what it reads proofs by. The last
+/// one is worker 0.
+fn deal<R, G, P: LeafProofs + Drop>(
+    crew: Crew<'_, R, G, P>,
     mut passes: Vec<Pass>,
     mut job_passes: Vec<JobPass>,
-) -> Result<Vec<Shift>, CrewFault>
-    requires ready { AreReady site.case.now (shared_of site.core.now) site.jobs.now site.order.now }
-    requires count { (0 < vec_len passes) × (vec_len passes ≤ 32) }
-    requires pairs { vec_len job_passes ≡ vec_len passes }
-    requires new { AreNew (shared_of site.core.now) site.jobs.now passes.items job_passes.items }
-    ensures count { IfOk result (λ shifts. vec_len shifts ≡ vec_len passes) }
-    ensures kept { IfOk result (λ shifts. All (IsShiftOf (shared_of site.entry.core.now)
-        site.entry.jobs.now site.entry.order.now) shifts.items) }
+    proofs: Vec<P>,
+) -> Result<Vec<Job<P>>, AllocError>
+    requires readers { crew.readers.now.value.items ≡ proofs.items }
+    requires few { vec_len proofs ≤ 32 }
+    requires pairs { (vec_len passes ≡ vec_len proofs) × (vec_len job_passes ≡ vec_len proofs) }
+    requires passes { All (IsNewPass (shared_of crew.site.core.now)) passes.items }
+    requires job_passes { All (λ pass. pass ≡ new_pass crew.site.jobs.now) job_passes.items }
+    requires fresh { All (λ one. P.failures one ≡ 0) proofs.items }
+    ensures count { IfOk result (λ jobs. vec_len jobs ≡ vec_len proofs) }
+    ensures jobs { IfOk result (λ jobs. All (IsDealtBy crew.entry P.failures) jobs.items) }
 {
-    let count = passes.len();
-    let mut shifts = Vec::with_capacity(site.alloc, count)?;
-    let handles = Vec::with_capacity(site.alloc, count)?;
-    let Some(pass) = passes.pop() else {
-        unreachable!()
-    };
-    let Some(job_pass) = job_passes.pop() else {
-        unreachable!()
-    };
-    let handles = start(scope, site, passes, job_passes, handles);
-    if handles.len() + 1 < count {
-        drop(join_all(site, handles, shifts));
-        return Err(CrewFault::Thread);
-    }
-    shifts.push_reserved(work(site, 0, pass, job_pass));
-    Ok(join_all(site, handles, shifts))
-}
-
-/// Starts a worker for each pass, from worker 1 on, until the start of one is refused. It asks for
-/// room for their handles.
-fn start<'s, 'e: 's, R: Threads + Wait + Sync, G: Gate + Sync>(
-    scope: &'s Scope<'s, &'e ()>,
-    site: Site<'e, R, G>,
-    passes: Vec<Pass>,
-    mut job_passes: Vec<JobPass>,
-    mut handles: Vec<Handle<'e, R, G>>,
-) -> Vec<Handle<'e, R, G>>
-    requires ready { AreReady site.case.now (shared_of site.core.now) site.jobs.now site.order.now }
-    requires count { vec_len passes < 32 }
-    requires pairs { vec_len job_passes ≡ vec_len passes }
-    requires new { AreNew (shared_of site.core.now) site.jobs.now passes.items job_passes.items }
-    requires room { (vec_len handles ≡ 0) × (vec_len passes ≤ vec_capacity handles) }
-    ensures count { vec_len result ≤ vec_len passes }
-    ensures promised { All (λ handle. handle.promise ≡ site.entry) result.items }
-{
-    let mut worker = 0;
-    for pass in passes {
+    let mut jobs = Vec::with_capacity(crew.site.alloc, proofs.len())?;
+    let mut worker = proofs.len() as u32;
+    for one in proofs {
+        let Some(pass) = passes.pop() else {
+            unreachable!()
+        };
         let Some(job_pass) = job_passes.pop() else {
             unreachable!()
         };
-        worker += 1;
+        worker -= 1;
+        jobs.push_reserved(Job {
+            worker,
+            pass,
+            job_pass,
+            proofs: one,
+        });
+    }
+    Ok(jobs)
+}
+
+/// Runs a worker for each job, the last job's in the calling thread. Answers fewer shifts than
+/// there are jobs where the start of one was refused.
+fn run_all<R: Threads + Wait + Sync, G: Gate + Sync, P: LeafProofs + Send + Drop>(
+    crew: Crew<'_, R, G, P>,
+    jobs: Vec<Job<P>>,
+) -> Result<Vec<Shift<P>>, AllocError>
+    requires ready { IsReady crew.site }
+    requires count { (0 < vec_len jobs) × (vec_len jobs ≤ 32) }
+    requires jobs { All (IsDealtBy crew P.failures) jobs.items }
+    ensures count { IfOk result (λ shifts. vec_len shifts ≤ vec_len jobs) }
+    ensures kept { IfOk result (λ shifts.
+        All (IsHandedBy crew.entry P.held P.failures) shifts.items) }
+{
+    thread::scope(
+        thread::scope_env(),
+        crew.site.rt,
+        move |scope| -> Result<Vec<Shift<P>>, AllocError>
+            requires ready { IsReady crew.site }
+            requires count { (0 < vec_len jobs) × (vec_len jobs ≤ 32) }
+            requires jobs { All (IsDealtBy crew P.failures) jobs.items }
+            ensures count { IfOk result (λ shifts. vec_len shifts ≤ vec_len jobs) }
+            ensures kept { IfOk result (λ shifts.
+                All (IsHandedBy crew.entry P.held P.failures) shifts.items) }
+        { start_and_join(scope, crew, jobs) },
+    )
+}
+
+/// Starts a worker for each job but the last, works by the last, and joins all that were started.
+/// Where the start of one was refused, it doesn't work itself, and nobody takes another leaf.
+fn start_and_join<
+    's,
+    'e: 's,
+    R: Threads + Wait + Sync,
+    G: Gate + Sync,
+    P: LeafProofs + Send + Drop + 'e,
+>(
+    scope: &'s Scope<'s, &'e ()>,
+    crew: Crew<'e, R, G, P>,
+    mut jobs: Vec<Job<P>>,
+) -> Result<Vec<Shift<P>>, AllocError>
+    requires ready { IsReady crew.site }
+    requires count { (0 < vec_len jobs) × (vec_len jobs ≤ 32) }
+    requires jobs { All (IsDealtBy crew P.failures) jobs.items }
+    ensures count { IfOk result (λ shifts. vec_len shifts ≤ vec_len jobs) }
+    ensures kept { IfOk result (λ shifts.
+        All (IsHandedBy crew.entry P.held P.failures) shifts.items) }
+{
+    let count = jobs.len();
+    let mut shifts = Vec::with_capacity(crew.site.alloc, count)?;
+    let handles = Vec::with_capacity(crew.site.alloc, count)?;
+    let Some(job) = jobs.pop() else {
+        unreachable!()
+    };
+    let handles = start(scope, crew, jobs, handles);
+    if handles.len() + 1 < count {
+        end_leaves(crew.site);
+        return Ok(join_all(crew, handles, shifts));
+    }
+    shifts.push_reserved(work(crew.site, job));
+    Ok(join_all(crew, handles, shifts))
+}
+
+/// Starts a worker for each job, until the start of one is refused. It asks for room for their
+/// handles.
+fn start<'s, 'e: 's, R: Threads + Wait + Sync, G: Gate + Sync, P: LeafProofs + Send + Drop + 'e>(
+    scope: &'s Scope<'s, &'e ()>,
+    crew: Crew<'e, R, G, P>,
+    jobs: Vec<Job<P>>,
+    mut handles: Vec<Handle<'e, R, G, P>>,
+) -> Vec<Handle<'e, R, G, P>>
+    requires ready { IsReady crew.site }
+    requires jobs { All (IsDealtBy crew P.failures) jobs.items }
+    requires room { (vec_len handles ≡ 0) × (vec_len jobs ≤ vec_capacity handles) }
+    ensures count { vec_len result ≤ vec_len jobs }
+    ensures promised { All (λ handle. handle.promise ≡ crew.entry) result.items }
+{
+    let site = crew.site;
+    for job in jobs {
         let Ok(handle) = scope.spawn_with(
-            site,
-            move || -> Shift
-                requires ready { AreReady site.case.now (shared_of site.core.now) site.jobs.now
-                    site.order.now }
-                requires pass { IsNewPass (shared_of site.core.now) pass }
-                requires job_pass { job_pass ≡ new_pass site.jobs.now }
-                ensures { IsShiftOf (shared_of site.entry.core.now) site.entry.jobs.now
-                    site.entry.order.now result }
-            { work(site, worker, pass, job_pass) },
+            crew,
+            move || -> Shift<P>
+                requires ready { IsReady site }
+                requires job { IsJobOf site P.failures job }
+                ensures { IsShiftOf site.entry (P.held job.proofs) P.failures result }
+            { work(site, job) },
         ) else {
             break;
         };
@@ -206,50 +396,82 @@ fn start<'s, 'e: 's, R: Threads + Wait + Sync, G: Gate + Sync>(
 }
 
 /// Joins all threads, and puts what they hand back to `shifts`. It asks for room for it.
-fn join_all<'a, R: Threads, G>(
-    site: Site<'a, R, G>,
-    handles: Vec<Handle<'a, R, G>>,
-    mut shifts: Vec<Shift>,
-) -> Vec<Shift>
+fn join_all<'a, R: Threads, G, P: LeafProofs + Drop>(
+    crew: Crew<'a, R, G, P>,
+    handles: Vec<Handle<'a, R, G, P>>,
+    mut shifts: Vec<Shift<P>>,
+) -> Vec<Shift<P>>
     requires room { vec_len shifts + vec_len handles ≤ vec_capacity shifts }
-    requires promised { All (λ handle. handle.promise ≡ site) handles.items }
-    requires kept { All (IsShiftOf (shared_of site.core.now) site.jobs.now site.order.now)
-        shifts.items }
+    requires promised { All (λ handle. handle.promise ≡ crew) handles.items }
+    requires kept { All (IsHandedBy crew P.held P.failures) shifts.items }
     ensures count { vec_len result ≡ vec_len shifts + vec_len handles.entry }
-    ensures kept { All (IsShiftOf (shared_of site.entry.core.now)
-        site.entry.jobs.now site.entry.order.now) result.items }
+    ensures kept { All (IsHandedBy crew.entry P.held P.failures) result.items }
 {
     for handle in handles {
-        shifts.push_reserved(handle.join(site.rt));
+        shifts.push_reserved(handle.join(crew.site.rt));
     }
     shifts
 }
 
-/// The passes of the hall and those of the queue. `AllocError` where a worker met want of memory,
-/// or a growth is refused now.
-fn hand_in<R, G>(
-    site: Site<'_, R, G>,
-    shifts: Vec<Shift>,
-) -> Result<(Vec<Pass>, Vec<JobPass>), AllocError>
-    requires { All (IsShiftOf (shared_of site.core.now) site.jobs.now site.order.now) shifts.items }
-    ensures passes { IfOk result (λ passes. vec_len passes.0 ≡ vec_len shifts) }
-    ensures job_passes { IfOk result (λ passes. vec_len passes.1 ≡ vec_len shifts) }
-    ensures own { IfOk result (λ passes.
-        All (IsPassOf (shared_of site.entry.core.now)) passes.0.items) }
-    ensures free { IfOk result (λ passes. All (λ pass. (view_of pass).owes ≡ None) passes.0.items) }
-    ensures jobs { IfOk result (λ passes. All (queue.IsPassOf site.entry.jobs.now) passes.1.items) }
-    ensures empty { IfOk result (λ passes. All (λ pass. pass.found_empty ≡ true) passes.1.items) }
-    ensures seen { IfOk result (λ passes.
-        HaveSeenClaims site.entry.order.now passes.0.items passes.1.items) }
+/// The first of what workers read by that has met a failed read, or else all that they hand back.
+fn failed_first<P: LeafProofs + Drop>(
+    mut shifts: Vec<Shift<P>>,
+) -> Result<Vec<Shift<P>>, RunFault<P>>
+    requires { All (λ shift. MatchOption shift.fault (P.failures shift.proofs ≡ 0)
+        (IsDeviceFault 0 (P.failures shift.proofs))) shifts.items }
+    ensures same { IfOk result (λ kept. kept ≡ shifts) }
+    ensures none { IfOk result (λ kept.
+        All (λ shift. shift.fault ≢ Some DeviceFault.Device) kept.items) }
+    ensures failed { IfErr result (IsRunFault P.failures) }
 {
-    let mut passes = Vec::with_capacity(site.alloc, shifts.len())?;
-    let mut job_passes = Vec::with_capacity(site.alloc, shifts.len())?;
+    for place in 0..shifts.len() {
+        if let Some(DeviceFault::Device) = shifts[place].fault {
+            let Shift { proofs, .. } = shifts.swap_remove(place);
+            return Err(RunFault::Read(proofs));
+        }
+    }
+    Ok(shifts)
+}
+
+/// Puts together what workers hand back. `AllocError` where a fault stopped one of them, or a
+/// growth is refused now.
+fn hand_in<R, G, P: LeafProofs + Drop>(
+    crew: Crew<'_, R, G, P>,
+    shifts: Vec<Shift<P>>,
+) -> Result<Handed, AllocError>
+    requires ready { IsReady crew.site }
+    requires shifts { All (IsHandedBy crew P.held P.failures) shifts.items }
+    ensures count { IfOk result (λ handed. (vec_len handed.passes ≡ vec_len shifts)
+        × (vec_len handed.job_passes ≡ vec_len shifts)) }
+    ensures own { IfOk result (λ handed.
+        All (IsPassOf (shared_of crew.entry.site.core.now)) handed.passes.items) }
+    ensures free { IfOk result (λ handed.
+        All (λ pass. (view_of pass).owes ≡ None) handed.passes.items) }
+    ensures jobs { IfOk result (λ handed.
+        All (queue.IsPassOf crew.entry.site.jobs.now) handed.job_passes.items) }
+    ensures empty { IfOk result (λ handed.
+        All (λ pass. pass.found_empty ≡ true) handed.job_passes.items) }
+    ensures seen { IfOk result (λ handed.
+        HaveSeenClaims crew.entry.site.order.now handed.passes.items handed.job_passes.items) }
+    ensures lists { (known : Known) → All (λ one. (leaf : Leaf) → P.held one leaf ≡ known leaf)
+        crew.entry.readers.now.value.items
+        → IfOk result (λ handed. All (λ list. IsListOf known crew.entry.site.case.now list.items)
+        handed.lists.items) }
+{
+    let mut passes = Vec::new(crew.site.alloc);
+    let mut job_passes = Vec::new(crew.site.alloc);
+    let mut lists = Vec::new(crew.site.alloc);
     for shift in shifts {
-        if shift.short_of_memory {
+        if shift.fault.is_some() {
             return Err(AllocError);
         }
-        passes.push_reserved(shift.pass);
-        job_passes.push_reserved(shift.job_pass);
+        passes.push(shift.pass)?;
+        job_passes.push(shift.job_pass)?;
+        lists.push(shift.examined)?;
     }
-    Ok((passes, job_passes))
+    Ok(Handed {
+        passes,
+        job_passes,
+        lists,
+    })
 }

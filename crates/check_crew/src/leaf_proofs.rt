@@ -9,6 +9,7 @@ ghost use Rattle.check_crew.specs.LeafProofs.{IsOpenedOf, left_text, text_by};
 
 use byte_flow::{DeviceFault, Source};
 use case_core::{Leaf, ProofForm};
+use std::io;
 
 /// What a worker opens proofs by. Each worker of a run has one of its own, and all of a run tell of
 /// the same proofs.
@@ -56,4 +57,46 @@ pub trait LeafProofs {
     /// How long the proof of a leaf is, where that can be told without reading it. Nothing rests on
     /// it but the order in which proofs are read and the totals that a person is told.
     fn length(&self, leaf: Leaf) -> Option<u64>;
+}
+
+/// What opens no proof, where all of them stand in the case; as one it has no bytes.
+#[derive(Clone, Copy)]
+pub(crate) struct NoProofs;
+
+impl LeafProofs for NoProofs {
+    type Proof = NoProofs;
+
+    ghost use Rattle.std.specs.Prelude.{None, false};
+
+    ghost held = { λ _ _. None };
+
+    ghost failures = { λ _. 0 };
+
+    ghost takes_binary = { false };
+
+    fn form(&self) -> ProofForm {
+        ProofForm::Text
+    }
+
+    fn open(&mut self, _leaf: Leaf) -> Result<Option<NoProofs>, DeviceFault> {
+        Ok(None)
+    }
+
+    fn close(&mut self, _proof: NoProofs) {}
+
+    fn length(&self, _leaf: Leaf) -> Option<u64> {
+        None
+    }
+}
+
+impl Source for NoProofs {
+    ghost use Rattle.std.specs.Prelude.{None};
+
+    ghost remaining = { λ _. None };
+
+    ghost failures = { λ _. 0 };
+
+    fn read(&mut self, _buffer: &mut [u8]) -> io::Result<usize> {
+        Ok(0)
+    }
 }

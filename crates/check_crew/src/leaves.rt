@@ -1,29 +1,30 @@
 //! What a worker does of leaves whose proofs don't stand in the case.
 
 ghost use Rattle.std.specs.Prelude.{◌≡◌, ◌<◌, ◌^◌, ◌-◌, [], None, All, IfOk, IfErr, IfSome};
-ghost use Rattle.std.specs.Prelude.{false, List, Option, ℕ};
+ghost use Rattle.std.specs.Prelude.{false, length, List, Option, ℕ};
 ghost use Rattle.byte_flow.specs.Device.{IsDeviceFault};
 ghost use Rattle.case_core.specs.Case.{proof_for};
 ghost use Rattle.std.specs.Prelude.{OnOk};
 ghost use Rattle.case_core.specs.Finding.{target_of};
 ghost use Rattle.case_core.specs.Leaf.{Leaf};
 ghost use Rattle.case_core.specs.Leaves.{HasTarget};
-ghost use Rattle.board_hall.specs.Halls.{core_of, shared_of, view_of, IsPassOf, IsNewPass};
+ghost use Rattle.board_hall.specs.Halls.{core_of, shared_of, view_of, IsPassOf};
 ghost use Rattle.board_hall.specs.Clauses.{Stays};
 ghost use Rattle.board_hall.specs.declared.view.View.{View};
 ghost use Rattle.board_hall.specs.declared.view.Proofs.TheVariants.{OfLeavesElsewhere};
 ghost use Rattle.check_crew.specs.LeafProofs.{IsExamined, IsLeftOf, left_text};
-ghost use Rattle.check_crew.specs.Inner.Apart.{IsFoundOf, IsLeafShiftOf};
+ghost use Rattle.check_crew.specs.Inner.Apart.{IsFoundOf};
+ghost use Rattle.check_crew.specs.Inner.Crew.{IsReady};
 
 use crate::gate::Gate;
 use crate::leaf_proofs::LeafProofs;
-use crate::worker::{JudgedProof, post, tell};
-use board_hall::{Core, Pass};
+use crate::worker::{JudgedProof, Site, post, tell};
+use board_hall::Pass;
 use byte_flow::DeviceFault;
 use case_core::{Case, Examiner, Judged, Leaf, ReadFinding, Target};
-use std::alloc::{AllocError, Global};
+use std::alloc::Global;
 use std::sync::Wait;
-use std::sync::atomic::{AtomicU64, Ordering};
+use std::sync::atomic::Ordering;
 
 /// What became of a leaf that was taken.
 #[derive(Clone, Copy, Debug)]
@@ -42,45 +43,6 @@ pub enum Examined {
 pub(crate) struct ExaminedLeaf {
     pub(crate) leaf: Leaf,
     pub(crate) examined: Examined,
-}
-
-/// What all workers over leaves share: what they wait by and have memory from, the case, the hall,
-/// the gate, the leaves in the order of their turns, and how many turns have been taken.
-pub(crate) struct LeafSite<'a, R, G> {
-    pub(crate) rt: &'a R,
-    pub(crate) alloc: Global,
-    pub(crate) case: &'a Case,
-    pub(crate) core: &'a Core,
-    pub(crate) gate: &'a G,
-    pub(crate) order: &'a [Leaf],
-    pub(crate) next: &'a AtomicU64,
-}
-
-// A derive would ask that `R` and `G` are `Copy`, too.
-impl<'a, R, G> Clone for LeafSite<'a, R, G> {
-    fn clone(&self) -> Result<Self, AllocError> {
-        Ok(*self)
-    }
-}
-
-impl<'a, R, G> Copy for LeafSite<'a, R, G> {}
-
-/// What a worker over leaves begins with: its number, its pass, and what it reads proofs by.
-#[derive(Drop)]
-pub(crate) struct LeafJob<P> {
-    pub(crate) worker: u32,
-    pub(crate) pass: Pass,
-    pub(crate) proofs: P,
-}
-
-/// What it hands back when it ends: what it began with, what became of the leaves that it took, and
-/// the fault that stopped it, if one did.
-#[derive(Drop)]
-pub(crate) struct LeafShift<P> {
-    pub(crate) pass: Pass,
-    pub(crate) proofs: P,
-    pub(crate) examined: Vec<ExaminedLeaf>,
-    pub(crate) fault: Option<DeviceFault>,
 }
 
 /// A leaf whose proof was opened.
@@ -130,7 +92,7 @@ fn read_leaf<'c, P: LeafProofs>(
 /// Posts what was found by the proof of a leaf, and then the part that is owed, if any, and tells
 /// the gate.
 fn post_leaf<'c, R: Wait, G: Gate>(
-    site: LeafSite<'c, R, G>,
+    site: Site<'c, R, G>,
     worker: u32,
     pass: &mut Pass,
     leaf: Leaf,
@@ -150,7 +112,7 @@ fn post_leaf<'c, R: Wait, G: Gate>(
         → IsFoundOf known site.entry.case.now leaf read.entry
         → IsExamined known (view_of pass.new) leaf result }
 {
-    let LeafSite {
+    let Site {
         rt,
         case,
         core,
@@ -175,7 +137,7 @@ fn post_leaf<'c, R: Wait, G: Gate>(
 /// Judges the proof of a leaf while it is read, and posts what is found; the gate is called beside
 /// it.
 fn examine_leaf<'c, R: Wait, G: Gate, P: LeafProofs>(
-    site: LeafSite<'c, R, G>,
+    site: Site<'c, R, G>,
     worker: u32,
     examiner: &mut Examiner<'c>,
     proofs: &mut P,
@@ -220,7 +182,8 @@ fn examine_leaf<'c, R: Wait, G: Gate, P: LeafProofs>(
 
 /// The leaf of an order whose turn it is, from 0, where the tree has it. `None` behind the last.
 fn leaf_at(case: &Case, order: &[Leaf], turn: u64) -> Option<Leaf>
-    ensures { IfSome result (λ leaf. HasTarget case.now.tree (Target.Leaf leaf)) }
+    ensures { IfSome result (λ leaf. HasTarget case.now.tree (Target.Leaf leaf)
+        × (0 < length order.now)) }
 {
     let leaf = *order.get(turn as usize)?;
     let asked = leaf;
@@ -232,24 +195,30 @@ fn leaf_at(case: &Case, order: &[Leaf], turn: u64) -> Option<Leaf>
 }
 
 /// Takes the next turn, which the workers count, and answers its leaf; `None` where none is left.
-fn next_leaf<R, G>(site: LeafSite<'_, R, G>) -> Option<Leaf>
-    ensures { IfSome result (λ leaf. HasTarget site.entry.case.now.tree (Target.Leaf leaf)) }
+fn next_leaf<R, G>(site: Site<'_, R, G>) -> Option<Leaf>
+    ensures { IfSome result (λ leaf. HasTarget site.entry.case.now.tree (Target.Leaf leaf)
+        × (0 < length site.entry.leaves.now)) }
 {
     let turn = site.next.fetch_add(1, Ordering::SeqCst);
-    leaf_at(site.case, site.order, turn)
+    leaf_at(site.case, site.leaves, turn)
 }
 
-/// Lets nobody take another turn where the run has to be made with all proofs in one bundle.
-fn end_at_other<R, G>(site: LeafSite<'_, R, G>, found: Examined) {
+/// Lets nobody take another turn.
+pub(crate) fn end_leaves<R, G>(site: Site<'_, R, G>) {
+    site.next.store(site.leaves.len() as u64, Ordering::SeqCst);
+}
+
+/// Does so where the run has to be made with all proofs in one bundle.
+fn end_at_other<R, G>(site: Site<'_, R, G>, found: Examined) {
     if let Examined::Other = found {
-        site.next.store(site.order.len() as u64, Ordering::SeqCst);
+        end_leaves(site);
     }
 }
 
 /// Examines a leaf whose turn was taken, by its proof. Where the run has to be made with all proofs
 /// in one bundle, nobody takes another one.
 fn take_leaf<'c, R: Wait, G: Gate, P: LeafProofs>(
-    site: LeafSite<'c, R, G>,
+    site: Site<'c, R, G>,
     worker: u32,
     examiner: &mut Examiner<'c>,
     proofs: &mut P,
@@ -286,7 +255,7 @@ fn take_leaf<'c, R: Wait, G: Gate, P: LeafProofs>(
 /// Takes turns until a leaf has a proof, which is opened then, and answers it; those without one
 /// are noted. `None` where no turn is left.
 fn next_proof<R: Wait, G, P: LeafProofs>(
-    site: LeafSite<'_, R, G>,
+    site: Site<'_, R, G>,
     proofs: &mut P,
     examined: &mut Vec<ExaminedLeaf>,
 ) -> Result<Option<OpenedLeaf<P::Proof>>, DeviceFault>
@@ -294,6 +263,7 @@ fn next_proof<R: Wait, G, P: LeafProofs>(
     ensures held { P.held proofs.new ≡ P.held proofs.old }
     ensures leaf { IfOk result (λ found. IfSome found
         (λ opened. HasTarget site.entry.case.now.tree (Target.Leaf opened.leaf))) }
+    ensures some { IfOk result (λ found. IfSome found (λ _. 0 < length site.entry.leaves.now)) }
     ensures left { IfOk result (λ found. IfSome found (λ opened.
         IsLeftOf (P.held proofs.old opened.leaf)
         (left_text P.takes_binary (P.Proof.remaining opened.proof)))) }
@@ -327,7 +297,7 @@ fn next_proof<R: Wait, G, P: LeafProofs>(
 /// Examines a leaf whose proof was opened, and then those of further turns, until none is left or a
 /// fault comes, by an examiner that is lent. One proof is open at a time.
 fn take_leaves<'c, R: Wait, G: Gate, P: LeafProofs>(
-    site: LeafSite<'c, R, G>,
+    site: Site<'c, R, G>,
     worker: u32,
     proofs: &mut P,
     examiner: &mut Examiner<'c>,
@@ -350,6 +320,7 @@ fn take_leaves<'c, R: Wait, G: Gate, P: LeafProofs>(
     ensures held { P.held proofs.new ≡ P.held proofs.old }
     ensures own { IsPassOf (shared_of site.entry.core.now) pass.new }
     ensures owes { (view_of pass.new).owes ≡ None }
+    ensures stays { OnOk result (Stays (view_of pass.old) (view_of pass.new)) }
     ensures examined { OnOk result (All (λ one. IsExamined (P.held proofs.old one.leaf)
         (view_of pass.new) one.leaf one.examined) examined.new.items) }
     ensures ok { OnOk result (P.failures proofs.new ≡ P.failures proofs.old) }
@@ -371,15 +342,14 @@ fn take_leaves<'c, R: Wait, G: Gate, P: LeafProofs>(
 /// Takes turns until none is left or a fault comes, by an examiner of its own. That holds the
 /// formula once more, so it is made when a first proof was opened: a worker that meets none costs
 /// nothing.
-fn examine_leaves<R: Wait, G: Gate, P: LeafProofs>(
-    site: LeafSite<'_, R, G>,
+pub(crate) fn examine_leaves<R: Wait, G: Gate, P: LeafProofs>(
+    site: Site<'_, R, G>,
     worker: u32,
     proofs: &mut P,
     pass: &mut Pass,
     examined: &mut Vec<ExaminedLeaf>,
 ) -> Result<(), DeviceFault>
-    requires case { site.case.now ≡ (core_of site.core.now).case }
-    requires elsewhere { (core_of site.core.now).proofs ≡ OfLeavesElsewhere }
+    requires ready { IsReady site }
     requires own { IsPassOf (shared_of site.core.now) pass.old }
     requires free { (view_of pass.old).owes ≡ None }
     requires count { P.failures proofs.old < 2 ^ 64 - 1 }
@@ -387,6 +357,7 @@ fn examine_leaves<R: Wait, G: Gate, P: LeafProofs>(
     ensures held { P.held proofs.new ≡ P.held proofs.old }
     ensures own { IsPassOf (shared_of site.entry.core.now) pass.new }
     ensures owes { (view_of pass.new).owes ≡ None }
+    ensures stays { OnOk result (Stays (view_of pass.old) (view_of pass.new)) }
     ensures examined { OnOk result (All (λ one. IsExamined (P.held proofs.old one.leaf)
         (view_of pass.new) one.leaf one.examined) examined.new.items) }
     ensures ok { OnOk result (P.failures proofs.new ≡ P.failures proofs.old) }
@@ -398,35 +369,4 @@ fn examine_leaves<R: Wait, G: Gate, P: LeafProofs>(
     };
     let mut examiner = Examiner::over(site.alloc, site.case)?;
     take_leaves(site, worker, proofs, &mut examiner, pass, examined, first)
-}
-
-/// Does a worker's part of the leaves.
-pub(crate) fn work_leaves<R: Wait, G: Gate, P: LeafProofs>(
-    site: LeafSite<'_, R, G>,
-    job: LeafJob<P>,
-) -> LeafShift<P>
-    requires case { site.case.now ≡ (core_of site.core.now).case }
-    requires elsewhere { (core_of site.core.now).proofs ≡ OfLeavesElsewhere }
-    requires new { IsNewPass (shared_of site.core.now) job.pass }
-    requires fresh { P.failures job.proofs ≡ 0 }
-    ensures held { P.held result.proofs ≡ P.held job.proofs }
-    ensures shift { IsLeafShiftOf (shared_of site.entry.core.now) (P.held result.proofs)
-        (P.failures result.proofs) result.pass result.examined.items result.fault }
-{
-    let LeafJob {
-        worker,
-        mut pass,
-        mut proofs,
-    } = job;
-    let mut examined = Vec::new(site.alloc);
-    let fault = match examine_leaves(site, worker, &mut proofs, &mut pass, &mut examined) {
-        Ok(()) => None,
-        Err(fault) => Some(fault),
-    };
-    LeafShift {
-        pass,
-        proofs,
-        examined,
-        fault,
-    }
 }

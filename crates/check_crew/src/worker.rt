@@ -1,7 +1,8 @@
 //! What one worker does.
 
 ghost use Rattle.std.specs.Prelude.{◌≡◌, ◌<◌, ◌∷◌, [], None, length, true, false, All, IsTrue, IfOk};
-ghost use Rattle.std.specs.Prelude.{OnOk};
+ghost use Rattle.std.specs.Prelude.{IfErr, OnOk};
+ghost use Rattle.byte_flow.specs.Device.{IsDeviceFault};
 ghost use Rattle.case_core.specs.FindingOf.{finding_of};
 ghost use Rattle.case_core.specs.Finding.{HasSection, IsFinding, target_of};
 ghost use Rattle.case_core.specs.Leaves.{IsTargetAt};
@@ -9,37 +10,55 @@ ghost use Rattle.cube_jobs.specs.Jobs as queue;
 ghost use Rattle.cube_jobs.specs.Jobs.{new_pass};
 ghost use Rattle.board_hall.specs.Halls.{core_of, shared_of, view_of, IsPassOf, IsNewPass};
 ghost use Rattle.board_hall.specs.Clauses.{Stays, PostsNothing, IsOfSection};
+ghost use Rattle.check_crew.specs.LeafProofs.{IsExamined};
 ghost use Rattle.check_crew.specs.Seen.{HasSeenMark, HasSeenSection};
-ghost use Rattle.check_crew.specs.Inner.Crew.{IsShiftOf, AreReady, HasSeenTurn};
+ghost use Rattle.check_crew.specs.Inner.Crew.{IsReady, IsJobOf, IsShiftOf, HasTaken, HasSeenTurn};
 
 use crate::gate::{Found, Gate};
+use crate::leaf_proofs::LeafProofs;
+use crate::leaves::{ExaminedLeaf, end_leaves, examine_leaves};
 use board_hall::{Core, Pass};
-use case_core::{Case, Examiner, Finding, Judged, NodeId, Target};
+use byte_flow::DeviceFault;
+use case_core::{Case, Examiner, Finding, Judged, Leaf, NodeId, Target};
 use cube_jobs::{JobPass, Jobs};
 use mark_board::Posted;
 use std::alloc::{AllocError, Global};
 use std::sync::Wait;
-use std::thread::Promise;
+use std::sync::atomic::AtomicU64;
 
-/// What a worker hands back when it ends: its passes, and whether it stopped for want of memory.
+/// What a worker begins with: its number, its passes, and what it reads proofs of leaves by.
 #[derive(Drop)]
-pub(crate) struct Shift {
+pub(crate) struct Job<P> {
+    pub(crate) worker: u32,
     pub(crate) pass: Pass,
     pub(crate) job_pass: JobPass,
-    pub(crate) short_of_memory: bool,
+    pub(crate) proofs: P,
 }
 
-/// What all workers share: what they wait by and have memory from, the case, the hall, the queue,
-/// whose jobs are turns, for each turn the place of its section, and the gate. As a promise it says
-/// what each of them hands back.
+/// What it hands back when it ends: what it began with, what became of the leaves that it took, and
+/// the fault that stopped it, if one did.
+#[derive(Drop)]
+pub(crate) struct Shift<P> {
+    pub(crate) pass: Pass,
+    pub(crate) job_pass: JobPass,
+    pub(crate) proofs: P,
+    pub(crate) examined: Vec<ExaminedLeaf>,
+    pub(crate) fault: Option<DeviceFault>,
+}
+
+/// What all workers share: what they wait by and have memory from, the case, the hall and the gate;
+/// the queue, whose jobs are turns, and for each turn the place of its section; the leaves in the
+/// order of their turns, and how many of these have been taken.
 pub(crate) struct Site<'a, R, G> {
     pub(crate) rt: &'a R,
     pub(crate) alloc: Global,
     pub(crate) case: &'a Case,
     pub(crate) core: &'a Core,
+    pub(crate) gate: &'a G,
     pub(crate) jobs: &'a Jobs,
     pub(crate) order: &'a [usize],
-    pub(crate) gate: &'a G,
+    pub(crate) leaves: &'a [Leaf],
+    pub(crate) next: &'a AtomicU64,
 }
 
 // A derive would ask that `R` and `G` are `Copy`, too.
@@ -50,14 +69,6 @@ impl<'a, R, G> Clone for Site<'a, R, G> {
 }
 
 impl<'a, R, G> Copy for Site<'a, R, G> {}
-
-impl<'a, R, G> Promise<Shift> for Site<'a, R, G> {
-    ghost use Rattle.board_hall.specs.Halls.{shared_of};
-    ghost use Rattle.check_crew.specs.Inner.Crew.{IsShiftOf};
-
-    ghost kept_by = { λ site shift.
-        IsShiftOf (shared_of site.core.now) site.jobs.now site.order.now shift };
-}
 
 /// A proof that was judged: whose it is, at which node that target stands, how many bytes the proof
 /// has, and what is said of it.
@@ -181,49 +192,87 @@ pub(crate) fn tell<G: Gate>(
     gate.after(worker, &found);
 }
 
-/// Claims turns, examines their sections by one examiner and posts what is found, until no turn is
-/// left or memory is refused.
-pub(crate) fn work<R: Wait, G: Gate>(
-    site: Site<'_, R, G>,
-    worker: u32,
-    mut pass: Pass,
-    mut job_pass: JobPass,
-) -> Shift
-    requires ready { AreReady site.case.now (shared_of site.core.now) site.jobs.now site.order.now }
-    requires pass { IsNewPass (shared_of site.core.now) pass }
-    requires job_pass { job_pass ≡ new_pass site.jobs.now }
-    ensures { IsShiftOf (shared_of site.entry.core.now)
-        site.entry.jobs.now site.entry.order.now result }
+/// Does a worker's part of the sections, and then its part of the leaves.
+pub(crate) fn work<R: Wait, G: Gate, P: LeafProofs>(site: Site<'_, R, G>, job: Job<P>) -> Shift<P>
+    requires ready { IsReady site }
+    requires job { IsJobOf site P.failures job }
+    ensures { IsShiftOf site.entry (P.held job.proofs) P.failures result }
 {
-    let short_of_memory = take_all(site, worker, &mut pass, &mut job_pass);
+    let Job {
+        worker,
+        mut pass,
+        mut job_pass,
+        mut proofs,
+    } = job;
+    let mut examined = Vec::new(site.alloc);
+    let fault = match take_both(
+        site,
+        worker,
+        &mut pass,
+        &mut job_pass,
+        &mut proofs,
+        &mut examined,
+    ) {
+        Ok(()) => None,
+        Err(fault) => Some(fault),
+    };
     Shift {
         pass,
         job_pass,
-        short_of_memory,
+        proofs,
+        examined,
+        fault,
     }
 }
 
-/// Claims turns as `work` does, on passes that are lent; answers whether memory was refused. The
-/// examiner, which holds the formula once more, is made when a first turn has been claimed: a
-/// worker that finds none costs nothing.
+/// Takes turns of sections until none is left, and then turns of leaves. Where memory is refused
+/// over sections, nobody takes another leaf.
+fn take_both<R: Wait, G: Gate, P: LeafProofs>(
+    site: Site<'_, R, G>,
+    worker: u32,
+    pass: &mut Pass,
+    job_pass: &mut JobPass,
+    proofs: &mut P,
+    examined: &mut Vec<ExaminedLeaf>,
+) -> Result<(), DeviceFault>
+    requires ready { IsReady site }
+    requires pass { IsNewPass (shared_of site.core.now) pass.old }
+    requires job_pass { job_pass.old ≡ new_pass site.jobs.now }
+    requires fresh { P.failures proofs.old ≡ 0 }
+    requires none { examined.old.items ≡ [] }
+    ensures taken { HasTaken site.entry pass.new job_pass.new result }
+    ensures examined { OnOk result (All (λ one. IsExamined (P.held proofs.old one.leaf)
+        (view_of pass.new) one.leaf one.examined) examined.new.items) }
+    ensures ok { OnOk result (P.failures proofs.new ≡ 0) }
+    ensures err { IfErr result (λ fault. IsDeviceFault 0 (P.failures proofs.new) fault) }
+{
+    match take_all(site, worker, pass, job_pass) {
+        Ok(()) => examine_leaves(site, worker, proofs, pass, examined),
+        Err(fault) => {
+            end_leaves(site);
+            Err(DeviceFault::from(fault))
+        }
+    }
+}
+
+/// Claims turns, examines their sections by one examiner and posts what is found, until no turn is
+/// left. `AllocError` where a growth was refused. The examiner, which holds the formula once more,
+/// is made when a first turn has been claimed: a worker that finds none costs nothing.
 fn take_all<R: Wait, G: Gate>(
     site: Site<'_, R, G>,
     worker: u32,
     pass: &mut Pass,
     job_pass: &mut JobPass,
-) -> bool
-    requires ready { AreReady site.case.now (shared_of site.core.now) site.jobs.now site.order.now }
+) -> Result<(), AllocError>
+    requires ready { IsReady site }
     requires pass { IsNewPass (shared_of site.core.now) pass.old }
     requires job_pass { job_pass.old ≡ new_pass site.jobs.now }
-    ensures { IsShiftOf (shared_of site.entry.core.now) site.entry.jobs.now site.entry.order.now
-        (record { pass = pass.new; job_pass = job_pass.new; short_of_memory = result }) }
+    ensures { HasTaken site.entry pass.new job_pass.new result }
 {
     let Some(turn) = site.jobs.claim(site.rt, job_pass) else {
-        return false;
+        return Ok(());
     };
-    let Ok(mut examiner) = Examiner::over(site.alloc, site.case) else {
-        return true;
-    };
+    let mut examiner = Examiner::over(site.alloc, site.case)?;
     take_from(site, worker, &mut examiner, pass, job_pass, turn)
 }
 
@@ -236,21 +285,18 @@ fn take_from<R: Wait, G: Gate>(
     pass: &mut Pass,
     job_pass: &mut JobPass,
     turn: usize,
-) -> bool
-    requires ready { AreReady site.case.now (shared_of site.core.now) site.jobs.now site.order.now }
+) -> Result<(), AllocError>
+    requires ready { IsReady site }
     requires examiner { examiner.old ≡ site.case.now }
     requires pass { IsNewPass (shared_of site.core.now) pass.old }
     requires jobs { queue.IsPassOf site.jobs.now job_pass.old }
     requires turn { turn < length site.order.now }
     requires claimed { job_pass.old.claims ≡ turn ∷ [] }
-    ensures { IsShiftOf (shared_of site.entry.core.now) site.entry.jobs.now site.entry.order.now
-        (record { pass = pass.new; job_pass = job_pass.new; short_of_memory = result }) }
+    ensures { HasTaken site.entry pass.new job_pass.new result }
 {
     let place = site.order[turn];
-    match take_turn(site, worker, examiner, pass, place) {
-        Ok(()) => take_turns(site, worker, examiner, pass, job_pass),
-        Err(_) => true,
-    }
+    take_turn(site, worker, examiner, pass, place)?;
+    take_turns(site, worker, examiner, pass, job_pass)
 }
 
 /// Claims a turn and examines its section; answers whether one was left. `AllocError` where a
@@ -262,7 +308,7 @@ fn claim_turn<R: Wait, G: Gate>(
     pass: &mut Pass,
     job_pass: &mut JobPass,
 ) -> Result<bool, AllocError>
-    requires ready { AreReady site.case.now (shared_of site.core.now) site.jobs.now site.order.now }
+    requires ready { IsReady site }
     requires examiner { examiner.old ≡ site.case.now }
     requires own { IsPassOf (shared_of site.core.now) pass.old }
     requires free { (view_of pass.old).owes ≡ None }
@@ -284,29 +330,26 @@ fn claim_turn<R: Wait, G: Gate>(
     Ok(true)
 }
 
-/// Claims turns until none is left, by an examiner and on passes that are lent; answers whether
-/// memory was refused.
+/// Claims turns until none is left, by an examiner and on passes that are lent. `AllocError` where
+/// a growth was refused.
 fn take_turns<R: Wait, G: Gate>(
     site: Site<'_, R, G>,
     worker: u32,
     examiner: &mut Examiner<'_>,
     pass: &mut Pass,
     job_pass: &mut JobPass,
-) -> bool
-    requires ready { AreReady site.case.now (shared_of site.core.now) site.jobs.now site.order.now }
+) -> Result<(), AllocError>
+    requires ready { IsReady site }
     requires examiner { examiner.old ≡ site.case.now }
     requires own { IsPassOf (shared_of site.core.now) pass.old }
     requires free { (view_of pass.old).owes ≡ None }
     requires jobs { queue.IsPassOf site.jobs.now job_pass.old }
     requires seen { All (HasSeenTurn site.order.now (view_of pass.old)) job_pass.old.claims }
-    ensures { IsShiftOf (shared_of site.entry.core.now) site.entry.jobs.now site.entry.order.now
-        (record { pass = pass.new; job_pass = job_pass.new; short_of_memory = result }) }
+    ensures { HasTaken site.entry pass.new job_pass.new result }
 {
     for _ in site.rt.forever() {
-        match claim_turn(site, worker, examiner, pass, job_pass) {
-            Ok(true) => {}
-            Ok(false) => return false,
-            Err(_) => return true,
+        if !claim_turn(site, worker, examiner, pass, job_pass)? {
+            return Ok(());
         }
     }
     unreachable!()

@@ -74,17 +74,17 @@ fn reaches(count: &AtomicU64, wanted: u64) -> bool {
     false
 }
 
-/// Holds back the worker of the first cube until the second one's finding was posted.
+/// Holds back the worker of the first cube until another one's finding was posted.
 #[derive(Drop)]
-struct Crossing {
+pub(crate) struct Crossing {
     second_posted: AtomicU64,
-    seen: AtomicU64,
+    pub(crate) seen: AtomicU64,
     first_weight: AtomicU64,
     second_weight: AtomicU64,
 }
 
 impl Crossing {
-    fn new() -> Crossing {
+    pub(crate) fn new() -> Crossing {
         Crossing {
             second_posted: AtomicU64::new(0),
             seen: AtomicU64::new(0),

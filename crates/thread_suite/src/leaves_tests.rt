@@ -3,6 +3,7 @@
 ghost use Rattle.std.specs.Prelude.{◌≡◌, All, vec_len};
 
 use crate::cases::{case, need_count};
+use crate::crew_tests::Crossing;
 use crate::gates::{Told, cube_number, need_each_once, one_of};
 use case_core::{Case, Leaf, ProofForm};
 use check_crew::{Gate, LeafProofs, NoGate, Settings};
@@ -22,6 +23,9 @@ const CUBES: &str = four!("a 1 2 0\na 1 -2 0\na -1 2 0\na -1 -2 0\n");
 /// The same cubes, and a proof for the second.
 const SECOND: &str = four!("a 1 2 0\na 1 -2 0\na -1 2 0\na -1 -2 0\nl 2\n7 0 5 6 3 0\n");
 
+/// The same cubes, and a proof for the first.
+const FIRST: &str = four!("a 1 2 0\na 1 -2 0\na -1 2 0\na -1 -2 0\nl 1\n7 0 5 6 4 0\n");
+
 /// Proofs for these cubes: of cubes 1 and 4 the shortest, of cube 3 the longest.
 const ALL: &[Option<&[u8]>] = &[
     Some(b"7 0 5 6 4 0\n"),
@@ -30,7 +34,15 @@ const ALL: &[Option<&[u8]>] = &[
     Some(b"7 0 5 6 1 0\n"),
 ];
 
-/// The same without that of the second.
+/// The same without that of the first.
+const WITHOUT_FIRST: &[Option<&[u8]>] = &[
+    None,
+    Some(b"7 d 1 0\n8 0 5 6 3 0\n"),
+    Some(b"7 d 1 0\n8 d 3 0\n9 0 5 6 2 0\n"),
+    Some(b"7 0 5 6 1 0\n"),
+];
+
+/// All of them without that of the second.
 const WITHOUT_SECOND: &[Option<&[u8]>] = &[
     Some(b"7 0 5 6 4 0\n"),
     None,
@@ -38,7 +50,7 @@ const WITHOUT_SECOND: &[Option<&[u8]>] = &[
     Some(b"7 0 5 6 1 0\n"),
 ];
 
-/// The same with one of the second that ends before the empty clause.
+/// All of them with one of the second that ends before the empty clause.
 const SHORT_SECOND: &[Option<&[u8]>] = &[
     Some(b"7 0 5 6 4 0\n"),
     Some(b"7 d 1 0\n"),
@@ -270,6 +282,27 @@ fn each_proof_is_opened_once(rt: HostRuntime) {
             need_each_once(&rt, &gate, 0x11110);
             assert!(rt; workers > 1 || gate.order.load(Ordering::SeqCst) == 3214);
         }
+    }
+}
+
+// A worker that finds no section left takes leaves while another is at work on the last section.
+#[test]
+fn a_leaf_beside_a_section(rt: HostRuntime) {
+    for cut in [0, 1, 6] {
+        let gate = Crossing::new();
+        let opens = AtomicU64::new(0);
+        let told = run_apart(
+            &rt,
+            FIRST,
+            (2, cut),
+            &gate,
+            WITHOUT_FIRST,
+            &opens,
+            Failing::Nothing,
+        );
+        assert!(rt; is_report(told, FOUR_CUBES_REPORT));
+        need_count(&rt, "opens", &opens, 0x11110);
+        need_count(&rt, "seen", &gate.seen, 1);
     }
 }
 

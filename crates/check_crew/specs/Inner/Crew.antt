@@ -1,44 +1,99 @@
--- What a worker has seen of the findings of a case.
-use Rattle.std.specs.Prelude.{◌≡◌, ℕ, List, length, slice_index, true, false, None, All, flat_map}
+-- What the workers of a crew share, begin with and hand back.
+use Rattle.std.specs.Prelude.{◌≡◌, ◌<◌, ℕ, List, length, slice_index, true, None, All, flat_map}
+use Rattle.std.specs.Prelude.{MatchOption, OnOk, Result}
 use Rattle.std.specs.List.{Contains}
-use Rattle.case_core.specs.Case.{CaseOf}
+use Rattle.byte_flow.specs.Device.{IsDeviceFault}
+use Rattle.mark_board.specs.Boards.{BoardsOf}
 use Rattle.board_hall.specs.declared.pass.Pass.{Pass}
 use Rattle.board_hall.specs.declared.view.View.{View}
-use Rattle.board_hall.specs.Halls.{view_of, HallOf, IsPassOf, IsNewPass}
+use Rattle.board_hall.specs.declared.view.Proofs.TheVariants.{OfLeavesElsewhere}
+use Rattle.board_hall.specs.Halls.{HallOf, core_of, shared_of, view_of, IsPassOf, IsNewPass}
+use Rattle.board_hall.specs.Clauses.{Gathers}
 use Rattle.cube_jobs.specs.Jobs as queue
-use Rattle.cube_jobs.specs.Jobs.{JobsOf, JobPassOf, new_pass, claims_of}
+use Rattle.cube_jobs.specs.Jobs.{JobPassOf, new_pass, claims_of}
+use Rattle.check_crew.specs.declared.fault.RunFault.{RunFault}
+use Rattle.check_crew.specs.declared.fault.RunFault.TheVariants.{Crew as OfCrew, Read}
+use Rattle.check_crew.specs.declared.crew.Crew.{Crew}
+use Rattle.check_crew.specs.declared.worker.Job.{Job}
 use Rattle.check_crew.specs.declared.worker.Shift.{Shift}
+use Rattle.check_crew.specs.declared.worker.Site.{Site}
 use Rattle.check_crew.specs.Inner.Order.{IsOrder}
-use Rattle.check_crew.specs.Seen.{HasSeenSection}
+use Rattle.check_crew.specs.LeafProofs.{Known, IsExamined}
+use Rattle.check_crew.specs.Seen.{HasSeenSection, HaveSeenSections}
 
 -- that of the section whose turn it is in this order
 abbrev pub HasSeenTurn : List ℕ → View → ℕ → Type 0
 HasSeenTurn order v turn = HasSeenSection v (slice_index order turn)
 
--- the hall is of this case, and the queue has a turn for each of its sections
-pub record AreReady (case : CaseOf) (hall : HallOf) (jobs : JobsOf) (order : List ℕ) : Type 0 where
-  pub case_is : case ≡ hall.of.case
-  pub turns : jobs.sections ≡ length order
-  pub order_is : IsOrder (length case.sections) order
+-- the hall is of this case, the queue has a turn for each of its sections, and leaves have turns
+-- only where the hall takes their proofs from elsewhere
+pub record IsReady {R G : Type 0} (site : Site R G) : Type 0 where
+  pub case_is : site.case.now ≡ (core_of site.core.now).case
+  pub turns : site.jobs.now.sections ≡ length site.order.now
+  pub order_is : IsOrder (length site.case.now.sections) site.order.now
+  pub elsewhere : 0 < length site.leaves.now → (core_of site.core.now).proofs ≡ OfLeavesElsewhere
 
--- the passes have done nothing yet
-pub record AreNew (hall : HallOf) (jobs : JobsOf) (passes : List Pass) (job_passes : List JobPassOf)
+-- the passes of a worker have done nothing yet, and no call of what it reads by has failed
+pub record IsJobOf {R G P : Type 0} (site : Site R G) (failures : P → ℕ) (job : Job P)
     : Type 0 where
-  pub of_hall : All (IsNewPass hall) passes
-  pub of_jobs : All (λ pass. pass ≡ new_pass jobs) job_passes
+  pub pass : IsNewPass (shared_of site.core.now) job.pass
+  pub job_pass : job.job_pass ≡ new_pass site.jobs.now
+  pub fresh : failures job.proofs ≡ 0
 
--- A worker hands back its passes, which owe nothing. Unless it met want of memory it went on until
--- no job was left, and has seen the finding of each section whose turn it claimed.
-pub record IsShiftOf (hall : HallOf) (jobs : JobsOf) (order : List ℕ) (shift : Shift) : Type 0 where
-  pub pass : IsPassOf hall shift.pass
+-- it reads by one of the crew's readers
+pub record IsDealtBy {R G P : Type 0} (crew : Crew R G P) (failures : P → ℕ) (job : Job P)
+    : Type 0 where
+  pub is : IsJobOf crew.site failures job
+  pub among : Contains crew.readers.now.value.items job.proofs
+
+-- A worker's passes owe nothing. Where nothing stopped it, it went on until no job was left, and
+-- has seen the finding of each section whose turn it claimed.
+pub record HasTaken {R G T E : Type 0} (site : Site R G) (pass : Pass) (job_pass : JobPassOf)
+    (end : Result T E) : Type 0 where
+  pub own : IsPassOf (shared_of site.core.now) pass
+  pub owes : (view_of pass).owes ≡ None
+  pub of_jobs : queue.IsPassOf site.jobs.now job_pass
+  pub empty : OnOk end (job_pass.found_empty ≡ true)
+  pub seen : OnOk end (All (HasSeenTurn site.order.now (view_of pass)) job_pass.claims)
+
+-- A worker whose reader holds this hands back what `HasTaken` says. Where no fault stopped it, it
+-- tells what became of each leaf that it took; and it met a fault of the device just where a call
+-- has failed.
+pub record IsShiftOf {R G P : Type 0} (site : Site R G) (held : Known) (failures : P → ℕ)
+    (shift : Shift P) : Type 0 where
+  pub own : IsPassOf (shared_of site.core.now) shift.pass
   pub owes : (view_of shift.pass).owes ≡ None
-  pub job_pass : queue.IsPassOf jobs shift.job_pass
-  pub done : shift.short_of_memory ≡ false →
-      (shift.job_pass.found_empty ≡ true)
-      × All (HasSeenTurn order (view_of shift.pass)) shift.job_pass.claims
+  pub of_jobs : queue.IsPassOf site.jobs.now shift.job_pass
+  pub empty : shift.fault ≡ None → shift.job_pass.found_empty ≡ true
+  pub seen : shift.fault ≡ None →
+      All (HasSeenTurn site.order.now (view_of shift.pass)) shift.job_pass.claims
+  pub each : shift.fault ≡ None →
+      All (λ one. IsExamined (held one.leaf) (view_of shift.pass) one.leaf one.examined)
+      shift.examined.items
+  pub fault_is : MatchOption shift.fault (failures shift.proofs ≡ 0)
+      (IsDeviceFault 0 (failures shift.proofs))
+
+-- one with one of the crew's readers does
+pub record IsHandedBy {R G P : Type 0} (crew : Crew R G P) (held : P → Known) (failures : P → ℕ)
+    (shift : Shift P) : Type 0 where
+  pub reader : P
+  pub among : Contains crew.readers.now.value.items reader
+  pub is : IsShiftOf crew.site (held reader) failures shift
 
 -- the finding of each section whose turn was claimed is among what one of the passes has seen
 abbrev pub HaveSeenClaims : List ℕ → List Pass → List JobPassOf → Type 0
 HaveSeenClaims order passes job_passes =
     (turn : ℕ) → Contains (flat_map claims_of job_passes) turn →
     (pass : Pass) × Contains passes pass × HasSeenTurn order (view_of pass) turn
+
+-- what a run tells of a failed call: the reader has met one
+abbrev pub IsRunFault : {P : Type 0} → (P → ℕ) → RunFault P → Type 0
+IsRunFault failures (OfCrew fault) = Unit {0}
+IsRunFault failures (Read reader) = failures reader ≡ 1
+
+-- the boards of a hall that was closed by passes which had seen the finding of each section
+pub record AreClosed (hall : HallOf) (boards : BoardsOf) : Type 0 where
+  pub passes : List Pass
+  pub gathered : Gathers hall passes boards
+  pub own : All (IsPassOf hall) passes
+  pub seen : HaveSeenSections hall.of.case passes

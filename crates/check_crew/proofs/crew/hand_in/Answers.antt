@@ -1,39 +1,50 @@
-use Rattle.std.proofs.Common.{◌≡◌, None, arith, true}
-use Rattle.std.proofs.lemmas.List.Elements.{All-push, All-rest}
+use Rattle.std.proofs.Common.{◌≡◌, None, arith, true, sym, ◌∙◌}
+use Rattle.std.proofs.lemmas.List.Elements.{All-contains, All-push, All-rest}
+use Rattle.case_core.specs.Leaf.{Leaf}
 use Rattle.cube_jobs.specs.Jobs as queue
 use Rattle.cube_jobs.specs.Jobs.{JobPassOf}
 use Rattle.board_hall.specs.declared.pass.Pass.{Pass}
 use Rattle.board_hall.specs.Halls.{shared_of, view_of, IsPassOf}
-use Rattle.check_crew.specs.Inner.Crew.{IsShiftOf}
+use Rattle.check_crew.specs.Inner.Apart.{IsListOf}
+use Rattle.check_crew.specs.Inner.Crew.{IsHandedBy}
+use Rattle.check_crew.proofs.ApartHanded.{no_fault, list_of}
 use Rattle.check_crew.proofs.SeenFindings.{claims_more}
 use Rattle.check_crew.proofs.crew.hand_in.Goals as goal
 
 pub loop-shift-preserved : goal.loop-shift-preserved
 loop-shift-preserved g c =
     let was = c.loop-shift.invariant in let next = c.in-Some.ensures.steps in
-    let hall = shared_of c.args.site.core.now in let jobs = c.args.site.jobs.now in
-    let order = c.args.site.order.now in
-    let mine : IsShiftOf hall jobs order c.in-Some.shift =
-    (rw next.0 at was.rest) 0 c.in-Some.shift (omega arith) in
-    let done = mine.done c.if-shift.false in record {
-      passes_count = omega (arith, c.push_reserved.ensures.len, next.1, was.passes_count);
-      job_passes_count =
-          omega (arith, c.push_reserved-in-loop-shift.ensures.len, next.1, was.job_passes_count);
-      passes_room = omega (arith, c.push_reserved.ensures.capacity, was.passes_room);
-      job_passes_room =
-          omega (arith, c.push_reserved-in-loop-shift.ensures.capacity, was.job_passes_room);
-      rest = All-rest (IsShiftOf hall jobs order) _ _ _ next.0 was.rest;
-      own = rw c.push_reserved.ensures.items (All-push (IsPassOf hall) _ _ was.own mine.pass);
+    let crew = c.args.crew in let site = crew.site in let shift = c.in-Some.shift in
+    let mine : IsHandedBy crew g.P.LeafProofs.held g.P.LeafProofs.failures shift =
+    (rw next.0 at was.rest) 0 shift (omega arith) in
+    let none : shift.fault ≡ None =
+    no_fault shift.fault (sym c.is_some.ensures ∙ c.if-is_some.false) in record {
+      passes_count = omega (arith, c.in_ok-push.ensures.len, next.1, was.passes_count);
+      job_passes_count = omega (arith, c.in_ok-push-2.ensures.len, next.1, was.job_passes_count);
+      rest =
+          All-rest (IsHandedBy crew g.P.LeafProofs.held g.P.LeafProofs.failures) _ _ _ next.0
+          was.rest;
+      own =
+          rw c.in_ok-push.ensures.items
+          (All-push (IsPassOf (shared_of site.core.now)) _ _ was.own mine.is.own);
       free =
-          rw c.push_reserved.ensures.items
-          (All-push (λ (pass : Pass). (view_of pass).owes ≡ None) _ _ was.free mine.owes);
+          rw c.in_ok-push.ensures.items
+          (All-push (λ (pass : Pass). (view_of pass).owes ≡ None) _ _ was.free mine.is.owes);
       jobs =
-          rw c.push_reserved-in-loop-shift.ensures.items
-          (All-push (queue.IsPassOf jobs) _ _ was.jobs mine.job_pass);
+          rw c.in_ok-push-2.ensures.items
+          (All-push (queue.IsPassOf site.jobs.now) _ _ was.jobs mine.is.of_jobs);
       empty =
-          rw c.push_reserved-in-loop-shift.ensures.items
-          (All-push (λ (pass : JobPassOf). pass.found_empty ≡ true) _ _ was.empty done.0);
-      seen = rw (c.push_reserved.ensures.items, c.push_reserved-in-loop-shift.ensures.items)
-          (claims_more order c.loop-shift.passes.items c.loop-shift.job_passes.items
-          c.in-Some.shift.pass c.in-Some.shift.job_pass was.seen done.1);
+          rw c.in_ok-push-2.ensures.items
+          (All-push (λ (pass : JobPassOf). pass.found_empty ≡ true) _ _ was.empty
+          (mine.is.empty none));
+      seen = rw (c.in_ok-push.ensures.items, c.in_ok-push-2.ensures.items)
+          (claims_more site.order.now c.loop-shift.passes.items c.loop-shift.job_passes.items
+          shift.pass shift.job_pass was.seen (mine.is.seen none));
+      lists = λ known all.
+          rw c.in_ok-push-3.ensures.items
+          (All-push (λ list. IsListOf known site.case.now list.items) _ _ (was.lists known all)
+          (list_of (shared_of site.core.now) site.case.now (g.P.LeafProofs.held mine.reader) known
+          shift.pass shift.examined.items c.requires.ready.case_is mine.is.own (mine.is.each none)
+          (All-contains (λ one. (leaf : Leaf) → g.P.LeafProofs.held one leaf ≡ known leaf) _
+          mine.reader all mine.among)));
     }

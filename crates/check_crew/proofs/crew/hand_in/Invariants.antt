@@ -1,23 +1,28 @@
-use Rattle.std.proofs.Common.{◌≡◌, ◌+◌, ◌≤◌, true, None, All, vec_len, vec_capacity}
+use Rattle.std.proofs.Common.{◌≡◌, ◌+◌, true, None, All, vec_len}
 use Rattle.std.specs.Vec.Iter.{into_iter_items, into_iter_len}
+use Rattle.case_core.specs.Leaf.{Leaf}
 use Rattle.cube_jobs.specs.Jobs as queue
 use Rattle.cube_jobs.specs.Jobs.{JobPassOf}
 use Rattle.board_hall.specs.declared.pass.Pass.{Pass}
 use Rattle.board_hall.specs.Halls.{shared_of, view_of, IsPassOf}
-use Rattle.check_crew.specs.Inner.Crew.{IsShiftOf, HaveSeenClaims}
+use Rattle.check_crew.specs.LeafProofs.{Known}
+use Rattle.check_crew.specs.Inner.Apart.{IsListOf}
+use Rattle.check_crew.specs.Inner.Crew.{IsHandedBy, HaveSeenClaims}
 use Rattle.check_crew.proofs.crew.hand_in.Given as goal
 
 abbrev pub invariant-loop-shift : goal.invariant-loop-shift
 invariant-loop-shift g l = record {
   passes_count : vec_len l.passes + into_iter_len l.shift-iterator ≡ vec_len l.fn.shifts;
   job_passes_count : vec_len l.job_passes + into_iter_len l.shift-iterator ≡ vec_len l.fn.shifts;
-  passes_room : vec_len l.fn.shifts ≤ vec_capacity l.passes;
-  job_passes_room : vec_len l.fn.shifts ≤ vec_capacity l.job_passes;
-  rest : All (IsShiftOf (shared_of l.site.core.now) l.site.jobs.now l.site.order.now)
+  rest : All (IsHandedBy l.crew g.P.LeafProofs.held g.P.LeafProofs.failures)
       (into_iter_items l.shift-iterator);
-  own : All (IsPassOf (shared_of l.site.core.now)) l.passes.items;
+  own : All (IsPassOf (shared_of l.crew.site.core.now)) l.passes.items;
   free : All (λ (pass : Pass). (view_of pass).owes ≡ None) l.passes.items;
-  jobs : All (queue.IsPassOf l.site.jobs.now) l.job_passes.items;
+  jobs : All (queue.IsPassOf l.crew.site.jobs.now) l.job_passes.items;
   empty : All (λ (pass : JobPassOf). pass.found_empty ≡ true) l.job_passes.items;
-  seen : HaveSeenClaims l.site.order.now l.passes.items l.job_passes.items;
+  seen : HaveSeenClaims l.crew.site.order.now l.passes.items l.job_passes.items;
+  lists : (known : Known)
+      → All (λ one. (leaf : Leaf) → g.P.LeafProofs.held one leaf ≡ known leaf)
+      l.crew.readers.now.value.items
+      → All (λ list. IsListOf known l.crew.site.case.now list.items) l.lists.items;
 }

@@ -1,5 +1,6 @@
 use Rattle.std.proofs.lemmas.List.Elements.{All-nil}
 use Rattle.board_hall.specs.Halls.{view_of}
+use Rattle.check_crew.proofs.LeavesSeen.{stays_same}
 use Rattle.check_crew.proofs.leaves.examine_leaves.Goals as goal
 
 pub returns-in_default-clause-examined : goal.returns-in_default-clause-examined
@@ -13,3 +14,6 @@ take_leaves-requires-clause-examined g c = λ κs within.
 
 pub returns-clause-examined : goal.returns-clause-examined
 returns-clause-examined g c = rw c.in_ok-first.ensures.held at c.take_leaves.ensures.examined
+
+pub returns-in_default-clause-stays : goal.returns-in_default-clause-stays
+returns-in_default-clause-stays g c = stays_same _

@@ -1,6 +1,6 @@
 use Rattle.std.proofs.Common.{◌∙◌, refl}
 use Rattle.board_hall.specs.Halls.{view_of}
-use Rattle.check_crew.proofs.LeavesSeen.{examined_more}
+use Rattle.check_crew.proofs.LeavesSeen.{examined_more, stays_same, stays_on}
 use Rattle.check_crew.proofs.leaves.take_leaves.Goals as goal
 
 pub loop-init : goal.loop-init
@@ -13,6 +13,7 @@ loop-init g c = record {
   count = refl;
   pass = c.requires.own;
   owes = c.requires.free;
+  stays = stays_same _;
   examined = c.requires.examined;
 }
 
@@ -29,6 +30,7 @@ loop-preserved g c =
       count = next.ok ∙ step.ok ∙ was.count;
       pass = step.own;
       owes = step.owes;
+      stays = stays_on _ _ _ was.stays step.stays;
       examined = (rw (step.held, was.held) at next.absent) (view_of c.take_leaf.new.pass)
           (rw c.in_ok-push.ensures.items
           (examined_more (g.P.LeafProofs.held c.args.proofs.now) _ _ c.loop.examined.items _
@@ -42,3 +44,7 @@ returns-in_default-clause-examined g c =
     (rw c.in_ok-push.ensures.items
     (examined_more (g.P.LeafProofs.held c.args.proofs.now) _ _ c.loop.examined.items _
     step.stays was.examined (rw was.held at step.examined)))
+
+pub returns-in_default-clause-stays : goal.returns-in_default-clause-stays
+returns-in_default-clause-stays g c =
+    stays_on _ _ _ c.loop.invariant.stays c.in_ok-one.ensures.stays

@@ -2,6 +2,7 @@ use Rattle.std.proofs.Common.{◌≡◌, None, All}
 use Rattle.case_core.specs.Leaves.{HasTarget}
 use Rattle.case_core.specs.Target.TheVariants.{Leaf as Named}
 use Rattle.board_hall.specs.Halls.{shared_of, view_of, IsPassOf}
+use Rattle.board_hall.specs.Clauses.{Stays}
 use Rattle.check_crew.specs.LeafProofs.{IsExamined, IsLeftOf, left_text}
 use Rattle.check_crew.proofs.leaves.take_leaves.Given as goal
 
@@ -16,6 +17,7 @@ invariant-loop g l = record {
   count : g.P.LeafProofs.failures l.proofs ≡ g.P.LeafProofs.failures l.initial.proofs;
   pass : IsPassOf (shared_of l.site.core.now) l.pass;
   owes : (view_of l.pass).owes ≡ None;
+  stays : Stays (view_of l.initial.pass) (view_of l.pass);
   examined : All (λ one. IsExamined (g.P.LeafProofs.held l.initial.proofs one.leaf) (view_of l.pass)
       one.leaf one.examined) l.examined.items;
 }

@@ -1,8 +1,8 @@
 use Rattle.std.proofs.Common.{rules, ◌≡◌, ◌≢◌, ◌<◌, Some, arith, length, get_or, subst}
 use Rattle.std.proofs.lemmas.List.Elements.{All-more}
 use Rattle.byte_flow.specs.declared.fault.DeviceFault.TheVariants.{Device}
-use Rattle.check_crew.specs.declared.leaves.LeafShift.{LeafShift}
-use Rattle.check_crew.proofs.elsewhere.failed_first.Goals as goal
+use Rattle.check_crew.specs.declared.worker.Shift.{Shift}
+use Rattle.check_crew.proofs.crew.failed_first.Goals as goal
 
 pub loop-place-preserved : goal.loop-place-preserved
 loop-place-preserved g c =
@@ -17,5 +17,5 @@ loop-place-preserved g c =
       none =
           All-more (λ shift. shift.fault ≢ Some Device) c.args.shifts.items c.loop-place.place
           c.index.result.now within was.none
-          (subst (λ (shift : LeafShift g.row.P.Denot). shift.fault ≢ Some Device) here other);
+          (subst (λ (shift : Shift g.row.P.Denot). shift.fault ≢ Some Device) here other);
     }
