@@ -117,7 +117,7 @@ records() {
 
 # One row by so many workers under a limit of the system: what sets it to $1, and the limit.
 limited() {
-    note "$base.in" $as_other sh -c "$2"' && shift && exec "$@"' sh "$3" "$program" --workers "$1"
+    with_words "$base" note "$base.in" $as_other sh -c "$2"' && shift && exec "$@"' sh "$3" "$program" --workers "$1"
 }
 
 # One row with little room for addresses, from enough for one thread's stack to enough for all: by one worker the row's exact report,
@@ -146,6 +146,7 @@ little_room() {
 # which it has to be where the user may have one. Root isn't bound by such a limit, so the program runs as another user then.
 few_threads() {
     base=$root/tests/rows/$1
+    lay_out "$base"
     few='{ ulimit -u "$1" 2> /dev/null || ulimit -p "$1"; }'
     as_another_user
     # timeout can't start what it is to run where the limit is kept.
@@ -208,5 +209,6 @@ if preload refuse "requests for memory, reads that are interrupted and the test 
     next_step
 fi
 little_room two_cubes_refuted
-few_threads two_cubes_refuted
+# (from a pipe, from a file's places, and from a folder: all start their threads once, and each refused start is told)
+for name in two_cubes_refuted binary_proof_in_a_section_of_a_file folder_of_proofs; do few_threads "$name"; done
 finish
