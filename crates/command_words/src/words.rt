@@ -52,26 +52,22 @@ const FORMATS: &str = "\
 FILE is a bundle: a formula and cubes in iCNF, then proofs, each below a label line.
   p inccnf      the header
   1 -2 0        a clause; clause number i has the id i
-  a 1 0         a cube; the cubes must be leaves of one tree of splits, and list
-                their literals in the order of the splits
+  a 1 0         a cube; all must be leaves of one tree, in the order of its splits
   l 1           the text LRAT proof below is for cube 1. It starts from the m clauses
   6 0 5 3 4 0   and the k literals of the cube, unit clauses with the ids m+1 to m+k
   l m1          the same for the first branch that no cube covers
   l n 1 -2 0    the same for the inner node with this path
---proofs DIR adds DIR/1.lrat, .. and DIR/m1.lrat, .. as if below such labels; these
-may be binary LRAT.
+--proofs DIR adds DIR/1.lrat, .., DIR/m1.lrat, .., text or binary, as if below these.
 
 The report, which is the same for every N and D:
   t   the number of cubes, of branches that no cube covers, the weight of the tree
   a   a cube; m  a branch that no cube covers; n  an inner node with a proof:
       refuted, open (no proof), or rejected with the step and the reason
-  o   a branch that is wholly open
-  w   the open weight; 0 if nothing is open
+  o   a branch that is wholly open; w  the open weight, 0 if nothing is open
   s   REFUTED: the formula has no model; OPEN: that is not shown
 
-Exit status: 0 REFUTED, 1 OPEN, 2 arguments or help, 3 input refused,
-4 memory or threads, 5 a read or write failed. To see why a proof or the input is
-refused, add --explain.
+Exit status: 0 REFUTED, 1 OPEN, 2 arguments or help, 3 input refused, 4 memory or
+threads, 5 a read or write failed. --explain tells why a proof or input is refused.
 Example: printf 'p inccnf\\n1 0\\n-1 0\\na 0\\nl 1\\n3 0 1 2 0\\n' | cubeboard";
 
 /// What these words, without the program's name, ask for; or the parser's text, which is the help
