@@ -1,9 +1,9 @@
 //! The program's words for its workers and its cut, by what a gate sees of them.
 ghost use Rattle.std.specs.Prelude.{◌<◌, ◌^◌, ◌-◌};
 
-use crate::command_tests::status_of;
+use crate::command_tests::{Words, answer, unfailing};
 use crossbeam_utils::Backoff;
-use cube_command::{Counted, FileStore, Found, Gate};
+use cube_command::{Found, Gate};
 use cube_report::Target;
 use devices::Shelf;
 use fixtures::bundles::TURNS;
@@ -24,33 +24,15 @@ const EIGHT_CUBES: &str = four!(
 /// One cube at depth 7, and a proof for it.
 const DEEP: &str = four!("a 1 2 3 4 5 6 7 0\nl 1\n12 0 5 6 4 0\n");
 
-/// The status of the program on these words, files and this bundle, beside this gate.
-fn status_in<R: AllocGlobal + Abort + Threads + Wait + Sync, G: Gate + Sync>(
-    rt: &R,
-    store: &mut FileStore<Shelf<'_>>,
-    words: &[&str],
-    bundle: &str,
-    gate: &G,
-) -> u8
-    requires { store.old.failed < 2 ^ 64 - 1 }
-{
-    let mut report = Vec::new(rt.alloc());
-    let mut line = Vec::new(rt.alloc());
-    let input = &mut Counted::new(bundle.as_bytes());
-    let output = &mut Counted::new(&mut report);
-    let errors = &mut Counted::new(&mut line);
-    status_of(rt, store, words, input, output, errors, gate)
-}
-
-/// The same with no files.
+/// The status of the program on these words and this bundle, with no files, beside this gate.
 fn status_beside<R: AllocGlobal + Abort + Threads + Wait + Sync, G: Gate + Sync>(
     rt: &R,
-    words: &[&str],
+    words: Words,
     bundle: &str,
     gate: &G,
 ) -> u8 {
     let shelf = Shelf::new(rt.alloc(), &[]).expect(rt, "no memory");
-    status_in(rt, &mut FileStore::new(shelf), words, bundle, gate)
+    answer(rt, shelf, &unfailing(words, bundle.as_bytes()), gate).status
 }
 
 /// Holds back each worker until as many have come as are awaited, or one of them has waited too
@@ -101,7 +83,7 @@ impl Gate for Gathering {
 /// another count of sections had all that are awaited.
 fn gathers<R: AllocGlobal + Abort + Threads + Wait + Sync>(
     rt: &R,
-    words: &[&str],
+    words: Words,
     awaited: u32,
     met: u64,
 ) -> u64 {
@@ -115,7 +97,7 @@ fn gathers<R: AllocGlobal + Abort + Threads + Wait + Sync>(
 /// once, or where one more comes.
 fn has_workers<R: AllocGlobal + Abort + Threads + Wait + Sync>(
     rt: &R,
-    words: &[&str],
+    words: Words,
     count: u32,
     numbers: u64,
 )
@@ -151,26 +133,34 @@ impl Gate for Weighing {
     }
 }
 
-/// Ends the test where another weight stands on the last board.
-fn weighs<R: AllocGlobal + Abort + Threads + Wait + Sync>(rt: &R, words: &[&str], weight: u64) {
+/// The weight that stands on the last board.
+fn last_weight<R: AllocGlobal + Abort + Threads + Wait + Sync>(rt: &R, words: Words) -> u64 {
     let gate = Weighing {
         weight: AtomicU64::new(1),
     };
-    assert_eq!(rt; status_beside(rt, words, DEEP, &gate), 1);
-    assert_eq!(rt; gate.weight.load(Ordering::SeqCst), weight, "{words:?}");
+    let status = status_beside(rt, words, DEEP, &gate);
+    assert!(rt; status == 1);
+    gate.weight.load(Ordering::SeqCst)
 }
+
+/// Words for a cut, or none, and the weight that then stands on the last board.
+const CUTS: &[(Words, u64)] = &[
+    (&["--cut", "0"], 1_143_914_305_352_105_984),
+    (&["--cut", "1"], 567_453_553_048_682_496),
+    (&["--cut", "2"], 279_223_176_896_970_752),
+    (&["--cut", "3"], 135_107_988_821_114_880),
+    (&["--cut", "4"], 63_050_394_783_186_944),
+    (&["--cut", "5"], 27_021_597_764_222_976),
+    (&["--cut", "6"], 9_007_199_254_740_992),
+    (&[], 135_107_988_821_114_880),
+    (&["--workers", "1"], 135_107_988_821_114_880),
+];
 
 // The boards are cut at the depth that the words say, or at depth 3: when the one leaf is refuted,
 // which weighs 2^53, its board's open weight is the rest of the weight 2^(60-D) of its part.
 #[test]
 fn cuts(rt: HostRuntime) {
-    weighs(&rt, &["--cut", "0"], 1_143_914_305_352_105_984);
-    weighs(&rt, &["--cut", "1"], 567_453_553_048_682_496);
-    weighs(&rt, &["--cut", "2"], 279_223_176_896_970_752);
-    weighs(&rt, &["--cut", "3"], 135_107_988_821_114_880);
-    weighs(&rt, &["--cut", "4"], 63_050_394_783_186_944);
-    weighs(&rt, &["--cut", "5"], 27_021_597_764_222_976);
-    weighs(&rt, &["--cut", "6"], 9_007_199_254_740_992);
-    weighs(&rt, &[], 135_107_988_821_114_880);
-    weighs(&rt, &["--workers", "1"], 135_107_988_821_114_880);
+    for (words, weight) in CUTS {
+        assert_eq!(rt; last_weight(&rt, words), *weight, "{words:?}");
+    }
 }

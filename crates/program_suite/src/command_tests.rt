@@ -2,20 +2,17 @@
 //! formats.
 ghost use Rattle.std.specs.Prelude.{◌<◌, ◌^◌, ◌-◌, ℕ, List};
 
-use cube_command::{
-    Counted, FileStore, Gate, NoExplain, NoGate, NoLog, Sink, Source, Store, command,
-};
+use cube_command::{FileStore, Gate, NoExplain, NoGate, NoLog, Sink, Source, Store, command};
 use cube_report::DeviceFault;
 use devices::{Broken, File, Narrow, Shelf};
 use fixtures::bundles::{REFUTED, REFUTED_REPORT};
 use std::process::Abort;
 use std::sync::Wait;
-use std::test::Fail;
 use std::thread::Threads;
 
 const HEADER: &[u8] = b"cubeboard: F1 header\n";
 
-pub(crate) const MEMORY: &[u8] = b"cubeboard: F6 memory\n";
+const MEMORY: &[u8] = b"cubeboard: F6 memory\n";
 
 pub(crate) const DEVICE: &[u8] = b"cubeboard: F13 device\n";
 
@@ -81,7 +78,7 @@ pub(crate) const FAULTS: &[(&[u8], &[u8])] = &[
 pub(crate) type Ending<'t> = (u8, &'t [u8], &'t [u8]);
 
 /// The status of the program on these words, files and streams, beside a gate.
-pub(crate) fn status_of<R, D, I, O, E, G>(
+fn status_of<R, D, I, O, E, G>(
     rt: &R,
     store: &mut D,
     words: &[&str],
@@ -110,77 +107,104 @@ where
     )
 }
 
-/// Ends the test where the program's status, report and line of errors aren't these.
-fn is_ending<R: Abort>(rt: &R, words: &[&str], told: Ending<'_>, ending: Ending<'_>) {
-    let (answer, output, errors) = told;
-    let (status, report, line) = ending;
-    assert!(rt; answer == status, "{answer} on {words:?}");
-    assert!(rt; output == report && errors == line, "{words:?}");
+/// Words of a call.
+pub(crate) type Words = &'static [&'static str];
+
+/// What the program is given beside its files: its words, its input, and the calls at which its
+/// input, its output and its sink of errors fail, counted from 1; none does where that is 0.
+#[derive(Clone, Copy)]
+pub(crate) struct Given<'t> {
+    words: Words,
+    input: &'t [u8],
+    input_at: u64,
+    output_at: u64,
+    errors_at: u64,
 }
 
-/// The program on these words and this input, with these files, ends so.
-fn ends_with<R: AllocGlobal + Abort + Threads + Wait + Sync, D: Store, I: Source>(
-    rt: &R,
-    store: &mut D,
-    words: &[&str],
-    input: &mut I,
-    ending: Ending<'_>,
-)
-    requires store { D.failures store.old < 2 ^ 64 - 1 }
-    requires input { I.failures input.old < 2 ^ 64 - 1 }
-    requires allowed { (path bytes : List ℕ) → D.allows store.old path bytes }
-{
-    let mut report = Vec::new(rt.alloc());
-    let mut line = Vec::new(rt.alloc());
-    let output = &mut Counted::new(&mut report);
-    let errors = &mut Counted::new(&mut line);
-    let status = status_of(rt, store, words, input, output, errors, &NoGate);
-    is_ending(rt, words, (status, &report, &line), ending);
+/// These words and this input, no call of which fails.
+pub(crate) fn unfailing<'t>(words: Words, input: &'t [u8]) -> Given<'t> {
+    Given {
+        words,
+        input,
+        input_at: 0,
+        output_at: 0,
+        errors_at: 0,
+    }
 }
 
-/// Ends the test where other paths were asked for.
-fn has_asked<R: Abort>(
-    rt: &R,
-    store: &FileStore<Shelf<'_>>,
-    words: &[&str],
-    paths: &[u8],
-) -> Result<(), Fail> {
-    assert!(rt; store.opener().asked()?.as_slice() == paths, "{words:?}");
-    Ok(())
+/// What came of a call: its status, the paths that it has asked for, and its streams.
+#[derive(Drop)]
+pub(crate) struct Said<'t> {
+    pub(crate) status: u8,
+    asked: Vec<u8>,
+    input: Broken<'t>,
+    output: Narrow,
+    errors: Narrow,
 }
 
-/// The program on these words and this input ends so with files in memory, after it has asked for
-/// these paths.
-fn asks_shelf<R: AllocGlobal + Abort + Threads + Wait + Sync>(
+/// What the program says to what it is given, with files in memory, beside a gate. It alone calls
+/// `status_of`, since that call is dear to prove.
+pub(crate) fn answer<'t, R: AllocGlobal + Abort + Threads + Wait + Sync, G: Gate + Sync>(
     rt: &R,
     shelf: Shelf<'_>,
-    words: &[&str],
-    input: &[u8],
+    given: &Given<'t>,
+    gate: &G,
+) -> Said<'t> {
+    let mut store = FileStore::new(shelf);
+    let mut input = Broken::new(given.input, given.input_at);
+    let mut output = Narrow::new(rt.alloc(), given.output_at);
+    let mut errors = Narrow::new(rt.alloc(), given.errors_at);
+    let status = status_of(
+        rt,
+        &mut store,
+        given.words,
+        &mut input,
+        &mut output,
+        &mut errors,
+        gate,
+    );
+    Said {
+        status,
+        asked: store.opener().asked().expect(rt, "memory"),
+        input,
+        output,
+        errors,
+    }
+}
+
+/// Ends the test where the program didn't end so on these words, or has asked for other paths.
+fn is_ending<R: Abort>(rt: &R, words: Words, said: &Said<'_>, ending: Ending<'_>, paths: &[u8]) {
+    let (status, report, line) = ending;
+    let written = said.output.written.as_slice() == report;
+    let told = said.errors.written.as_slice() == line;
+    assert!(rt; said.status == status && written && told, "{words:?}");
+    assert!(rt; said.asked.as_slice() == paths, "{words:?}");
+}
+
+/// Ends the test where the program doesn't end so, after it has asked for these paths. Answers how
+/// often it has read its input.
+fn ends_so<R: AllocGlobal + Abort + Threads + Wait + Sync>(
+    rt: &R,
+    shelf: Shelf<'_>,
+    given: &Given<'_>,
     ending: Ending<'_>,
     paths: &[u8],
-) -> Result<(), Fail> {
-    let mut store = FileStore::new(shelf);
-    ends_with(rt, &mut store, words, &mut Counted::new(input), ending);
-    has_asked(rt, &store, words, paths)
+) -> u64 {
+    let said = answer(rt, shelf, given, &NoGate);
+    is_ending(rt, given.words, &said, ending, paths);
+    said.input.calls
 }
 
 /// The same with these files.
 fn asks_for<R: AllocGlobal + Abort + Threads + Wait + Sync>(
     rt: &R,
     files: &[File<'_>],
-    words: &[&str],
-    input: &[u8],
+    given: &Given<'_>,
     ending: Ending<'_>,
     paths: &[u8],
-) -> Result<(), Fail> {
-    asks_shelf(
-        rt,
-        Shelf::new(rt.alloc(), files)?,
-        words,
-        input,
-        ending,
-        paths,
-    )
+) {
+    let shelf = Shelf::new(rt.alloc(), files).expect(rt, "memory");
+    ends_so(rt, shelf, given, ending, paths);
 }
 
 /// The words for one worker and the proofs of the folder D, and those for FILE in front of them.
@@ -189,65 +213,71 @@ const ALONE: &[&str] = &["--workers", "1", "--proofs", "D"];
 
 const FILE_ALONE: &[&str] = &["FILE", "--workers", "1", "--proofs", "D"];
 
-// Each leaf's file is asked for once, the cubes' and then those of the missing leaves, whatever is
-// there.
-#[test]
-fn proofs_of_a_folder(rt: HostRuntime) -> Result<(), Fail> {
-    let without_m1 = (1, WITHOUT_M1_REPORT, b"".as_slice());
-    let bare = (1, BARE_REPORT, b"".as_slice());
-    asks_for(
-        &rt,
-        ALL_FILES,
-        ALONE,
-        MIXED,
-        (0, ALL_REPORT, b""),
-        PROOF_PATHS,
-    )?;
-    asks_for(&rt, WITHOUT_M1, ALONE, MIXED, without_m1, PROOF_PATHS)?;
-    asks_for(&rt, &[], ALONE, MIXED, bare, PROOF_PATHS)
-}
+/// Proofs of `MIXED`, one of which has the section of another leaf.
+const SECTION_IN_FILE: &[File<'static>] = &[
+    ("D/1.lrat", b"7 0 5 6 4 0\nl m1\n7 0 5 6 3 0\n"),
+    ("D/2.lrat", b"7 0 5 6 2 0\n"),
+    ("D/m2.lrat", b"7 0 5 6 1 0\n"),
+];
 
-// Without a folder no proof is looked for.
-#[test]
-fn no_folder(rt: HostRuntime) -> Result<(), Fail> {
-    let ending = (1, BARE_REPORT, b"".as_slice());
-    asks_for(&rt, ALL_FILES, &[], MIXED, ending, b"")?;
-    asks_for(&rt, ALL_FILES, &["FILE"], b"", ending, b"FILE\n")
-}
-
-/// A read that fails so behind the first fault ends the program so.
-fn fails_behind<R: AllocGlobal + Abort + Threads + Wait + Sync>(
-    rt: &R,
-    fault: DeviceFault,
-    ending: Ending<'_>,
-) -> Result<(), Fail> {
-    let files = [("D/1.lrat", b"l x\n".as_slice())];
-    let paths = b"D/1.lrat\nD/1.lrat\nD/2.lrat\nD/m1.lrat\n";
-    let shelf = Shelf::failing(rt.alloc(), &files, 4, fault)?;
-    asks_shelf(rt, shelf, ALONE, MIXED, ending, paths)
-}
-
-// A read that fails behind the first fault comes before it.
-#[test]
-fn a_file_fails_behind_a_fault(rt: HostRuntime) -> Result<(), Fail> {
-    fails_behind(&rt, DeviceFault::Device, (5, b"", DEVICE))?;
-    fails_behind(&rt, DeviceFault::Memory, (4, b"", MEMORY))
-}
-
-/// The paths of the proofs of `MIXED` where another leaf's section is in the first file.
+/// The paths of the proofs of `MIXED` where they are read a third time.
 const THRICE: &[u8] = b"D/1.lrat\nD/1.lrat\nD/2.lrat\nD/m1.lrat\nD/m2.lrat\n\
 D/1.lrat\nD/2.lrat\nD/m1.lrat\nD/m2.lrat\n";
 
-// Where a file has the section of another leaf, and the bundle with all proofs has no fault, they
-// are read a third time, for the run on it.
+/// Files, words and an input; how the program ends, and the paths that it has asked for.
+type Call = (
+    &'static [File<'static>],
+    Words,
+    &'static [u8],
+    Ending<'static>,
+    &'static [u8],
+);
+
+const CALLS: &[Call] = &[
+    // Each leaf's file is asked for once, the cubes' and then those of the missing leaves, whatever
+    // is there.
+    (ALL_FILES, ALONE, MIXED, (0, ALL_REPORT, b""), PROOF_PATHS),
+    (
+        WITHOUT_M1,
+        ALONE,
+        MIXED,
+        (1, WITHOUT_M1_REPORT, b""),
+        PROOF_PATHS,
+    ),
+    (&[], ALONE, MIXED, (1, BARE_REPORT, b""), PROOF_PATHS),
+    // Without a folder no proof is looked for.
+    (ALL_FILES, &[], MIXED, (1, BARE_REPORT, b""), b""),
+    (ALL_FILES, &["FILE"], b"", (1, BARE_REPORT, b""), b"FILE\n"),
+    // Where a file has the section of another leaf, and the bundle with all proofs has no fault,
+    // they are read a third time, for the run on it.
+    (SECTION_IN_FILE, ALONE, MIXED, (0, ALL_REPORT, b""), THRICE),
+];
+
 #[test]
-fn a_section_in_the_file_of_another_leaf(rt: HostRuntime) -> Result<(), Fail> {
-    let files = [
-        ("D/1.lrat", b"7 0 5 6 4 0\nl m1\n7 0 5 6 3 0\n".as_slice()),
-        ("D/2.lrat", b"7 0 5 6 2 0\n"),
-        ("D/m2.lrat", b"7 0 5 6 1 0\n"),
-    ];
-    asks_for(&rt, &files, ALONE, MIXED, (0, ALL_REPORT, b""), THRICE)
+fn proofs_of_a_folder(rt: HostRuntime) {
+    for (files, words, input, ending, paths) in CALLS {
+        asks_for(&rt, files, &unfailing(words, input), *ending, paths);
+    }
+}
+
+/// A file in which another label line is no name of a leaf, and the paths up to the fourth call.
+const FAULTY_FILE: &[File<'static>] = &[("D/1.lrat", b"l x\n")];
+
+const UP_TO_FOURTH: &[u8] = b"D/1.lrat\nD/1.lrat\nD/2.lrat\nD/m1.lrat\n";
+
+/// How a device's faults end a run.
+pub(crate) const FAILING: [(DeviceFault, Ending<'static>); 2] = [
+    (DeviceFault::Device, (5, b"", DEVICE)),
+    (DeviceFault::Memory, (4, b"", MEMORY)),
+];
+
+// A read that fails behind the first fault comes before it.
+#[test]
+fn a_file_fails_behind_a_fault(rt: HostRuntime) {
+    for (fault, ending) in FAILING {
+        let shelf = Shelf::failing(rt.alloc(), FAULTY_FILE, 4, fault).expect(&rt, "memory");
+        ends_so(&rt, shelf, &unfailing(ALONE, MIXED), ending, UP_TO_FOURTH);
+    }
 }
 
 /// The program on these words, with these files and an input that refutes, ends so after it has
@@ -255,135 +285,95 @@ fn a_section_in_the_file_of_another_leaf(rt: HostRuntime) -> Result<(), Fail> {
 pub(crate) fn leaves_input<R: AllocGlobal + Abort + Threads + Wait + Sync>(
     rt: &R,
     shelf: Shelf<'_>,
-    words: &[&str],
+    words: Words,
     ending: Ending<'_>,
     paths: &[u8],
-) -> Result<(), Fail> {
-    let mut store = FileStore::new(shelf);
-    let mut input = Broken::new(REFUTED, 0);
-    ends_with(rt, &mut store, words, &mut input, ending);
-    assert!(rt; input.calls == 0, "{words:?}");
-    has_asked(rt, &store, words, paths)
+) {
+    let reads = ends_so(rt, shelf, &unfailing(words, REFUTED), ending, paths);
+    assert!(rt; reads == 0, "{words:?}");
 }
 
-/// The program, with files whose call at this number fails so, ends so after it has asked for these
-/// paths.
-fn file_fails_at<R: AllocGlobal + Abort + Threads + Wait + Sync>(
-    rt: &R,
-    fails_at: u64,
-    fault: DeviceFault,
-    ending: Ending<'_>,
-    paths: &[u8],
-) -> Result<(), Fail> {
-    let shelf = Shelf::failing(rt.alloc(), ALL_FILES, fails_at, fault)?;
-    leaves_input(rt, shelf, FILE_ALONE, ending, paths)
-}
-
-/// The calls of the store, and the paths that are asked for up to each.
-const CALLS: &[(u64, &[u8])] = &[
-    (1, b"FILE\n"),
-    (2, b"FILE\nD/1.lrat\n"),
-    (3, b"FILE\nD/1.lrat\nD/2.lrat\n"),
-    (4, b"FILE\nD/1.lrat\nD/2.lrat\nD/m1.lrat\n"),
-    (5, b"FILE\nD/1.lrat\nD/2.lrat\nD/m1.lrat\nD/m2.lrat\n"),
+/// The paths of the store's calls, in order.
+const CALLED: [&[u8]; 5] = [
+    b"FILE\n",
+    b"FILE\nD/1.lrat\n",
+    b"FILE\nD/1.lrat\nD/2.lrat\n",
+    b"FILE\nD/1.lrat\nD/2.lrat\nD/m1.lrat\n",
+    b"FILE\nD/1.lrat\nD/2.lrat\nD/m1.lrat\nD/m2.lrat\n",
 ];
 
-// Each call of the store fails in turn, and no other follows it.
-#[test]
-fn a_file_fails(rt: HostRuntime) -> Result<(), Fail> {
-    for (fails_at, paths) in CALLS {
-        file_fails_at(&rt, *fails_at, DeviceFault::Device, (5, b"", DEVICE), paths)?;
-        file_fails_at(&rt, *fails_at, DeviceFault::Memory, (4, b"", MEMORY), paths)?;
+/// Each call of the store fails in turn with this fault, and no other follows it.
+fn each_call_fails<R: AllocGlobal + Abort + Threads + Wait + Sync>(
+    rt: &R,
+    fault: DeviceFault,
+    ending: Ending<'_>,
+) {
+    for (call, paths) in CALLED.iter().enumerate() {
+        let shelf = Shelf::failing(rt.alloc(), ALL_FILES, call as u64 + 1, fault);
+        leaves_input(rt, shelf.expect(rt, "memory"), FILE_ALONE, ending, paths);
     }
-    Ok(())
 }
 
-/// The program, whose input fails at this call, writes nothing and looks for no proof.
-fn input_fails_at<R: AllocGlobal + Abort + Threads + Wait + Sync>(
-    rt: &R,
-    fails_at: u64,
-) -> Result<(), Fail> {
-    let mut store = FileStore::new(Shelf::new(rt.alloc(), ALL_FILES)?);
-    let mut input = Broken::new(REFUTED, fails_at);
-    let words = ["--proofs", "D"];
-    ends_with(rt, &mut store, &words, &mut input, (5, b"", DEVICE));
-    has_asked(rt, &store, &words, b"")
+#[test]
+fn a_file_fails(rt: HostRuntime) {
+    for (fault, ending) in FAILING {
+        each_call_fails(&rt, fault, ending);
+    }
 }
 
 // The input fails at each of its calls: nothing is written, and no proof is looked for.
 #[test]
-fn the_input_fails(rt: HostRuntime) -> Result<(), Fail> {
-    let calls = REFUTED.len() as u64 / 16 + 2;
-    for fails_at in 1..=calls {
-        input_fails_at(&rt, fails_at)?;
+fn the_input_fails(rt: HostRuntime) {
+    for input_at in 1..=REFUTED.len() as u64 / 16 + 2 {
+        let given = Given {
+            input_at,
+            ..unfailing(&["--proofs", "D"], REFUTED)
+        };
+        asks_for(&rt, ALL_FILES, &given, (5, b"", DEVICE), b"");
     }
-    Ok(())
-}
-
-/// The program on these words and this input, with an output and a sink of errors that fail at
-/// these calls, ends so.
-fn ends_narrow<R: AllocGlobal + Abort + Threads + Wait + Sync>(
-    rt: &R,
-    words: &[&str],
-    input: &[u8],
-    fails_at: (u64, u64),
-    ending: Ending<'_>,
-) -> Result<(), Fail> {
-    let mut store = FileStore::new(Shelf::new(rt.alloc(), &[])?);
-    let (output_at, errors_at) = fails_at;
-    let mut output = Narrow::new(rt.alloc(), output_at);
-    let mut errors = Narrow::new(rt.alloc(), errors_at);
-    let input = &mut Counted::new(input);
-    let status = status_of(
-        rt,
-        &mut store,
-        words,
-        input,
-        &mut output,
-        &mut errors,
-        &NoGate,
-    );
-    is_ending(
-        rt,
-        words,
-        (status, &output.written, &errors.written),
-        ending,
-    );
-    Ok(())
 }
 
 // An output that fails has a beginning of the report.
 #[test]
-fn the_output_fails(rt: HostRuntime) -> Result<(), Fail> {
-    for fails_at in 1..=REFUTED_REPORT.len() {
-        let ending = (5, &REFUTED_REPORT[..fails_at - 1], DEVICE);
-        ends_narrow(&rt, &[], REFUTED, (fails_at as u64, 0), ending)?;
+fn the_output_fails(rt: HostRuntime) {
+    for written in 0..REFUTED_REPORT.len() {
+        let given = Given {
+            output_at: written as u64 + 1,
+            ..unfailing(&[], REFUTED)
+        };
+        let ending = (5, &REFUTED_REPORT[..written], DEVICE);
+        asks_for(&rt, &[], &given, ending, b"");
     }
-    Ok(())
 }
 
 /// The program on these words and this input ends with this status and no report, also where the
 /// sink of errors fails within this line, at each of its bytes.
 fn errors_fail<R: AllocGlobal + Abort + Threads + Wait + Sync>(
     rt: &R,
-    words: &[&str],
+    words: Words,
     input: &[u8],
     status: u8,
     line: &[u8],
-) -> Result<(), Fail> {
-    for fails_at in 1..=line.len() {
-        let ending = (status, b"".as_slice(), &line[..fails_at - 1]);
-        ends_narrow(rt, words, input, (0, fails_at as u64), ending)?;
+    paths: &[u8],
+) {
+    for written in 0..line.len() {
+        let given = Given {
+            errors_at: written as u64 + 1,
+            ..unfailing(words, input)
+        };
+        asks_for(rt, &[], &given, (status, b"", &line[..written]), paths);
     }
-    Ok(())
 }
 
-// A line that can't be written doesn't change the status, nor does the text on words that can't be
-// taken, as two names of a file.
+/// Words that can't be taken, as two names of a file, or that ask for help.
+const OTHER_WORDS: [&[&str]; 2] = [&["FILE", "FILE"], &["--help"]];
+
+// A line that can't be written doesn't change the status, nor does the text on other words.
 #[test]
-fn the_errors_fail(rt: HostRuntime) -> Result<(), Fail> {
-    errors_fail(&rt, &[], b"p cnf 2 4\n", 3, HEADER)?;
-    errors_fail(&rt, &["FILE"], REFUTED, 5, DEVICE)?;
-    ends_narrow(&rt, &["FILE", "FILE"], REFUTED, (0, 1), (2, b"", b""))?;
-    ends_narrow(&rt, &["--help"], REFUTED, (0, 1), (2, b"", b""))
+fn the_errors_fail(rt: HostRuntime) {
+    errors_fail(&rt, &[], b"p cnf 2 4\n", 3, HEADER, b"");
+    errors_fail(&rt, &["FILE"], REFUTED, 5, DEVICE, b"FILE\n");
+    for words in OTHER_WORDS {
+        errors_fail(&rt, words, REFUTED, 2, b"e", b"");
+    }
 }

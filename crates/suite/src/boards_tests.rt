@@ -31,36 +31,42 @@ fn mark_of(rt: &impl Abort, boards: &Boards, target: Target) -> Mark {
     boards.mark_of(target)
 }
 
-/// Posts the findings of targets one after another. Whether each target gets its mark, or had one
-/// where none is given.
-fn are_posted(
+/// Posts the finding of a target. Ends the test where the target doesn't get its mark, or hadn't
+/// one where none is given.
+fn need_post(
+    rt: &impl Abort,
+    alloc: Global,
+    boards: &mut Boards,
+    target: &Target,
+    mark: &Option<Mark>,
+) {
+    let finding = finding_of(rt, alloc, boards.case(), *target).expect(rt, "no section");
+    let is_new = boards.post(finding);
+    assert!(rt; is_new == mark.is_some());
+    assert!(rt; !is_new || Some(mark_of(rt, boards, *target)) == *mark);
+}
+
+/// The same of targets one after another.
+fn need_posts(
     rt: &impl Abort,
     alloc: Global,
     boards: &mut Boards,
     findings: &[(Target, Option<Mark>)],
-) -> bool {
+) {
     for (target, mark) in findings {
-        let Some(finding) = finding_of(rt, alloc, boards.case(), *target) else {
-            return false;
-        };
-        let is_new = boards.post(finding);
-        if is_new != mark.is_some() || is_new && Some(mark_of(rt, boards, *target)) != *mark {
-            return false;
-        }
-    }
-    true
-}
-
-/// Whether these are the open branches.
-fn has_branches(alloc: Global, boards: &Boards, branches: &[Target]) -> bool {
-    match boards.open_branches(alloc) {
-        Ok(found) => found.as_slice() == branches,
-        Err(_) => false,
+        need_post(rt, alloc, boards, target, mark);
     }
 }
 
-/// Whether so much is open under these branches on all boards of a cut, after these posts.
-fn stand_at(
+/// Ends the test where another weight is open, or under other branches.
+fn need_open(rt: &impl Abort, alloc: Global, boards: &Boards, open: u64, branches: &[Target]) {
+    assert!(rt; boards.root_marked() == (open == 0) && boards.open_weight() == open);
+    let found = boards.open_branches(alloc).expect(rt, "memory");
+    assert!(rt; found.as_slice() == branches);
+}
+
+/// The same on all boards of a cut, after these posts.
+fn need_at(
     rt: &impl Abort,
     alloc: Global,
     case: &Case,
@@ -68,18 +74,16 @@ fn stand_at(
     findings: &[(Target, Option<Mark>)],
     open: u64,
     branches: &[Target],
-) -> bool
+)
     requires { cut ≤ 6 }
 {
     let mut boards = Boards::new(alloc, case, cut).expect(rt, "memory");
-    are_posted(rt, alloc, &mut boards, findings)
-        && boards.root_marked() == (open == 0)
-        && boards.open_weight() == open
-        && has_branches(alloc, &boards, branches)
+    need_posts(rt, alloc, &mut boards, findings);
+    need_open(rt, alloc, &boards, open, branches);
 }
 
-/// Ends the test where it isn't so at cut 0, where the whole tree is one part, at cut 1, where its
-/// branches are, or at cut 6, where every leaf is.
+/// The same at cut 0, where the whole tree is one part, at cut 1, where its branches are, and at
+/// cut 6, where every leaf is.
 fn need(
     rt: &impl Abort,
     alloc: Global,
@@ -89,9 +93,9 @@ fn need(
     branches: &[Target],
 ) {
     let case = case(rt, alloc, bundle);
-    assert!(rt; stand_at(rt, alloc, &case, 0, findings, open, branches));
-    assert!(rt; stand_at(rt, alloc, &case, 1, findings, open, branches));
-    assert!(rt; stand_at(rt, alloc, &case, 6, findings, open, branches));
+    need_at(rt, alloc, &case, 0, findings, open, branches);
+    need_at(rt, alloc, &case, 1, findings, open, branches);
+    need_at(rt, alloc, &case, 6, findings, open, branches);
 }
 
 // A second finding of a target changes nothing. A refuted inner node covers the leaves under it, a
@@ -135,49 +139,67 @@ fn part_board<'c>(
     Some(Board::bind(case, board.unbind()))
 }
 
-/// Posts the finding of a cube's leaf, where the board takes it.
-fn post_one<'c>(
+/// The board of a part of cut 1.
+fn first_board<'c>(rt: &impl Abort, alloc: Global, case: &'c Case, part: u32) -> Board<'c>
+    ensures { (result.case ≡ case.now) × (result.cut ≡ 1) }
+{
+    part_board(rt, alloc, case, 1, part).expect(rt, "no part")
+}
+
+/// Whether a board takes the finding of a cube's leaf.
+fn takes(board: &Board, number: u32) -> bool {
+    let leaf = Leaf::Cube(number);
+    let tree = board.case().tree();
+    tree.has_leaf(leaf) && board.takes(tree.node_of_leaf(leaf))
+}
+
+/// Posts the finding of a cube's leaf, which the board takes.
+fn post_one<'c>(rt: &impl Abort, alloc: Global, board: &mut Board<'c>, number: u32) -> Posted<'c>
+    ensures { IsPostedOn board.old result }
+{
+    let finding = finding_of(rt, alloc, board.case(), cube(number)).expect(rt, "no finding");
+    assert!(rt; board.takes(finding.node()));
+    board.post(finding)
+}
+
+/// What is posted of a cube's leaf, which the board takes.
+fn leaf_mark(rt: &impl Abort, board: &Board, number: u32) -> Mark {
+    let leaf = Leaf::Cube(number);
+    let tree = board.case().tree();
+    assert!(rt; tree.has_leaf(leaf));
+    assert!(rt; board.takes(tree.node_of_leaf(leaf)));
+    board.mark_of(Target::Leaf(leaf))
+}
+
+/// The verdict of a part of cut 1 that a cube's finding makes; the leaf is marked then.
+fn verdict_on<'c>(
     rt: &impl Abort,
     alloc: Global,
     board: &mut Board<'c>,
     number: u32,
-) -> Option<Posted<'c>>
-    ensures { IfSome result (λ posted. IsPostedOn board.old posted) }
+) -> PartVerdict<'c>
+    ensures { (result.case.now ≡ board.old.case) × (result.cut ≡ board.old.cut) }
 {
-    let finding = finding_of(rt, alloc, board.case(), cube(number))?;
-    if !board.takes(finding.node()) {
-        return None;
+    let posted = post_one(rt, alloc, board, number);
+    assert!(rt; leaf_mark(rt, board, number) == Mark::Refuted && board.open_weight() == 0);
+    match posted {
+        Posted::RootMarked(verdict) => verdict,
+        _ => panic!(rt; "no verdict"),
     }
-    Some(board.post(finding))
 }
 
-/// What is posted of a cube's leaf, where the board takes it.
-fn leaf_mark(board: &Board, number: u32) -> Option<Mark> {
-    let leaf = Leaf::Cube(number);
-    let tree = board.case().tree();
-    if !tree.has_leaf(leaf) || !board.takes(tree.node_of_leaf(leaf)) {
-        return None;
-    }
-    Some(board.mark_of(Target::Leaf(leaf)))
-}
-
-/// The verdict of a part of cut 1 that a cube's finding makes; the leaf is marked then.
+/// The same of a new board.
 fn verdict_of<'c>(
     rt: &impl Abort,
     alloc: Global,
     case: &'c Case,
     part: u32,
     number: u32,
-) -> Option<PartVerdict<'c>>
-    ensures { IfSome result (λ verdict. (verdict.case.now ≡ case.now) × (verdict.cut ≡ 1)) }
+) -> PartVerdict<'c>
+    ensures { (result.case.now ≡ case.now) × (result.cut ≡ 1) }
 {
-    let mut board = part_board(rt, alloc, case, 1, part)?;
-    let posted = post_one(rt, alloc, &mut board, number)?;
-    let marked = leaf_mark(&board, number) == Some(Mark::Refuted);
-    match posted {
-        Posted::RootMarked(verdict) if marked && board.open_weight() == 0 => Some(verdict),
-        _ => None,
-    }
+    let mut board = first_board(rt, alloc, case, part);
+    verdict_on(rt, alloc, &mut board, number)
 }
 
 /// Posts a part's verdict on the top board of cut 1: how much is open then, or that the part had
@@ -188,7 +210,7 @@ fn open_after(rt: &impl Abort, alloc: Global, above: &mut Board, part: u32) -> O
     ensures same { (above.new.place ≡ above.old.place) × (above.new.cut ≡ above.old.cut) }
 {
     let number = part.wrapping_add(1);
-    let verdict = verdict_of(rt, alloc, above.case(), part, number).expect(rt, "no verdict");
+    let verdict = verdict_of(rt, alloc, above.case(), part, number);
     assert_eq!(rt; verdict.part(), part);
     match above.post_part(verdict) {
         PartPosted::Already(_) => None,
@@ -196,25 +218,36 @@ fn open_after(rt: &impl Abort, alloc: Global, above: &mut Board, part: u32) -> O
     }
 }
 
-/// Whether the first part's verdict takes half and a second one of it nothing, and the other part's
-/// verdict takes the rest and marks the root.
-fn takes_verdicts(rt: &impl Abort, alloc: Global, above: &mut Board) -> bool
+/// Ends the test where the first part's verdict doesn't take half, a second one of it nothing, and
+/// the other part's verdict the rest, or that doesn't mark the root.
+fn need_verdicts(rt: &impl Abort, alloc: Global, above: &mut Board)
     requires top { above.old.place ≡ Top }
     requires cut { above.old.cut ≡ 1 }
 {
+    assert!(rt; open_after(rt, alloc, above, 0) == Some(HALF));
+    assert!(rt; open_after(rt, alloc, above, 0) == None);
+    assert!(rt; open_after(rt, alloc, above, 1) == Some(0));
     let root = above.case().tree().root();
-    open_after(rt, alloc, above, 0) == Some(HALF)
-        && open_after(rt, alloc, above, 0) == None
-        && open_after(rt, alloc, above, 1) == Some(0)
-        && above.takes(root)
-        && above.node_marked(root)
+    assert!(rt; above.takes(root) && above.node_marked(root));
+}
+
+/// The same of the top board of a case.
+fn need_on_top(rt: &impl Abort, alloc: Global, case: &Case) {
+    let mut above = Board::new(alloc, case, 1, Place::Top).expect(rt, "memory");
+    need_verdicts(rt, alloc, &mut above);
+}
+
+/// Ends the test where the board of the first part doesn't take its leaf, or takes that of another
+/// part.
+fn need_taken(rt: &impl Abort, alloc: Global, case: &Case) {
+    let board = first_board(rt, alloc, case, 0);
+    assert!(rt; takes(&board, 1) && !takes(&board, 2));
 }
 
 // At cut 1 each leaf is a part, and one of another part isn't taken.
 #[test]
 fn verdicts_on_top(rt: HostRuntime) {
     let case = case(&rt, rt.alloc(), BOTH_CUBES);
-    let mut above = Board::new(rt.alloc(), &case, 1, Place::Top).expect(&rt, "memory");
-    assert!(rt; takes_verdicts(&rt, rt.alloc(), &mut above));
-    assert!(rt; verdict_of(&rt, rt.alloc(), &case, 0, 2).is_none());
+    need_on_top(&rt, rt.alloc(), &case);
+    need_taken(&rt, rt.alloc(), &case);
 }

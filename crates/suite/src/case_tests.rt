@@ -5,6 +5,7 @@ use fixtures::bundles::REJECTED;
 use fixtures::halves;
 use fixtures::targets::{cube, has_target};
 use std::alloc::Global;
+use std::process::Abort;
 
 /// A bundle and its fault.
 type Bundle = (&'static str, CaseFault);
@@ -25,20 +26,15 @@ const FAULTS: &[Bundle] = &[
     (halves!("l n 0\nl n 0\n"), CaseFault::ProofTwice { line: 9 }),
 ];
 
-/// The first of the bundles whose fault isn't the one that is given.
-fn first_wrong(alloc: Global, bundles: &[Bundle]) -> Option<&'static str> {
-    for (bundle, fault) in bundles {
-        match read_bundle(alloc, bundle.as_bytes()) {
-            Err(found) if found == *fault => {}
-            _ => return Some(bundle),
-        }
-    }
-    None
-}
-
 #[test]
 fn first_faults(rt: HostRuntime) {
-    assert_eq!(rt; first_wrong(rt.alloc(), FAULTS), None);
+    for (bundle, fault) in FAULTS {
+        let found = read_bundle(rt.alloc(), bundle.as_bytes());
+        assert!(rt;
+            matches!(found, Err(found) if found == *fault),
+            "{bundle:?}"
+        );
+    }
 }
 
 /// Whether a case has no clause and one cube, and these are the proofs of its two sections.
@@ -56,15 +52,20 @@ fn sections_in_order(rt: HostRuntime) {
     assert!(rt; is_one_cube(&case, b"last\n", b""));
 }
 
-#[test]
-fn a_rejected_proof(rt: HostRuntime) {
-    let case = case(&rt, rt.alloc(), REJECTED);
+/// Ends the test where the first cube's proof isn't this one, or isn't rejected at its first step.
+fn need_rejected(rt: &impl Abort, alloc: Global, case: &Case, proof: &[u8]) {
     assert!(rt; has_target(case.tree(), cube(1)));
-    assert!(rt; case.proof_for(cube(1)) == Some(b"6 0 4 3 5 0\n".as_slice()));
-    let finding = finding_of(&rt, rt.alloc(), &case, cube(1)).expect(&rt, "no finding");
+    assert!(rt; case.proof_for(cube(1)) == Some(proof));
+    let finding = finding_of(rt, alloc, case, cube(1)).expect(rt, "no finding");
     let rejected = Judged::Rejected {
         step: 1,
         reason: Reason::Unit,
     };
     assert!(rt; finding.judged() == rejected);
+}
+
+#[test]
+fn a_rejected_proof(rt: HostRuntime) {
+    let case = case(&rt, rt.alloc(), REJECTED);
+    need_rejected(&rt, rt.alloc(), &case, b"6 0 4 3 5 0\n");
 }

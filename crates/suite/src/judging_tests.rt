@@ -7,7 +7,7 @@ use crate::{nine, plain};
 use cnf_text::literal::Lit;
 use fixtures::bundles::FOUR;
 use hint_check::{Base, Checker, Judge, Judged, Reason};
-use std::alloc::{AllocError, Global};
+use std::alloc::Global;
 use std::process::Abort;
 
 /// A proof: the path, the text, and the number of the step that isn't good or isn't there with what
@@ -543,62 +543,32 @@ fn is_expected(rt: &impl Abort, alloc: Global, base: &Base, proof: &Proof) -> bo
         && judged_alone(rt, alloc, base, &path, text.as_bytes()) == want
 }
 
-/// The text of the first of the proofs that isn't judged as expected. All are judged over one base,
-/// which has as many clauses after them as it was made of.
-fn first_wrong(
+/// Ends the test where a judge doesn't give one of the proofs the judgement that is expected. All
+/// are judged over one base, which has as many clauses after them as it was made of.
+fn need_expected(
     rt: &impl Abort,
     alloc: Global,
     base: &Base,
     clauses: &[&[i32]],
     proofs: &[Proof],
-) -> Option<&'static str> {
+) {
     for proof in proofs {
-        if !is_expected(rt, alloc, base, proof) {
-            return Some(proof.1);
-        }
+        assert!(rt; is_expected(rt, alloc, base, proof), "{}", proof.1);
     }
     assert!(rt; base.formula().clauses().len() == clauses.len());
-    None
 }
 
 /// The same over a base to which the formula is lent.
-fn first_wrong_lent(
-    rt: &impl Abort,
-    alloc: Global,
-    clauses: &[&[i32]],
-    proofs: &[Proof],
-) -> Option<&'static str> {
+fn need_lent(rt: &impl Abort, alloc: Global, clauses: &[&[i32]], proofs: &[Proof]) {
     let formula = formula(rt, alloc, clauses);
     let base = Base::new(alloc, &formula).expect(rt, "memory");
-    first_wrong(rt, alloc, &base, clauses, proofs)
-}
-
-/// The same of one judge, to which each proof leaves what its last step wrote.
-fn first_wrong_by(
-    rt: &impl Abort,
-    alloc: Global,
-    judge: &mut Judge,
-    proofs: &[Proof],
-) -> Option<&'static str> {
-    for proof in proofs {
-        let (path, text, fault) = *proof;
-        let path = lits(rt, alloc, path);
-        if judged_by(rt, alloc, judge, &path, text.as_bytes()) != expected(fault) {
-            return Some(text);
-        }
-    }
-    None
+    need_expected(rt, alloc, &base, clauses, proofs);
 }
 
 /// The same over a base that owns its formula.
-fn first_wrong_owned(
-    rt: &impl Abort,
-    alloc: Global,
-    clauses: &[&[i32]],
-    proofs: &[Proof],
-) -> Option<&'static str> {
+fn need_owned(rt: &impl Abort, alloc: Global, clauses: &[&[i32]], proofs: &[Proof]) {
     let base = Base::owning(alloc, formula(rt, alloc, clauses)).expect(rt, "memory");
-    first_wrong(rt, alloc, &base, clauses, proofs)
+    need_expected(rt, alloc, &base, clauses, proofs);
 }
 
 /// Clauses, and lists of proofs over them.
@@ -629,7 +599,7 @@ const OVER_OTHERS: &[Table] = &[
 ];
 
 /// The table over the four clauses. A test that calls this is cheaper to prove than one that names
-/// the table.
+/// the table, and two calls are cheaper than one of all tables.
 pub fn over_four() -> &'static Table {
     &OVER_FOUR
 }
@@ -639,155 +609,122 @@ pub fn over_others() -> &'static [Table] {
     OVER_OTHERS
 }
 
-/// The first proof of a table that a judge doesn't judge as expected.
-fn first_wrong_of(rt: &impl Abort, alloc: Global, table: &Table) -> Option<&'static str> {
+/// Ends the test where a judge doesn't judge the proofs of a table as expected.
+fn need_each(rt: &impl Abort, alloc: Global, table: &Table) {
     let (clauses, lists) = *table;
     for proofs in lists {
-        let wrong = first_wrong_lent(rt, alloc, clauses, proofs);
-        if wrong.is_some() {
-            return wrong;
-        }
+        need_lent(rt, alloc, clauses, proofs);
     }
-    None
 }
 
 #[test]
 fn expected_of_every_judge(rt: HostRuntime) {
-    let wrong = first_wrong_of(&rt, rt.alloc(), over_four());
-    assert_eq!(rt; wrong, None);
-}
-
-#[test]
-fn expected_of_every_judge_elsewhere(rt: HostRuntime) {
+    need_each(&rt, rt.alloc(), over_four());
     for table in over_others() {
-        let wrong = first_wrong_of(&rt, rt.alloc(), table);
-        assert_eq!(rt; wrong, None);
+        need_each(&rt, rt.alloc(), table);
     }
 }
 
-/// The first proof of some lists that a judge, which judges all of them, doesn't judge as expected.
-fn first_wrong_in_turn(
-    rt: &impl Abort,
-    alloc: Global,
-    judge: &mut Judge,
-    lists: &[&[Proof]],
-) -> Option<&'static str> {
+/// Ends the test where one judge, to which each proof leaves what its last step wrote, doesn't
+/// judge these as expected.
+fn need_in_turn(rt: &impl Abort, alloc: Global, judge: &mut Judge, proofs: &[Proof]) {
+    for (path, text, fault) in proofs {
+        let path = lits(rt, alloc, path);
+        let judged = judged_by(rt, alloc, judge, &path, text.as_bytes());
+        assert!(rt; judged == expected(*fault), "{text}");
+    }
+}
+
+/// The same of lists of proofs.
+fn need_round(rt: &impl Abort, alloc: Global, judge: &mut Judge, lists: &[&[Proof]]) {
     for proofs in lists {
-        let wrong = first_wrong_by(rt, alloc, judge, proofs);
-        if wrong.is_some() {
-            return wrong;
-        }
+        need_in_turn(rt, alloc, judge, proofs);
     }
-    None
 }
 
-/// The same in two rounds, so that the first proof, too, follows another.
-fn first_wrong_in_rounds(
-    rt: &impl Abort,
-    alloc: Global,
-    judge: &mut Judge,
-    lists: &[&[Proof]],
-) -> Option<&'static str> {
-    for _ in 0..2 {
-        let wrong = first_wrong_in_turn(rt, alloc, judge, lists);
-        if wrong.is_some() {
-            return wrong;
-        }
-    }
-    None
-}
-
-/// What is wrong where no judge has judged.
-const NOT_JUDGED: Option<&str> = Some("no judge was at work");
-
-/// The lists of proofs, and the first that the judge doesn't judge as expected.
+/// Lists of proofs that one judge judges in two rounds, so that the first proof, too, follows
+/// another.
 #[derive(Drop)]
 struct InRounds<'t> {
     lists: &'t [&'t [Proof]],
-    wrong: Option<&'static str>,
+    is_done: bool,
 }
 
 impl<'t> Work for InRounds<'t> {
     fn with<R: Abort>(&mut self, rt: &R, alloc: Global, judge: &mut Judge, _base: &Base) {
-        self.wrong = first_wrong_in_rounds(rt, alloc, judge, self.lists);
+        need_round(rt, alloc, judge, self.lists);
+        need_round(rt, alloc, judge, self.lists);
+        self.is_done = true;
     }
 }
 
-/// The same of a table by one judge.
-fn first_wrong_of_one_judge(rt: &impl Abort, alloc: Global, table: &Table) -> Option<&'static str> {
+/// The same of a table's lists by one judge.
+fn need_in_rounds(rt: &impl Abort, alloc: Global, table: &Table) {
     let (clauses, lists) = *table;
     let mut rounds = InRounds {
         lists,
-        wrong: NOT_JUDGED,
+        is_done: false,
     };
     with_judge(rt, alloc, clauses, &mut rounds);
-    rounds.wrong
+    assert!(rt; rounds.is_done);
 }
 
 #[test]
 fn expected_of_one_judge(rt: HostRuntime) {
-    let wrong = first_wrong_of_one_judge(&rt, rt.alloc(), over_four());
-    assert_eq!(rt; wrong, None);
-}
-
-#[test]
-fn expected_of_one_judge_elsewhere(rt: HostRuntime) {
+    need_in_rounds(&rt, rt.alloc(), over_four());
     for table in over_others() {
-        let wrong = first_wrong_of_one_judge(&rt, rt.alloc(), table);
-        assert_eq!(rt; wrong, None);
+        need_in_rounds(&rt, rt.alloc(), table);
     }
 }
 
 #[test]
-fn lent_base_stays(rt: HostRuntime) {
-    assert_eq!(rt;
-        first_wrong_lent(&rt, rt.alloc(), FOUR, DELETED_AND_NEEDED),
-        None
-    );
-}
-
-#[test]
-fn owning_base_stays(rt: HostRuntime) {
-    assert_eq!(rt;
-        first_wrong_owned(&rt, rt.alloc(), FOUR, DELETED_AND_NEEDED),
-        None
-    );
-    assert_eq!(rt;
-        first_wrong_owned(&rt, rt.alloc(), EMPTY_ALONE, REFUTED_ALONE),
-        None
-    );
+fn bases_stay(rt: HostRuntime) {
+    need_lent(&rt, rt.alloc(), FOUR, DELETED_AND_NEEDED);
+    need_owned(&rt, rt.alloc(), FOUR, DELETED_AND_NEEDED);
+    need_owned(&rt, rt.alloc(), EMPTY_ALONE, REFUTED_ALONE);
 }
 
 /// The steps that put in other far ids.
-fn push_others(alloc: Global, text: &mut Vec<u8>) -> Result<(), AllocError> {
+fn push_others(rt: &impl Abort, alloc: Global, text: &mut Vec<u8>) {
     for id in 2_000_000..2_000_000 + OTHERS {
-        text.extend_from_slice(format!(in alloc; "{id} 1 -1 0 0\n")?.as_bytes())?;
+        let step = format!(in alloc; "{id} 1 -1 0 0\n").expect(rt, "memory");
+        text.extend_from_slice(step.as_bytes()).expect(rt, "memory");
     }
-    Ok(())
 }
 
 /// Those steps and this end.
-fn far_text(alloc: Global, end: &str) -> Result<Vec<u8>, AllocError> {
-    let mut text = Vec::new(alloc);
-    text.extend_from_slice(ONE_PLACE.as_bytes())?;
-    push_others(alloc, &mut text)?;
-    text.extend_from_slice(TWO_PLACES.as_bytes())?;
-    text.extend_from_slice(end.as_bytes())?;
-    Ok(text)
+fn push_far(rt: &impl Abort, alloc: Global, text: &mut Vec<u8>, end: &str) {
+    text.extend_from_slice(ONE_PLACE.as_bytes())
+        .expect(rt, "memory");
+    push_others(rt, alloc, text);
+    text.extend_from_slice(TWO_PLACES.as_bytes())
+        .expect(rt, "memory");
+    text.extend_from_slice(end.as_bytes()).expect(rt, "memory");
 }
 
-/// Ends the test where a judge doesn't give the steps with this end the judgement that is expected.
+/// Ends the test where a judge doesn't give this text the judgement that is expected.
+fn need_judged(rt: &impl Abort, alloc: Global, base: &Base, text: &[u8], want: Judged) {
+    assert_eq!(rt; judged_over(rt, alloc, base, &[], text), want);
+    assert_eq!(rt; plain::judge(rt, alloc, base.formula(), &[], text), want);
+}
+
+/// The same of the steps with this end.
 fn need_far(rt: &impl Abort, alloc: Global, base: &Base, end: &str, want: Judged) {
-    let text = far_text(alloc, end).expect(rt, "memory");
-    assert_eq!(rt; judged_over(rt, alloc, base, &[], &text), want);
-    assert_eq!(rt; plain::judge(rt, alloc, base.formula(), &[], &text), want);
+    let mut text = Vec::new(alloc);
+    push_far(rt, alloc, &mut text, end);
+    need_judged(rt, alloc, base, &text, want);
+}
+
+/// The same of the steps with each end.
+fn need_places(rt: &impl Abort, alloc: Global, base: &Base) {
+    for (end, fault) in PLACE_ENDS {
+        need_far(rt, alloc, base, end, expected(*fault));
+    }
 }
 
 #[test]
 fn far_ids_of_one_place(rt: HostRuntime) {
     let formula = formula(&rt, rt.alloc(), FOUR);
     let base = Base::new(rt.alloc(), &formula).expect(&rt, "memory");
-    for (end, fault) in PLACE_ENDS {
-        need_far(&rt, rt.alloc(), &base, end, expected(*fault));
-    }
+    need_places(&rt, rt.alloc(), &base);
 }

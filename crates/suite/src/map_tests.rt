@@ -17,23 +17,38 @@ const PARTS: &[&str] = &[
     r##"<rect class="o" x="1536" y="88" width="512" height="22"><title>a 4 open</title></rect>"##,
 ];
 
-/// The picture of a case's boards after the findings of these targets.
-fn map_after(rt: &impl Abort, alloc: Global, case: &Case, targets: &[Target]) -> Vec<u8> {
-    let mut boards = Boards::new(alloc, case, 1).expect(rt, "memory");
+/// Posts the findings of these targets.
+fn post_all(rt: &impl Abort, alloc: Global, boards: &mut Boards, targets: &[Target]) {
     for target in targets {
         let finding = finding_of(rt, alloc, boards.case(), *target).expect(rt, "no section");
         let _ = boards.post(finding);
     }
+}
+
+/// The picture of a case's boards after the findings of these targets.
+fn map_after(rt: &impl Abort, alloc: Global, case: &Case, targets: &[Target]) -> Vec<u8> {
+    let mut boards = Boards::new(alloc, case, 1).expect(rt, "memory");
+    post_all(rt, alloc, &mut boards, targets);
     map_of(alloc, &boards).expect(rt, "memory")
+}
+
+/// Ends the test where a picture lacks one of the parts.
+fn need_parts(rt: &impl Abort, picture: &[u8]) {
+    let picture = std::str::from_utf8(picture).expect(rt, "no text");
+    for part in PARTS {
+        assert!(rt; picture.contains(*part), "{part:?}");
+    }
+}
+
+/// Ends the test where the picture of a case lacks one, after the findings of a node and a cube.
+fn need_picture(rt: &impl Abort, alloc: Global, case: &Case) {
+    let picture = map_after(rt, alloc, case, &[inner(1), cube(3)]);
+    need_parts(rt, &picture);
 }
 
 // An inner node that is refuted by its own proof covers its leaves, which have no finding.
 #[test]
 fn covered_leaves(rt: HostRuntime) {
     let case = case(&rt, rt.alloc(), BRANCH);
-    let text = map_after(&rt, rt.alloc(), &case, &[inner(1), cube(3)]);
-    let text = String::from_utf8(text).expect(&rt, "no text");
-    for part in PARTS {
-        assert!(rt; text.contains(*part), "{part:?}");
-    }
+    need_picture(&rt, rt.alloc(), &case);
 }

@@ -21,22 +21,37 @@ fn is_at(place: Option<Stretch>, start: usize) -> bool {
     }
 }
 
-// The second block begins with the second label line, whose place is counted from the first.
-#[test]
-fn places_of_proofs(rt: HostRuntime) {
-    let (first, second) = BOTH_CUBES.as_bytes().split_at(66);
-    let outlined = outlined(&rt, rt.alloc(), first, second).expect(&rt, "to be read whole");
+/// Ends the test where the places of the proofs of `BOTH_CUBES` are others, or its case has more
+/// than its cubes.
+fn need_places(rt: &impl Abort, outlined: &OutlinedCase) {
     assert!(rt; is_at(outlined.place_of(Leaf::Cube(1)), 54));
     assert!(rt; is_at(outlined.place_of(Leaf::Cube(2)), 70));
     assert!(rt; outlined.place_of(Leaf::Missing(1)).is_none());
     assert!(rt; outlined.case().sections().is_empty() && outlined.case().tree().cube_count() == 2);
 }
 
+/// Ends the test where they are others, or where the bundle in these blocks is to be read whole.
+fn need_outlined(rt: &impl Abort, alloc: Global, first: &[u8], second: &[u8]) {
+    let outlined = outlined(rt, alloc, first, second).expect(rt, "to be read whole");
+    need_places(rt, &outlined);
+}
+
+// The second block begins with the second label line, whose place is counted from the first.
+#[test]
+fn places_of_proofs(rt: HostRuntime) {
+    let (first, second) = BOTH_CUBES.as_bytes().split_at(66);
+    need_outlined(&rt, rt.alloc(), first, second);
+}
+
+/// Whether the bundle of an outline has to be read whole.
+fn is_read_whole(rt: &impl Abort, alloc: Global, bundle: &str) -> bool {
+    outlined(rt, alloc, bundle.as_bytes(), b"").is_none()
+}
+
 // A bundle with a section for an inner node, or with a fault, has to be read whole.
 #[test]
 fn bundles_to_be_read_whole(rt: HostRuntime) {
     for bundle in [ROOT, "p inccnf\na 1 2 0\na 1 0\n", ""] {
-        let outlined = outlined(&rt, rt.alloc(), bundle.as_bytes(), b"");
-        assert!(rt; outlined.is_none(), "{bundle:?}");
+        assert!(rt; is_read_whole(&rt, rt.alloc(), bundle), "{bundle:?}");
     }
 }

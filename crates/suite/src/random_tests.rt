@@ -8,7 +8,7 @@ use crate::plain;
 use cnf_text::literal::Lit;
 use fixtures::bundles::FOUR;
 use hint_check::{Base, Judge, Judged, Reason};
-use std::alloc::{AllocError, Global};
+use std::alloc::Global;
 use std::process::Abort;
 
 /// Clauses of two and three literals over five variables.
@@ -150,7 +150,7 @@ const TRIES: u32 = 60;
 const LONGEST: usize = 300;
 
 /// How often a step was taken into a proof, and each way in which a step was refused.
-#[derive(Clone, Copy, Debug, PartialEq, Eq)]
+#[derive(Clone, Copy, Debug)]
 struct Tally {
     good: u32,
     refuted: u32,
@@ -193,83 +193,67 @@ impl Generator {
     }
 }
 
-fn push(text: &mut Vec<u8>, word: &[u8]) -> Result<(), AllocError> {
-    text.extend_from_slice(word)?;
-    text.push(b' ')?;
-    Ok(())
+fn push(rt: &impl Abort, text: &mut Vec<u8>, word: &[u8]) {
+    text.extend_from_slice(word).expect(rt, "memory");
+    text.push(b' ').expect(rt, "memory");
 }
 
 fn push_words(
+    rt: &impl Abort,
     random: &mut Generator,
     text: &mut Vec<u8>,
     words: &[&'static [u8]; 16],
-) -> Result<(), AllocError> {
+) {
     for _ in 0..random.few() {
-        push(text, random.word(words))?;
+        push(rt, text, random.word(words));
     }
-    Ok(())
 }
 
 /// A random deletion.
-fn push_deletion(random: &mut Generator, text: &mut Vec<u8>) -> Result<(), AllocError> {
-    push(text, b"0 d")?;
-    push_words(random, text, &NAMED_IDS)?;
-    push(text, b"0\n")
+fn push_deletion(rt: &impl Abort, random: &mut Generator, text: &mut Vec<u8>) {
+    push(rt, text, b"0 d");
+    push_words(rt, random, text, &NAMED_IDS);
+    push(rt, text, b"0\n");
 }
 
 /// A random group of hints.
-fn push_group(random: &mut Generator, text: &mut Vec<u8>) -> Result<(), AllocError> {
-    text.push(b'-')?;
-    push(text, random.word(&NAMED_IDS))?;
-    push_words(random, text, &NAMED_IDS)
+fn push_group(rt: &impl Abort, random: &mut Generator, text: &mut Vec<u8>) {
+    text.push(b'-').expect(rt, "memory");
+    push(rt, text, random.word(&NAMED_IDS));
+    push_words(rt, random, text, &NAMED_IDS);
 }
 
 /// A few random groups of hints.
-fn push_groups(random: &mut Generator, text: &mut Vec<u8>) -> Result<(), AllocError> {
+fn push_groups(rt: &impl Abort, random: &mut Generator, text: &mut Vec<u8>) {
     for _ in 0..random.few() {
-        push_group(random, text)?;
+        push_group(rt, random, text);
     }
-    Ok(())
 }
 
 /// A random addition, up to its groups.
-fn push_clause(random: &mut Generator, text: &mut Vec<u8>) -> Result<(), AllocError> {
-    push(text, random.word(&NEW_IDS))?;
-    push_words(random, text, &LITERALS)?;
-    push(text, b"0")?;
-    push_words(random, text, &NAMED_IDS)
-}
-
-/// A random addition.
-fn push_addition(random: &mut Generator, text: &mut Vec<u8>) -> Result<(), AllocError> {
-    push_clause(random, text)?;
-    push_groups(random, text)?;
-    push(text, b"0\n")
-}
-
-/// One of the steps given.
-fn push_given(
-    random: &mut Generator,
-    text: &mut Vec<u8>,
-    given: &[&'static [u8]; 16],
-) -> Result<(), AllocError> {
-    push(text, random.word(given))?;
-    text.push(b'\n')?;
-    Ok(())
+fn push_clause(rt: &impl Abort, random: &mut Generator, text: &mut Vec<u8>) {
+    push(rt, text, random.word(&NEW_IDS));
+    push_words(rt, random, text, &LITERALS);
+    push(rt, text, b"0");
+    push_words(rt, random, text, &NAMED_IDS);
 }
 
 /// A random step: one of two is among those given, and one of eight of the others deletes.
 fn push_step(
+    rt: &impl Abort,
     random: &mut Generator,
     text: &mut Vec<u8>,
     given: &[&'static [u8]; 16],
-) -> Result<(), AllocError> {
+) {
     if random.next() % 2 == 0 {
-        push_given(random, text, given)
+        push(rt, text, random.word(given));
+        text.push(b'\n').expect(rt, "memory");
     } else if random.next() % 8 == 0 {
-        push_deletion(random, text)
+        push_deletion(rt, random, text);
     } else {
-        push_addition(random, text)
+        push_clause(rt, random, text);
+        push_groups(rt, random, text);
+        push(rt, text, b"0\n");
     }
 }
 
@@ -314,18 +298,19 @@ fn take_back(text: &mut Vec<u8>, before: usize, longest: usize, judged: Judged) 
 
 /// A text in parts of 1 to 7 bytes.
 fn parts_of<'t>(
+    rt: &impl Abort,
     random: &mut Generator,
     alloc: Global,
     text: &'t [u8],
-) -> Result<Vec<&'t [u8]>, AllocError> {
+) -> Vec<&'t [u8]> {
     let mut parts = Vec::new(alloc);
     let mut rest = text;
     for _ in 0..text.len() {
         let (part, behind) = rest.split_at(rest.len().min((random.next() % 7) as usize + 1));
-        parts.push(part)?;
+        parts.push(part).expect(rt, "memory");
         rest = behind;
     }
-    Ok(parts)
+    parts
 }
 
 /// What is said of a text in such parts.
@@ -337,7 +322,7 @@ fn judged_in_random_parts(
     text: &[u8],
     random: &mut Generator,
 ) -> Judged {
-    let parts = parts_of(random, alloc, text).expect(rt, "memory");
+    let parts = parts_of(rt, random, alloc, text);
     judged_in_parts(rt, alloc, base, path, &parts)
 }
 
@@ -379,7 +364,7 @@ fn differences(
     let mut differ = 0u32;
     for _ in 0..TRIES {
         let before = text.len();
-        push_step(&mut trials.random, &mut text, given).expect(rt, "memory");
+        push_step(rt, &mut trials.random, &mut text, given);
         let growing = (&mut text, before, LONGEST);
         if !agree(rt, alloc, judge, base, path, growing, trials) {
             differ = differ.saturating_add(1);
@@ -528,41 +513,36 @@ const SPREAD_STEPS: [(&[u8], &[u8]); 8] = [
 
 /// The id of an addition, and what follows it.
 fn push_spread_begin(
+    rt: &impl Abort,
     random: &mut Generator,
     text: &mut Vec<u8>,
     kind: usize,
     begins: &[u8],
-) -> Result<(), AllocError> {
+) {
     if kind < 6 {
-        push(text, random.word(&SPREAD_IDS))?;
+        push(rt, text, random.word(&SPREAD_IDS));
     }
-    text.extend_from_slice(begins)
+    text.extend_from_slice(begins).expect(rt, "memory");
 }
 
 /// What another id names, where a step needs it.
-fn push_spread_named(
-    random: &mut Generator,
-    text: &mut Vec<u8>,
-    kind: usize,
-) -> Result<(), AllocError> {
+fn push_spread_named(rt: &impl Abort, random: &mut Generator, text: &mut Vec<u8>, kind: usize) {
     if kind != 5 {
-        text.push(b' ')?;
+        text.push(b' ').expect(rt, "memory");
     }
     if kind > 2 {
-        push(text, random.word(&SPREAD_IDS))?;
+        push(rt, text, random.word(&SPREAD_IDS));
     }
-    Ok(())
 }
 
 /// A random step that adds a clause under one of these ids, or deletes.
-fn push_spread_step(random: &mut Generator, text: &mut Vec<u8>) -> Result<(), AllocError> {
+fn push_spread_step(rt: &impl Abort, random: &mut Generator, text: &mut Vec<u8>) {
     let kind = (random.next() % 8) as usize;
     let (begins, ends) = SPREAD_STEPS[kind];
-    push_spread_begin(random, text, kind, begins)?;
-    push_spread_named(random, text, kind)?;
-    text.extend_from_slice(ends)?;
-    text.push(b'\n')?;
-    Ok(())
+    push_spread_begin(rt, random, text, kind, begins);
+    push_spread_named(rt, random, text, kind);
+    text.extend_from_slice(ends).expect(rt, "memory");
+    text.push(b'\n').expect(rt, "memory");
 }
 
 /// The steps that are tried with these ids, and the length after which a proof is begun anew.
@@ -582,7 +562,7 @@ fn spread_differences(
     let mut differ = 0u32;
     for _ in 0..SPREAD_TRIES {
         let before = text.len();
-        push_spread_step(&mut trials.random, &mut text).expect(rt, "memory");
+        push_spread_step(rt, &mut trials.random, &mut text);
         let growing = (&mut text, before, LONGEST_SPREAD);
         if !agree(rt, alloc, judge, base, &[], growing, trials) {
             differ = differ.saturating_add(1);

@@ -1,5 +1,8 @@
 //! Proofs that are judged while they are read, some bytes a read, texts and binary ones.
+ghost use Rattle.std.specs.Prelude.{◌≡◌};
+
 use crate::cases::case;
+use crate::judging_tests::expected;
 use byte_flow::{DeviceFault, Source};
 use case_core::{Case, Examiner, Judged, ProofForm, Reason};
 use fixtures::four;
@@ -72,8 +75,6 @@ fn read_as(
     opened: ProofForm,
     (bytes, size, fails_at): (&[u8], usize, u64),
 ) -> Result<Option<(Judged, usize)>, DeviceFault> {
-    assert!(rt; has_target(case.tree(), cube(1)));
-    assert!(rt; case.proof_for(cube(1)).is_none());
     let mut examiner = Examiner::over(alloc, case).expect(rt, "memory");
     let mut pieces = Pieces {
         rest: bytes,
@@ -82,9 +83,55 @@ fn read_as(
         fails_at,
         failed: 0,
     };
-    match examiner.examine_read(alloc, Leaf::Cube(1), opened, &mut pieces)? {
-        Some(read) => Ok(Some((read.finding.judged(), read.length))),
-        None => Ok(None),
+    read_by(rt, alloc, case, &mut examiner, opened, &mut pieces)
+}
+
+/// The same by an examiner that is lent.
+fn read_by(
+    rt: &impl Abort,
+    alloc: Global,
+    case: &Case,
+    examiner: &mut Examiner<'_>,
+    opened: ProofForm,
+    pieces: &mut Pieces<'_>,
+) -> Result<Option<(Judged, usize)>, DeviceFault>
+    requires case { examiner.old ≡ case.now }
+    requires count { pieces.old.failed ≡ 0 }
+{
+    assert!(rt; has_target(case.tree(), cube(1)));
+    assert!(rt; case.proof_for(cube(1)).is_none());
+    match examiner.examine_read(alloc, Leaf::Cube(1), opened, pieces) {
+        Ok(Some(read)) => Ok(Some((read.finding.judged(), read.length))),
+        Ok(None) => Ok(None),
+        Err(fault) => Err(fault),
+    }
+}
+
+/// A proof whose first step can't be read.
+const UNREADABLE: Judged = Judged::Rejected {
+    step: 1,
+    reason: Reason::Unreadable,
+};
+
+/// A proof that is rejected at this step.
+fn rejected(step: u64, reason: Reason) -> Judged {
+    Judged::Rejected { step, reason }
+}
+
+/// What is said of texts as the proof of the first cube, and how many bytes they are.
+const TEXTS: &[(&[u8], Option<(Judged, usize)>)] = &[
+    (b"7 0 5 6 4 0\n", Some((Judged::Refuted, 12))),
+    (b"c l\n7 0\n5 6 4 0", Some((Judged::Refuted, 15))),
+    (b"lx 1\n", Some((UNREADABLE, 5))),
+    (b"7 0 5 6 4 0\nl 2\n", None),
+    (b"7 0 5 6 4 0\n \tl", None),
+];
+
+/// Ends the test where texts that are read by so many bytes are judged otherwise.
+fn need_texts(rt: &impl Abort, alloc: Global, case: &Case, size: usize) {
+    for (text, wanted) in TEXTS {
+        let found = read_so(rt, alloc, case, text, size, 0);
+        assert!(rt; found == Ok(*wanted), "{size}");
     }
 }
 
@@ -92,19 +139,15 @@ fn read_as(
 #[test]
 fn read_in_blocks(rt: HostRuntime) {
     let case = case(&rt, rt.alloc(), CUBES);
-    let unreadable = rejected(1, Reason::Unreadable);
     for size in 1..20usize {
-        for (text, wanted) in [
-            (b"7 0 5 6 4 0\n".as_slice(), Some((Judged::Refuted, 12))),
-            (b"c l\n7 0\n5 6 4 0", Some((Judged::Refuted, 15))),
-            (b"lx 1\n", Some((unreadable, 5))),
-            (b"7 0 5 6 4 0\nl 2\n", None),
-            (b"7 0 5 6 4 0\n \tl", None),
-        ] {
-            let found = read_so(&rt, rt.alloc(), &case, text, size, 0);
-            assert!(rt; found == Ok(wanted), "{size}");
-        }
+        need_texts(&rt, rt.alloc(), &case, size);
     }
+}
+
+/// Ends the test where a read at this call doesn't fail.
+fn need_failed(rt: &impl Abort, alloc: Global, case: &Case, fails_at: u64) {
+    let found = read_so(rt, alloc, case, b"7 0 5 6 4 0\n", 4, fails_at);
+    assert!(rt; found == Err(DeviceFault::Device), "{fails_at}");
 }
 
 // A read that fails is told, whatever was judged before.
@@ -112,14 +155,8 @@ fn read_in_blocks(rt: HostRuntime) {
 fn a_read_of_a_block_fails(rt: HostRuntime) {
     let case = case(&rt, rt.alloc(), CUBES);
     for fails_at in 1..5u64 {
-        let found = read_so(&rt, rt.alloc(), &case, b"7 0 5 6 4 0\n", 4, fails_at);
-        assert!(rt; found == Err(DeviceFault::Device), "{fails_at}");
+        need_failed(&rt, rt.alloc(), &case, fails_at);
     }
-}
-
-/// A proof that is rejected at this step.
-fn rejected(step: u64, reason: Reason) -> Judged {
-    Judged::Rejected { step, reason }
 }
 
 /// Whether a proof is judged so as a whole and byte by byte, and has as many bytes as are there.
@@ -130,101 +167,88 @@ fn is_judged(rt: &impl Abort, alloc: Global, case: &Case, proof: &[u8], judged: 
     whole == wanted && by_bytes == wanted
 }
 
-// The bytes of whole steps, by their texts: `6 0 1 2 0` is refuted by clauses 1 and 2.
-#[test]
-fn binary_steps(rt: HostRuntime) {
-    let case = case(&rt, rt.alloc(), FIVE);
-    for (proof, judged) in [
-        (b"".as_slice(), rejected(1, Reason::End)),
-        (b"\x61\x0c\x00\x02\x04\x00", Judged::Refuted),
-        (
-            b"\x61\x0c\x02\x05\x00\x06\x08\x00",
-            rejected(2, Reason::End),
-        ),
-        (b"\x64\x06\x0a\x00", rejected(2, Reason::End)),
-        (b"\x64\x00", rejected(2, Reason::End)),
-        (b"\x61\x0c\x00\x02\x04\x00\x64\x06\x00", Judged::Refuted),
-        (
-            b"\x61\x10\x05\x00\x02\x06\x05\x02\x00",
-            rejected(2, Reason::End),
-        ),
-        (
-            b"\x61\xa4\x03\x02\x00\x04\x00",
-            rejected(1, Reason::Candidate),
-        ),
-        (b"\x61\x8c\x00\x00\x02\x04\x80\x00", Judged::Refuted),
-        // 97 in two bytes: by its first byte it is a text.
-        (b"\xe1\x00\x0c\x00\x02\x00", rejected(1, Reason::Unreadable)),
-        (b"\x31\x20\x30", rejected(1, Reason::Unreadable)),
-        (b"\x70\x20\x64\x00", rejected(1, Reason::Unreadable)),
-    ] {
-        assert!(rt;
-            is_judged(&rt, rt.alloc(), &case, proof, judged),
-            "{proof:?}"
-        );
+/// The bytes of a proof, and the step that isn't good with what is wrong with it, or nothing where
+/// the proof refutes.
+type Binary = (&'static [u8], Option<(u64, Reason)>);
+
+/// The bytes of whole steps, by their texts: `6 0 1 2 0` is refuted by clauses 1 and 2.
+const STEPS: &[Binary] = &[
+    (b"", Some((1, Reason::End))),
+    (b"\x61\x0c\x00\x02\x04\x00", None),
+    (b"\x61\x0c\x02\x05\x00\x06\x08\x00", Some((2, Reason::End))),
+    (b"\x64\x06\x0a\x00", Some((2, Reason::End))),
+    (b"\x64\x00", Some((2, Reason::End))),
+    (b"\x61\x0c\x00\x02\x04\x00\x64\x06\x00", None),
+    (
+        b"\x61\x10\x05\x00\x02\x06\x05\x02\x00",
+        Some((2, Reason::End)),
+    ),
+    (
+        b"\x61\xa4\x03\x02\x00\x04\x00",
+        Some((1, Reason::Candidate)),
+    ),
+    (b"\x61\x8c\x00\x00\x02\x04\x80\x00", None),
+    // 97 in two bytes: by its first byte it is a text.
+    (b"\xe1\x00\x0c\x00\x02\x00", Some((1, Reason::Unreadable))),
+    (b"\x31\x20\x30", Some((1, Reason::Unreadable))),
+    (b"\x70\x20\x64\x00", Some((1, Reason::Unreadable))),
+];
+
+/// Bytes that are cut, and numbers below and above their limits.
+const LIMITS: &[Binary] = &[
+    (b"\x61", Some((1, Reason::End))),
+    (b"\x80", Some((1, Reason::Unreadable))),
+    (b"\x61\x0c", Some((1, Reason::Unreadable))),
+    (b"\x61\x0c\x00\x02\x80", Some((1, Reason::Unreadable))),
+    (b"\x61\x0d\x00\x02\x00", Some((1, Reason::Unreadable))),
+    (b"\x61\x0c\x01\x00\x02\x00", Some((1, Reason::Unreadable))),
+    (b"\x64\x05\x00", Some((1, Reason::Unreadable))),
+    (
+        b"\x61\x0c\xfe\xff\xff\xff\x01\x00\x02\x00",
+        Some((2, Reason::End)),
+    ),
+    (
+        b"\x61\x0c\x80\x80\x80\x80\x02\x00\x02\x00",
+        Some((1, Reason::Unreadable)),
+    ),
+    (
+        b"\x61\x80\x80\x80\x80\x80\x80\x80\x80\x80\x01\x00\x02\x00",
+        Some((1, Reason::Empty)),
+    ),
+    (
+        b"\x61\x82\x80\x80\x80\x80\x80\x80\x80\x80\x01\x00\x02\x00",
+        Some((1, Reason::Unreadable)),
+    ),
+    (
+        b"\x61\xff\xff\xff\xff\xff\xff\xff\xff\xff\x7f\x00\x02\x00",
+        Some((1, Reason::Unreadable)),
+    ),
+    (b"\x61\x00\x00\x02\x00", Some((1, Reason::Unreadable))),
+];
+
+/// The hints 1 and 3, and then the group for the second clause, which leads to no conflict.
+const GROUP: &[Binary] = &[(
+    b"\x61\x10\x05\x00\x02\x06\x05\x02\x00",
+    Some((1, Reason::Group)),
+)];
+
+/// Literals whose bytes are a line `l 1`: no label line.
+const LABEL: &[Binary] = &[(
+    b"\x61\x0c\nl 1\n\x00\x02\x04\x00\x61\x0e\x00\x02\x04\x00",
+    None,
+)];
+
+/// Ends the test where one of these proofs is judged otherwise.
+fn need_judged(rt: &impl Abort, alloc: Global, case: &Case, proofs: &[Binary]) {
+    for (proof, fault) in proofs {
+        let wanted = expected(*fault);
+        assert!(rt; is_judged(rt, alloc, case, proof, wanted), "{proof:?}");
     }
 }
 
-// Opened as a text, as a section is, bytes that begin as a binary proof have no step.
-#[test]
-fn binary_bytes_as_a_text(rt: HostRuntime) {
-    let case = case(&rt, rt.alloc(), FIVE);
-    let proof = b"\x61\x0c\x00\x02\x04\x00".as_slice();
-    let found = read_as(&rt, rt.alloc(), &case, ProofForm::Text, (proof, 100, 0));
-    assert!(rt; found == Ok(Some((rejected(1, Reason::Unreadable), 6))));
-}
-
-// Bytes that are cut, and numbers below and above their limits.
-#[test]
-fn binary_limits(rt: HostRuntime) {
-    let case = case(&rt, rt.alloc(), FIVE);
-    let unreadable = rejected(1, Reason::Unreadable);
-    for (proof, judged) in [
-        (b"\x61".as_slice(), rejected(1, Reason::End)),
-        (b"\x80", unreadable),
-        (b"\x61\x0c", unreadable),
-        (b"\x61\x0c\x00\x02\x80", unreadable),
-        (b"\x61\x0d\x00\x02\x00", unreadable),
-        (b"\x61\x0c\x01\x00\x02\x00", unreadable),
-        (b"\x64\x05\x00", unreadable),
-        (
-            b"\x61\x0c\xfe\xff\xff\xff\x01\x00\x02\x00",
-            rejected(2, Reason::End),
-        ),
-        (b"\x61\x0c\x80\x80\x80\x80\x02\x00\x02\x00", unreadable),
-        (
-            b"\x61\x80\x80\x80\x80\x80\x80\x80\x80\x80\x01\x00\x02\x00",
-            rejected(1, Reason::Empty),
-        ),
-        (
-            b"\x61\x82\x80\x80\x80\x80\x80\x80\x80\x80\x01\x00\x02\x00",
-            unreadable,
-        ),
-        (
-            b"\x61\xff\xff\xff\xff\xff\xff\xff\xff\xff\x7f\x00\x02\x00",
-            unreadable,
-        ),
-        (b"\x61\x00\x00\x02\x00", unreadable),
-    ] {
-        assert!(rt;
-            is_judged(&rt, rt.alloc(), &case, proof, judged),
-            "{proof:?}"
-        );
-    }
-}
-
-// The hints 1 and 3, and then the group for the second clause, which leads to no conflict.
-#[test]
-fn a_binary_group(rt: HostRuntime) {
-    let case = case(&rt, rt.alloc(), GROUPED);
-    let proof = b"\x61\x10\x05\x00\x02\x06\x05\x02\x00";
-    assert!(rt; is_judged(&rt, rt.alloc(), &case, proof, rejected(1, Reason::Group)));
-}
-
-// `6 1 -2 0 3 4 0` and `7 0 1 2 0`, cut behind each byte. Behind an `a` the step hasn't begun.
-#[test]
-fn a_binary_proof_is_cut(rt: HostRuntime) {
-    let case = case(&rt, rt.alloc(), FIVE);
+/// The same of `6 1 -2 0 3 4 0` and `7 0 1 2 0`, cut behind each byte. Behind an `a` the step
+/// hasn't begun.
+fn need_cut(rt: &impl Abort, alloc: Global, case: &Case) {
     let proof = b"\x61\x0c\x02\x05\x00\x06\x08\x00\x61\x0e\x00\x02\x04\x00";
     for size in 0..=14usize {
         let judged = match size {
@@ -235,18 +259,34 @@ fn a_binary_proof_is_cut(rt: HostRuntime) {
             _ => Judged::Refuted,
         };
         assert!(rt;
-            is_judged(&rt, rt.alloc(), &case, &proof[..size], judged),
+            is_judged(rt, alloc, case, &proof[..size], judged),
             "{size}"
         );
     }
 }
 
-// Literals whose bytes are a line `l 1`: no label line, which a text with these bytes has.
-#[test]
-fn a_label_in_binary_bytes(rt: HostRuntime) {
-    let case = case(&rt, rt.alloc(), FIVE);
-    let proof = b"\x61\x0c\nl 1\n\x00\x02\x04\x00\x61\x0e\x00\x02\x04\x00";
-    assert!(rt; is_judged(&rt, rt.alloc(), &case, proof, Judged::Refuted));
-    let text = read_so(&rt, rt.alloc(), &case, b"6\nl 1\n", 1, 0);
+/// The same of bytes as texts: opened as a text, as a section is, bytes that begin as a binary
+/// proof have no step; and a text has a label line.
+fn need_as_texts(rt: &impl Abort, alloc: Global, case: &Case) {
+    let proof = b"\x61\x0c\x00\x02\x04\x00".as_slice();
+    let found = read_as(rt, alloc, case, ProofForm::Text, (proof, 100, 0));
+    assert!(rt; found == Ok(Some((UNREADABLE, 6))));
+    let text = read_so(rt, alloc, case, b"6\nl 1\n", 1, 0);
     assert!(rt; text == Ok(None));
+}
+
+#[test]
+fn binary_proofs(rt: HostRuntime) {
+    let case = case(&rt, rt.alloc(), FIVE);
+    need_judged(&rt, rt.alloc(), &case, STEPS);
+    need_judged(&rt, rt.alloc(), &case, LIMITS);
+    need_judged(&rt, rt.alloc(), &case, LABEL);
+    need_cut(&rt, rt.alloc(), &case);
+    need_as_texts(&rt, rt.alloc(), &case);
+}
+
+#[test]
+fn a_binary_group(rt: HostRuntime) {
+    let case = case(&rt, rt.alloc(), GROUPED);
+    need_judged(&rt, rt.alloc(), &case, GROUP);
 }

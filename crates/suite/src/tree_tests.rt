@@ -69,19 +69,16 @@ fn tree(rt: &impl Abort, alloc: Global, lists: &[&[i32]]) -> Tree
     built(rt, alloc, &cubes(rt, alloc, lists)).expect(rt, "no tree")
 }
 
-/// Whether the cubes clash so.
-fn clash(rt: &impl Abort, alloc: Global, cubes: &[Vec<Lit>], wanted: &TreeFault) -> bool {
-    match built(rt, alloc, cubes) {
-        Ok(_) => false,
-        Err(fault) => fault == *wanted,
-    }
+/// Ends the test where the cubes don't clash so.
+fn need_clash(rt: &impl Abort, alloc: Global, cubes: &[Vec<Lit>], wanted: &TreeFault) {
+    let built = built(rt, alloc, cubes);
+    assert!(rt; matches!(built, Err(fault) if fault == *wanted), "{wanted}");
 }
 
 #[test]
 fn clashes_are_named(rt: HostRuntime) {
     for (lists, fault) in CLASHES {
-        let cubes = cubes(&rt, rt.alloc(), lists);
-        assert!(rt; clash(&rt, rt.alloc(), &cubes, fault), "{fault}");
+        need_clash(&rt, rt.alloc(), &cubes(&rt, rt.alloc(), lists), fault);
     }
 }
 
@@ -142,59 +139,103 @@ const LEAVES: &[(Leaf, &[i32], u64)] = &[
     (Leaf::Cube(2), &[-1], HALF),
 ];
 
-#[test]
-fn leaves_of_a_tree(rt: HostRuntime) {
-    let tree = tree(&rt, rt.alloc(), TWO);
+/// Leaves that it hasn't.
+const NO_LEAVES: [Leaf; 4] = [
+    Leaf::Cube(0),
+    Leaf::Cube(3),
+    Leaf::Missing(0),
+    Leaf::Missing(2),
+];
+
+/// Ends the test where one of these leaves has another path or weight.
+fn need_leaves(rt: &impl Abort, alloc: Global, tree: &Tree) {
     for (leaf, path, weight) in LEAVES {
-        assert!(rt; has_path(&rt, rt.alloc(), &tree, *leaf, path), "{leaf:?}");
-        assert!(rt; weighs(&rt, &tree, *leaf, *weight), "{leaf:?}");
+        assert!(rt; has_path(rt, alloc, tree, *leaf, path), "{leaf:?}");
+        assert!(rt; weighs(rt, tree, *leaf, *weight), "{leaf:?}");
     }
-    assert!(rt; tree.leaf_count() == 3 && tree.cube_count() == 2 && tree.missing_count() == 1);
-    assert!(rt; tree.total() == WHOLE);
-    for leaf in [
-        Leaf::Cube(0),
-        Leaf::Cube(3),
-        Leaf::Missing(0),
-        Leaf::Missing(2),
-    ] {
+}
+
+/// Ends the test where the tree has one of the leaves that it hasn't.
+fn need_no_leaves(rt: &impl Abort, tree: &Tree) {
+    for leaf in NO_LEAVES {
         assert!(rt; !tree.has_leaf(leaf), "{leaf:?}");
     }
 }
 
-/// The node with the path of these numbers, if it is an inner one.
-fn node_of(rt: &impl Abort, alloc: Global, tree: &Tree, numbers: &[i32]) -> Option<NodeId> {
-    tree.node_of(&lits(rt, alloc, numbers))
+/// Ends the test where it has other counts.
+fn need_counts(rt: &impl Abort, tree: &Tree) {
+    assert!(rt; tree.leaf_count() == 3 && tree.cube_count() == 2 && tree.missing_count() == 1);
+    assert!(rt; tree.total() == WHOLE);
+}
+
+#[test]
+fn leaves_of_a_tree(rt: HostRuntime) {
+    let tree = tree(&rt, rt.alloc(), TWO);
+    need_leaves(&rt, rt.alloc(), &tree);
+    need_counts(&rt, &tree);
+    need_no_leaves(&rt, &tree);
+}
+
+/// Whether the node with the path of these numbers is this one; `None` where it is no inner one.
+fn is_node(
+    rt: &impl Abort,
+    alloc: Global,
+    tree: &Tree,
+    numbers: &[i32],
+    node: Option<NodeId>,
+) -> bool {
+    tree.node_of(&lits(rt, alloc, numbers)) == node
+}
+
+/// Ends the test where the tree's nodes have other numbers.
+fn need_numbers(rt: &impl Abort, alloc: Global, tree: &Tree) {
+    let (one, other) = (NodeId::new(1), NodeId::new(4));
+    assert!(rt; tree.size() == 5 && tree.branches(tree.root()) == Some((one, other)));
+    assert!(rt; tree.has_leaf(Leaf::Missing(1)));
+    assert!(rt; tree.parent(tree.node_of_leaf(Leaf::Missing(1))) == Some(one));
+    assert!(rt; is_node(rt, alloc, tree, &[1], Some(one)));
+    assert!(rt; is_node(rt, alloc, tree, &[-1], None));
+}
+
+/// Ends the test where cut 1 has other parts, or other nodes above them.
+fn need_parts(rt: &impl Abort, alloc: Global, tree: &Tree) {
+    let parts = tree.parts(alloc, 1).expect(rt, "memory");
+    assert!(rt; parts.as_slice() == [NodeId::new(1), NodeId::new(4)].as_slice());
+    let above = tree.top(alloc, 1).expect(rt, "memory");
+    assert!(rt; above.nodes.len() == 3);
 }
 
 // Nodes have their numbers in the order of the tree, the branch of the literal before the other.
 #[test]
 fn nodes_of_a_tree(rt: HostRuntime) {
     let tree = tree(&rt, rt.alloc(), TWO);
-    let branches = Some((NodeId::new(1), NodeId::new(4)));
-    assert!(rt; tree.size() == 5 && tree.branches(tree.root()) == branches);
-    assert!(rt; tree.has_leaf(Leaf::Missing(1)));
-    let leaf = tree.node_of_leaf(Leaf::Missing(1));
-    assert!(rt; tree.parent(leaf) == Some(NodeId::new(1)));
-    assert!(rt; node_of(&rt, rt.alloc(), &tree, &[1]) == Some(NodeId::new(1)));
-    assert!(rt; node_of(&rt, rt.alloc(), &tree, &[-1]) == None);
-    let parts = tree.parts(rt.alloc(), 1).expect(&rt, "memory");
-    assert!(rt; parts.as_slice() == [NodeId::new(1), NodeId::new(4)].as_slice());
-    let above = tree.top(rt.alloc(), 1).expect(&rt, "memory");
-    assert!(rt; above.nodes.len() == 3);
+    need_numbers(&rt, rt.alloc(), &tree);
+    need_parts(&rt, rt.alloc(), &tree);
+}
+
+/// The literals of the greatest number.
+fn push_longest(rt: &impl Abort, cube: &mut Vec<Lit>) {
+    for variable in 1..=4_096 {
+        let lit = Lit::new(variable).expect(rt, "no literal");
+        cube.push(lit).expect(rt, "memory");
+    }
+}
+
+/// Ends the test where the tree of one cube of the greatest length has another total, or its last
+/// missing leaf another path.
+fn need_longest(rt: &impl Abort, alloc: Global, cubes: &[Vec<Lit>]) {
+    let tree = built(rt, alloc, cubes).expect(rt, "no tree");
+    assert!(rt; tree.missing_count() == 4_096 && tree.total() == 1_152_921_504_606_851_012);
+    assert!(rt; has_path(rt, alloc, &tree, Leaf::Missing(4_096), &[-1]));
 }
 
 // A cube of the greatest length: each of its missing leaves weighs at least 1.
 #[test]
 fn the_longest_cube(rt: HostRuntime) {
     let mut cube = Vec::new(rt.alloc());
-    for variable in 1..=4_096 {
-        let lit = Lit::new(variable).expect(&rt, "no literal");
-        cube.push(lit).expect(&rt, "memory");
-    }
+    push_longest(&rt, &mut cube);
     let cubes = vec![in rt.alloc(); cube].expect(&rt, "memory");
-    let tree = built(&rt, rt.alloc(), &cubes).expect(&rt, "no tree");
-    assert!(rt; tree.missing_count() == 4_096 && tree.total() == 1_152_921_504_606_851_012);
-    assert!(rt; has_path(&rt, rt.alloc(), &tree, Leaf::Missing(4_096), &[-1]));
+    need_longest(&rt, rt.alloc(), &cubes);
 }
 
 #[test]
@@ -203,7 +244,7 @@ fn the_most_cubes(rt: HostRuntime) {
     for _ in 0..1_048_576 {
         cubes.push(Vec::new(rt.alloc())).expect(&rt, "memory");
     }
-    assert!(rt; clash(&rt, rt.alloc(), &cubes, &TreeFault::Repeats { cube: 2 }));
+    need_clash(&rt, rt.alloc(), &cubes, &TreeFault::Repeats { cube: 2 });
 }
 
 /// The cube of 12 literals whose signs are the bits of a number.
@@ -225,5 +266,5 @@ fn a_late_clash_is_found(rt: HostRuntime) {
         let cube = signed_cube(&rt, rt.alloc(), if bits == 4_096 { 2_048 } else { bits });
         cubes.push(cube).expect(&rt, "memory");
     }
-    assert!(rt; clash(&rt, rt.alloc(), &cubes, &TreeFault::Repeats { cube: 4_097 }));
+    need_clash(&rt, rt.alloc(), &cubes, &TreeFault::Repeats { cube: 4_097 });
 }

@@ -49,17 +49,17 @@ fn refutes<R: Abort + Threads + Wait + Sync, G: Gate + Sync>(
     boards.root_marked()
 }
 
-/// Whether a run with these settings, beside this gate, gives this report.
-fn gives<R: Abort + Threads + Wait + Sync, G: Gate + Sync>(
+/// Ends the test where a run with these settings, beside this gate, gives another report.
+fn need_report<R: Abort + Threads + Wait + Sync, G: Gate + Sync>(
     rt: &R,
     alloc: Global,
     bundle: &str,
     settings: Settings,
     gate: &G,
     wanted: &[u8],
-) -> bool {
+) {
     let report = run(rt, alloc, bundle.as_bytes(), settings, gate).expect(rt, "no report");
-    report.as_slice() == wanted
+    assert!(rt; report.as_slice() == wanted);
 }
 
 /// Whether a count is this one within some turns.
@@ -111,6 +111,22 @@ impl Gate for Crossing {
     }
 }
 
+/// Ends the test where a run with these settings sees another weight, or gives another report.
+fn need_crossing<R: Abort + Threads + Wait + Sync>(
+    rt: &R,
+    alloc: Global,
+    settings: Settings,
+    seen: u64,
+    second_weight: u64,
+) {
+    let gate = Crossing::new();
+    need_report(rt, alloc, BOTH_CUBES, settings, &gate, BOTH_CUBES_REPORT);
+    need_count(rt, "seen", &gate.seen, seen);
+    need_count(rt, "second_weight", &gate.second_weight, second_weight);
+    let first_weight = if seen == 1 { 0 } else { HALF };
+    need_count(rt, "first_weight", &gate.first_weight, first_weight);
+}
+
 // Two workers are at work at once: the first cube's waits for what the second cube's has posted.
 // The two cubes share a board at cut 0, and have boards of their own at others. One worker gives up
 // waiting; the report is the same.
@@ -122,13 +138,8 @@ fn two_workers_cross(rt: HostRuntime) {
         (2, 6, 1, 0),
         (1, 0, 0, 0),
     ] {
-        let gate = Crossing::new();
         let settings = settings(&rt, workers, cut);
-        let wanted = BOTH_CUBES_REPORT;
-        assert!(rt; gives(&rt, rt.alloc(), BOTH_CUBES, settings, &gate, wanted));
-        need_count(&rt, "seen", &gate.seen, seen);
-        need_count(&rt, "second_weight", &gate.second_weight, second_weight);
-        need_count(&rt, "first_weight", &gate.first_weight, (1 - seen) * HALF);
+        need_crossing(&rt, rt.alloc(), settings, seen, second_weight);
     }
 }
 
@@ -164,7 +175,7 @@ fn need_rooted<R: Abort + Threads + Wait + Sync>(rt: &R, alloc: Global, cut: u32
     };
     let settings = settings(rt, 3, cut);
     let wanted = ROOT_AND_LEAVES_REPORT;
-    assert!(rt; gives(rt, alloc, ROOT_AND_LEAVES, settings, &gate, wanted));
+    need_report(rt, alloc, ROOT_AND_LEAVES, settings, &gate, wanted);
     need_count(rt, "later", &gate.later, 2);
     need_count(rt, "root_weight", &gate.root_weight, 0);
 }
@@ -178,12 +189,23 @@ fn the_root_is_posted_while_others_work(rt: HostRuntime) {
     }
 }
 
+/// Ends the test where a run with these settings marks the root, or doesn't.
+fn need_refuted<R: Abort + Threads + Wait + Sync>(
+    rt: &R,
+    alloc: Global,
+    bundle: &str,
+    settings: Settings,
+    gate: &Told,
+    wanted: bool,
+) {
+    assert!(rt; refutes(rt, alloc, bundle, settings, gate) == wanted);
+}
+
 /// Ends the test where one worker takes a bundle's sections in another order.
 fn need_order<R: Abort + Threads + Wait + Sync>(rt: &R, alloc: Global, bundle: &str, order: u64) {
     let gate = Told::new();
     let settings = settings(rt, 1, 2);
-    let refuted = refutes(rt, alloc, bundle, settings, &gate);
-    assert!(rt; refuted == (order > 0));
+    need_refuted(rt, alloc, bundle, settings, &gate, order > 0);
     need_count(rt, "order", &gate.order, order);
     need_count(rt, "workers", &gate.workers, 0);
 }
@@ -197,19 +219,35 @@ fn long_proofs_first(rt: HostRuntime) {
     }
 }
 
+/// Ends the test where so many workers don't examine each section once, or give another report.
+fn need_told_once<R: Abort + Threads + Wait + Sync>(
+    rt: &R,
+    alloc: Global,
+    workers: u32,
+    bundle: &str,
+    report: &[u8],
+    once: u64,
+) {
+    let gate = Told::new();
+    let settings = settings(rt, workers, 1);
+    need_report(rt, alloc, bundle, settings, &gate, report);
+    need_each_once(rt, &gate, once);
+}
+
 // Whatever the number of workers, each section is examined once and told once, between one start
 // and one end.
 #[test]
 fn each_section_is_told_once(rt: HostRuntime) {
     for workers in [1, 2, 4, 32] {
-        for (bundle, report, once) in [
-            (FOUR_CUBES, FOUR_CUBES_REPORT, 0x11110),
-            (ROOT_AND_LEAVES, ROOT_AND_LEAVES_REPORT, 0x111),
-        ] {
-            let gate = Told::new();
-            let settings = settings(&rt, workers, 1);
-            assert!(rt; gives(&rt, rt.alloc(), bundle, settings, &gate, report));
-            need_each_once(&rt, &gate, once);
-        }
+        need_told_once(
+            &rt,
+            rt.alloc(),
+            workers,
+            FOUR_CUBES,
+            FOUR_CUBES_REPORT,
+            0x11110,
+        );
+        let report = ROOT_AND_LEAVES_REPORT;
+        need_told_once(&rt, rt.alloc(), workers, ROOT_AND_LEAVES, report, 0x111);
     }
 }

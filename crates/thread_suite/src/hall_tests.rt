@@ -14,7 +14,7 @@ use board_hall::{Core, Hall, Pass};
 use case_core::{Case, Finding, NodeId, Target};
 use fixtures::bundles::{BOTH_CUBES, HALF, ROOT_AND_LEAVES, WHOLE};
 use fixtures::targets::{cube, has_target, inner};
-use mark_board::{Mark, PartPosted, PartVerdict, Place, Posted};
+use mark_board::{Boards, Mark, PartPosted, PartVerdict, Place, Posted};
 use std::alloc::Global;
 use std::process::Abort;
 use std::sync::Wait;
@@ -217,13 +217,18 @@ pub fn two(rt: &impl Abort, alloc: Global, hall: &Hall<'_>, first: Pass, second:
     with(rt, hall, one(rt, alloc, hall, first), second)
 }
 
+/// Whether the root of boards is marked, and how much is open.
+fn stand_of(boards: &Boards<'_>) -> (bool, u64) {
+    (boards.root_marked(), boards.open_weight())
+}
+
 /// Whether the root is marked and how much is open once a hall is closed with these passes, or that
 /// it isn't closed.
 pub fn closed(hall: Hall<'_>, passes: Vec<Pass>) -> Option<(bool, u64)>
     requires { All (IsPassOf (hall_of hall)) passes.items }
 {
     match hall.close(passes) {
-        Ok(boards) => Some((boards.root_marked(), boards.open_weight())),
+        Ok(boards) => Some(stand_of(&boards)),
         Err(_) => None,
     }
 }
@@ -356,12 +361,19 @@ fn place_of(rt: &impl Abort, core: &Core, case: &Case, node: u32) -> Place
     core.place_of(case, NodeId::new(node))
 }
 
-// At cut 1 the root is at home above the parts, and any other node in its part.
+/// Ends the test where another board is that of a node: at cut 1 the root is at home above the
+/// parts, and any other node in its part.
+fn need_places(rt: &impl Abort, core: &Core, case: &Case)
+    requires { case.now ≡ (core_of core.now).case }
+{
+    for (node, place) in [(0, Place::Top), (1, Place::Part(0)), (2, Place::Part(1))] {
+        assert!(rt; place_of(rt, core, case, node) == place, "{node}");
+    }
+}
+
 #[test]
 fn places_of_nodes(rt: HostRuntime) {
     let case = case(&rt, rt.alloc(), BOTH_CUBES);
     let (hall, _first, _second) = hall_for_two(&rt, rt.alloc(), &case, 1);
-    for (node, place) in [(0, Place::Top), (1, Place::Part(0)), (2, Place::Part(1))] {
-        assert!(rt; place_of(&rt, hall.core(), &case, node) == place, "{node}");
-    }
+    need_places(&rt, hall.core(), &case);
 }

@@ -13,7 +13,7 @@ use fixtures::bundles::{
     BOTH_CUBES, BOTH_CUBES_REPORT, FOUR_CUBES, FOUR_CUBES_REPORT, HALF, QUARTER, WHOLE,
 };
 use fixtures::targets::cube;
-use mark_board::{Place, Posted};
+use mark_board::{Boards, Place, Posted};
 use std::alloc::Global;
 use std::process::Abort;
 use std::snapshot::Snapshot;
@@ -183,12 +183,18 @@ fn post_from_each<R: Threads + Wait + Abort + Sync>(
     )
 }
 
+/// Whether boards have this report.
+fn have_report(rt: &impl Abort, alloc: Global, boards: &Boards<'_>, text: &[u8]) -> bool {
+    let report = report_of(alloc, boards).expect(rt, "memory");
+    report.as_slice() == text
+}
+
 /// Whether a hall is closed with these passes, and its boards have this report.
 fn reports(rt: &impl Abort, alloc: Global, hall: Hall<'_>, passes: Vec<Pass>, text: &[u8]) -> bool
     requires { All (IsPassOf (hall_of hall)) passes.items }
 {
     match hall.close(passes) {
-        Ok(boards) => report_of(alloc, &boards).expect(rt, "memory").as_slice() == text,
+        Ok(boards) => have_report(rt, alloc, &boards, text),
         Err(_) => false,
     }
 }

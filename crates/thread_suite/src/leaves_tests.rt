@@ -256,6 +256,47 @@ fn is_report(said: Said, wanted: &[u8]) -> bool {
     }
 }
 
+/// Ends the test where it isn't.
+fn need_report(rt: &impl Abort, said: Said, wanted: &[u8]) {
+    assert!(rt; is_report(said, wanted));
+}
+
+/// Ends the test where it isn't that all proofs have to be in one bundle.
+fn need_no_report(rt: &impl Abort, said: Said) {
+    assert!(rt; matches!(said, Said::Elsewhere));
+}
+
+/// Ends the test where it isn't that one read failed.
+fn need_fault(rt: &impl Abort, said: Said) {
+    assert!(rt; matches!(said, Said::Unread(1)));
+}
+
+/// Ends the test where a proof wasn't opened once, judged once and told once, or where the gate was
+/// told of other lengths.
+fn need_all_told(rt: &impl Abort, gate: &Told, opens: &AtomicU64) {
+    need_count(rt, "opens", opens, 0x11110);
+    need_count(rt, "elsewhere", &gate.elsewhere, 4);
+    need_count(rt, "bytes", &gate.bytes, 72);
+    need_count(rt, "bytes after", &gate.bytes_after, 72);
+    need_each_once(rt, gate, 0x11110);
+}
+
+/// Ends the test where one worker counted otherwise.
+fn need_of_one(rt: &impl Abort, workers: u32, count: &AtomicU64, wanted: u64) {
+    assert!(rt; workers > 1 || count.load(Ordering::SeqCst) == wanted);
+}
+
+/// The same of a run at these numbers of workers and of the cut, which has to give the report on
+/// the bundle with all proofs.
+fn need_each_opened<R: Abort + AllocGlobal + Threads + Wait + Sync>(rt: &R, numbers: (u32, u32)) {
+    let gate = Told::new();
+    let opens = AtomicU64::new(0);
+    let told = run_apart(rt, CUBES, numbers, &gate, ALL, &opens, Failing::Nothing);
+    need_report(rt, told, FOUR_CUBES_REPORT);
+    need_all_told(rt, &gate, &opens);
+    need_of_one(rt, numbers.0, &gate.order, 3214);
+}
+
 // Whatever the number of workers, each proof is opened once, judged once and told once, between one
 // start and one end, and the report is that on the bundle with all of them. One worker takes the
 // longest first, and those of equal length in the order of the cubes.
@@ -263,47 +304,74 @@ fn is_report(said: Said, wanted: &[u8]) -> bool {
 fn each_proof_is_opened_once(rt: HostRuntime) {
     for workers in [1, 2, 4, 32] {
         for cut in [0, 1, 6] {
-            let gate = Told::new();
-            let opens = AtomicU64::new(0);
-            let told = run_apart(
-                &rt,
-                CUBES,
-                (workers, cut),
-                &gate,
-                ALL,
-                &opens,
-                Failing::Nothing,
-            );
-            assert!(rt; is_report(told, FOUR_CUBES_REPORT));
-            need_count(&rt, "opens", &opens, 0x11110);
-            need_count(&rt, "elsewhere", &gate.elsewhere, 4);
-            need_count(&rt, "bytes", &gate.bytes, 72);
-            need_count(&rt, "bytes after", &gate.bytes_after, 72);
-            need_each_once(&rt, &gate, 0x11110);
-            assert!(rt; workers > 1 || gate.order.load(Ordering::SeqCst) == 3214);
+            need_each_opened(&rt, (workers, cut));
         }
     }
+}
+
+/// Ends the test where a worker doesn't take the leaves while another is at work on the only section,
+/// at this cut.
+fn need_beside<R: Abort + AllocGlobal + Threads + Wait + Sync>(rt: &R, cut: u32) {
+    let gate = Crossing::new();
+    let opens = AtomicU64::new(0);
+    let said = run_apart(
+        rt,
+        FIRST,
+        (2, cut),
+        &gate,
+        WITHOUT_FIRST,
+        &opens,
+        Failing::Nothing,
+    );
+    need_report(rt, said, FOUR_CUBES_REPORT);
+    need_count(rt, "opens", &opens, 0x11110);
+    need_count(rt, "seen", &gate.seen, 1);
 }
 
 // A worker that finds no section left takes leaves while another is at work on the last section.
 #[test]
 fn a_leaf_beside_a_section(rt: HostRuntime) {
     for cut in [0, 1, 6] {
-        let gate = Crossing::new();
-        let opens = AtomicU64::new(0);
-        let told = run_apart(
-            &rt,
-            FIRST,
-            (2, cut),
-            &gate,
-            WITHOUT_FIRST,
-            &opens,
-            Failing::Nothing,
-        );
-        assert!(rt; is_report(told, FOUR_CUBES_REPORT));
-        need_count(&rt, "opens", &opens, 0x11110);
-        need_count(&rt, "seen", &gate.seen, 1);
+        need_beside(&rt, cut);
     }
+}
+
+/// A bundle, proofs beside it, the report and how often the gate is told of each cube.
+type LeftOpen = (
+    &'static str,
+    &'static [Option<&'static [u8]>],
+    &'static [u8],
+    u64,
+);
+
+const LEFT_OPEN: &[LeftOpen] = &[
+    (CUBES, WITHOUT_SECOND, OPEN_SECOND_REPORT, 0x11010),
+    (SECOND, WITHOUT_SECOND, FOUR_CUBES_REPORT, 0x11110),
+    (CUBES, SHORT_SECOND, SHORT_SECOND_REPORT, 0x11110),
+];
+
+/// Ends the test where so many workers give another report, don't open each proof once, or tell of
+/// other cubes.
+fn need_left_open<R: Abort + AllocGlobal + Threads + Wait + Sync>(
+    rt: &R,
+    workers: u32,
+    wanted: &LeftOpen,
+) {
+    let (bundle, proofs, report, told) = *wanted;
+    let gate = Told::new();
+    let opens = AtomicU64::new(0);
+    let said = run_apart(
+        rt,
+        bundle,
+        (workers, 1),
+        &gate,
+        proofs,
+        &opens,
+        Failing::Nothing,
+    );
+    need_report(rt, said, report);
+    need_count(rt, "opens", &opens, 0x11110);
+    need_count(rt, "after", &gate.after, told);
 }
 
 // A leaf without a proof is open, or has the mark of its section; one whose proof is rejected is
@@ -311,27 +379,37 @@ fn a_leaf_beside_a_section(rt: HostRuntime) {
 #[test]
 fn a_leaf_is_left_open(rt: HostRuntime) {
     for workers in [1, 2, 4, 32] {
-        for (bundle, proofs, report, told) in [
-            (CUBES, WITHOUT_SECOND, OPEN_SECOND_REPORT, 0x11010),
-            (SECOND, WITHOUT_SECOND, FOUR_CUBES_REPORT, 0x11110),
-            (CUBES, SHORT_SECOND, SHORT_SECOND_REPORT, 0x11110),
-        ] {
-            let gate = Told::new();
-            let opens = AtomicU64::new(0);
-            let said = run_apart(
-                &rt,
-                bundle,
-                (workers, 1),
-                &gate,
-                proofs,
-                &opens,
-                Failing::Nothing,
-            );
-            assert!(rt; is_report(said, report));
-            need_count(&rt, "opens", &opens, 0x11110);
-            need_count(&rt, "after", &gate.after, told);
+        for wanted in LEFT_OPEN {
+            need_left_open(&rt, workers, wanted);
         }
     }
+}
+
+/// Ends the test where so many workers don't say that all proofs have to be in one bundle, or don't
+/// tell of this leaf, once; or where one worker opens other proofs than these.
+fn need_elsewhere<R: Abort + AllocGlobal + Threads + Wait + Sync>(
+    rt: &R,
+    workers: u32,
+    bundle: &str,
+    proofs: &[Option<&[u8]>],
+    leaf: u64,
+    opened: u64,
+) {
+    let gate = Told::new();
+    let opens = AtomicU64::new(0);
+    let told = run_apart(
+        rt,
+        bundle,
+        (workers, 0),
+        &gate,
+        proofs,
+        &opens,
+        Failing::Nothing,
+    );
+    need_no_report(rt, told);
+    need_count(rt, "fell_back", &gate.fell_back, leaf);
+    need_of_one(rt, workers, &opens, opened);
+    need_count(rt, "ended", &gate.ended, 1);
 }
 
 // A proof with a label line, and one of a leaf that has a section, too, have to be in the bundle.
@@ -340,27 +418,21 @@ fn a_leaf_is_left_open(rt: HostRuntime) {
 #[test]
 fn all_in_one_bundle(rt: HostRuntime) {
     for workers in [1, 4] {
-        for (bundle, proofs, leaf, opened) in [
-            (CUBES, LABELLED, 0x1000, 0x1000),
-            (SECOND, ALL, 0x100, 0x1100),
-        ] {
-            let gate = Told::new();
-            let opens = AtomicU64::new(0);
-            let told = run_apart(
-                &rt,
-                bundle,
-                (workers, 0),
-                &gate,
-                proofs,
-                &opens,
-                Failing::Nothing,
-            );
-            assert!(rt; matches!(told, Said::Elsewhere));
-            need_count(&rt, "fell_back", &gate.fell_back, leaf);
-            assert!(rt; workers > 1 || opens.load(Ordering::SeqCst) == opened);
-            need_count(&rt, "ended", &gate.ended, 1);
-        }
+        need_elsewhere(&rt, workers, CUBES, LABELLED, 0x1000, 0x1000);
+        need_elsewhere(&rt, workers, SECOND, ALL, 0x100, 0x1100);
     }
+}
+
+/// Ends the test where what has met a failed call doesn't come back from so many workers.
+fn need_unread<R: Abort + AllocGlobal + Threads + Wait + Sync>(
+    rt: &R,
+    workers: u32,
+    proofs: &[Option<&[u8]>],
+    failing: Failing,
+) {
+    let opens = AtomicU64::new(0);
+    let told = run_apart(rt, CUBES, (workers, 1), &NoGate, proofs, &opens, failing);
+    need_fault(rt, told);
 }
 
 // What has met a failed call comes back, whatever else there is to say.
@@ -368,11 +440,8 @@ fn all_in_one_bundle(rt: HostRuntime) {
 fn a_read_fails(rt: HostRuntime) {
     for workers in [1, 2, 4] {
         for (proofs, cube) in [(ALL, 1), (ALL, 2), (ALL, 3), (ALL, 4), (LABELLED, 3)] {
-            for failing in [Failing::Opening(cube), Failing::Reading(cube)] {
-                let opens = AtomicU64::new(0);
-                let told = run_apart(&rt, CUBES, (workers, 1), &NoGate, proofs, &opens, failing);
-                assert!(rt; matches!(told, Said::Unread(1)), "{cube}");
-            }
+            need_unread(&rt, workers, proofs, Failing::Opening(cube));
+            need_unread(&rt, workers, proofs, Failing::Reading(cube));
         }
     }
 }
