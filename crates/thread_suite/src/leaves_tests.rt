@@ -309,8 +309,7 @@ fn each_proof_is_opened_once(rt: HostRuntime) {
     }
 }
 
-/// Ends the test where a worker doesn't take the leaves while another is at work on the only section,
-/// at this cut.
+/// Ends the test where a worker doesn't take leaves while another is at work on the only section.
 fn need_beside<R: Abort + AllocGlobal + Threads + Wait + Sync>(rt: &R, cut: u32) {
     let gate = Crossing::new();
     let opens = AtomicU64::new(0);
