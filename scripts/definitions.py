@@ -24,6 +24,10 @@ the call that `main` makes. Whoever chose the cubes and made the proofs is trust
 same of a report that ends with the line `s REFUTED`, and of `run_io` where it answers true. To say that, no definition
 of trees, proofs or marks is needed.
 
+`command` is proved for all readers and all stores of files. No contract says what the system's own files and streams
+hold, so there any text without a model meets `sound`. Its force is that this same code is proved for every store.
+`handed`, the next claim, speaks of the bytes that readings handed over.
+
 What there is to read says what a clause, an assignment and a model are (`Literal`, `Formula`), which clauses a text
 has, however many and long (`Tokens`, `Numbers`, `Icnf`), where in a bundle that text ends (`Bundle`), which words are
 FILE and which bundle is read (`Words`, `Files`), and the statement: `IsFormulaOf`, `IsUnsatisfiable`, and for callers
