@@ -4,8 +4,8 @@
     python3 scripts/gate.py FOLDER MARK
 
 FOLDER is made: a copy of this one without the must-fail edits, in which `rt ci` works. As soon as that has said that the programs and the tests of suite are
-proved, what it has made so far is copied to the crates' folders out/, and the file MARK is made: from then on ./check tries the programs, beside what is still
-to be proved.
+proved, what it has made of these is copied to the crates' folders out/, and the file MARK is made: from then on ./check tries the programs, beside what is
+still to be proved.
 
 `rt ci` would try each edit in a check of its own, which takes longer than all proofs together. And it proves a chain of crates one after the other, each by one
 processor, so that two of four are idle. Those try the wrong bodies of a crate as soon as `rt ci` has said that each library below it is proved, over the
@@ -91,10 +91,10 @@ class Made:
             self.hand_over()
 
     def hand_over(self):
-        """Copies what is proved so far to where `rt ci` would have put it here, once."""
+        """Copies that, and the libraries that the programs stand on, to where `rt ci` would have put it here, once. It leaves alone what may still be made."""
         if self.mark.exists():
             return
-        for name in sorted({it.partition(":")[0] for it in self.proved}):
+        for name in sorted({it.name for program in turn.PROGRAMS for it in build.below(program)} | {"suite"}):
             for made in (self.copy / "crates" / name / "out").iterdir():
                 to = build.ROOT / made.relative_to(self.copy)
                 to.parent.mkdir(exist_ok=True)
