@@ -46,8 +46,8 @@ and `outline` answer. The code of a store doesn't depend on it. So take for it, 
 and one call, exactly the texts that its readings of each path gave. Proofs of leaves have no part in
 it: they may be read at any time, and are trusted for nothing.""",
      ["cube_command/program.rt command handed",
-      "bundle_files/store.rt Store::read handed",
-      "bundle_files/store.rt Store::outline handed"]),
+      "file_store/store.rt Store::read handed",
+      "file_store/store.rt Store::outline handed"]),
     ("With `--formula` the formula of a published file has no model", """
 Where the program ends with status 0 and `--formula CNF` is asked for, the text of that file is a DIMACS text of a formula of which no assignment makes all clauses true. What a bundle is, how the
 file and FILE become one, and what a cube or a label line is, has no part in it.""",
@@ -105,9 +105,9 @@ reads files and can't write any).""",
       "cube_report/engine.rt run_io allowed",
       "cube_report/engine.rt write_report allowed",
       "byte_flow/device.rt Sink::write allowed rest",
-      "bundle_files/store.rt Store::read allowed",
-      "bundle_files/store.rt Store::write allowed beside",
-      "bundle_files/store.rt Store::write_counted allowed beside"]),
+      "file_store/store.rt Store::read allowed",
+      "file_store/store.rt Store::write allowed beside",
+      "file_store/store.rt Store::write_counted allowed beside"]),
     ("Reports of several runs, joined: `s REFUTED` means that the formula has no model", """
 Where `cubejoin` ends with status 0, and each RECORD that it has read is one that `cubeboard` wrote, on whichever files,
 none of which has FILE's SHA-256 with another text, no assignment makes all clauses of FILE true: `join_command` is the
@@ -134,16 +134,17 @@ one text.""",
     ("bundle_files: the bundle that is judged", """
 It is the file's or the input's, with the proofs of a folder added for the leaves of its tree, in order and each under its own label. What a run says that reads each of
 these proofs when a worker comes to its leaf is what a run on this bundle promises.""",
-     ["bundle_files/source.rt read_given held bundle handed ok err kept",
+     ["file_store/source.rt read_given held bundle handed ok err kept",
       "bundle_files/formula.rt read_from held bundle handed case fault ok err kept",
+      "bundle_files/outlined.rt outline_bundle held read handed fault ok err",
       "bundle_files/by_section.rt judge_by_section held outcome handed fault ok err",
       "bundle_files/judge.rt judge_given held outcome fault ok err",
-      "bundle_files/folder.rt add_proofs held whole ok err",
-      "bundle_files/store.rt Store::read held found ok err",
-      "bundle_files/store.rt Store::write written elsewhere nothing ok err",
-      "bundle_files/store.rt Store::write_counted written elsewhere ok err failed",
-      "bundle_files/store.rt Store::reader held none",
-      "bundle_files/store.rt Store::settle held failures"]),
+      "file_store/folder.rt add_proofs held whole ok err",
+      "file_store/store.rt Store::read held found ok err",
+      "file_store/store.rt Store::write written elsewhere nothing ok err",
+      "file_store/store.rt Store::write_counted written elsewhere ok err failed",
+      "file_store/store.rt Store::reader held none",
+      "file_store/store.rt Store::settle held failures"]),
     ("cnf_text: the iCNF text and the DIMACS text", """
 The file that is read is what the text stands for, or the fault is the text's first one. So it is with what the problem line of a DIMACS text says.""",
      ["cnf_text/icnf.rt read_icnf ok only err",
@@ -216,10 +217,10 @@ Each section's place is claimed once. Once all workers are joined, each node of 
 for every number of workers, every cut, every gate and every schedule. `command` makes the report by `judge_given` of
 bundle_files, over `conquer` of check_crew, and writes it by `write_all` of byte_flow.
 
-With DIR each proof is judged while a worker reads it, when it comes to its leaf, over `conquer_leaves`, in a hall for
-FILE's case whose leaves have their proofs elsewhere. There the laws of board_hall hold word for word, and what a board
-marks refuted has no model; that a leaf is marked by the judgement of its own file is no law of that hall: it is
-compared, for each leaf, when all workers are joined, and `conquer_leaves` gives boards only where it is so.""",
+With DIR, or from FILE, each proof is judged while a worker reads it, when it comes to its target, over `conquer_leaves`, in
+a hall for FILE's case whose proofs lie elsewhere. There the laws of board_hall hold word for word, and what a board
+marks refuted has no model; that a target is marked by the judgement of its own proof is no law of that hall: it is
+compared, for each node, when all workers are joined, and `conquer_leaves` gives boards only where it is so.""",
      ["cube_jobs/jobs.rt Jobs::fill sections count passes",
       "cube_jobs/jobs.rt Jobs::claim same place later claimed none",
       "cube_jobs/jobs.rt Jobs::finish exactly once",
@@ -257,7 +258,7 @@ Not among the definitions are:
   its clauses, a `Boards` as its case and all nodes' marks. The `impl Model` beside a type says that. By which function it is told from
   private fields no caller has to know, since the contracts of the calls say what the values are;
 - what a reader, a writer or a store of files says of itself in a clause, as `R.remaining`, `W.contents` or `D.held`. The traits `Source` and `Sink`
-  ([byte_flow/device.rt](../crates/byte_flow/src/device.rt)), `Store` ([bundle_files/store.rt](../crates/bundle_files/src/store.rt)) and the kit's `Read` and `Write` say that.
+  ([byte_flow/device.rt](../crates/byte_flow/src/device.rt)), `Store` ([file_store/store.rt](../crates/file_store/src/store.rt)) and the kit's `Read` and `Write` say that.
 """
 
 LAWS = """

@@ -84,7 +84,7 @@ def told(node):
     return " ".join(["n", *map(str, node.path), "0", *status, "w", str(node.open)])
 
 
-def colour(node, row, covered):
+def color(node, row, covered):
     """The class of a node's cell in a row, where a node above may be marked."""
     if node.marked:
         return "r"
@@ -121,7 +121,7 @@ def cells_of(root):
         node, row, left, covered = pending.pop()
         last = max(last, row)
         width = 2048 >> row
-        name = colour(node, row, covered) + (" n" if node.branches and node.status else "")
+        name = color(node, row, covered) + (" n" if node.branches and node.status else "")
         lines.append(f"{rectangle(name, left, 40 + 24 * row, width)}<title>{told(node)}</title></rect>\n")
         if node.branches and row < LAST_ROW:
             covered = covered or node.marked

@@ -65,7 +65,7 @@ begin adders-6 8 miter_add 6 3 2
 bundle
 solve_cubes
 
-# The numbers 1 to 14, three colours, no sum of one colour. The sixth cube is left out, as by a splitter that has refuted it by
+# The numbers 1 to 14, three colors, no sum of one color. The sixth cube is left out, as by a splitter that has refuted it by
 # itself; no leaf gets more than 14 conflicts; two inner nodes get as many as they need.
 begin schur-14-3 16 schur 14 3
 sed 6d cubes > "$here/cubes" && mv "$here/cubes" cubes

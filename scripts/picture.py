@@ -1,4 +1,4 @@
-"""Compares pixels of a PNG file: its path, and then X,Y,RRGGBB for each pixel. The status is 0 where all have their colours."""
+"""Compares pixels of a PNG file: its path, and then X,Y,RRGGBB for each pixel. The status is 0 where all have their colors."""
 import struct
 import sys
 import zlib
@@ -12,10 +12,10 @@ def rows_of(path):
         length, kind = struct.unpack(">I4s", data[at:at + 8])
         chunk = data[at + 8:at + 8 + length]
         if kind == b"IHDR":
-            width, _, depth, colour, _, _, interlace = struct.unpack(">IIBBBBB", chunk)
+            width, _, depth, color, _, _, interlace = struct.unpack(">IIBBBBB", chunk)
             if depth != 8 or interlace != 0:
                 raise ValueError("a PNG of another form")
-            step = {2: 3, 6: 4}[colour]
+            step = {2: 3, 6: 4}[color]
         elif kind == b"IDAT":
             body += chunk
         at += length + 12
@@ -43,9 +43,9 @@ def guess(kind, left, above, corner):
 rows, step = rows_of(sys.argv[1])
 failed = 0
 for wanted in sys.argv[2:]:
-    x, y, colour = wanted.split(",")
+    x, y, color = wanted.split(",")
     found = rows[int(y)][int(x) * step:int(x) * step + 3].hex()
-    if found != colour.lower():
-        print(f"picture: {x},{y} is {found}, not {colour}")
+    if found != color.lower():
+        print(f"picture: {x},{y} is {found}, not {color}")
         failed = 1
 sys.exit(failed)

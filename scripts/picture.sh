@@ -2,7 +2,7 @@
 # Draws pictures by the built program: of the examples, of random trees, of trees of 100,000 cubes and of great depth. What is found of their leaves
 # and nodes is known without the program: from the examples' reports, or from how they are made. By that scripts/draw.py draws each picture, and the
 # program's has to be the same, and its report has to say just that, with the answer and the open weight that stand in the picture; where the tree is
-# great the picture has to be less than 2 MB of XML. Then a tree whose nodes have each of the colours: its report, and the colours of its cells, as
+# great the picture has to be less than 2 MB of XML. Then a tree whose nodes have each of the colors: its report, and the colors of its cells, as
 # docs/FORMATS.md says them, by what the picture itself says of its classes. Then pixels of that picture, and of the last row of one whose leaves are all
 # refuted, drawn by librsvg and by a headless Chromium, as far as these are there (Debian's librsvg2-bin is small, Chromium hundreds of megabytes): drawings
 # that share nothing with the program or with scripts/draw.py. The last line counts.
@@ -52,13 +52,13 @@ done
 
 # The four cubes of two variables, with proofs for the node `1` and the first leaf, and one that names no live clause for the third leaf.
 printf '%s\n' 'p inccnf' '1 2 0' '1 -2 0' '-1 2 0' '-1 -2 0' 'a 1 2 0' 'a 1 -2 0' 'a -1 2 0' 'a -1 -2 0' \
-    'l n 1 0' '6 0 5 3 4 0' 'l 1' '7 0 5 6 4 0' 'l 3' '7 0 9 0' > "$here/colours.icnf"
+    'l n 1 0' '6 0 5 3 4 0' 'l 1' '7 0 5 6 4 0' 'l 3' '7 0 9 0' > "$here/colors.icnf"
 printf '%s\n' "t 4 0 $whole" 'a 1 refuted' 'a 2 open' 'a 3 rejected 1 hint' 'a 4 open' 'n 1 0 refuted' 'o -1 0' "w $((whole / 2))" \
-    's OPEN' > "$here/colours.report"
+    's OPEN' > "$here/colors.report"
 echo 1 > "$here/one"
 browser=$(command -v chromium || command -v chromium-browser || command -v google-chrome)
 
-# Whether pixels of a picture have their colours, by each program that is there to draw it: a claim, the picture, and then X,Y,RRGGBB for each pixel.
+# Whether pixels of a picture have their colors, by each program that is there to draw it: a claim, the picture, and then X,Y,RRGGBB for each pixel.
 pixels() {
     claim=$1
     cp "$2" "$here/shown.svg" || return
@@ -78,15 +78,15 @@ pixels() {
     fi
     [ -s "$here/librsvg.png" ] || [ -s "$here/chromium.png" ] || skip "$claim" "neither rsvg-convert nor a Chromium that shows a page is here"
 }
-run /dev/null --map "$here/colours.svg" "$here/colours.icnf"
-compare "the report on a tree of all colours" "$here/colours.report" "$here/none" "$here/one"
+run /dev/null --map "$here/colors.svg" "$here/colors.icnf"
+compare "the report on a tree of all colors" "$here/colors.report" "$here/none" "$here/one"
 
-# The cells of a picture, those of its rectangles that tell of a node: where each is, its width, its colour, that of its edge, and what it tells. The
-# picture's style says what colours a rectangle has, and a class, or a rectangle of a class: the last class that names one decides.
+# The cells of a picture, those of its rectangles that tell of a node: where each is, its width, its color, that of its edge, and what it tells. The
+# picture's style says what colors a rectangle has, and a class, or a rectangle of a class: the last class that names one decides.
 cells() {
     awk -F '"' '
-        # The colour that the rule of a name gives to a thing, or nothing.
-        function colour(of, what,    rule) {
+        # The color that the rule of a name gives to a thing, or nothing.
+        function color(of, what,    rule) {
             if (!index(style, "}" of "{")) return ""
             rule = substr(style, index(style, "}" of "{") + length(of) + 1)
             rule = substr(rule, 1, index(rule, "}"))
@@ -94,14 +94,14 @@ cells() {
         }
         /^<style>/ { style = $0 }
         /<title>/ {
-            fill = colour("rect", "fill")
-            edge = colour("rect", "stroke")
+            fill = color("rect", "fill")
+            edge = color("rect", "stroke")
             n = split($2, classes, " ")
             for (i = 1; i <= n; i++) {
                 for (of = 1; of <= 2; of++) {
                     name = (of == 1 ? "." : "rect.") classes[i]
-                    if (colour(name, "fill")) fill = colour(name, "fill")
-                    if (colour(name, "stroke")) edge = colour(name, "stroke")
+                    if (color(name, "fill")) fill = color(name, "fill")
+                    if (color(name, "stroke")) edge = color(name, "stroke")
                 }
             }
             told = $0
@@ -115,13 +115,13 @@ cells() {
 printf '%s\n' "0 40 2048 #56B4E9 #FFFFFF n 0 w $((whole / 2))" '0 64 1024 #0072B2 #000000 n 1 0 refuted w 0' '0 88 512 #0072B2 #FFFFFF a 1 refuted' \
     '512 88 512 #BBBBBB #FFFFFF a 2 open' "1024 64 1024 #F0E442 #FFFFFF n -1 0 w $((whole / 2))" '1024 88 512 #D55E00 #FFFFFF a 3 rejected 1 hint' \
     '1536 88 512 #F0E442 #FFFFFF a 4 open' > "$here/wanted"
-[ -f "$here/colours.svg" ] && cells "$here/colours.svg" | cmp -s - "$here/wanted"
-count "the colours, edges and places of seven cells" $?
+[ -f "$here/colors.svg" ] && cells "$here/colors.svg" | cmp -s - "$here/wanted"
+count "the colors, edges and places of seven cells" $?
 # The root, the nodes `1` and `-1`, and the four leaves.
-pixels "the pixels of seven cells" "$here/colours.svg" 1024,51,56B4E9 512,75,0072B2 1536,75,F0E442 \
+pixels "the pixels of seven cells" "$here/colors.svg" 1024,51,56B4E9 512,75,0072B2 1536,75,F0E442 \
     256,99,0072B2 768,99,BBBBBB 1280,99,D55E00 1792,99,F0E442
 
-# A tree of 2,048 cubes, each of which is refuted: in its last row cells are 1 wide, and have their colour all the same.
+# A tree of 2,048 cubes, each of which is refuted: in its last row cells are 1 wide, and have their color all the same.
 awk 'BEGIN {
     print "p inccnf\n1 2 0\n1 -2 0\n-1 2 0\n-1 -2 0"
     for (i = 0; i < 2048; i++) {

@@ -30,12 +30,12 @@ PROGRAMS = ("cubeboard", "cubejoin")
 # Which script tries what which crates do. tests/rows try all of them, so that one isn't here.
 SCRIPTS = {
     "explain": {"lrat_binary", "cube_explain", "cube_command", "cube_report", "cubeboard"},
-    "files": {"byte_flow", "bundle_files", "cube_command", "join_command", "cubeboard", "cubejoin"},
+    "files": {"byte_flow", "file_store", "bundle_files", "run_watch", "cube_command", "join_command", "cubeboard", "cubejoin"},
     "picture": {"tree_map", "node_fields", "split_tree", "mark_board"},
     "questions": {"cube_report", "node_fields"},
     "cluster": {"join_command", "cube_join", "cubejoin"},
-    "threads": {"byte_flow", "board_hall", "cube_jobs", "check_crew", "bundle_files", "cube_command", "cubeboard"},
-    "refused": {"lrat_binary", "hint_check", "case_core", "check_crew", "bundle_files", "join_command"},
+    "threads": {"byte_flow", "board_hall", "cube_jobs", "check_crew", "file_store", "bundle_files", "run_watch", "cube_command", "cubeboard"},
+    "refused": {"lrat_binary", "hint_check", "case_core", "check_crew", "file_store", "bundle_files", "join_command"},
 }
 WORDS = {"cluster": ["loop"]}
 LANES = 4

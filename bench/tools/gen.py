@@ -59,41 +59,41 @@ def tseitin(points, degree, seed):
     return f
 
 
-def colour(n, colours, sets):
-    """No colouring of 1..n gives all of one set one colour."""
+def color(n, colors, sets):
+    """No coloring of 1..n gives all of one set one color."""
     f = Cnf()
-    if colours == 2:
+    if colors == 2:
         for _ in range(n):
             f.var()
         for s in sets:
             f.add(*s)
             f.add(*[-x for x in s])
         return f
-    x = [[f.var() for _ in range(colours)] for _ in range(n)]
+    x = [[f.var() for _ in range(colors)] for _ in range(n)]
     for i in range(n):
         f.add(*x[i])
-        for a in range(colours):
+        for a in range(colors):
             for b in range(a):
                 f.add(-x[i][a], -x[i][b])
     for s in sets:
-        for a in range(colours):
+        for a in range(colors):
             f.add(*[-x[i - 1][a] for i in s])
     return f
 
 
-def schur(n, colours):
-    """Sums a + b = c of one colour."""
-    return colour(n, colours, [sorted({a, b, a + b}) for a in range(1, n + 1) for b in range(a, n + 1 - a)])
+def schur(n, colors):
+    """Sums a + b = c of one color."""
+    return color(n, colors, [sorted({a, b, a + b}) for a in range(1, n + 1) for b in range(a, n + 1 - a)])
 
 
 def squares(n, modulus):
-    """Two colours, and a*a + b*b = c*c to a modulus."""
+    """Two colors, and a*a + b*b = c*c to a modulus."""
     triples = itertools.combinations(range(1, n + 1), 3)
-    return colour(n, 2, [[a, b, c] for a, b, c in triples if (a * a + b * b - c * c) % modulus == 0])
+    return color(n, 2, [[a, b, c] for a, b, c in triples if (a * a + b * b - c * c) % modulus == 0])
 
 
 def vdw2(n, first, second):
-    """Two colours, and arithmetic progressions of these lengths (van der Waerden)."""
+    """Two colors, and arithmetic progressions of these lengths (van der Waerden)."""
     f = Cnf()
     f.variables = n
     for length, sign in ((first, 1), (second, -1)):

@@ -135,3 +135,61 @@ fn a_file_without_a_report(rt: HostRuntime) -> Result<(), Fail> {
         Left::Record,
     )
 }
+
+/// A formula's file: the clauses of `BOTH_CUBES`.
+const FORMULA: &[u8] = b"p cnf 2 4\n1 2 0\n1 -2 0\n-1 2 0\n-1 -2 0\n";
+
+/// What stands behind them there.
+const CUBES: &[u8] = b"a 1 0\na -1 0\nl 1\n6 0 5 3 4 0\nl 2\n6 0 5 1 2 0\n";
+
+/// What `sha256sum` prints of the formula's text with `p inccnf ` in its first line, an empty line,
+/// and the two cubes' lines.
+const BELOW_LINE: &[u8] = b"i abfdd049e6def4894652cb5e0aa36d4085d99facbbbd9430ed3c4d1e8d242837\n";
+
+/// The program on these words and these files, whose lengths are told, makes the record that begins
+/// with this line, and asks for these paths.
+fn records<R: AllocGlobal + Abort + Threads + Wait + Sync>(
+    rt: &R,
+    words: &[&str],
+    line: &[u8],
+    paths: &[u8],
+) -> Result<(), Fail> {
+    let files = [
+        ("FILE", BOTH_CUBES.as_bytes()),
+        ("CNF", FORMULA),
+        ("CUBES", CUBES),
+    ];
+    let mut store = FileStore::new(Shelf::new(rt.alloc(), &files)?.with_lengths());
+    ends_with(rt, &mut store, words, b"", 0, REPORTED);
+    let asked = store.opener().asked()?;
+    assert!(rt; asked.as_slice() == paths, "{words:?}");
+    let mut record = Vec::new(rt.alloc());
+    record.extend_from_slice(line)?;
+    record.extend_from_slice(BOTH_CUBES_REPORT)?;
+    let Some((path, made)) = store.opener().made() else {
+        return Err(Fail::new("no record"));
+    };
+    assert!(rt;
+        path == "a.record" && made == record.as_slice(),
+        "{words:?}"
+    );
+    Ok(())
+}
+
+// A bundle in a file is read once for its outline, and then each proof at its place: the record is
+// the same.
+#[test]
+fn a_record_of_a_file(rt: HostRuntime) -> Result<(), Fail> {
+    records(
+        &rt,
+        &["--record", "a.record", "--workers", "1", "FILE"],
+        BOTH_CUBES_LINE,
+        b"FILE\nFILE\nFILE\n",
+    )?;
+    records(
+        &rt,
+        &["--record", "a.record", "--formula", "CNF", "CUBES"],
+        BELOW_LINE,
+        b"CNF\nCUBES\nCUBES\nCUBES\n",
+    )
+}

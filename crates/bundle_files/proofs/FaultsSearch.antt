@@ -13,14 +13,14 @@ use Rattle.case_core.specs.declared.fault.CaseFault.{CaseFault}
 use Rattle.case_core.specs.declared.fault.CaseFault.TheVariants as case
 use Rattle.cube_report.specs.declared.fault.Fault.TheVariants.{Device}
 use Rattle.cube_report.specs.Faults.{fault_of_case}
-use Rattle.bundle_files.specs.Files.{AreAdded, Gives, Held, IsFound, IsWithProofs, as_proofs}
-use Rattle.bundle_files.specs.Files.{names_from}
+use Rattle.file_store.specs.Files.{AreAdded, Gives, Held, IsFound, IsWithProofs, as_proofs}
+use Rattle.file_store.specs.Files.{names_from}
 use Rattle.proof_folder.specs.Added.{proof_path}
 use Rattle.bundle_files.specs.Inner.Faults.{IsSearched, IsFoundIn}
 use Rattle.bundle_files.specs.Judging.{IsRefusedOf}
-use Rattle.bundle_files.proofs.FilesFormula.{first_label}
-use Rattle.bundle_files.proofs.FilesSections.{added_more, one_leaf, one_further, label_then}
-use Rattle.bundle_files.proofs.FilesSections.{nothing_added}
+use Rattle.bundle_files.proofs.LawsFormula.{first_label}
+use Rattle.file_store.proofs.FilesSections.{added_more, one_leaf, one_further, label_then}
+use Rattle.file_store.proofs.FilesSections.{nothing_added}
 
 -- behind its line end a section begins with its label line
 begins_with_label : (more : List ℕ) → BeginsWithLabel (108 ∷ 32 ∷ more)

@@ -17,10 +17,10 @@ use Rattle.case_core.proofs.IcnfUnique.{one_text}
 use Rattle.cube_report.specs.declared.fault.Fault.{Fault}
 use Rattle.cube_report.specs.declared.fault.Fault.TheVariants.{Counts}
 use Rattle.cube_report.specs.Faults.{IsInputFault}
-use Rattle.bundle_files.specs.Files.{Held, Gives, IsFound, IsHanded, IsRead, lies_in}
+use Rattle.file_store.specs.Files.{Held, Gives, IsAppended, IsFound, IsHanded, IsRead, lies_in}
 use Rattle.bundle_files.specs.Formula.{IsOverwritten, IsUnder}
-use Rattle.bundle_files.specs.Formula.{IsFormulaFault}
-use Rattle.bundle_files.specs.Inner.Formula.{IsAppended, IsFormulaRead, IsOtherCount}
+use Rattle.bundle_files.specs.Formula.{IsFormulaFault, IsFormulaRead}
+use Rattle.bundle_files.specs.Inner.Formula.{IsOtherCount}
 
 -- what holds of an error holds of the result that hands it on
 pub handed_on : {T E : Type 0} (result : Result T E) (P : E → Type 0) (error : E) → P error

@@ -17,9 +17,9 @@ use Rattle.case_core.proofs.DimacsFormula.{formula_of_tokens}
 use Rattle.case_core.proofs.IcnfUnique.{one_text_of, text_of}
 use Rattle.proof_folder.proofs.AddedLines.{with_ends, text_is_lines}
 use Rattle.cube_report.specs.Correct.{IsUnsatisfiable}
-use Rattle.bundle_files.specs.Files.{Held, IsJudgedOf}
+use Rattle.file_store.specs.Files.{Held, IsJudgedOf}
 use Rattle.bundle_files.specs.Formula.{header_over, IsOverwritten, IsUnder}
-use Rattle.bundle_files.proofs.FilesFormula.{judged_keeps_items}
+use Rattle.bundle_files.proofs.LawsFormula.{judged_keeps_items}
 use Rattle.bundle_files.proofs.FormulaLines.{bare_plain, clauses_plain, header_plain, header_tokens}
 
 -- ---- lines one after the other
@@ -35,7 +35,7 @@ joined_more n (line ∷ lines) more =
     )
 
 -- the text before the first label line, where the first lines are none
-plain_front : (lines more : List (List ℕ)) → AllByRecursion (λ line. is_label line ≡ false) lines
+pub plain_front : (lines more : List (List ℕ)) → AllByRecursion (λ line. is_label line ≡ false) lines
     → (lines ≡ [] → ⊥) → (more ≡ [] → ⊥)
     → text_before (lines ++ more) ≡ with_ends lines ++ 10 ∷ text_before more
 plain_front [] more plain some others = absurd (some refl)
@@ -130,6 +130,33 @@ pub by_lines : {T : Type 0} (f : List (List Token) → T) (n : ℕ) (text : List
 unfolding token_lines
 by_lines f n text = refl
 
+-- no line of the text with the header over its problem line is a label line
+over_plain : (text over : List ℕ) (formula : List (List Literal)) → IsDimacs text formula
+    → IsOverwritten text over
+    → AllByRecursion (λ other. is_label other ≡ false) (lines_of over)
+over_plain text over formula is made =
+    let there : after_problem (lines_from 1 (made.before ++ made.line ∷ made.after))
+    ≡ Some (is.problem, is.has.tokens) =
+    ap (λ (l : List (List ℕ)). after_problem (lines_from 1 l)) (sym made.lines)
+    ∙ sym (by_lines after_problem 1 text) ∙ is.has.below in
+    let below =
+    below_problem 1 made.before made.line made.after is.problem is.has.tokens made.bare made.first
+    there in
+    subst (AllByRecursion (λ other. is_label other ≡ false)) (sym made.header)
+    (all_plain made.before made.after made.line made.bare
+    (clauses_plain [] (below.at + 1) made.after formula
+    (ap clause_symbols below.tokens_are ∙ is.has.written)))
+
+-- it stands before the iCNF text of what follows it
+pub over_first : (text over rest : List ℕ) (formula : List (List Literal)) → IsDimacs text formula
+    → IsOverwritten text over
+    → icnf_text (over ++ 10 ∷ rest) ≡ over ++ 10 ∷ icnf_text rest
+over_first text over rest formula is made =
+    ap text_before (lines_more over rest)
+    ∙ plain_front (lines_of over) (lines_of rest) (over_plain text over formula is made)
+    (no_lines over) (no_lines rest)
+    ∙ ap (λ (t : List ℕ). t ++ 10 ∷ text_before (lines_of rest)) (text_is_lines over)
+
 -- the tokens below the bundle's header are the formula's, and then others
 pub bundle_tokens : (text over rest : List ℕ) (formula : List (List Literal))
     → (is : IsDimacs text formula) → IsOverwritten text over
@@ -141,18 +168,7 @@ bundle_tokens text over rest formula is made =
     ≡ Some (is.problem, is.has.tokens) =
     ap (λ (l : List (List ℕ)). after_problem (lines_from 1 l)) (sym made.lines)
     ∙ sym (by_lines after_problem 1 text) ∙ is.has.below in
-    let below =
-    below_problem 1 made.before made.line made.after is.problem is.has.tokens made.bare made.first
-    there in
-    let plain : AllByRecursion (λ other. is_label other ≡ false) (lines_of over) =
-    subst (AllByRecursion (λ other. is_label other ≡ false)) (sym made.header)
-    (all_plain made.before made.after made.line made.bare
-    (clauses_plain [] (below.at + 1) made.after formula
-    (ap clause_symbols below.tokens_are ∙ is.has.written))) in
-    let front : icnf_text (over ++ 10 ∷ rest) ≡ over ++ 10 ∷ text_before (lines_of rest) =
-    ap text_before (lines_more over rest)
-    ∙ plain_front (lines_of over) (lines_of rest) plain (no_lines over) (no_lines rest)
-    ∙ ap (λ (t : List ℕ). t ++ 10 ∷ text_before (lines_of rest)) (text_is_lines over) in
+    let front = over_first text over rest formula is made in
     let found =
     below_header 1 made.before made.line made.after (lines_of (text_before (lines_of rest)))
     is.problem is.has.tokens made.bare made.first there in (

@@ -16,10 +16,10 @@ use Rattle.cube_report.specs.Faults.{IsInputFault, fault_of_case}
 use Rattle.cube_report.specs.Correct.{IsFaultOn}
 use Rattle.cube_report.specs.Stated.{IsWrittenBy}
 use Rattle.proof_folder.specs.Given.{HasFewLeaves, AreFoundApart}
-use Rattle.bundle_files.specs.Files.{Held, IsWithProofs, as_proofs}
-use Rattle.bundle_files.proofs.FilesSections.{nothing_added}
-use Rattle.bundle_files.specs.Laws.{held_for}
-use Rattle.bundle_files.proofs.FilesApart.{judged_apart}
+use Rattle.file_store.specs.Files.{Held, IsWithProofs, as_proofs}
+use Rattle.file_store.proofs.FilesSections.{nothing_added}
+use Rattle.file_store.specs.Files.{held_for}
+use Rattle.bundle_files.proofs.LawsApart.{judged_apart}
 use Rattle.bundle_files.specs.Judging.{IsOutcomeOf, IsRefusedOf}
 
 -- a bundle with a fault has no proofs added

@@ -1,14 +1,12 @@
-pub mod FilesFormula
-mod FilesSections
+pub mod LawsFormula
 mod FormulaLines
 pub mod FormulaText
 mod FormulaPlace
 mod FormulaReading
-mod FilesOpened
-mod FilesPaths
-mod FilesApart
+mod LawsApart
 mod JudgingRuns
-mod BlocksLines
 mod FaultsSearch
-mod ProofsTurned
+mod OutlinedBehind
+mod OutlinedFronts
+mod SectionsHead
 mod SectionsJudged

@@ -6,13 +6,14 @@ use Rattle.std.specs.List.{AllByRecursion}
 use Rattle.case_core.specs.Literal.{Literal}
 use Rattle.case_core.specs.Tokens.{line_tokens}
 use Rattle.case_core.specs.Icnf.{Item, StandsFor, clauses_of}
-use Rattle.case_core.specs.Dimacs.{greatest_of, told, IsDimacs, IsDimacsFault}
+use Rattle.case_core.specs.Dimacs.{greatest_of, told, told_problem, IsDimacs, IsDimacsFault}
 use Rattle.case_core.specs.DimacsFault.{DimacsFault}
+use Rattle.case_core.specs.Problem as code
 use Rattle.case_core.specs.Bundle.{lines_of, icnf_text}
 use Rattle.cube_report.specs.declared.fault.Fault.{Fault}
 use Rattle.cube_report.specs.declared.fault.Fault.TheVariants.{Counts, Device}
 use Rattle.cube_report.specs.Faults.{fault_of_dimacs}
-use Rattle.bundle_files.specs.Files.{Held, Gives, lies_in, IsTextAt, IsRead, IsJudgedOf, IsAbsent}
+use Rattle.file_store.specs.Files.{Held, Gives, lies_in, IsTextAt, IsRead, IsJudgedOf, IsAbsent}
 
 -- the header of an iCNF text, and blanks: as long as this line, where that has 8 bytes at least
 abbrev pub header_over : List ℕ → List ℕ
@@ -27,6 +28,16 @@ pub record IsOverwritten (text over : List ℕ) : Type 0 where
   pub bare : AllByRecursion (λ other. (n : ℕ) → line_tokens n other ≡ []) before
   pub first : (n : ℕ) → line_tokens n line ≢ []
   pub header : lines_of over ≡ before ++ header_over line ∷ after
+
+-- the text of a formula's file, with a header over its problem line, and what that line says
+pub record IsFormulaRead (has : List ℕ → List ℕ → Type 0) (path over : List ℕ)
+    (said : code.Problem) : Type 0 where
+  pub text : List ℕ
+  pub given : has path text
+  pub formula : List (List Literal)
+  pub dimacs : IsDimacs text formula
+  pub said_is : said ≡ told_problem dimacs.problem
+  pub overwritten : IsOverwritten text over
 
 -- the bundle of a formula's file and of a text of cubes and proofs, of those texts that a path has:
 -- the file's text, which is a DIMACS text, with a header over its problem line, a line end, and the

@@ -1,6 +1,6 @@
 -- What is said of a bundle that was read, with the proofs of the folder that is asked for.
 use Rattle.std.specs.Prelude.{◌≡◌, ◌≢◌, ◌+◌, ◌⊎◌, ℕ, Bool, List, Option}
-use Rattle.bundle_files.specs.Files.{Held, IsJudgedOf}
+use Rattle.file_store.specs.Files.{Held, IsJudgedOf}
 use Rattle.cube_report.specs.declared.fault.Fault.{Fault}
 use Rattle.cube_report.specs.declared.fault.Fault.TheVariants.{Device}
 use Rattle.cube_report.specs.Correct.{IsOutcome, IsFaultOn}

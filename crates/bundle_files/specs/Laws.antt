@@ -1,6 +1,5 @@
 -- Bundles whose folder's proofs were judged beside the bundle's own case.
-use Rattle.std.specs.Prelude.{◌≡◌, Bool, List, ℕ, Option}
-use Rattle.case_core.specs.Leaf.{Leaf}
+use Rattle.std.specs.Prelude.{◌≡◌, Bool, List, ℕ}
 use Rattle.case_core.specs.Case.{CaseOf}
 use Rattle.case_core.specs.Sections.{IsCaseOf}
 use Rattle.cube_report.specs.Mark.{Mark}
@@ -8,13 +7,8 @@ use Rattle.cube_report.specs.Picture.{map_text}
 use Rattle.cube_report.specs.Report.{report_text}
 use Rattle.cube_report.specs.Correct.{IsJudged, IsOutcome}
 use Rattle.cube_report.specs.Stated.{IsWrittenBy}
-use Rattle.proof_folder.specs.Given.{name_of, HasFewLeaves, AreFoundApart}
-use Rattle.bundle_files.specs.Files.{Held, IsWithProofs, as_proofs}
-use Rattle.proof_folder.specs.Added.{proof_path}
-
--- what is known to lie at the path of a leaf's proof, in the place of a binary one its text
-abbrev pub held_for : Held → List ℕ → Leaf → Option (Option (List ℕ))
-held_for held folder leaf = as_proofs held (proof_path folder (name_of leaf))
+use Rattle.proof_folder.specs.Given.{HasFewLeaves, AreFoundApart}
+use Rattle.file_store.specs.Files.{Held, IsWithProofs, held_for}
 
 -- The bundle with the folder's proofs stands for a case with the formula and the tree of this case,
 -- of whose findings these are the marks. By them report and picture of the two cases are the same;
@@ -32,7 +26,7 @@ pub record IsJudgedApart (held : Held) (folder bundle : List ℕ) (case : CaseOf
   pub outcome : (draws : Bool) (report map : List ℕ) (answer : Bool) →
       IsWrittenBy case marks draws report map answer → IsOutcome whole draws report map answer
 
--- so it is where a bundle stands for a case, and these are the marks of its nodes where each leaf
+-- so it is where a bundle stands for a case, and these are the marks of its nodes where each target
 -- was judged by itself, by what the folder has for it
 abbrev pub ProofsJudgedApart : Type 0
 ProofsJudgedApart = (held : Held) (folder bundle : List ℕ) (case : CaseOf) (marks : List Mark)

@@ -1,7 +1,9 @@
-pub mod Files
 pub mod Formula
 pub mod Laws
-pub mod Parts
 pub mod Judging
+pub mod Outlined
 pub mod Inner
+pub use Rattle.case_core.specs.Outline
 pub use Rattle.case_core.specs.Sections
+pub use Rattle.file_store.specs.Files
+pub use Rattle.file_store.specs.Parts

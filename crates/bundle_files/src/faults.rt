@@ -6,15 +6,14 @@ ghost use Rattle.case_core.specs.Case.{CaseOf};
 ghost use Rattle.case_core.specs.Sections.{IsCaseOf};
 ghost use Rattle.cube_report.specs.Device.{IsDeviceFault};
 ghost use Rattle.cube_report.specs.Faults.{IsInputFault};
-ghost use Rattle.bundle_files.specs.Files.{AreAdded, IsWithProofs, StaysAllowed, as_proofs};
-ghost use Rattle.bundle_files.specs.Files.{names_from};
+ghost use Rattle.file_store.specs.Files.{AreAdded, IsWithProofs, StaysAllowed, as_proofs};
+ghost use Rattle.file_store.specs.Files.{names_from};
 ghost use Rattle.bundle_files.specs.Inner.Faults.{IsSearched, IsFoundIn};
 ghost use Rattle.bundle_files.specs.Judging.{IsRefusedOf, IsJudgingFault};
 
-use crate::folder::{proof_path, write_label};
-use crate::store::Store;
 use case_core::{Case, CaseFault, LabelScan, read_bundle};
 use cube_report::{DeviceFault, Fault};
+use file_store::{Store, proof_path, write_label};
 use std::alloc::{AllocError, Global};
 
 /// What was found of a bundle so far, to which the proofs of leaves are added one by one.

@@ -12,20 +12,20 @@ ghost use Rattle.case_core.specs.Dimacs.{greatest_of, IsDimacs};
 ghost use Rattle.case_core.specs.Bundle.{icnf_text};
 ghost use Rattle.case_core.specs.Sections.{IsCaseOf};
 ghost use Rattle.cube_report.specs.Faults.{IsInputFault};
-ghost use Rattle.bundle_files.specs.Files.{IsUnread, StaysAllowed, lies_in};
+ghost use Rattle.file_store.specs.Files.{IsUnread, StaysAllowed, lies_in};
 ghost use Rattle.bundle_files.specs.Formula.{header_over, IsFormulaFault, IsOverwritten, IsReadBy};
 ghost use Rattle.bundle_files.specs.Formula.{IsBundleBy, IsUnder, IsUnderFormula, IsUnreadFrom};
-ghost use Rattle.bundle_files.specs.Inner.Formula.{HasProblem, IsAppended, IsFirstLine};
-ghost use Rattle.bundle_files.specs.Inner.Formula.{IsFaultyFormula, IsFormulaRead, IsOtherCount};
+ghost use Rattle.bundle_files.specs.Formula.{IsFormulaRead};
+ghost use Rattle.bundle_files.specs.Inner.Formula.{HasProblem, IsFirstLine};
+ghost use Rattle.bundle_files.specs.Inner.Formula.{IsFaultyFormula, IsOtherCount};
 ghost use Rattle.bundle_files.specs.Inner.Formula.{IsUnreadFormula};
 
-use crate::source::{append_given, read_given};
-use crate::store::Store;
 use case_core::{
     Case, Formula, Problem, TextFault, first_word, icnf_part, is_comment, read_bundle, read_icnf,
     read_problem, split_line,
 };
 use cube_report::{Fault, Source};
+use file_store::{Store, append_given, read_given};
 use std::alloc::Global;
 
 /// A bundle that was read, and its case where that was made on the way.
@@ -93,7 +93,7 @@ fn overwrite_header(text: &mut [u8])
 }
 
 /// The text of the file at this path, with a header over its problem line, and what that line says.
-fn read_formula<D: Store>(
+pub(crate) fn read_formula<D: Store>(
     alloc: Global,
     store: &mut D,
     path: &str,
@@ -144,7 +144,7 @@ fn memory_alone(fault: TextFault) -> Result<(), Fault>
 }
 
 /// Whether a formula has as many clauses as a problem line says.
-fn check_formula(formula: &Formula, said: Problem) -> Result<(), Fault>
+pub(crate) fn check_formula(formula: &Formula, said: Problem) -> Result<(), Fault>
     ensures ok { OnOk result (length formula.now ≡ said.clauses) }
     ensures err { IfErr result (λ fault. (length formula.now ≢ said.clauses)
         × (fault ≡ Fault.Counts said.variables said.clauses (greatest_of formula.now)

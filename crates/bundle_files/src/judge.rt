@@ -6,18 +6,17 @@ ghost use Rattle.cube_report.specs.Faults.{IsInputFault};
 ghost use Rattle.cube_report.specs.Mark.{Mark};
 ghost use Rattle.cube_report.specs.Stated.{IsWrittenBy};
 ghost use Rattle.proof_folder.specs.Given.{AreFoundApart};
-ghost use Rattle.case_core.specs.Leaf.{Leaf};
+ghost use Rattle.case_core.specs.Target.{Target};
 ghost use Rattle.case_core.specs.Sections.{IsCaseOf, IsFaultOf};
-ghost use Rattle.bundle_files.specs.Files.{StaysAllowed};
-ghost use Rattle.bundle_files.specs.Laws.{held_for};
+ghost use Rattle.file_store.specs.Files.{StaysAllowed};
+ghost use Rattle.file_store.specs.Files.{held_for};
 ghost use Rattle.bundle_files.specs.Judging.{IsOutcomeOf, IsRefusedOf, IsJudgingFault};
 
 use crate::faults::find_fault;
-use crate::folder::add_proofs;
 use crate::formula::ReadBundle;
-use crate::store::Store;
 use case_core::{Case, CaseFault, read_bundle};
 use cube_report::{Fault, Gate, Outcome, Settings, judge_apart, judge_bundle};
+use file_store::{Store, add_proofs};
 use std::alloc::Global;
 use std::sync::Wait;
 use std::thread::Threads;
@@ -199,8 +198,9 @@ fn readers_of<D: Store>(
     workers: u32,
 ) -> Result<Vec<D::Reader>, Fault>
     ensures count { IfOk result (λ readers. vec_len readers ≡ workers) }
-    ensures held { IfOk result (λ readers. All (λ reader. (leaf : Leaf)
-        → D.Reader.held reader leaf ≡ held_for (D.held store.now) folder.now leaf) readers.items) }
+    ensures held { IfOk result (λ readers. All (λ reader. (target : Target)
+        → D.Reader.held reader target ≡ held_for (D.held store.now) folder.now target)
+        readers.items) }
     ensures fresh { IfOk result (λ readers.
         All (λ reader. D.Reader.failures reader ≡ 0) readers.items) }
     ensures memory { IfErr result (λ fault. fault ≡ Fault.Memory) }

@@ -2,7 +2,7 @@
 ghost use Rattle.std.specs.Prelude.{ℕ, List, ◌↔◌};
 ghost use Rattle.case_core.specs.Literal.{Literal};
 ghost use Rattle.cube_report.specs.Correct.{IsFormulaOf};
-ghost use Rattle.bundle_files.specs.Files.{Held, IsWithProofs};
+ghost use Rattle.file_store.specs.Files.{Held, IsWithProofs};
 ghost use Rattle.bundle_files.specs.Laws.{ProofsJudgedApart};
 
 /// Proofs that a folder adds leave the formula as it is: a bundle has, with them and without them,

@@ -126,3 +126,20 @@ pub none_found : (case : CaseOf) (target : Target) (judged : Judged)
     → proof_for case.sections target ≡ None → IsFinding case target judged
 none_found case target judged none path text proof of is of_text =
     let clash : Some text ≡ None = sym is ∙ none in absurd (cc)
+
+-- what is found by it of a target without a section, under whichever name of the target
+pub found_beside : (case : CaseOf) (target named : Target) (text : List ℕ) (judged : Judged)
+    (node : ℕ) → named ≡ target → proof_for case.sections target ≡ None
+    → IsTargetAt case.tree node target → ((i : ℕ) → IsTargetAt case.tree i target → i ≡ node)
+    → IsJudgement case target text judged
+    → IsTargetAt case.tree node named × ((i : ℕ) → IsTargetAt case.tree i named → i ≡ node)
+    × IsFinding case named judged × IsSoundFinding case named judged
+found_beside case target named text judged node same none here only j =
+    subst (λ (t : Target). IsTargetAt case.tree node t
+    × ((i : ℕ) → IsTargetAt case.tree i t → i ≡ node)
+    × IsFinding case t judged × IsSoundFinding case t judged) (sym same) (
+      here,
+      only,
+      none_found case target judged none,
+      (found_by case target text judged node only j).1,
+    )

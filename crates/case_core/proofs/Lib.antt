@@ -16,9 +16,10 @@ pub mod BundleMore
 mod ScanLabels
 mod ScanTaken
 mod ScanWhole
-mod OutlineLines
+pub mod OutlineLines
 mod OutlineOnly
 mod OutlineSteps
+mod TargetHas
 mod OutlineCase
 pub use Rattle.cnf_text.proofs.DimacsFormula
 pub use Rattle.cnf_text.proofs.DimacsLine

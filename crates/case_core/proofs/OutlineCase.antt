@@ -8,11 +8,10 @@ use Rattle.std.proofs.Math.ListN.{get_or-map}
 use Rattle.cnf_text.specs.Literal.{Literal}
 use Rattle.cnf_text.specs.Icnf.{StandsFor}
 use Rattle.split_tree.specs.SplitTree.{SplitTree, size}
-use Rattle.split_tree.specs.Leaves.{HasLeaf, HasTarget, IsTargetAt}
-use Rattle.split_tree.specs.declared.node.Leaf.{Leaf}
+use Rattle.split_tree.specs.Leaves.{HasTarget, IsTargetAt}
 use Rattle.split_tree.specs.declared.node.Leaf.TheVariants.{Cube}
 use Rattle.split_tree.specs.declared.node.Target.{Target}
-use Rattle.split_tree.specs.declared.node.Target.TheVariants.{Leaf as Named, Node}
+use Rattle.split_tree.specs.declared.node.Target.TheVariants.{Leaf as Named}
 use Rattle.case_core.specs.declared.case.Section.{Section}
 use Rattle.case_core.specs.declared.outline.Stretch.{Stretch}
 use Rattle.case_core.specs.Bundle.{icnf_text, Labelled, labels_of}
@@ -31,34 +30,25 @@ use Rattle.case_core.proofs.ScanLabels.{AreAlike, alike_apart, alike_long, alike
 -- ---- sections that are moved, one after the other
 
 moved_last : (sections : List Section) (places : List Stretch) (news : List Section)
-    (section : Section) (place : Stretch) (new : Section) (leaf : Leaf) →
-    AreMoved sections places news → new ≡ moved section place → section.target ≡ Named leaf
-    → AreMoved (sections ++ section ∷ []) (places ++ place ∷ []) (news ++ new ∷ [])
-moved_last [] [] [] section place new leaf are is for = (is, (leaf, for), tt)
-moved_last [] [] (one ∷ news) section place new leaf are is for = absurd are
-moved_last [] (first ∷ places) news section place new leaf are is for = absurd are
-moved_last (head ∷ sections) [] news section place new leaf are is for = absurd are
-moved_last (head ∷ sections) (first ∷ places) [] section place new leaf are is for = absurd are
-moved_last (head ∷ sections) (first ∷ places) (one ∷ news) section place new leaf are is for =
-    (are.0, are.1, moved_last sections places news section place new leaf are.2 is for)
+    (section : Section) (place : Stretch) → AreMoved sections places news
+    → AreMoved (sections ++ section ∷ []) (places ++ place ∷ []) (news ++ moved section place ∷ [])
+moved_last [] [] [] section place are = (refl, tt)
+moved_last [] [] (one ∷ news) section place are = absurd are
+moved_last [] (first ∷ places) news section place are = absurd are
+moved_last (head ∷ sections) [] news section place are = absurd are
+moved_last (head ∷ sections) (first ∷ places) [] section place are = absurd are
+moved_last (head ∷ sections) (first ∷ places) (one ∷ news) section place are =
+    (are.0, moved_last sections places news section place are.1)
 
 pub moved_on : (sections : List Section) (places : List Stretch) (news more : List Section)
-    (i : ℕ) (d : Section) (e : Stretch) (leaf : Leaf) →
+    (i : ℕ) (d : Section) (e : Stretch) →
     AreMoved (take i sections) (take i places) news → i < length sections → i < length places
-    → (get_or sections i d).target ≡ Named leaf
-    → more ≡ news ++ record {
-      target = Named leaf;
-      start = (get_or places i e).start;
-      length = (get_or places i e).length;
-    } ∷ []
+    → more ≡ news ++ moved (get_or sections i d) (get_or places i e) ∷ []
     → AreMoved (take (i + 1) sections) (take (i + 1) places) more
-moved_on sections places news more i d e leaf are inside within for pushed =
-    let place : Stretch = get_or places i e in
+moved_on sections places news more i d e are inside within pushed =
     rw (take_more sections i d inside, take_more places i e within, pushed)
-    (moved_last (take i sections) (take i places) news (get_or sections i d) place
-    (record { target = Named leaf; start = place.start; length = place.length }) leaf are
-    (ap (λ (t : Target). record { target = t; start = place.start; length = place.length })
-    (sym for)) for)
+    (moved_last (take i sections) (take i places) news (get_or sections i d) (get_or places i e)
+    are)
 
 -- they have the same targets
 moved_alike : (text other : List ℕ) (sections : List Section) (places : List Stretch)
@@ -71,7 +61,7 @@ moved_alike text other (section ∷ sections) [] news are = absurd are
 moved_alike text other (section ∷ sections) (place ∷ places) [] are = absurd are
 moved_alike text other (section ∷ sections) (place ∷ places) (new ∷ news) are = (
   sym (ap (λ (s : Section). s.target) are.0),
-  moved_alike text other sections places news are.2,
+  moved_alike text other sections places news are.1,
 )
 
 -- ---- the table of places
@@ -178,26 +168,8 @@ moved_labelled tree bundle text (bare ∷ bares) (label ∷ labels) (place ∷ p
         proof =
             ap (λ (s : Section). part_in text s.start s.length) are.0 ∙ sym outlined.1;
       },
-      moved_labelled tree bundle text bares labels places sections news outlined.2 are.2 labelled.1,
+      moved_labelled tree bundle text bares labels places sections news outlined.2 are.1 labelled.1,
     )
-
-other_than_leaf : (target : Target) (leaf : Leaf) (node : ℕ) → target ≡ Named leaf →
-    same_target target (Node node) ≡ false
-other_than_leaf target leaf node is = rw is refl
-
--- no moved section is for an inner node
-moved_leaves : (text : List ℕ) (sections : List Section) (places : List Stretch)
-    (news : List Section) (node : ℕ) → AreMoved sections places news →
-    proof_for (map (section_in text) news) (Node node) ≡ None
-moved_leaves text [] [] [] node are = refl
-moved_leaves text [] [] (new ∷ news) node are = absurd are
-moved_leaves text [] (place ∷ places) news node are = absurd are
-moved_leaves text (section ∷ sections) [] news node are = absurd are
-moved_leaves text (section ∷ sections) (place ∷ places) [] node are = absurd are
-moved_leaves text (section ∷ sections) (place ∷ places) (new ∷ news) node are =
-    proof_past (section_in text new) (map (section_in text) news) (Node node)
-    (other_than_leaf new.target are.1.0 node (ap (λ (s : Section). s.target) are.0 ∙ are.1.1))
-    ∙ moved_leaves text sections places news node are.2
 
 -- the case of each text that has the outline
 pub outlined_case : (outline : OutlineOf) (formula : List (List Literal)) (tree : SplitTree)
@@ -225,7 +197,6 @@ outlined_case outline formula tree sections news case is are bare text outlined 
                   (map (section_in text) news) alike is.sections.apart;
             };
           });
-      leaves = λ node. moved_leaves text sections outline.places news node are;
       bare = ap (λ (c : CaseOf). c.sections) bare;
     }
 
@@ -247,17 +218,17 @@ head_case text case bare is same =
           (record { labelled = tt; apart = λ i l. absurd (omega arith) });
     })
 
--- ---- the place of a leaf
+-- ---- the place of a target
 
--- a leaf that the tree doesn't have has no section
-pub leaf_absent : (tree : SplitTree) (sections : List SectionOf) (leaf : Leaf) →
-    AreSections tree sections → (HasLeaf tree leaf → ⊥) → proof_for sections (Named leaf) ≡ None
-leaf_absent tree sections leaf are none =
-    none_from sections (Named leaf)
-    (λ j l. elim (cases_Bool (same_target (section_at sections j).target (Named leaf))) [
+-- a target that the tree doesn't have has no section
+pub target_absent : (tree : SplitTree) (sections : List SectionOf) (target : Target) →
+    AreSections tree sections → (HasTarget tree target → ⊥) → proof_for sections target ≡ None
+target_absent tree sections target are none =
+    none_from sections target
+    (λ j l. elim (cases_Bool (same_target (section_at sections j).target target)) [
       | inl same ↦ absurd (none
           (subst (λ (t : Target). HasTarget tree t)
-          (same_target-true (section_at sections j).target (Named leaf) same) (are j l).0))
+          (same_target-true (section_at sections j).target target same) (are j l).0))
       | inr other ↦ other
     ])
 
@@ -278,16 +249,15 @@ place_within tree sections places text index place kept within read =
     kept.tabled.within index in
     omega (arith, length-map sections (section_in text))
 
--- what the table says of a leaf's node is its section's
-pub leaf_read : (tree here : SplitTree) (sections : List Section) (places : List ℕ)
-    (text : List ℕ) (leaf : Leaf) (node index place : ℕ) → AreTabledIn tree sections places text
-    → here ≡ tree → IsTargetAt here node (Named leaf) → index ≡ node → index < length places →
-    place ≡ get_or places index place
-    → proof_for (map (section_in text) sections) (Named leaf)
+-- what the table says of a target's node is its section's
+pub target_read : (tree here : SplitTree) (sections : List Section) (places : List ℕ)
+    (text : List ℕ) (target : Target) (node index place : ℕ) →
+    AreTabledIn tree sections places text → here ≡ tree → IsTargetAt here node target
+    → index ≡ node → index < length places → place ≡ get_or places index place
+    → proof_for (map (section_in text) sections) target
     ≡ section_by (map (section_in text) sections) place
-leaf_read tree here sections places text leaf node index place kept same at is within read =
-    kept.tabled.found (Named leaf) node
-    (subst (λ (t : SplitTree). IsTargetAt t node (Named leaf)) same at)
+target_read tree here sections places text target node index place kept same at is within read =
+    kept.tabled.found target node (subst (λ (t : SplitTree). IsTargetAt t node target) same at)
     ∙ ap (λ (n : ℕ). section_by (map (section_in text) sections) (get_or places n 0)) (sym is)
     ∙ ap (section_by (map (section_in text) sections))
     (sym (get_or_read places index place within read 0))

@@ -1,24 +1,20 @@
--- An outline gives nothing only where its text has no case of leaves alone.
-use Rattle.std.proofs.Common.{◌≡◌, ◌≢◌, ◌∙◌, ◌⊎◌, sym, ap, subst, refl, ℕ, zero, suc, ◌<◌}
-use Rattle.std.proofs.Common.{List, [], ◌∷◌, length, map, get_or, arith, None, Some, inl, inr, true}
-use Rattle.std.proofs.Common.{false, Bool, Option, Result, Ok, Err, IfOk, IfNone}
+-- An outline gives nothing only where its text has no case.
+use Rattle.std.proofs.Common.{◌≡◌, ◌≢◌, ◌∙◌, sym, ap, subst, refl, ℕ, suc}
+use Rattle.std.proofs.Common.{List, [], ◌∷◌, length, map, None, Some}
+use Rattle.std.proofs.Common.{Option, Result, Ok, Err, IfOk, IfNone}
 use Rattle.std.proofs.lemmas.List.{length-map}
 use Rattle.cnf_text.specs.Icnf.{StandsFor}
 use Rattle.split_tree.specs.SplitTree.{SplitTree}
-use Rattle.split_tree.specs.declared.node.Target.{Target}
-use Rattle.split_tree.specs.declared.node.Target.TheVariants.{Node}
 use Rattle.case_core.specs.declared.case.Section.{Section}
 use Rattle.case_core.specs.declared.fault.CaseFault.{CaseFault}
 use Rattle.case_core.specs.declared.outline.Stretch.{Stretch}
 use Rattle.case_core.specs.Bundle.{Labelled, labels_of}
-use Rattle.case_core.specs.Case.{CaseOf, SectionOf, section_in, proof_for, same_target}
+use Rattle.case_core.specs.Case.{CaseOf, SectionOf, section_in}
 use Rattle.case_core.specs.Label.{label_name, IsTargetOf}
 use Rattle.case_core.specs.Sections.{AreLabelled, IsCaseOf, IsFaultOf}
-use Rattle.case_core.specs.Inner.Outline.{HasInner}
-use Rattle.case_core.specs.Outline.{OutlineOf, AreOutlined, IsOutlineOf, HasInnerSection}
-use Rattle.case_core.proofs.CaseTables.{same_target-self, none_before, none_from}
-use Rattle.case_core.proofs.ScanLabels.{AreAlike, alike_apart, alike_free}
-use Rattle.case_core.proofs.SectionsUniqueCase.{one_case, case_or_fault}
+use Rattle.case_core.specs.Outline.{OutlineOf, AreOutlined, IsOutlineOf}
+use Rattle.case_core.proofs.ScanLabels.{AreAlike, alike_apart}
+use Rattle.case_core.proofs.SectionsUniqueCase.{case_or_fault}
 
 -- ---- the case of the outline's own text
 
@@ -107,69 +103,19 @@ labelled_long tree (label ∷ labels) [] are = absurd are
 labelled_long tree (label ∷ labels) (section ∷ sections) are =
     ap suc (labelled_long tree labels sections are.1)
 
--- ---- a section for an inner node
-
--- the section at a place is for an inner node
-pub inner_at : (sections : List Section) (i : ℕ) (d : Section) (node : ℕ) → i < length sections →
-    (get_or sections i d).target ≡ Node node → HasInner sections
-inner_at [] i d node inside is = absurd (omega arith)
-inner_at (section ∷ sections) zero d node inside is = inl (node, is)
-inner_at (section ∷ sections) (suc i) d node inside is =
-    inr (inner_at sections i d node (omega arith) is)
-
-is_true : (b : Bool) → b ≡ true → b ≡ false → ⊥
-is_true b there away = let e : true ≡ false = sym there ∙ away in cc
-
-has_inner : (text : List ℕ) (sections : List Section) → HasInner sections →
-    HasInnerSection (map (section_in text) sections)
-has_inner text [] inner = absurd inner
-has_inner text (section ∷ sections) (inl (node, is)) = (
-  node,
-  λ none. is_true (same_target section.target (Node node))
-      (subst (λ (t : Target). same_target section.target t ≡ true) is
-      (same_target-self section.target))
-      (none_before (map (section_in text) (section ∷ sections)) (Node node) none 0 (omega arith)),
-)
-has_inner text (section ∷ sections) (inr inner) =
-    let below = has_inner text sections inner in (
-      below.0,
-      λ none. below.1 (elsewhere (section_in text section) (map (section_in text) sections)
-          (Node below.0) none),
-    )
-  where
-    elsewhere : (section : SectionOf) (sections : List SectionOf) (target : Target) →
-        proof_for (section ∷ sections) target ≡ None → proof_for sections target ≡ None
-    elsewhere section sections target none =
-        none_from sections target
-        (λ j l. none_before (section ∷ sections) target none (suc j) (omega arith))
-
 -- ---- nothing comes of it
 
--- a case that was read of the outline's text, and doesn't do
-pub only_inner : (outline : OutlineOf) (text : List ℕ) (case read : CaseOf)
+-- a case that was read of the outline's text has as many sections as places
+pub no_more_places : (outline : OutlineOf) (text : List ℕ) (case read : CaseOf)
     (sections : List Section) → IsCaseOf outline.text read
     → read.sections ≡ map (section_in outline.text) sections
-    → ((length sections ≢ length outline.places) ⊎ HasInner sections)
-    → IsOutlineOf outline text → IsCaseOf text case → HasInnerSection case.sections
-only_inner outline text case read sections is are why outlined there =
-    let made = own_case outline text case outlined there in
-    let same : read ≡ made.own = one_case outline.text read made.own is made.is in
-    elim why [
-      | inl apart ↦ absurd (apart
-          (sym (length-map sections (section_in outline.text))
-          ∙ ap length (sym are)
-          ∙ labelled_long read.tree (labels_of outline.text) read.sections is.sections.labelled
-          ∙ outlined_long text (labels_of outline.text) (labels_of text) outline.places
-          outlined.labels))
-      | inr inner ↦
-          let found = has_inner outline.text sections inner in (
-            found.0,
-            λ none. found.1
-                (subst (λ (s : List SectionOf). proof_for s (Node found.0) ≡ None)
-                (sym (ap (λ (c : CaseOf). c.sections) same) ∙ are)
-                (alike_free case.sections made.own.sections (Node found.0) made.alike none)),
-          )
-    ]
+    → length sections ≢ length outline.places → IsOutlineOf outline text → IsCaseOf text case → ⊥
+no_more_places outline text case read sections is are apart outlined there =
+    apart
+    (sym (length-map sections (section_in outline.text))
+    ∙ ap length (sym are)
+    ∙ labelled_long read.tree (labels_of outline.text) read.sections is.sections.labelled
+    ∙ outlined_long text (labels_of outline.text) (labels_of text) outline.places outlined.labels)
 
 -- what is told of a fault
 pub told_only : {X : Type 0} (r : Result (Option X) CaseFault) (P Q : Type 0) →

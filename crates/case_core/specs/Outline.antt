@@ -1,13 +1,12 @@
 -- A bundle that is kept as an outline: no proof in it, but where each of them stands.
-use Rattle.std.specs.Prelude.{ℕ, ◌+◌, ◌≤◌, ◌≡◌, ◌≢◌, ◌⊎◌, refl, List, [], ◌∷◌, ◌++◌, length}
-use Rattle.std.specs.Prelude.{map, None}
+use Rattle.std.specs.Prelude.{ℕ, ◌+◌, ◌≤◌, ◌≡◌, ◌⊎◌, refl, List, [], ◌∷◌, ◌++◌, length}
+use Rattle.std.specs.Prelude.{map}
 use Rattle.std.specs.Coded.{Coded, code_by, coded×, coded_ℕ, coded_list}
 use Rattle.split_tree.specs.declared.node.Target.{Target}
-use Rattle.split_tree.specs.declared.node.Target.TheVariants.{Node}
 use Rattle.case_core.specs.declared.case.Section.{Section}
 use Rattle.case_core.specs.declared.outline.Stretch.{Stretch}
 use Rattle.case_core.specs.Bundle.{Labelled, icnf_text, labels_of}
-use Rattle.case_core.specs.Case.{CaseOf, SectionOf, part_in, section_in, proof_for}
+use Rattle.case_core.specs.Case.{CaseOf, part_in, section_in}
 use Rattle.case_core.specs.CaseCode.{target_code, case_code}
 use Rattle.case_core.specs.Sections.{IsCaseOf}
 
@@ -78,16 +77,11 @@ pub record IsOutlineOf (outline : OutlineOf) (text : List ℕ) : Type 0 where
   pub within : AreWithin outline.length outline.places
   pub whole : (outline.places ≡ []) ⊎ AreWholeLines outline.text
 
--- The text stands for this case with parts of it as its sections, all of them for leaves.
+-- the text stands for this case with parts of it as its sections
 pub record IsOutlinedCase (text : List ℕ) (outlined : OutlinedOf) : Type 0 where
   pub is : IsCaseOf text (record {
     formula = outlined.case.formula;
     tree = outlined.case.tree;
     sections = map (section_in text) outlined.sections;
   })
-  pub leaves : (node : ℕ) → proof_for (map (section_in text) outlined.sections) (Node node) ≡ None
   pub bare : outlined.case.sections ≡ []
-
--- an inner node has one of these sections
-abbrev pub HasInnerSection : List SectionOf → Type 0
-HasInnerSection sections = (node : ℕ) × (proof_for sections (Node node) ≢ None)

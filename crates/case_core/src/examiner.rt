@@ -35,7 +35,7 @@ pub struct Examiner<'c> {
 /// What is found by a proof that was read, and how many bytes were read.
 #[derive(Drop)]
 pub struct ReadFinding<'c> {
-    /// What is found of the leaf.
+    /// What is found of the target.
     pub finding: Finding<'c>,
     /// How many bytes the source gave: those of a binary proof, and not of its text.
     pub length: usize,
@@ -95,8 +95,8 @@ impl<'c> Examiner<'c> {
         }))
     }
 
-    /// Judges a proof that the case doesn't hold, for a leaf of its tree that has no section there:
-    /// what a source gives up to its end. It is opened as a text, or before its first byte: then a
+    /// Judges a proof that the case doesn't hold, for a target of its tree that has no section
+    /// there: what a source gives up to its end. It is opened as a text, or before its first byte: then a
     /// proof that begins with an `a` or a `d` is binary LRAT, and judged as the text that it stands
     /// for. A block of it is in memory at a time, so it may be longer than memory. `None` where one
     /// of the text's lines is a label line; it is read no further then.
@@ -105,23 +105,22 @@ impl<'c> Examiner<'c> {
     pub fn examine_read<S: Source>(
         &mut self,
         alloc: Global,
-        leaf: Leaf,
+        target: Target,
         opened: ProofForm,
         source: &mut S,
     ) -> Result<Option<ReadFinding<'c>>, DeviceFault>
-        requires leaf { HasTarget self.old.tree (Target.Leaf leaf) }
-        requires none { proof_for self.old.sections (Target.Leaf leaf) ≡ None }
+        requires target { HasTarget self.old.tree target }
+        requires none { proof_for self.old.sections target ≡ None }
         // One more failed read can be counted.
         requires count { S.failures source.old < 2 ^ 64 - 1 }
         // It is what is found by the text of all that the source had left, in which no line is a
         // label line.
         ensures found { IfOk result (λ some. IfSome some (λ read.
             (read.finding.case.now ≡ self.old)
-            × (target_of read.finding.leaf read.finding.node ≡ Target.Leaf leaf)
+            × (target_of read.finding.leaf read.finding.node ≡ target)
             × ((bytes : List ℕ) × IsLeft (S.remaining source.old) bytes
             × (labels_of (proof_left opened bytes) ≡ []) × (length bytes ≡ read.length)
-            × IsFoundBy self.old (Target.Leaf leaf) (proof_left opened bytes)
-            read.finding.judged))) }
+            × IsFoundBy self.old target (proof_left opened bytes) read.finding.judged))) }
         // Without an answer one of the lines that it gave is a label line.
         ensures labelled { IfOk result (λ some. some ≡ None
             → HasGivenLabel opened (S.remaining source.old) (S.remaining source.new)) }
@@ -130,10 +129,11 @@ impl<'c> Examiner<'c> {
         ensures err { IfErr result
             (λ fault. IsDeviceFault (S.failures source.old) (S.failures source.new) fault) }
     {
-        begin_proof(alloc, self.case, &mut self.judging, Target::Leaf(leaf))?;
+        let asked = target;
+        begin_proof(alloc, self.case, &mut self.judging, asked)?;
         match read_proof(alloc, &mut self.judging, opened, source)? {
             Some(read) => Ok(Some(ReadFinding {
-                finding: finding_of_leaf(self.case, leaf, read.judged),
+                finding: finding_beside(self.case, target, read.judged),
                 length: read.length,
             })),
             None => Ok(None),
@@ -202,21 +202,22 @@ fn leaf_of(target: Target) -> Option<Leaf>
     }
 }
 
-/// What is found of a leaf that has no section, by a text that is judged so.
-fn finding_of_leaf(case: &Case, leaf: Leaf, judged: Judged) -> Finding<'_>
-    requires leaf { HasTarget case.now.tree (Target.Leaf leaf) }
-    requires none { proof_for case.now.sections (Target.Leaf leaf) ≡ None }
-    requires judged { (text : List ℕ) × IsJudgement case.now (Target.Leaf leaf) text judged }
+/// What is found of a target that has no section, by a text that is judged so.
+fn finding_beside(case: &Case, target: Target, judged: Judged) -> Finding<'_>
+    requires target { HasTarget case.now.tree target }
+    requires none { proof_for case.now.sections target ≡ None }
+    requires judged { (text : List ℕ) × IsJudgement case.now target text judged }
     ensures case { result.case.now ≡ case.now }
-    ensures target { target_of result.leaf result.node ≡ Target.Leaf leaf }
+    ensures target { target_of result.leaf result.node ≡ target }
     ensures judged { result.judged ≡ judged }
-    ensures found { (text : List ℕ) → IsJudgement case.now (Target.Leaf leaf) text judged
-        → IsFoundBy case.now (Target.Leaf leaf) text judged }
+    ensures found { (text : List ℕ) → IsJudgement case.now target text judged
+        → IsFoundBy case.now target text judged }
 {
-    let node = case.tree().node_of_target(Target::Leaf(leaf)).number();
+    let placed = target;
+    let node = case.tree().node_of_target(placed).number();
     Finding {
         case,
-        leaf: Some(leaf),
+        leaf: leaf_of(target),
         node,
         judged,
     }

@@ -13,6 +13,7 @@ mod outline;
 mod reading;
 mod scan;
 mod sections;
+mod target;
 mod watch;
 
 pub use bundle::{icnf_part, read_bundle, read_tree, take_bundle};
@@ -32,4 +33,5 @@ pub use lrat_binary::{ProofForm, turn_from};
 pub use outline::{Outline, OutlinedCase, Stretch};
 pub use scan::LabelScan;
 pub use split_tree::{Leaf, NodeId, Target, Tree};
+pub use target::has_target;
 pub use watch::LabelWatch;

@@ -1,18 +1,19 @@
 //! The outline of a bundle that is handed over block by block, and its case with no proof in it.
 
-ghost use Rattle.std.specs.Prelude.{◌≡◌, ◌≢◌, ◌≤◌, ◌+◌, ◌^◌, ◌⊎◌, [], length};
+ghost use Rattle.std.specs.Prelude.{◌≡◌, ◌≢◌, ◌≤◌, ◌+◌, ◌^◌, [], length};
 ghost use Rattle.std.specs.Prelude.{IfOk, IfErr, IfSome, IfNone, None};
 ghost use Rattle.split_tree.specs.SplitTree.{total};
-ghost use Rattle.case_core.specs.Inner.Outline.{AreMoved, HasInner};
+ghost use Rattle.case_core.specs.Inner.Outline.{AreMoved};
 
-use crate::bundle::{Parts, cut, read_parts};
+use crate::bundle::{Parts, cut, icnf_part, read_parts};
 use crate::case::{Case, Section};
 use crate::fault::CaseFault;
 use crate::sections::Sections;
+use crate::target::has_target;
 use cnf_text::Formula;
 use cnf_text::tokens::split_line;
 use hint_check::Base;
-use split_tree::{Leaf, Target, Tree};
+use split_tree::{Target, Tree};
 use std::alloc::{AllocError, Global};
 use std::marker::Model;
 
@@ -55,11 +56,10 @@ impl Outline {
     ghost use Rattle.std.specs.Prelude.{◌≡◌, ◌<◌, ◌++◌, ◌∷◌, ℕ, List, [], true, false, length};
     ghost use Rattle.std.specs.Prelude.{OnOk, IfOk, IfErr, IfSome, IfNone, MatchOption, All};
     ghost use Rattle.cnf_text.specs.Tokens.{is_line_end};
-    ghost use Rattle.case_core.specs.Bundle.{BeginsWithLabel, is_label};
+    ghost use Rattle.case_core.specs.Bundle.{BeginsWithLabel, icnf_text, is_label};
     ghost use Rattle.case_core.specs.Inner.Bundle.{HasNoLabel};
     ghost use Rattle.case_core.specs.Inner.Outline.{GoesOn, GoesTo};
     ghost use Rattle.case_core.specs.Outline.{AreWholeLines, IsOutlineOf, IsOutlinedCase};
-    ghost use Rattle.case_core.specs.Outline.{HasInnerSection};
     ghost use Rattle.case_core.specs.Case.{CaseOf};
     ghost use Rattle.case_core.specs.Sections.{IsCaseOf};
 
@@ -167,9 +167,16 @@ impl Outline {
         Ok(())
     }
 
-    /// The case of the text, with no proof in memory; `None` where the text has a fault, or a
-    /// section for an inner node: then it has to be read whole. `Memory` where a growth was
-    /// refused.
+    /// The iCNF text of the text.
+    pub fn icnf(&self) -> &[u8]
+        // It is that of each text that has this outline.
+        ensures { (text : List ℕ) → IsOutlineOf self.now text → result.now ≡ icnf_text text }
+    {
+        icnf_part(&self.text)
+    }
+
+    /// The case of the text, with no proof in memory; `None` where the text has a fault. `Memory`
+    /// where a growth was refused.
     pub fn into_case(self, alloc: Global) -> Result<Option<OutlinedCase>, CaseFault>
         // It is the case of each text that has this outline.
         ensures case { IfOk result (λ some. IfSome some (λ outlined.
@@ -177,11 +184,9 @@ impl Outline {
         // Without the sections it is the case of a text too.
         ensures head { IfOk result (λ some. IfSome some (λ outlined.
             (head : List ℕ) × IsCaseOf head outlined.case)) }
-        // Nothing comes only where a text with this outline has a fault, or a section for an inner
-        // node.
+        // Nothing comes only where no text with this outline stands for a case.
         ensures only { IfOk result (λ some. IfNone some ((text : List ℕ)
-            → IsOutlineOf self text → (case : CaseOf) → IsCaseOf text case
-            → HasInnerSection case.sections)) }
+            → IsOutlineOf self text → (case : CaseOf) → ¬ IsCaseOf text case)) }
         // There is no other error than want of memory.
         ensures memory { IfErr result (λ fault. fault ≡ CaseFault.Memory) }
     {
@@ -223,7 +228,7 @@ fn want_of_memory(fault: CaseFault) -> Result<Option<OutlinedCase>, CaseFault>
 }
 
 /// The sections with these places in the text of their own; `None` where there are not as many
-/// places as sections, or where a section is for an inner node.
+/// places as sections.
 fn move_sections(
     alloc: Global,
     sections: &[Section],
@@ -231,20 +236,18 @@ fn move_sections(
 ) -> Result<Option<Vec<Section>>, AllocError>
     ensures moved { IfOk result
         (λ some. IfSome some (λ moved. AreMoved sections.now places.now moved.items)) }
-    ensures none { IfOk result (λ some. IfNone some
-        ((length sections.now ≢ length places.now) ⊎ HasInner sections.now)) }
+    ensures none { IfOk result
+        (λ some. IfNone some (length sections.now ≢ length places.now)) }
 {
     if sections.len() != places.len() {
         return Ok(None);
     }
     let mut moved = Vec::new(alloc);
     for i in 0..sections.len() {
-        let Target::Leaf(leaf) = sections[i].target else {
-            return Ok(None);
-        };
+        let target = sections[i].target;
         let place = places[i];
         moved.push(Section {
-            target: Target::Leaf(leaf),
+            target,
             start: place.start,
             length: place.length,
         })?;
@@ -270,8 +273,8 @@ fn bare_case(alloc: Global, formula: Formula, tree: Tree) -> Result<Case, CaseFa
     })
 }
 
-/// The case of an outline: a formula and a tree, and where the proofs of leaves stand in the text
-/// that has the outline.
+/// The case of an outline: a formula and a tree, and where the proofs stand in the text that has
+/// the outline.
 #[derive(Drop)]
 pub struct OutlinedCase {
     /// The formula and the tree, with no section.
@@ -298,6 +301,8 @@ impl Model for OutlinedCase {
 impl OutlinedCase {
     ghost use Rattle.std.specs.Prelude.{◌≡◌, ℕ, List, map};
     ghost use Rattle.std.specs.Option.{option_map};
+    ghost use Rattle.std.specs.Prelude.{All, ◌≤◌};
+    ghost use Rattle.std.specs.Bool.{OnTrue};
     ghost use Rattle.case_core.specs.Case.{part_in, section_in, proof_for};
 
     /// The formula and the tree, as a case with no section.
@@ -307,18 +312,18 @@ impl OutlinedCase {
         &self.case
     }
 
-    /// Where the proof of a leaf stands, or `None` where it has no section.
-    pub fn place_of(&self, leaf: Leaf) -> Option<Stretch>
-        // In each text, that part is the proof of the leaf's section.
-        ensures { (text : List ℕ)
-            → proof_for (map (section_in text) self.now.sections) (Target.Leaf leaf)
+    /// Where the proof of a target stands, or `None` where it has no section.
+    pub fn place_of(&self, target: Target) -> Option<Stretch>
+        // In each text, that part is the proof of the target's section.
+        ensures { (text : List ℕ) → proof_for (map (section_in text) self.now.sections) target
             ≡ option_map (λ place. part_in text place.start place.length) result }
     {
+        let asked = target;
         let tree = self.case.tree();
-        if !tree.has_leaf(leaf) {
+        if !has_target(tree, asked) {
             return None;
         }
-        let node = tree.node_of_target(Target::Leaf(leaf));
+        let node = tree.node_of_target(target);
         let place = self.places[node.index()] as usize;
         if place == 0 {
             return None;
@@ -328,5 +333,12 @@ impl OutlinedCase {
             start: section.start,
             length: section.length,
         })
+    }
+
+    /// Whether each proof stands behind so many bytes of the text.
+    pub fn stands_behind(&self, before: usize) -> bool
+        ensures { OnTrue result (All (λ section. before ≤ section.start) self.now.sections) }
+    {
+        self.sections.iter().all(|section| before <= section.start)
     }
 }

@@ -3,8 +3,8 @@ use Rattle.std.proofs.Common.{◌≡◌, ℕ, List, Option, None, Some, refl, Al
 use Rattle.std.proofs.Common.{ap, subst, sym, true, false, is_some, ◌∙◌}
 use Rattle.std.specs.Prelude.{OnOk}
 use Rattle.std.proofs.lemmas.List.Elements.{All-weaker}
-use Rattle.case_core.specs.Leaf.{Leaf}
 use Rattle.case_core.specs.Case.{CaseOf}
+use Rattle.case_core.specs.Target.{Target}
 use Rattle.board_hall.specs.declared.pass.Pass.{Pass}
 use Rattle.board_hall.specs.declared.view.CutCase.{CutCase}
 use Rattle.board_hall.specs.declared.view.View.{View}
@@ -12,13 +12,13 @@ use Rattle.board_hall.specs.Clauses.{Stays}
 use Rattle.board_hall.specs.Halls.{HallOf, IsPassOf, view_of}
 use Rattle.check_crew.specs.LeafProofs.{Known, IsExamined}
 use Rattle.byte_flow.specs.declared.fault.DeviceFault.{DeviceFault}
-use Rattle.check_crew.specs.declared.leaves.ExaminedLeaf.{ExaminedLeaf}
+use Rattle.check_crew.specs.declared.targets.ExaminedTarget.{ExaminedTarget}
 use Rattle.check_crew.specs.Inner.Apart.{IsListOf}
 use Rattle.check_crew.specs.Inner.Crew.{HasSeenTurn}
 use Rattle.check_crew.proofs.SeenTurns.{section_stays}
 use Rattle.cube_jobs.specs.Jobs.{JobPassOf}
 
--- what a worker has done of sections is done when it has ended well over leaves
+-- what a worker has done of sections is done when it has ended well over targets
 pub turns_stay : {T E : Type 0} (order : List ℕ) (before after : View) (job_pass : JobPassOf)
     (end : Result T E) → job_pass.found_empty ≡ true
     → All (HasSeenTurn order before) job_pass.claims → OnOk end (Stays before after)
@@ -38,16 +38,16 @@ no_fault (Some fault) is = absurd (cc)
 
 -- the list of a worker that no fault stopped
 pub list_of : (hall : HallOf) (case : CaseOf) (held known : Known) (pass : Pass)
-    (examined : List ExaminedLeaf) → case ≡ hall.of.case → IsPassOf hall pass
-    → All (λ one. IsExamined (held one.leaf) (view_of pass) one.leaf one.examined) examined
-    → ((leaf : Leaf) → held leaf ≡ known leaf) → IsListOf known case examined
+    (examined : List ExaminedTarget) → case ≡ hall.of.case → IsPassOf hall pass
+    → All (λ one. IsExamined (held one.target) (view_of pass) one.target one.examined) examined
+    → ((target : Target) → held target ≡ known target) → IsListOf known case examined
 list_of hall case held known pass examined of own each same = record {
   view = view_of pass;
   of_case = ap (λ (k : CutCase). k.case) own.1 ∙ sym of;
   all =
-      All-weaker (λ one. IsExamined (held one.leaf) (view_of pass) one.leaf one.examined)
-      (λ one. IsExamined (known one.leaf) (view_of pass) one.leaf one.examined)
+      All-weaker (λ one. IsExamined (held one.target) (view_of pass) one.target one.examined)
+      (λ one. IsExamined (known one.target) (view_of pass) one.target one.examined)
       (λ one.
-      subst (λ (k : Option (Option (List ℕ))). IsExamined k (view_of pass) one.leaf one.examined)
-      (same one.leaf)) examined each;
+      subst (λ (k : Option (Option (List ℕ))). IsExamined k (view_of pass) one.target one.examined)
+      (same one.target)) examined each;
 }

@@ -28,7 +28,7 @@ use Rattle.cube_jobs.specs.Jobs.{JobPassOf, claims_of, has_found_empty}
 use Rattle.board_hall.specs.declared.pass.Pass.{Pass}
 use Rattle.board_hall.specs.declared.view.Post.{Post}
 use Rattle.board_hall.specs.declared.view.Proofs.{Proofs}
-use Rattle.board_hall.specs.declared.view.Proofs.TheVariants.{InCase, OfLeavesElsewhere}
+use Rattle.board_hall.specs.declared.view.Proofs.TheVariants.{InCase}
 use Rattle.board_hall.specs.Posts.{mark_in, Among, posts_of, NeedsSection}
 use Rattle.board_hall.specs.Halls.{HallOf, IsPassOf, view_of}
 use Rattle.board_hall.specs.Clauses.{Gathers}
@@ -39,7 +39,6 @@ use Rattle.check_crew.specs.Inner.Crew.{HasSeenTurn, HaveSeenClaims}
 use Rattle.check_crew.proofs.SeenMarks.{open_or_not, marked_more, real_mark, home_of}
 use Rattle.check_crew.proofs.SeenMarks.{marked_section}
 use Rattle.case_core.specs.Finding.{HasSection}
-use Rattle.case_core.specs.Target.TheVariants.{Node}
 use Rattle.board_hall.specs.Clauses.{IsHome}
 
 contains_from_times : (place : ℕ) (xs : List ℕ) → 0 < times place xs → Contains xs place
@@ -157,15 +156,6 @@ module _ (hall : HallOf) (passes : List Pass) (boards : BoardsOf)
       (λ board row home some.
       marked_section hall.of (posts_of gathered.state.views) gathered.real node board row target
       needs home at some)
-
-  -- each inner node, where leaves alone have their proofs elsewhere
-  pub node_mark : hall.of.proofs ≡ OfLeavesElsewhere → All (IsPassOf hall) passes
-      → HaveSeenSections hall.of.case passes → (node number : ℕ)
-      → IsTargetAt hall.of.case.tree node (Node number)
-      → IsMarkOf hall.of.case (Node number) (mark_at boards.marks node)
-  node_mark leaves own seen node number at =
-      needed_mark own seen node (Node number)
-      (subst (λ (p : Proofs). NeedsSection p (Node number)) (sym leaves) tt) at
 
   -- where no proof is elsewhere, each node has the mark of its finding
   pub are_findings : hall.of.proofs ≡ InCase → All (IsPassOf hall) passes

@@ -3,24 +3,22 @@ use Rattle.std.specs.Prelude.{◌≡◌, ℕ, List, [], Option, None, Some, IfSo
 use Rattle.std.specs.Prelude.{Bool, true, false}
 use Rattle.case_core.specs.Binary.{proof_text}
 use Rattle.case_core.specs.Leaves.{IsTargetAt}
-use Rattle.case_core.specs.Leaf.{Leaf}
 use Rattle.case_core.specs.Target.{Target}
-use Rattle.case_core.specs.Target.TheVariants.{Leaf as Named}
 use Rattle.case_core.specs.Judged.{Judged}
 use Rattle.case_core.specs.Bundle.{labels_of}
 use Rattle.case_core.specs.Case.{proof_for}
 use Rattle.case_core.specs.Finding.{IsFoundBy}
 use Rattle.board_hall.specs.declared.view.View.{View}
 use Rattle.check_crew.specs.Seen.{HasSeenMark}
-use Rattle.check_crew.specs.declared.leaves.Examined.{Examined}
-use Rattle.check_crew.specs.declared.leaves.Examined.TheVariants.{Absent, Found, Other}
+use Rattle.check_crew.specs.declared.targets.Examined.{Examined}
+use Rattle.check_crew.specs.declared.targets.Examined.TheVariants.{Absent, Found, Other}
 
 -- what is known of the proofs that lie elsewhere: where it is, no proof or these bytes for each
--- leaf
+-- target
 abbrev pub Known : Type 0
-Known = Leaf → Option (Option (List ℕ))
+Known = Target → Option (Option (List ℕ))
 
--- what was given for a leaf is what is known to lie there
+-- what was given for a target is what is known to lie there
 abbrev pub IsGiven : Option (Option (List ℕ)) → Option (List ℕ) → Type 0
 IsGiven known given = IfSome known (λ held. given ≡ held)
 
@@ -33,12 +31,12 @@ text_by true bytes = proof_text bytes
 abbrev pub left_text : Bool → Option (List ℕ) → Option (List ℕ)
 left_text binary left = option_map (text_by binary) left
 
--- what is left to read of a proof is what is known to lie there for its leaf
+-- what is left to read of a proof is what is known to lie there for its target
 abbrev pub IsLeftOf : Option (Option (List ℕ)) → Option (List ℕ) → Type 0
 IsLeftOf known left =
     IfSome known (λ lies. (bytes : List ℕ) × (lies ≡ Some bytes) × (left ≡ Some bytes))
 
--- what was opened for a leaf, of which this is left to read, or nothing, is what is known to lie
+-- what was opened for a target, of which this is left to read, or nothing, is what is known to lie
 -- there
 abbrev pub IsOpenedOf : {T : Type 0} → Option (Option (List ℕ)) → (T → Option (List ℕ)) →
     Option T → Type 0
@@ -51,20 +49,20 @@ pub record HasSeenAs (v : View) (target : Target) (judged : Judged) : Type 0 whe
   pub here : IsTargetAt v.of.case.tree node target
   pub mark : HasSeenMark v node judged
 
--- The proof of a leaf that was read: it has no label line, the leaf has no section, and this is the
--- judgement of its bytes, which stands at the leaf by what was seen.
-pub record IsFoundAt (known : Option (Option (List ℕ))) (v : View) (leaf : Leaf) (judged : Judged)
-    : Type 0 where
+-- The proof of a target that was read: it has no label line, the target has no section, and this is
+-- the judgement of its bytes, which stands at the target by what was seen.
+pub record IsFoundAt (known : Option (Option (List ℕ))) (v : View) (target : Target)
+    (judged : Judged) : Type 0 where
   pub text : List ℕ
   pub given : IsGiven known (Some text)
   pub plain : labels_of text ≡ []
-  pub free : proof_for v.of.case.sections (Named leaf) ≡ None
-  pub found : IsFoundBy v.of.case (Named leaf) text judged
-  pub seen : HasSeenAs v (Named leaf) judged
+  pub free : proof_for v.of.case.sections target ≡ None
+  pub found : IsFoundBy v.of.case target text judged
+  pub seen : HasSeenAs v target judged
 
--- what became of a leaf: there is no proof for it, or this was found of it; of one that the run
+-- what became of a target: there is no proof for it, or this was found of it; of one that the run
 -- can't judge by itself nothing is said
-abbrev pub IsExamined : Option (Option (List ℕ)) → View → Leaf → Examined → Type 0
-IsExamined known v leaf Absent = IsGiven known None
-IsExamined known v leaf (Found judged) = IsFoundAt known v leaf judged
-IsExamined known v leaf Other = Unit {0}
+abbrev pub IsExamined : Option (Option (List ℕ)) → View → Target → Examined → Type 0
+IsExamined known v target Absent = IsGiven known None
+IsExamined known v target (Found judged) = IsFoundAt known v target judged
+IsExamined known v target Other = Unit {0}

@@ -42,7 +42,7 @@ pub record HasSeenMark (v : View) (node : ℕ) (judged : Judged) : Type 0 where
   pub home : IsHome v.of node board row
   pub is : mark_in v.seen board row ≡ mark_as judged
 
--- What a gate is told of a section, or of a leaf's proof. The target stands at this node; it is
+-- What a gate is told of a section, or of a target's proof. The target stands at this node; it is
 -- judged so, by its section where it has one; by the posts that were seen the node has the mark of
 -- this judgement, and the board at this place, on which it is posted, has this open weight.
 pub record IsTold (v : View) (case : CaseOf) (target : Target) (node : ℕ) (judged : Judged)

@@ -1,18 +1,18 @@
-//! The marks of boards, compared with what workers handed back of leaves.
+//! The marks of boards, compared with what workers handed back of targets.
 
-ghost use Rattle.std.specs.Prelude.{◌≡◌, ◌<◌, ℕ, List, Option, true, false, length, All, IfOk};
-ghost use Rattle.std.specs.Prelude.{get_or};
+ghost use Rattle.std.specs.Prelude.{◌≡◌, ◌<◌, ℕ, List, Option, None, true, length, All, IfOk};
 ghost use Rattle.std.specs.Prelude.{vec_len};
-ghost use Rattle.case_core.specs.Leaf.{Leaf};
-ghost use Rattle.case_core.specs.Leaves.{IsLeafAt, HasTarget};
+ghost use Rattle.case_core.specs.Leaves.{IsTargetAt, HasTarget};
 ghost use Rattle.case_core.specs.SplitTree.{size};
 ghost use Rattle.mark_board.specs.Findings.{mark_as};
+ghost use Rattle.mark_board.specs.Marking.{mark_at};
+ghost use Rattle.proof_folder.specs.Given.{IsGivenFor};
 ghost use Rattle.board_hall.specs.declared.view.View.{View};
-ghost use Rattle.check_crew.specs.LeafProofs.{Known, IsExamined};
-ghost use Rattle.check_crew.specs.Inner.Apart.{IsListOf, IsRightAt, AreRightAt};
+ghost use Rattle.check_crew.specs.LeafProofs.{Known, IsExamined, IsGiven};
+ghost use Rattle.check_crew.specs.Inner.Apart.{AreAbsent, IsListOf, IsRightAt, AreRightAt};
 
-use crate::leaves::{Examined, ExaminedLeaf};
-use case_core::{Case, Judged, Leaf, NodeId, Target};
+use crate::targets::{Examined, ExaminedTarget};
+use case_core::{Judged, NodeId, Target, has_target};
 use mark_board::{Boards, Mark};
 use std::alloc::{AllocError, Global};
 
@@ -26,44 +26,53 @@ fn is_mark_of(mark: Mark, judged: Judged) -> bool
     }
 }
 
-/// Whether a leaf has the mark of what became of it. Where the run can't judge it by itself, it
-/// hasn't; where it has a section and no proof elsewhere, its mark is the section's.
-fn is_right(boards: &Boards<'_>, leaf: Leaf, examined: Examined) -> bool
-    requires { HasTarget boards.now.case.tree (Target.Leaf leaf) }
+/// Whether a target has the mark of one for which nothing lies elsewhere: it is open, or has a
+/// section, whose mark it has.
+fn is_right_alone(boards: &Boards<'_>, target: Target) -> bool
+    requires { HasTarget boards.now.case.tree target }
+    ensures { result ≡ true → (known : Option (Option (List ℕ))) → IsGiven known None
+        → (node : ℕ) → IsTargetAt boards.now.case.tree node target
+        → IsGivenFor known boards.now.case target (mark_at boards.now.marks node) None }
+{
+    let asked = target;
+    let mark = boards.mark_of(target);
+    mark == Mark::Open || boards.case().proof_for(asked).is_some()
+}
+
+/// Whether a target has the mark of what became of it. Where the run can't judge it by itself, it
+/// hasn't.
+fn is_right(boards: &Boards<'_>, target: Target, examined: Examined) -> bool
+    requires { HasTarget boards.now.case.tree target }
     ensures { result ≡ true → (known : Known) (view : View) → view.of.case ≡ boards.now.case
-        → IsExamined (known leaf) view leaf examined → (node : ℕ)
-        → IsLeafAt boards.now.case.tree node leaf
+        → IsExamined (known target) view target examined → (node : ℕ)
+        → IsTargetAt boards.now.case.tree node target
         → IsRightAt known boards.now.case boards.now.marks node }
 {
-    let asked = leaf;
-    let mark = boards.mark_of(Target::Leaf(leaf));
     match examined {
-        Examined::Absent => {
-            mark == Mark::Open || boards.case().proof_for(Target::Leaf(asked)).is_some()
-        }
-        Examined::Found(judged) => is_mark_of(mark, judged),
+        Examined::Absent => is_right_alone(boards, target),
+        Examined::Found(judged) => is_mark_of(boards.mark_of(target), judged),
         Examined::Other => false,
     }
 }
 
-/// Notes the node of a leaf that has the mark of what became of it.
-fn note_one(boards: &Boards<'_>, one: ExaminedLeaf, right: &mut Vec<bool>)
+/// Notes the node of a target that has the mark of what became of it.
+fn note_one(boards: &Boards<'_>, one: ExaminedTarget, right: &mut Vec<bool>)
     requires { vec_len right.old ≡ size boards.now.case.tree }
     ensures len { vec_len right.new ≡ vec_len right.old }
     ensures right { (known : Known) (view : View) → view.of.case ≡ boards.now.case
-        → IsExamined (known one.leaf) view one.leaf one.examined
+        → IsExamined (known one.target) view one.target one.examined
         → AreRightAt known boards.now.case boards.now.marks right.old.items
         → AreRightAt known boards.now.case boards.now.marks right.new.items }
 {
     let tree = boards.case().tree();
-    if tree.has_leaf(one.leaf) && is_right(boards, one.leaf, one.examined) {
-        let node = tree.node_of_leaf(one.leaf);
+    if has_target(tree, one.target) && is_right(boards, one.target, one.examined) {
+        let node = tree.node_of_target(one.target);
         right[node.index()] = true;
     }
 }
 
-/// Notes the nodes of those leaves of a worker that have the mark of what became of them.
-fn note_right(boards: &Boards<'_>, examined: &[ExaminedLeaf], right: &mut Vec<bool>)
+/// Notes the nodes of those targets of a worker that have the mark of what became of them.
+fn note_right(boards: &Boards<'_>, examined: &[ExaminedTarget], right: &mut Vec<bool>)
     requires { vec_len right.old ≡ size boards.now.case.tree }
     ensures len { vec_len right.new ≡ vec_len right.old }
     ensures right { (known : Known) → IsListOf known boards.now.case examined.now
@@ -75,39 +84,62 @@ fn note_right(boards: &Boards<'_>, examined: &[ExaminedLeaf], right: &mut Vec<bo
     }
 }
 
-/// Whether a node is noted, if it is a leaf.
-fn is_noted(case: &Case, right: &[bool], node: NodeId) -> bool
-    requires node { node < size case.now.tree }
-    requires long { length right.now ≡ size case.now.tree }
-    ensures { result ≡ true → (leaf : Leaf) → IsLeafAt case.now.tree node leaf
-        → get_or right.now node false ≡ true }
+/// Whether a node is an inner one for which nothing lies elsewhere, and has the mark of such a one.
+fn is_bare(boards: &Boards<'_>, absent: &[bool], node: NodeId) -> bool
+    requires node { node < size boards.now.case.tree }
+    requires long { length absent.now ≡ size boards.now.case.tree }
+    ensures { result ≡ true → (known : Known) → AreAbsent known absent.now
+        → IsRightAt known boards.now.case boards.now.marks node }
 {
-    right[node.index()] || case.tree().leaf_at(node).is_none()
+    match boards.case().tree().target_at(node) {
+        Target::Leaf(_) => false,
+        Target::Node(inner) => {
+            absent[node.index()] && is_right_alone(boards, Target::Node(inner))
+        }
+    }
 }
 
-/// Whether the node of each leaf is noted.
-fn has_each_leaf(case: &Case, right: &[bool]) -> bool
-    requires { length right.now ≡ size case.now.tree }
-    ensures { result ≡ true → (node : ℕ) (leaf : Leaf) → IsLeafAt case.now.tree node leaf
-        → get_or right.now node false ≡ true }
+/// Whether a node is noted, or is an inner one for which nothing lies elsewhere, and right so.
+fn is_node_right(boards: &Boards<'_>, right: &[bool], absent: &[bool], node: NodeId) -> bool
+    requires node { node < size boards.now.case.tree }
+    requires right { length right.now ≡ size boards.now.case.tree }
+    requires absent { length absent.now ≡ size boards.now.case.tree }
+    ensures { result ≡ true → (known : Known) → AreAbsent known absent.now
+        → AreRightAt known boards.now.case boards.now.marks right.now
+        → IsRightAt known boards.now.case boards.now.marks node }
 {
-    for number in 0..case.tree().size() {
-        if !is_noted(case, right, NodeId::new(number)) {
+    right[node.index()] || is_bare(boards, absent, node)
+}
+
+/// Whether each node is so.
+fn has_each_node(boards: &Boards<'_>, right: &[bool], absent: &[bool]) -> bool
+    requires right { length right.now ≡ size boards.now.case.tree }
+    requires absent { length absent.now ≡ size boards.now.case.tree }
+    ensures { result ≡ true → (known : Known) → AreAbsent known absent.now
+        → AreRightAt known boards.now.case boards.now.marks right.now
+        → (node : ℕ) → node < size boards.now.case.tree
+        → IsRightAt known boards.now.case boards.now.marks node }
+{
+    for number in 0..boards.case().tree().size() {
+        if !is_node_right(boards, right, absent, NodeId::new(number)) {
             return false;
         }
     }
     true
 }
 
-/// Whether each leaf of the tree has the mark of what became of it, by the lists of all workers.
+/// Whether each node of the tree has the mark of what became of its target, by the lists of all
+/// workers; nothing lies elsewhere for the inner nodes that are noted as absent.
 pub(crate) fn has_right_marks(
     alloc: Global,
     boards: &Boards<'_>,
-    lists: &[Vec<ExaminedLeaf>],
+    lists: &[Vec<ExaminedTarget>],
+    absent: &[bool],
 ) -> Result<bool, AllocError>
+    requires { length absent.now ≡ size boards.now.case.tree }
     ensures { IfOk result (λ is. is ≡ true → (known : Known)
         → All (λ list. IsListOf known boards.now.case list.items) lists.now
-        → (node : ℕ) (leaf : Leaf) → IsLeafAt boards.now.case.tree node leaf
+        → AreAbsent known absent.now → (node : ℕ) → node < size boards.now.case.tree
         → IsRightAt known boards.now.case boards.now.marks node) }
 {
     let size = boards.case().tree().size() as usize;
@@ -115,5 +147,5 @@ pub(crate) fn has_right_marks(
     for list in lists {
         note_right(boards, list, &mut right);
     }
-    Ok(has_each_leaf(boards.case(), &right))
+    Ok(has_each_node(boards, &right, absent))
 }

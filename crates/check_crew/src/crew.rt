@@ -3,11 +3,11 @@
 ghost use Rattle.std.specs.Prelude.{◌≡◌, ◌+◌, ◌<◌, ◌≤◌, ◌≢◌, true, None, Some, All, IfOk, IfErr};
 ghost use Rattle.std.specs.Prelude.{vec_len, vec_capacity, MatchOption, length};
 ghost use Rattle.byte_flow.specs.Device.{IsDeviceFault};
-ghost use Rattle.case_core.specs.Leaf.{Leaf};
+ghost use Rattle.case_core.specs.Target.{Target};
 ghost use Rattle.cube_jobs.specs.Jobs as queue;
 ghost use Rattle.cube_jobs.specs.Jobs.{new_pass};
 ghost use Rattle.board_hall.specs.Halls.{core_of, hall_of, shared_of, view_of, IsPassOf, IsNewPass};
-ghost use Rattle.board_hall.specs.declared.view.Proofs.TheVariants.{OfLeavesElsewhere};
+ghost use Rattle.board_hall.specs.declared.view.Proofs.TheVariants.{Elsewhere as AnyElsewhere};
 ghost use Rattle.mark_board.specs.Findings.{AreFindings};
 ghost use Rattle.check_crew.specs.LeafProofs.{Known};
 ghost use Rattle.check_crew.specs.Seen.{HaveSeenSections};
@@ -17,15 +17,14 @@ ghost use Rattle.check_crew.specs.Inner.Crew.{HaveSeenClaims, IsRunFault, AreClo
 
 use crate::fault::{CrewFault, RunFault};
 use crate::gate::{Elsewhere, Gate};
-use crate::leaf_order::LeafOrder;
 use crate::leaf_proofs::{LeafProofs, NoProofs};
-use crate::leaves::{ExaminedLeaf, end_leaves};
 use crate::order::long_proofs_first;
 use crate::settings::Settings;
+use crate::targets::{ExaminedTarget, end_targets};
 use crate::worker::{Job, Shift, Site, work};
 use board_hall::{Core, Hall, Pass};
 use byte_flow::DeviceFault;
-use case_core::{Case, Leaf};
+use case_core::{Case, Target};
 use cube_jobs::{JobPass, Jobs};
 use mark_board::Boards;
 use std::alloc::{AllocError, Global};
@@ -35,7 +34,7 @@ use std::sync::atomic::AtomicU64;
 use std::thread;
 use std::thread::{Promise, PromisedHandle, Scope, Threads};
 
-/// A site, and what its workers read proofs of leaves by, as it was before they began. As a promise
+/// A site, and what its workers read proofs of targets by, as it was before they began. As a promise
 /// it says what each of them hands back.
 struct Crew<'a, R, G, P> {
     site: Site<'a, R, G>,
@@ -84,12 +83,10 @@ pub fn conquer<'c, R: Threads + Wait + Sync, G: Gate + Sync>(
     let opened = Opened {
         hall,
         passes,
-        order: LeafOrder {
-            leaves: Vec::new(alloc),
-            elsewhere: Elsewhere {
-                proofs: 0,
-                bytes: 0,
-            },
+        targets: Vec::new(alloc),
+        elsewhere: Elsewhere {
+            proofs: 0,
+            bytes: 0,
         },
     };
     match run(rt, alloc, case, settings.cut(), gate, opened, proofs) {
@@ -99,18 +96,19 @@ pub fn conquer<'c, R: Threads + Wait + Sync, G: Gate + Sync>(
     }
 }
 
-/// A hall before its workers begin: their passes, and the order of the leaves whose proofs lie
-/// elsewhere.
+/// A hall before its workers begin: their passes, the targets whose proofs lie elsewhere in their
+/// order, and what is known of all these proofs.
 #[derive(Drop)]
 pub(crate) struct Opened<'c> {
     pub(crate) hall: Hall<'c>,
     pub(crate) passes: Vec<Pass>,
-    pub(crate) order: LeafOrder,
+    pub(crate) targets: Vec<Target>,
+    pub(crate) elsewhere: Elsewhere,
 }
 
-/// Has a worker for each of `proofs`, which examine the sections of the case and then the leaves of
-/// the order, between the gate's start and its end, and closes the hall. Answers its boards, and a
-/// list of leaves of each worker.
+/// Has a worker for each of `proofs`, which examine the sections of the case and then the targets in
+/// their order, between the gate's start and its end, and closes the hall. Answers its boards, and a
+/// list of targets of each worker.
 pub(crate) fn run<'c, R: Threads + Wait + Sync, G: Gate + Sync, P: LeafProofs + Send + Drop>(
     rt: &R,
     alloc: Global,
@@ -119,11 +117,11 @@ pub(crate) fn run<'c, R: Threads + Wait + Sync, G: Gate + Sync, P: LeafProofs + 
     gate: &G,
     opened: Opened<'c>,
     proofs: Vec<P>,
-) -> Result<(Boards<'c>, Vec<Vec<ExaminedLeaf>>), RunFault<P>>
+) -> Result<(Boards<'c>, Vec<Vec<ExaminedTarget>>), RunFault<P>>
     requires cut { cut ≤ 6 }
     requires case { case.now ≡ (hall_of opened.hall).of.case }
-    requires elsewhere { 0 < vec_len opened.order.leaves
-        → (hall_of opened.hall).of.proofs ≡ OfLeavesElsewhere }
+    requires elsewhere { 0 < vec_len opened.targets
+        → (hall_of opened.hall).of.proofs ≡ AnyElsewhere }
     requires count { (0 < vec_len proofs) × (vec_len proofs ≤ 32) }
     requires passes { (vec_len opened.passes ≡ vec_len proofs)
         × ((hall_of opened.hall).passes ≡ vec_len proofs) }
@@ -131,26 +129,18 @@ pub(crate) fn run<'c, R: Threads + Wait + Sync, G: Gate + Sync, P: LeafProofs + 
     requires fresh { All (λ one. P.failures one ≡ 0) proofs.items }
     ensures closed { IfOk result (λ run. AreClosed (hall_of opened.entry.hall) run.0) }
     ensures lists { (known : Known)
-        → All (λ one. (leaf : Leaf) → P.held one leaf ≡ known leaf) proofs.items
+        → All (λ one. (target : Target) → P.held one target ≡ known target) proofs.items
         → IfOk result (λ run. All (λ list. IsListOf known case.now list.items) run.1.items) }
     ensures failed { IfErr result (IsRunFault P.failures) }
 {
     let Opened {
         hall,
         passes,
-        order,
+        targets,
+        elsewhere,
     } = opened;
-    gate.start(alloc, case, cut, order.elsewhere)?;
-    let examined = examine_all(
-        rt,
-        alloc,
-        case,
-        hall.core(),
-        gate,
-        &order.leaves,
-        passes,
-        proofs,
-    );
+    gate.start(alloc, case, cut, elsewhere)?;
+    let examined = examine_all(rt, alloc, case, hall.core(), gate, &targets, passes, proofs);
     gate.end();
     let (passes, lists) = examined?;
     match hall.close(passes) {
@@ -160,21 +150,21 @@ pub(crate) fn run<'c, R: Threads + Wait + Sync, G: Gate + Sync, P: LeafProofs + 
 }
 
 /// Has a worker for each of `proofs`, which claim the sections of the case, examine them and post
-/// what they find, and then take the leaves in turn. The passes that come back owe nothing, and
+/// what they find, and then take the targets in turn. The passes that come back owe nothing, and
 /// what was found of each section is among what one of them has seen; beside them there is a list
-/// of leaves of each worker.
+/// of targets of each worker.
 fn examine_all<R: Threads + Wait + Sync, G: Gate + Sync, P: LeafProofs + Send + Drop>(
     rt: &R,
     alloc: Global,
     case: &Case,
     core: &Core,
     gate: &G,
-    leaves: &[Leaf],
+    targets: &[Target],
     passes: Vec<Pass>,
     proofs: Vec<P>,
-) -> Result<(Vec<Pass>, Vec<Vec<ExaminedLeaf>>), RunFault<P>>
+) -> Result<(Vec<Pass>, Vec<Vec<ExaminedTarget>>), RunFault<P>>
     requires case { case.now ≡ (core_of core.now).case }
-    requires elsewhere { 0 < length leaves.now → (core_of core.now).proofs ≡ OfLeavesElsewhere }
+    requires elsewhere { 0 < length targets.now → (core_of core.now).proofs ≡ AnyElsewhere }
     requires count { (0 < vec_len proofs) × (vec_len proofs ≤ 32) }
     requires pairs { vec_len passes ≡ vec_len proofs }
     requires new { All (IsNewPass (shared_of core.now)) passes.items }
@@ -185,7 +175,7 @@ fn examine_all<R: Threads + Wait + Sync, G: Gate + Sync, P: LeafProofs + Send + 
         (λ handed. All (λ pass. (view_of pass).owes ≡ None) handed.0.items) }
     ensures seen { IfOk result (λ handed. HaveSeenSections case.now handed.0.items) }
     ensures lists { (known : Known)
-        → All (λ one. (leaf : Leaf) → P.held one leaf ≡ known leaf) proofs.items
+        → All (λ one. (target : Target) → P.held one target ≡ known target) proofs.items
         → IfOk result (λ handed. All (λ list. IsListOf known case.now list.items) handed.1.items) }
     ensures failed { IfErr result (IsRunFault P.failures) }
 {
@@ -200,7 +190,7 @@ fn examine_all<R: Threads + Wait + Sync, G: Gate + Sync, P: LeafProofs + Send + 
         gate,
         jobs: &jobs,
         order: &order,
-        leaves,
+        targets,
         next: &next,
     };
     let handed = run_crew(site, passes, job_passes, proofs)?;
@@ -211,12 +201,12 @@ fn examine_all<R: Threads + Wait + Sync, G: Gate + Sync, P: LeafProofs + Send + 
 }
 
 /// What the workers of a crew hand back together: the passes of the hall and those of the queue,
-/// and a list of leaves of each.
+/// and a list of targets of each.
 #[derive(Drop)]
 struct Handed {
     passes: Vec<Pass>,
     job_passes: Vec<JobPass>,
-    lists: Vec<Vec<ExaminedLeaf>>,
+    lists: Vec<Vec<ExaminedTarget>>,
 }
 
 /// Has a worker for each of `proofs`, and puts together what they hand back. A failed read stands
@@ -246,7 +236,7 @@ fn run_crew<R: Threads + Wait + Sync, G: Gate + Sync, P: LeafProofs + Send + Dro
     ensures seen { IfOk result (λ handed.
         HaveSeenClaims site.entry.order.now handed.passes.items handed.job_passes.items) }
     ensures lists { (known : Known)
-        → All (λ one. (leaf : Leaf) → P.held one leaf ≡ known leaf) proofs.items
+        → All (λ one. (target : Target) → P.held one target ≡ known target) proofs.items
         → IfOk result (λ handed. All (λ list. IsListOf known site.entry.case.now list.items)
         handed.lists.items) }
     ensures failed { IfErr result (IsRunFault P.failures) }
@@ -330,7 +320,7 @@ fn run_all<R: Threads + Wait + Sync, G: Gate + Sync, P: LeafProofs + Send + Drop
 }
 
 /// Starts a worker for each job but the last, works by the last, and joins all that were started.
-/// Where the start of one was refused, it doesn't work itself, and nobody takes another leaf.
+/// Where the start of one was refused, it doesn't work itself, and nobody takes another target.
 fn start_and_join<
     's,
     'e: 's,
@@ -357,7 +347,7 @@ fn start_and_join<
     };
     let handles = start(scope, crew, jobs, handles);
     if handles.len() + 1 < count {
-        end_leaves(crew.site);
+        end_targets(crew.site);
         return Ok(join_all(crew, handles, shifts));
     }
     shifts.push_reserved(work(crew.site, job));
@@ -453,7 +443,7 @@ fn hand_in<R, G, P: LeafProofs + Drop>(
         All (λ pass. pass.found_empty ≡ true) handed.job_passes.items) }
     ensures seen { IfOk result (λ handed.
         HaveSeenClaims crew.entry.site.order.now handed.passes.items handed.job_passes.items) }
-    ensures lists { (known : Known) → All (λ one. (leaf : Leaf) → P.held one leaf ≡ known leaf)
+    ensures lists { (known : Known) → All (λ one. (target : Target) → P.held one target ≡ known target)
         crew.entry.readers.now.value.items
         → IfOk result (λ handed. All (λ list. IsListOf known crew.entry.site.case.now list.items)
         handed.lists.items) }

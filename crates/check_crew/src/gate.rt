@@ -5,7 +5,7 @@ ghost use Rattle.board_hall.specs.Halls.{view_of};
 ghost use Rattle.check_crew.specs.Seen.{IsTold};
 
 use board_hall::Pass;
-use case_core::{Case, Judged, Leaf, NodeId, Target};
+use case_core::{Case, Judged, NodeId, Target};
 use mark_board::Place;
 use std::alloc::{AllocError, Global};
 
@@ -19,13 +19,13 @@ pub struct Elsewhere {
     pub bytes: u64,
 }
 
-/// What a worker found of a section, or of a leaf's proof that lies elsewhere, and what the boards
-/// said when it had posted that.
+/// What a worker found of a section, or of a proof that lies elsewhere, and what the boards said
+/// when it had posted that.
 #[derive(Drop)]
 pub struct Found<'a> {
     /// The case of the run.
     pub case: &'a Case,
-    /// The target of the section, or the leaf of the proof.
+    /// The target of the section or of the proof.
     pub target: Target,
     /// The node at which the target stands.
     pub node: NodeId,
@@ -60,7 +60,7 @@ pub trait Gate {
     }
 
     /// Before the worker of this number, from 0, examines the target's section, or the proof that
-    /// lies elsewhere for a leaf.
+    /// lies elsewhere for it.
     fn before(&self, worker: u32, target: Target);
 
     /// After what this worker found, and a part that it then owed, were posted.
@@ -69,8 +69,8 @@ pub trait Gate {
             found.now.node found.now.judged found.now.place found.now.weight };
 
     /// By a worker that finds that the run has to be made with all proofs in one bundle, because of
-    /// the proof of this leaf: it has a label line, or the leaf has a section, too.
-    fn falls_back(&self, _leaf: Leaf) {}
+    /// the proof of this target: it has a label line, or the target has a section, too.
+    fn falls_back(&self, _target: Target) {}
 
     /// Once, after all workers that were started have been joined.
     fn end(&self) {}

@@ -1,14 +1,14 @@
-//! Where the proofs of leaves lie for which the case has no section.
+//! Where the proofs lie that the case has no section of.
 
 ghost use Rattle.std.specs.Prelude.{◌≡◌, ℕ, List, ◌<◌, ◌+◌, ◌^◌, ◌-◌, Option, IfOk, IfErr, IfSome};
-ghost use Rattle.std.specs.Prelude.{OnOk, Bool};
+ghost use Rattle.std.specs.Prelude.{OnOk, Bool, None, false};
 ghost use Rattle.byte_flow.specs.Device.{IsDeviceFault};
-ghost use Rattle.case_core.specs.Leaf.{Leaf};
 ghost use Rattle.case_core.specs.Form.{proof_left};
-ghost use Rattle.check_crew.specs.LeafProofs.{IsOpenedOf, left_text, text_by};
+ghost use Rattle.case_core.specs.Target.{Target};
+ghost use Rattle.check_crew.specs.LeafProofs.{IsGiven, IsOpenedOf, left_text, text_by};
 
 use byte_flow::{DeviceFault, Source};
-use case_core::{Leaf, ProofForm};
+use case_core::{ProofForm, Target};
 use std::io;
 
 /// What a worker opens proofs by. Each worker of a run has one of its own, and all of a run tell of
@@ -17,8 +17,8 @@ pub trait LeafProofs {
     /// A proof that was opened, which is read to its end.
     type Proof: Source + Drop + Send;
 
-    // The proof that lies there for each leaf, where that is known: none, or this text.
-    ghost held: { Self → Leaf → Option (Option (List ℕ)) };
+    // The proof that lies there for each target, where that is known: none, or this text.
+    ghost held: { Self → Target → Option (Option (List ℕ)) };
 
     // How many calls have failed so far.
     ghost failures: { Self → ℕ };
@@ -31,15 +31,20 @@ pub trait LeafProofs {
     fn form(&self) -> ProofForm
         ensures { (bytes : List ℕ) → proof_left result bytes ≡ text_by takes_binary bytes };
 
-    /// Opens the proof of a leaf, of which no read has failed yet; `None` where there is none.
+    /// Whether a proof may lie there for a target; without reading anything.
+    fn may_have(&self, target: Target) -> bool
+        // Where it says no, none lies there.
+        ensures { result ≡ false → IsGiven (held self.now target) None };
+
+    /// Opens the proof of a target, of which no read has failed yet; `None` where there is none.
     ///
     /// `Device` where it is there and can't be opened, `Memory` where a growth was refused. The
     /// count of failed calls, which has to be below its greatest value, rises by one exactly with
     /// `Device`.
-    fn open(&mut self, leaf: Leaf) -> Result<Option<Self::Proof>, DeviceFault>
+    fn open(&mut self, target: Target) -> Result<Option<Self::Proof>, DeviceFault>
         requires { failures self.old < 2 ^ 64 - 1 }
         ensures held { held self.new ≡ held self.old }
-        ensures opened { IfOk result (λ found. IsOpenedOf (held self.old leaf)
+        ensures opened { IfOk result (λ found. IsOpenedOf (held self.old target)
             (λ proof. left_text takes_binary (Self.Proof.remaining proof)) found) }
         ensures fresh { IfOk result (λ found. IfSome found
             (λ proof. Self.Proof.failures proof ≡ 0)) }
@@ -54,9 +59,9 @@ pub trait LeafProofs {
         ensures failures { failures self.new
             ≡ failures self.old + Self.Proof.failures proof };
 
-    /// How long the proof of a leaf is, where that can be told without reading it. Nothing rests on
-    /// it but the order in which proofs are read and the totals that a person is told.
-    fn length(&self, leaf: Leaf) -> Option<u64>;
+    /// How long the proof of a target is, where that can be told without reading it. Nothing rests
+    /// on it but the order in which proofs are read and the totals that a person is told.
+    fn length(&self, target: Target) -> Option<u64>;
 }
 
 /// What opens no proof, where all of them stand in the case; as one it has no bytes.
@@ -78,13 +83,17 @@ impl LeafProofs for NoProofs {
         ProofForm::Text
     }
 
-    fn open(&mut self, _leaf: Leaf) -> Result<Option<NoProofs>, DeviceFault> {
+    fn may_have(&self, _target: Target) -> bool {
+        false
+    }
+
+    fn open(&mut self, _target: Target) -> Result<Option<NoProofs>, DeviceFault> {
         Ok(None)
     }
 
     fn close(&mut self, _proof: NoProofs) {}
 
-    fn length(&self, _leaf: Leaf) -> Option<u64> {
+    fn length(&self, _target: Target) -> Option<u64> {
         None
     }
 }

@@ -16,17 +16,17 @@ ghost use Rattle.check_crew.specs.Inner.Crew.{IsReady, IsJobOf, IsShiftOf, HasTa
 
 use crate::gate::{Found, Gate};
 use crate::leaf_proofs::LeafProofs;
-use crate::leaves::{ExaminedLeaf, end_leaves, examine_leaves};
+use crate::targets::{ExaminedTarget, end_targets, examine_targets};
 use board_hall::{Core, Pass};
 use byte_flow::DeviceFault;
-use case_core::{Case, Examiner, Finding, Judged, Leaf, NodeId, Target};
+use case_core::{Case, Examiner, Finding, Judged, NodeId, Target};
 use cube_jobs::{JobPass, Jobs};
 use mark_board::Posted;
 use std::alloc::{AllocError, Global};
 use std::sync::Wait;
 use std::sync::atomic::AtomicU64;
 
-/// What a worker begins with: its number, its passes, and what it reads proofs of leaves by.
+/// What a worker begins with: its number, its passes, and what it reads proofs of targets by.
 #[derive(Drop)]
 pub(crate) struct Job<P> {
     pub(crate) worker: u32,
@@ -35,19 +35,19 @@ pub(crate) struct Job<P> {
     pub(crate) proofs: P,
 }
 
-/// What it hands back when it ends: what it began with, what became of the leaves that it took, and
+/// What it hands back when it ends: what it began with, what became of the targets that it took, and
 /// the fault that stopped it, if one did.
 #[derive(Drop)]
 pub(crate) struct Shift<P> {
     pub(crate) pass: Pass,
     pub(crate) job_pass: JobPass,
     pub(crate) proofs: P,
-    pub(crate) examined: Vec<ExaminedLeaf>,
+    pub(crate) examined: Vec<ExaminedTarget>,
     pub(crate) fault: Option<DeviceFault>,
 }
 
 /// What all workers share: what they wait by and have memory from, the case, the hall and the gate;
-/// the queue, whose jobs are turns, and for each turn the place of its section; the leaves in the
+/// the queue, whose jobs are turns, and for each turn the place of its section; the targets in the
 /// order of their turns, and how many of these have been taken.
 pub(crate) struct Site<'a, R, G> {
     pub(crate) rt: &'a R,
@@ -57,7 +57,7 @@ pub(crate) struct Site<'a, R, G> {
     pub(crate) gate: &'a G,
     pub(crate) jobs: &'a Jobs,
     pub(crate) order: &'a [usize],
-    pub(crate) leaves: &'a [Leaf],
+    pub(crate) targets: &'a [Target],
     pub(crate) next: &'a AtomicU64,
 }
 
@@ -192,7 +192,7 @@ pub(crate) fn tell<G: Gate>(
     gate.after(worker, &found);
 }
 
-/// Does a worker's part of the sections, and then its part of the leaves.
+/// Does a worker's part of the sections, and then its part of the targets.
 pub(crate) fn work<R: Wait, G: Gate, P: LeafProofs>(site: Site<'_, R, G>, job: Job<P>) -> Shift<P>
     requires ready { IsReady site }
     requires job { IsJobOf site P.failures job }
@@ -225,15 +225,15 @@ pub(crate) fn work<R: Wait, G: Gate, P: LeafProofs>(site: Site<'_, R, G>, job: J
     }
 }
 
-/// Takes turns of sections until none is left, and then turns of leaves. Where memory is refused
-/// over sections, nobody takes another leaf.
+/// Takes turns of sections until none is left, and then turns of targets. Where memory is refused
+/// over sections, nobody takes another target.
 fn take_both<R: Wait, G: Gate, P: LeafProofs>(
     site: Site<'_, R, G>,
     worker: u32,
     pass: &mut Pass,
     job_pass: &mut JobPass,
     proofs: &mut P,
-    examined: &mut Vec<ExaminedLeaf>,
+    examined: &mut Vec<ExaminedTarget>,
 ) -> Result<(), DeviceFault>
     requires ready { IsReady site }
     requires pass { IsNewPass (shared_of site.core.now) pass.old }
@@ -241,15 +241,15 @@ fn take_both<R: Wait, G: Gate, P: LeafProofs>(
     requires fresh { P.failures proofs.old ≡ 0 }
     requires none { examined.old.items ≡ [] }
     ensures taken { HasTaken site.entry pass.new job_pass.new result }
-    ensures examined { OnOk result (All (λ one. IsExamined (P.held proofs.old one.leaf)
-        (view_of pass.new) one.leaf one.examined) examined.new.items) }
+    ensures examined { OnOk result (All (λ one. IsExamined (P.held proofs.old one.target)
+        (view_of pass.new) one.target one.examined) examined.new.items) }
     ensures ok { OnOk result (P.failures proofs.new ≡ 0) }
     ensures err { IfErr result (λ fault. IsDeviceFault 0 (P.failures proofs.new) fault) }
 {
     match take_all(site, worker, pass, job_pass) {
-        Ok(()) => examine_leaves(site, worker, proofs, pass, examined),
+        Ok(()) => examine_targets(site, worker, proofs, pass, examined),
         Err(fault) => {
-            end_leaves(site);
+            end_targets(site);
             Err(DeviceFault::from(fault))
         }
     }

@@ -1,24 +1,27 @@
 -- What a run says of the bundle that is asked for.
-use Rattle.std.proofs.Common.{◌≡◌, ◌∙◌, sym, refl, subst, ℕ, Bool, List, [], Option, None, Some}
-use Rattle.std.proofs.Common.{Result, Ok, Err, IfOk, true}
+use Rattle.std.proofs.Common.{◌≡◌, ◌∙◌, ◌+◌, ◌++◌, ap, sym, refl, subst, inl, inr, arith, ℕ, Bool}
+use Rattle.std.proofs.Common.{List, Option, None, Some, Result, Ok, Err, IfOk, IfErr, true}
 use Rattle.std.specs.Prelude.{IfSome, is_some}
-use Rattle.bundle_files.specs.Files.{Held, Gives, IsJudgedOf}
-use Rattle.bundle_files.specs.Formula.{IsBundleBy, IsReadBy, IsReadFrom}
-use Rattle.bundle_files.proofs.FilesFormula.{judged_unsatisfiable}
+use Rattle.bundle_files.specs.Outline.{IsOutlineOf}
+use Rattle.bundle_files.specs.Files.{Held, IsJudgedOf, lies_in}
+use Rattle.bundle_files.specs.Formula.{IsBundleBy, IsReadBy, IsReadFrom, IsUnreadFrom, Sources}
+use Rattle.bundle_files.specs.Outlined.{IsOutlinedBy, IsRefutedBy, IsRunBy}
+use Rattle.bundle_files.specs.declared.outlined.BundleOutline.{BundleOutline}
+use Rattle.bundle_files.proofs.LawsFormula.{judged_unsatisfiable}
 use Rattle.bundle_files.proofs.FormulaText.{published}
-use Rattle.bundle_files.specs.Judging.{IsOutcomeOf}
+use Rattle.bundle_files.specs.Judging.{IsJudgingFault, IsOutcomeOf}
+use Rattle.cube_report.specs.Bundle.{icnf_text}
 use Rattle.cube_report.specs.Case.{CaseOf}
 use Rattle.cube_report.specs.Correct.{IsOutcome, IsUnsatisfiable}
 use Rattle.bundle_files.specs.Sections.{IsCaseOf}
-use Rattle.cube_report.specs.declared.engine.Outcome.{Outcome}
 use Rattle.cube_report.specs.declared.fault.Fault.{Fault}
 use Rattle.cube_command.specs.Headline.{IsFormulaRefuted, IsRefutedAsHanded}
-use Rattle.cube_command.specs.Record.{record_text}
+use Rattle.cube_command.specs.Record.{digest_line, record_text}
 use Rattle.cube_command.specs.Sources.{sources_of}
 use Rattle.cube_command.specs.Words.{Asked}
-use Rattle.cube_command.specs.Inner.Recorded.{IsRecordedFor}
+use Rattle.cube_command.specs.Inner.Recorded.{IsRecordedFor, IsRunRecorded}
 use Rattle.cube_command.specs.declared.program.Recorded.{Recorded}
-use Rattle.cube_command.proofs.ProgramRuns.{bundle_of}
+use Rattle.cube_command.proofs.ProgramRuns.{bundle_of, whole_record}
 
 -- of a bundle that was read whole
 pub made_of : (run : Result Recorded Fault) (held : Held) (asked : Asked)
@@ -41,76 +44,58 @@ made_of (Ok made) held asked input read draws is_read drawn outcome recorded = r
   recorded = recorded;
 }
 
--- the bundle of a file is what is asked for where no other is
-file_read : (held : Held) (asked : Asked) (input : Option (List ℕ)) (path bundle : List ℕ)
-    → asked.file ≡ Some path → asked.formula ≡ None → Gives held path (Some bundle) →
-    IsReadFrom held (sources_of asked) input bundle
-file_read held asked input path bundle file formula gives =
-    subst (λ (f : Option (List ℕ)). IsReadBy held f asked.file input bundle) (sym formula)
-    (subst (λ (f : Option (List ℕ)). IsReadBy held None f input bundle) (sym file) gives)
+-- ---- of a bundle whose proofs were read one by one
 
 file_judged : (held : Held) (folder : Option (List ℕ)) (bundle : List ℕ) → folder ≡ None →
     IsJudgedOf held folder bundle bundle
 file_judged held folder bundle none =
     subst (λ (f : Option (List ℕ)). IsJudgedOf held f bundle bundle) (sym none) refl
 
-no_path : {A B : Type 0} (path : Option A) (at : A) → path ≡ None → path ≡ Some at → B
-no_path path at none some = let no : None ≡ Some at = sym none ∙ some in cc
-
--- of a bundle whose proofs were read one by one
-pub made_by_section : (run : Result (Option Outcome) Fault) (held : Held) (asked : Asked)
-    (path : List ℕ) (draws : Bool)
-    → asked.file ≡ Some path → asked.formula ≡ None → asked.folder ≡ None → asked.out ≡ None
-    → draws ≡ is_some asked.picture
-    → IfOk run (λ some. IfSome some (λ outcome. (bundle : List ℕ)
-    × Gives held path (Some bundle)
-    × IsOutcome bundle draws outcome.text.items outcome.map.items outcome.refuted))
-    → IfOk run (λ some. IfSome some (λ outcome. (input : Option (List ℕ))
-    → IsRecordedFor held asked input outcome.text.items outcome.map.items outcome.refuted []))
-made_by_section (Err fault) held asked path draws file formula folder out drawn made = tt
-made_by_section (Ok None) held asked path draws file formula folder out drawn made = tt
-made_by_section (Ok (Some outcome)) held asked path draws file formula folder out drawn made =
-    λ input. record {
-      read = made.0;
-      whole = made.0;
-      bundle =
-          bundle_of held asked input made.0 made.0
-          (file_read held asked input path made.0 file formula made.1)
-          (file_judged held asked.folder made.0 folder);
+-- what is asked for, where the record is that of the bundle
+pub run_recorded : (held : Held) (formula : Option (List ℕ)) (path : List ℕ)
+    (outlined : BundleOutline) (asked : Asked) (draws : Bool) (report map icnf : List ℕ)
+    (answer : Bool) (begun ended made text : List ℕ)
+    → IsRunBy held formula path outlined draws report map answer
+    → IsOutlinedBy (lies_in held) formula path outlined → draws ≡ is_some asked.picture
+    → ((text : List ℕ) → IsOutlineOf outlined.outline text → icnf ≡ icnf_text text)
+    → text ≡ report → made ≡ ended
+    → ((at : List ℕ) → asked.out ≡ Some at → begun ≡ digest_line icnf)
+    → ((at : List ℕ) → asked.out ≡ Some at → ended ≡ begun ++ text)
+    → IsRunRecorded held formula path asked report map answer made
+run_recorded held formula path outlined asked draws report map icnf answer begun ended made text run
+    by drawn icnf_is same ends first last = record {
+      bundle = run.bundle;
+      read = run.read;
       outcome =
-          subst (λ (d : Bool). IsOutcome made.0 d outcome.text.items outcome.map.items
-          outcome.refuted) drawn made.2;
-      recorded = λ at is. no_path asked.out at out is;
+          subst (λ (d : Bool). IsOutcome run.bundle d report map answer) drawn run.outcome;
+      recorded =
+          whole_record asked.out run.bundle report icnf text begun ended made
+          (icnf_is (by.front ++ by.text) by.outline
+          ∙ sym (run.icnf (by.front ++ by.text) by.outline)) same ends first last;
     }
 
--- ---- what readings handed over
-
--- one of FILE, where no other file has the formula
-handed_file : (hands : List ℕ → List ℕ → Type 0) (asked : Asked) (path : List ℕ)
-    (input : Option (List ℕ)) → asked.file ≡ Some path → asked.formula ≡ None
-    → (text : List ℕ) × hands path text × IsUnsatisfiable text
-    → IsRefutedAsHanded hands asked input
-handed_file hands asked path input file formula handed = record {
-  read = handed.0;
-  handed =
-      subst (λ (f : Option (List ℕ)). IsBundleBy hands f asked.file input handed.0) (sym formula)
-      (subst (λ (f : Option (List ℕ)). IsBundleBy hands None f input handed.0) (sym file)
-      handed.1);
-  none = handed.2;
-  formula = subst (λ (f : Option (List ℕ)). IfSome f (IsFormulaRefuted hands)) (sym formula) tt;
+pub made_by_section : (run : Result (Option Recorded) Fault) (held : Held) (asked : Asked)
+    (path : List ℕ) → asked.file ≡ Some path → asked.folder ≡ None
+    → IfOk run (λ some. IfSome some (λ made. IsRunRecorded held asked.formula path asked
+    made.outcome.text.items made.outcome.map.items made.outcome.refuted made.bytes.items))
+    → IfOk run (λ some. IfSome some (λ made. (input : Option (List ℕ))
+    → IsRecordedFor held asked input made.outcome.text.items made.outcome.map.items
+    made.outcome.refuted made.bytes.items))
+made_by_section (Err fault) held asked path file folder made = tt
+made_by_section (Ok None) held asked path file folder made = tt
+made_by_section (Ok (Some recorded)) held asked path file folder made = λ input. record {
+  read = made.bundle;
+  whole = made.bundle;
+  bundle =
+      bundle_of held asked input made.bundle made.bundle
+      (subst (λ (f : Option (List ℕ)). IsReadBy held asked.formula f input made.bundle) (sym file)
+      (made.read input))
+      (file_judged held asked.folder made.bundle folder);
+  outcome = made.outcome;
+  recorded = made.recorded;
 }
 
--- of a bundle whose proofs were read one by one
-pub handed_section : (run : Result (Option Outcome) Fault) (hands : List ℕ → List ℕ → Type 0)
-    (asked : Asked) (path : List ℕ) → asked.file ≡ Some path → asked.formula ≡ None
-    → IfOk run (λ some. IfSome some (λ outcome. outcome.refuted ≡ true
-    → (text : List ℕ) × hands path text × IsUnsatisfiable text))
-    → IfOk run (λ some. IfSome some (λ outcome. outcome.refuted ≡ true
-    → (input : Option (List ℕ)) → IsRefutedAsHanded hands asked input))
-handed_section (Err fault) hands asked path file formula handed = tt
-handed_section (Ok None) hands asked path file formula handed = tt
-handed_section (Ok (Some outcome)) hands asked path file formula handed =
-    λ says input. handed_file hands asked path input file formula (handed says)
+-- ---- what readings handed over
 
 -- the formula's own file, where there is one
 handed_formula : (hands : List ℕ → List ℕ → Type 0) (held : Held)
@@ -120,6 +105,28 @@ handed_formula : (hands : List ℕ → List ℕ → Type 0) (held : Held)
 handed_formula hands held None file input folder read whole case is judged case_is none = tt
 handed_formula hands held (Some path) file input folder read whole case is judged case_is none =
     published hands held path file input folder read whole case is judged case_is none
+
+-- of a bundle whose proofs were read one by one
+pub handed_section : (run : Result (Option Recorded) Fault) (hands : List ℕ → List ℕ → Type 0)
+    (asked : Asked) (path : List ℕ) → asked.file ≡ Some path
+    → IfOk run (λ some. IfSome some (λ made. made.outcome.refuted ≡ true
+    → IsRefutedBy hands asked.formula path))
+    → IfOk run (λ some. IfSome some (λ made. made.outcome.refuted ≡ true
+    → (input : Option (List ℕ)) → IsRefutedAsHanded hands asked input))
+handed_section (Err fault) hands asked path file handed = tt
+handed_section (Ok None) hands asked path file handed = tt
+handed_section (Ok (Some made)) hands asked path file handed = λ says input.
+    let by = handed says in
+    record {
+      read = by.bundle;
+      handed =
+          subst (λ (f : Option (List ℕ)). IsBundleBy hands asked.formula f input by.bundle)
+          (sym file) (by.handed input);
+      none = by.none;
+      formula =
+          handed_formula hands (λ _. None) asked.formula (Some path) input None by.bundle by.bundle
+          by.case (by.handed input) refl by.is by.none;
+    }
 
 -- of a bundle that was read whole
 pub handed_read : (run : Result Recorded Fault) (hands : List ℕ → List ℕ → Type 0) (held : Held)

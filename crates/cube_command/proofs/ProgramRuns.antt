@@ -7,7 +7,7 @@ use Rattle.std.specs.Io.KnownBytes.{Appends, Keeps}
 use Rattle.bundle_files.specs.Files.{Held, Gives, IsJudgedOf, lies_in}
 use Rattle.bundle_files.specs.Formula.{IsReadBy, IsReadFrom}
 use Rattle.bundle_files.proofs.FormulaText.{published}
-use Rattle.bundle_files.proofs.FilesFormula.{judged_unsatisfiable}
+use Rattle.bundle_files.proofs.LawsFormula.{judged_unsatisfiable}
 use Rattle.cube_report.specs.declared.fault.Fault.{Fault}
 use Rattle.cube_report.specs.declared.fault.Fault.TheVariants.{Header, Token, Unfinished, TooLarge}
 use Rattle.cube_report.specs.declared.fault.Fault.TheVariants.{Limit, Memory, Repeats, NotATree}
@@ -81,13 +81,13 @@ reported held after asked input old new read whole text picture made draws answe
       recorded = made_there after asked.out (record_text read text) made owed beside;
     }
 
--- a record that was begun by its line, and ended by the report
-pub whole_record : (out : Option (List ℕ)) (read text bytes report begun ended made : List ℕ)
-    → bytes ≡ read → report ≡ text → made ≡ ended
-    → ((at : List ℕ) → out ≡ Some at → begun ≡ digest_line (icnf_text bytes))
+-- a record that was begun by the line of the iCNF text, and ended by the report
+pub whole_record : (out : Option (List ℕ)) (read text icnf report begun ended made : List ℕ)
+    → icnf ≡ icnf_text read → report ≡ text → made ≡ ended
+    → ((at : List ℕ) → out ≡ Some at → begun ≡ digest_line icnf)
     → ((at : List ℕ) → out ≡ Some at → ended ≡ begun ++ report)
     → (at : List ℕ) → out ≡ Some at → made ≡ record_text read text
-whole_record out read text bytes report begun ended made same same_text same_made first last at is =
+whole_record out read text icnf report begun ended made same same_text same_made first last at is =
     rw (← same, ← same_text)
     (same_made ∙ last at is ∙ ap (λ (line : List ℕ). line ++ report) (first at is))
 

@@ -5,9 +5,10 @@ ghost use Rattle.std.specs.Prelude.{option_map, true, false, None, Some, IfOk, I
 ghost use Rattle.std.specs.Prelude.{IsErrOf, IfSome, [], Option};
 ghost use Rattle.std.specs.Io.KnownBytes.{Appends, Keeps};
 ghost use Rattle.cube_report.specs.Device.{AppendsBeginning, IsDeviceFault};
-ghost use Rattle.bundle_files.specs.Files.{StaysAllowed};
+ghost use Rattle.bundle_files.specs.Files.{StaysAllowed, lies_in};
 ghost use Rattle.bundle_files.specs.Formula.{IsOneAbsent, IsUnreadFrom};
 ghost use Rattle.bundle_files.specs.Judging.{IsOutcomeOf, IsRefusedOf, IsJudgingFault};
+ghost use Rattle.bundle_files.specs.Outlined.{IsOutlinedBy, IsRefutedBy};
 ghost use Rattle.bundle_files.specs.Sections.{IsCaseOf};
 ghost use Rattle.cube_report.specs.Faults.{IsInputFault};
 ghost use Rattle.cube_command.specs.Headline.{IsPublished, IsRefutedAsHanded, IsSound};
@@ -20,18 +21,19 @@ ghost use Rattle.cube_command.specs.Program.{IsStatus, IsMade, IsReported, IsRef
 ghost use Rattle.cube_command.specs.Program.{IsLineWritten, fault_line, AllowsFaults};
 ghost use Rattle.cube_command.specs.Program.{AllowsPicturesFor, AllowsRecordsFor};
 ghost use Rattle.cube_command.specs.Program.{AllowsReportsFor};
-ghost use Rattle.cube_command.specs.Inner.Recorded.{IsRecordedFor};
+ghost use Rattle.cube_command.specs.Inner.Recorded.{IsRecordedFor, IsRunRecorded};
 ghost use Rattle.command_words.specs.Request.{asked_in};
 
 use crate::asked::{Telling, asked_in, fault_in};
-use crate::log::Log;
-use crate::reading::Watch;
 use crate::record::{begin_record, end_record};
 use crate::telling::{tell_refused, tell_run};
-use crate::watched::Beside;
-use bundle_files::{Inputs, ReadBundle, Spared, Store, judge_by_section, judge_given, read_from};
+use bundle_files::{
+    BundleOutline, Inputs, ReadBundle, Spared, Store, judge_by_section, judge_given,
+    outline_bundle, read_from,
+};
 use command_words::{Request, request_of};
-use cube_report::{DeviceFault, Explain, Fault, Gate, Outcome, Sink, Source, write_all};
+use cube_report::{DeviceFault, Explain, Fault, Gate, Outcome, Sink, Source, icnf_part, write_all};
+use run_watch::{Beside, Log, Watch};
 use std::alloc::Global;
 use std::convert::AsStr;
 use std::sync::Wait;
@@ -376,8 +378,8 @@ struct Recorded {
 }
 
 /// What the request's bundle is said to be, and the record of it where a file for that is asked
-/// for. Where nothing else is asked for than what a report says, and the bundle is a file's, its
-/// proofs are read one by one; else all of it is read first, and kept for what is told of it.
+/// for. Where the bundle is a file's, no folder adds proofs to it and nothing is told of it, its
+/// proofs are read one by one from their places; else all of it is read first.
 fn judge_request<R, D, I, G, X>(
     rt: &R,
     store: &mut D,
@@ -410,9 +412,8 @@ where
         (D.failures store.old + I.failures input.old)
         (D.failures store.new + I.failures input.new)) }
 {
-    if let Some(outcome) = judge_file(rt, store, request, gate)? {
-        let bytes = Vec::new(rt.alloc());
-        return Ok(Recorded { outcome, bytes });
+    if let Some(made) = judge_file(rt, store, request, gate)? {
+        return Ok(made);
     }
     judge_read(rt, store, request, input, gate, telling, bundle)
 }
@@ -424,7 +425,7 @@ fn judge_file<R, D, G>(
     store: &mut D,
     request: &Request<'_>,
     gate: &G,
-) -> Result<Option<Outcome>, Fault>
+) -> Result<Option<Recorded>, Fault>
 where
     R: AllocGlobal + Threads + Wait + Sync,
     D: Store,
@@ -432,35 +433,74 @@ where
     requires count { D.failures store.old < 2 ^ 64 - 1 }
     ensures held { D.held store.new ≡ D.held store.old }
     ensures allowed { StaysAllowed (D.allows store.old) (D.allows store.new) }
-    ensures outcome { IfOk result (λ some. IfSome some (λ outcome. (input : Option (List ℕ))
-        → IsRecordedFor (D.held store.old) (asked_in request.now) input outcome.text.items
-        outcome.map.items outcome.refuted [])) }
-    ensures handed { IfOk result (λ some. IfSome some (λ outcome. outcome.refuted ≡ true
+    ensures made { IfOk result (λ some. IfSome some (λ made. (input : Option (List ℕ))
+        → IsRecordedFor (D.held store.old) (asked_in request.now) input made.outcome.text.items
+        made.outcome.map.items made.outcome.refuted made.bytes.items)) }
+    ensures handed { IfOk result (λ some. IfSome some (λ made. made.outcome.refuted ≡ true
         → (input : Option (List ℕ)) → IsRefutedAsHanded D.hands (asked_in request.now) input)) }
     ensures fault { IfErr result (λ fault. ¬ IsInputFault fault) }
     ensures ok { OnOk result (D.failures store.new ≡ D.failures store.old) }
-    ensures err { IfErr result (IsJudgingFault (D.failures store.old) (D.failures store.new)) }
+    ensures err { IfErr result (IsUnreadFrom (D.held store.old) (sources_of (asked_in request.now))
+        (D.failures store.old) (D.failures store.new)) }
 {
     let Some(path) = file_alone(request) else {
         return Ok(None);
     };
-    let draws = request.map.is_some();
-    judge_by_section(rt, store, path, request.settings, gate, draws)
+    match outline_bundle(rt.alloc(), store, request.formula, path)? {
+        Some(outlined) => judge_outlined(rt, store, outlined, path, request, gate),
+        None => Ok(None),
+    }
 }
 
-/// The file with the bundle, where no other is read, and nothing is asked for that the text of the
-/// bundle is kept for.
+/// The same of the bundle's outline: the record begins with what that has.
+fn judge_outlined<R, D, G>(
+    rt: &R,
+    store: &mut D,
+    outlined: BundleOutline,
+    path: &str,
+    request: &Request<'_>,
+    gate: &G,
+) -> Result<Option<Recorded>, Fault>
+where
+    R: AllocGlobal + Threads + Wait + Sync,
+    D: Store,
+    G: Gate + Sync,
+    requires { D.failures store.old < 2 ^ 64 - 1 }
+    ensures held { D.held store.new ≡ D.held store.old }
+    ensures allowed { StaysAllowed (D.allows store.old) (D.allows store.new) }
+    ensures run { (formula : Option (List ℕ))
+        → IsOutlinedBy (lies_in (D.held store.old)) formula path.now outlined
+        → IfOk result (λ some. IfSome some (λ made. IsRunRecorded (D.held store.old) formula
+        path.now (asked_in request.now) made.outcome.text.items made.outcome.map.items
+        made.outcome.refuted made.bytes.items)) }
+    ensures handed { (formula : Option (List ℕ))
+        → IsOutlinedBy (lies_in (D.held store.old)) formula path.now outlined
+        → IsOutlinedBy D.hands formula path.now outlined
+        → IfOk result (λ some. IfSome some (λ made. made.outcome.refuted ≡ true
+        → IsRefutedBy D.hands formula path.now)) }
+    ensures fault { IfErr result (λ fault. ¬ IsInputFault fault) }
+    ensures ok { OnOk result (D.failures store.new ≡ D.failures store.old) }
+    ensures err { IfErr result (IsJudgingFault (D.failures store.old) (D.failures store.new)) }
+{
+    let mut bytes = begin_record(rt.alloc(), request.out, outlined.icnf())?;
+    let draws = request.map.is_some();
+    match judge_by_section(rt, store, outlined, path, request.settings, gate, draws)? {
+        Some(outcome) => {
+            end_record(&mut bytes, request.out, &outcome.text)?;
+            Ok(Some(Recorded { outcome, bytes }))
+        }
+        None => Ok(None),
+    }
+}
+
+/// The file with the bundle, where no folder adds proofs to it, and nothing is told for which the
+/// text of the bundle is kept.
 fn file_alone<'a>(request: &Request<'a>) -> Option<&'a str>
     ensures { IfSome result (λ path.
         ((asked_in request.now).file ≡ Some path.now)
-        × ((asked_in request.now).formula ≡ None)
-        × ((asked_in request.now).folder ≡ None)
-        × ((asked_in request.now).out ≡ None)) }
+        × ((asked_in request.now).folder ≡ None)) }
 {
-    let is_alone = request.formula.is_none()
-        && request.proofs.is_none()
-        && request.out.is_none()
-        && !request.explain;
+    let is_alone = request.proofs.is_none() && !request.explain;
     if is_alone { request.file } else { None }
 }
 
@@ -538,7 +578,7 @@ where
     ensures ok { OnOk result (D.failures store.new ≡ D.failures store.old) }
     ensures err { IfErr result (IsJudgingFault (D.failures store.old) (D.failures store.new)) }
 {
-    let mut made = begin_record(rt.alloc(), request.out, &read.bundle)?;
+    let mut made = begin_record(rt.alloc(), request.out, icnf_part(&read.bundle))?;
     let outcome = judge_given(
         rt,
         store,

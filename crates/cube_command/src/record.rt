@@ -13,7 +13,14 @@ use std::alloc::{AllocError, Global};
 pub fn digest_line_of(alloc: Global, bundle: &[u8]) -> Result<Vec<u8>, AllocError>
     ensures { IfOk result (λ line. line.items ≡ digest_line (icnf_text bundle.now)) }
 {
-    let digits = hex::encode(alloc, Sha256::digest(icnf_part(bundle)))?;
+    line_of(alloc, icnf_part(bundle))
+}
+
+/// The line that names this text.
+fn line_of(alloc: Global, icnf: &[u8]) -> Result<Vec<u8>, AllocError>
+    ensures { IfOk result (λ line. line.items ≡ digest_line icnf.now) }
+{
+    let digits = hex::encode(alloc, Sha256::digest(icnf))?;
     let mut line = Vec::new(alloc);
     line.extend_from_slice(b"i ")?;
     line.extend_from_slice(digits.as_bytes())?;
@@ -21,18 +28,18 @@ pub fn digest_line_of(alloc: Global, bundle: &[u8]) -> Result<Vec<u8>, AllocErro
     Ok(line)
 }
 
-/// The same where a file for the record is asked for.
+/// The line that names the iCNF text of a bundle, where a file for the record is asked for.
 pub(crate) fn begin_record(
     alloc: Global,
     out: Option<&str>,
-    bundle: &[u8],
+    icnf: &[u8],
 ) -> Result<Vec<u8>, AllocError>
     ensures { IfOk result (λ begun. (path : List ℕ)
         → option_map (λ path. path.now) out.entry ≡ Some path
-        → begun.items ≡ digest_line (icnf_text bundle.now)) }
+        → begun.items ≡ digest_line icnf.now) }
 {
     match out {
-        Some(_) => digest_line_of(alloc, bundle),
+        Some(_) => line_of(alloc, icnf),
         None => Ok(Vec::new(alloc)),
     }
 }

@@ -1,6 +1,6 @@
--- A picture looks at the sections of inner nodes alone, and a report at none.
+-- A report and a picture look at the tree and the marks alone.
 use Rattle.std.proofs.Common.{◌≡◌, ◌∙◌, ap, ap₂, refl, sym, subst, ℕ, zero, suc, ◌+◌, ◌-◌, ◌*◌, ◌^◌}
-use Rattle.std.proofs.Common.{Bool, List, [], ◌++◌, ◌||◌, if◌then◌else◌, codes}
+use Rattle.std.proofs.Common.{Bool, List, [], ◌++◌, ◌||◌, codes}
 use Rattle.std.proofs.Common.{true, false}
 use Rattle.case_core.specs.Literal.{Literal}
 use Rattle.split_tree.specs.SplitTree.{SplitTree, missing, cube, split, size, total}
@@ -8,29 +8,22 @@ use Rattle.case_core.specs.Case.{CaseOf, SectionOf}
 use Rattle.mark_board.specs.declared.mark.Mark.{Mark}
 use Rattle.mark_board.specs.Marking.{marked, refuted_by, open_weight}
 use Rattle.mark_board.specs.TopPlaces.{worth_of}
-use Rattle.tree_map.specs.Picture.{map_text, cells, cell, frame, told, rectangle, colour, head}
+use Rattle.tree_map.specs.Picture.{map_text, cells, cell, frame, told, rectangle, color, head}
 use Rattle.tree_map.specs.Picture.{legend, title, rows}
 use Rattle.cube_report.specs.Report.{report_text}
 use Rattle.case_core.specs.Formula.{IsRefuted}
 use Rattle.mark_board.specs.Findings.{AreFindings}
 use Rattle.cube_report.specs.Correct.{map_if}
 use Rattle.cube_report.specs.Stated.{IsStated, IsWrittenBy}
-use Rattle.cube_report.specs.Laws.{AreSameNodes}
 
 -- two cases with the same tree
 module _ (formula others : List (List Literal)) (tree : SplitTree) (one other : List SectionOf)
-    (marks : List Mark) (same : AreSameNodes one other) where
+    (marks : List Mark) where
   abbrev a : CaseOf
   a = record { formula = formula; tree = tree; sections = one }
 
   abbrev b : CaseOf
   b = record { formula = others; tree = tree; sections = other }
-
-  frame_same : (node : ℕ) (t : SplitTree) → frame a node t ≡ frame b node t
-  frame_same node missing = refl
-  frame_same node (cube k) = refl
-  frame_same node (split v p n) =
-      ap (λ (x : Bool). if x then codes " n" else []) (same node)
 
   told_same : (node : ℕ) (t : SplitTree) → told a marks node t ≡ told b marks node t
   told_same node missing = refl
@@ -41,9 +34,10 @@ module _ (formula others : List (List Literal)) (tree : SplitTree) (one other : 
       cell a marks level left node covered t ≡ cell b marks level left node covered t
   unfolding cell
   cell_same level left node covered t =
-      ap₂ (λ (f s : List ℕ).
-      rectangle (colour marks level node covered t) f left (40 + 24 * (11 - level)) (2 ^ level)
-      ++ codes "<title>" ++ s ++ codes "</title></rect>\n") (frame_same node t) (told_same node t)
+      ap (λ (s : List ℕ).
+      rectangle (color marks level node covered t) (frame marks node t) left
+      (40 + 24 * (11 - level)) (2 ^ level)
+      ++ codes "<title>" ++ s ++ codes "</title></rect>\n") (told_same node t)
 
   cells_same : (level left node : ℕ) (covered : Bool) (t : SplitTree) →
       cells a marks level left node covered t ≡ cells b marks level left node covered t
@@ -69,17 +63,14 @@ module _ (formula others : List (List Literal)) (tree : SplitTree) (one other : 
       ++ drawn ++ codes "</svg>\n") (cells_same 11 0 0 false tree)
 
 pub same_report : (one other : CaseOf) (marks : List Mark) → one.tree ≡ other.tree
-    → AreSameNodes one.sections other.sections
     → (report_text one.tree marks ≡ report_text other.tree marks)
     × (map_text one marks ≡ map_text other marks)
-same_report one other marks tree same =
+same_report one other marks tree =
     subst (λ (t : SplitTree).
     (report_text t marks ≡ report_text other.tree marks)
     × (map_text (record { formula = one.formula; tree = t; sections = one.sections }) marks
-    ≡ map_text other marks)) (sym tree) (
-      refl,
-      map_same one.formula other.formula other.tree one.sections other.sections marks same,
-    )
+    ≡ map_text other marks)) (sym tree)
+    (refl, map_same one.formula other.formula other.tree one.sections other.sections marks)
 
 same_if_drawn : (draws : Bool) (one other : CaseOf) (marks : List Mark) →
     map_text one marks ≡ map_text other marks → map_if draws one marks ≡ map_if draws other marks
@@ -88,10 +79,10 @@ same_if_drawn false one other marks same = refl
 
 pub written_is_stated : (one other : CaseOf) (marks : List Mark) (draws : Bool)
     (report map : List ℕ) (answer : Bool) → one.formula ≡ other.formula → one.tree ≡ other.tree
-    → AreSameNodes one.sections other.sections → AreFindings one marks
+    → AreFindings one marks
     → IsWrittenBy other marks draws report map answer → IsStated one draws report map answer
-written_is_stated one other marks draws report map answer formula tree nodes findings is =
-    let same = same_report one other marks tree nodes in record {
+written_is_stated one other marks draws report map answer formula tree findings is =
+    let same = same_report one other marks tree in record {
       marks = marks;
       findings = findings;
       text = is.text ∙ sym same.0;

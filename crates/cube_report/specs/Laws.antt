@@ -1,8 +1,8 @@
 -- Laws of reports.
-use Rattle.std.specs.Prelude.{◌≡◌, ◌↔◌, ℕ, Bool, List, None, is_some}
+use Rattle.std.specs.Prelude.{◌≡◌, ◌↔◌, ℕ, Bool, List, None}
 use Rattle.split_tree.specs.Leaves.{IsTargetAt}
 use Rattle.split_tree.specs.declared.node.Target.TheVariants.{Node}
-use Rattle.case_core.specs.Case.{CaseOf, SectionOf, proof_for}
+use Rattle.case_core.specs.Case.{CaseOf, proof_for}
 use Rattle.mark_board.specs.declared.mark.Mark.{Mark}
 use Rattle.mark_board.specs.declared.mark.Mark.TheVariants.{Open}
 use Rattle.mark_board.specs.Marking.{mark_at}
@@ -18,23 +18,17 @@ LineForEachSection = (case : CaseOf) (marks : List Mark) (node : ℕ) → AreFin
     → IsTargetAt case.tree node (Node node)
     → (mark_at marks node ≡ Open) ↔ (proof_for case.sections (Node node) ≡ None)
 
--- the same inner nodes have sections
-abbrev pub AreSameNodes : List SectionOf → List SectionOf → Type 0
-AreSameNodes one other = (node : ℕ) →
-    is_some (proof_for one (Node node)) ≡ is_some (proof_for other (Node node))
-
--- by the same marks of the same tree, the report is the same, and where the same inner nodes have
--- sections, the picture is, too, whatever sections the leaves have
+-- by the same marks of the same tree, the report is the same, and so is the picture, whatever the
+-- sections are
 abbrev pub SameReport : Type 0
 SameReport = (one other : CaseOf) (marks : List Mark) → one.tree ≡ other.tree
-    → AreSameNodes one.sections other.sections
     → (report_text one.tree marks ≡ report_text other.tree marks)
     × (map_text one marks ≡ map_text other marks)
 
--- what is written of one case is stated of another with the same formula and tree, in which the
--- same inner nodes have sections, where the marks are those of its findings
+-- what is written of one case is stated of another with the same formula and tree, where the marks
+-- are those of its findings
 abbrev pub WrittenIsStated : Type 0
 WrittenIsStated = (one other : CaseOf) (marks : List Mark) (draws : Bool) (report map : List ℕ)
     (answer : Bool) → one.formula ≡ other.formula → one.tree ≡ other.tree
-    → AreSameNodes one.sections other.sections → AreFindings one marks
+    → AreFindings one marks
     → IsWrittenBy other marks draws report map answer → IsStated one draws report map answer

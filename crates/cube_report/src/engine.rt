@@ -9,7 +9,7 @@ ghost use Rattle.mark_board.specs.declared.mark.Mark.TheVariants.{Open};
 ghost use Rattle.cube_report.specs.Faults.{IsInputFault};
 ghost use Rattle.byte_flow.specs.Device.{AppendsBeginning, IsLeft};
 ghost use Rattle.cube_report.specs.Stated.{IsStated, IsWrittenBy};
-ghost use Rattle.case_core.specs.Leaf.{Leaf};
+ghost use Rattle.case_core.specs.Target.{Target};
 ghost use Rattle.mark_board.specs.declared.mark.Mark.{Mark};
 ghost use Rattle.proof_folder.specs.Given.{AreFoundApart};
 ghost use Rattle.check_crew.specs.LeafProofs.{Known};
@@ -141,9 +141,9 @@ pub fn judge_apart<T: Threads + Wait + Sync, G: Gate + Sync, P: LeafProofs + Sen
     requires workers { vec_len proofs ≡ settings.workers }
     requires fresh { All (λ one. P.failures one ≡ 0) proofs.items }
     // What is written is by marks that are right for the case's sections and for what lies
-    // elsewhere for its leaves.
+    // elsewhere.
     ensures apart { (known : Known)
-        → All (λ one. (leaf : Leaf) → P.held one leaf ≡ known leaf) proofs.items
+        → All (λ one. (target : Target) → P.held one target ≡ known target) proofs.items
         → IfOk result (λ run. IfOk run (λ some. IfSome some (λ outcome.
         (marks : List Mark) × AreFoundApart known case.now marks
         × IsWrittenBy case.now marks draws outcome.text.items outcome.map.items

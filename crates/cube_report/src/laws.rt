@@ -29,15 +29,14 @@ pub fn a_line_for_each_section()
     ensures { LineForEachSection }
 {}
 
-/// A report looks at the tree and the marks alone, a picture at the sections of inner nodes, too:
-/// two cases with the same tree, in which the same inner nodes have sections, have both by the same
-/// marks.
+/// A report and a picture look at the tree and the marks alone: two cases with the same tree have
+/// both by the same marks.
 pub fn same_report()
     ensures { SameReport }
 {}
 
 /// What is written of one case by some marks is stated of another with the same formula and tree,
-/// in which the same inner nodes have sections, where these marks are those of its findings.
+/// where these marks are those of its findings.
 pub fn written_is_stated()
     ensures { WrittenIsStated }
 {}

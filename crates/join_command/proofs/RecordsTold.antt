@@ -16,7 +16,7 @@ use Rattle.cube_report.specs.Bundle.{icnf_text}
 use Rattle.cube_report.specs.Mark.{Mark}
 use Rattle.cube_report.specs.Report.{report_text}
 use Rattle.bundle_files.specs.Files.{Held}
-use Rattle.bundle_files.proofs.FilesFormula.{judged_keeps_items}
+use Rattle.bundle_files.proofs.LawsFormula.{judged_keeps_items}
 use Rattle.cube_command.specs.Program.{IsReported}
 use Rattle.cube_command.specs.Record.{digest_line, record_text}
 use Rattle.cube_command.specs.Words.{Asked}

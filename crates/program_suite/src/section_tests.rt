@@ -168,3 +168,111 @@ fn a_call_fails(rt: HostRuntime) {
         each_call_fails(&rt, &bundle, fault, ending);
     }
 }
+
+/// A formula's file: the clauses of `MIXED`.
+const FORMULA: &[u8] = b"c four\np cnf 2 4\n1 2 0\n1 -2 0\n-1 2 0\n-1 -2 0\n";
+
+/// The cubes of `MIXED`, and proofs of all leaves.
+const CUBES: &[u8] = b"a 1 2 0\na -1 2 0\nl m2\n7 0 5 6 1 0\nl m1\n7 0 5 6 3 0\nl 2\n\
+7 0 5 6 2 0\nl 1\n7 0 5 6 4 0\n";
+
+/// The same without a proof of the first missing leaf.
+const CUBES_NO_M1: &[u8] =
+    b"a 1 2 0\na -1 2 0\nl 2\n7 0 5 6 2 0\nl 1\n7 0 5 6 4 0\nl m2\n7 0 5 6 1 0\n";
+
+/// One clause more, which is in no formula's file.
+const CLAUSE_MORE: &[u8] = b"2 1 0\na 1 2 0\na -1 2 0\nl 1\n7 0 5 6 4 0\n";
+
+/// The line that says so.
+const COUNTS: &[u8] =
+    b"cubeboard: F17 the header says 2 variables and 4 clauses, there are 2 and 5\n";
+
+/// The words for a formula's file, one worker and the file.
+const BELOW: Words = &["--formula", "CNF", "FILE", "--workers", "1"];
+
+/// A formula's file and a bundle's below it, how the program ends, and the paths that it has asked
+/// for.
+const FORMULAS: &[(&[u8], &[u8], Ending<'static>, &[u8])] = &[
+    // Each proof is read at its place, which is counted from the bundle's file.
+    (
+        FORMULA,
+        CUBES,
+        (0, ALL_REPORT, b""),
+        b"CNF\nFILE\nFILE\nFILE\nFILE\nFILE\n",
+    ),
+    (
+        FORMULA,
+        CUBES_NO_M1,
+        (1, WITHOUT_M1_REPORT, b""),
+        b"CNF\nFILE\nFILE\nFILE\nFILE\n",
+    ),
+    // A fault is told where all is read whole: one of the formula's file before all others.
+    (
+        b"c none\n",
+        CUBES,
+        (3, b"", b"cubeboard: F16 no DIMACS header\n"),
+        b"CNF\nCNF\n",
+    ),
+    (
+        FORMULA,
+        CLAUSE_MORE,
+        (3, b"", COUNTS),
+        b"CNF\nFILE\nCNF\nFILE\n",
+    ),
+    (
+        FORMULA,
+        b"a 1 2 0\na -1 2 0\nl x\n",
+        (3, b"", b"cubeboard: F10 bad label, line 10\n"),
+        b"CNF\nFILE\nCNF\nFILE\n",
+    ),
+];
+
+#[test]
+fn below_a_formula(rt: HostRuntime) {
+    for (formula, bundle, ending, paths) in FORMULAS {
+        let files = [("CNF", *formula), ("FILE", *bundle)];
+        let shelf = Shelf::new(rt.alloc(), &files).expect(&rt, "memory");
+        leaves_input(&rt, shelf.with_lengths(), BELOW, *ending, paths);
+    }
+}
+
+// A formula's file that isn't there, or has no length, is touched only where all is read whole.
+#[test]
+fn no_formula(rt: HostRuntime) {
+    let files = [("FILE", CUBES)];
+    let shelf = Shelf::new(rt.alloc(), &files).expect(&rt, "memory");
+    leaves_input(&rt, shelf.with_lengths(), BELOW, (5, b"", DEVICE), b"CNF\n");
+    let files = [("CNF", FORMULA), ("FILE", CUBES)];
+    let shelf = Shelf::new(rt.alloc(), &files).expect(&rt, "memory");
+    leaves_input(&rt, shelf, BELOW, (0, ALL_REPORT, b""), b"CNF\nFILE\n");
+}
+
+/// The paths up to each call below a formula.
+const BELOW_OPENED: [&[u8]; 6] = [
+    b"CNF\n",
+    b"CNF\nFILE\n",
+    b"CNF\nFILE\nFILE\n",
+    b"CNF\nFILE\nFILE\nFILE\n",
+    b"CNF\nFILE\nFILE\nFILE\nFILE\n",
+    b"CNF\nFILE\nFILE\nFILE\nFILE\nFILE\n",
+];
+
+/// Each call below a formula fails in turn with this fault, and no other follows it.
+fn each_call_below_fails<R: AllocGlobal + Abort + Threads + Wait + Sync>(
+    rt: &R,
+    fault: DeviceFault,
+    ending: Ending<'_>,
+) {
+    let files = [("CNF", FORMULA), ("FILE", CUBES)];
+    for (call, paths) in BELOW_OPENED.iter().enumerate() {
+        let shelf = Shelf::failing(rt.alloc(), &files, call as u64 + 1, fault).expect(rt, "memory");
+        leaves_input(rt, shelf.with_lengths(), BELOW, ending, paths);
+    }
+}
+
+#[test]
+fn a_call_below_a_formula_fails(rt: HostRuntime) {
+    for (fault, ending) in FAILING {
+        each_call_below_fails(&rt, fault, ending);
+    }
+}

@@ -1,17 +1,19 @@
 -- The case of a bundle with sections added.
 use Rattle.std.proofs.Common.{◌≡◌, ◌∙◌, sym, ap, refl, ℕ, ◌+◌, ◌<◌, false, List, []}
 use Rattle.std.proofs.Common.{◌∷◌, ◌++◌, append_assoc, append-nil, length, arith, subst}
-use Rattle.std.proofs.Common.{Option, None, Some, zero, suc}
+use Rattle.std.proofs.Common.{Option, None, Some, true, zero, suc}
 use Rattle.case_core.specs.Tokens.{words}
 use Rattle.case_core.specs.SplitTree.{SplitTree}
 use Rattle.case_core.specs.Leaves.{HasTarget}
 use Rattle.case_core.specs.Target.{Target}
 use Rattle.case_core.specs.Bundle.{lines_of, text_before, icnf_text, Labelled, labelled}
-use Rattle.case_core.specs.Bundle.{labels_of}
+use Rattle.case_core.specs.Bundle.{is_label, labels_of}
+use Rattle.case_core.specs.Label.{label_name, IsTargetOf}
 use Rattle.case_core.specs.Case.{CaseOf, SectionOf, proof_for, section_at, same_target, AreSections}
 use Rattle.case_core.specs.Sections.{IsCaseOf, AreLabelled, AreSectionsOf}
 use Rattle.case_core.proofs.CaseTables.{sections_more, none_before, none_from}
 use Rattle.std.specs.List.{onto_first}
+use Rattle.proof_folder.specs.Added.{HasNoLabelLine}
 use Rattle.proof_folder.specs.Added.{AreEnds, IsAlmost, AreAlmost, LeafFile, section_text}
 use Rattle.proof_folder.specs.Added.{texts_of, section_of, sections_of, MayBeAdded, MayAllBeAdded}
 use Rattle.proof_folder.specs.Added.{IsCaseWith}
@@ -97,40 +99,33 @@ almost_on (x ∷ a) (y ∷ b) (z ∷ c) one two = (
   almost_on a b c one.2 two.2,
 )
 
--- ---- one file more
+-- ---- one section more
 
-abbrev below : List ℕ → List ℕ → List ℕ
-below name proof = (108 ∷ 32 ∷ name) ++ 10 ∷ proof
+-- a section may be added below a line where the sections are these: it is a label line, which names
+-- the target, and the target has no section
+pub record MayStandBelow (tree : SplitTree) (sections : List SectionOf) (label : List ℕ)
+    (target : Target) (proof : List ℕ) : Type 0 where
+  pub is_one : is_label label ≡ true
+  pub one_line : lines_of label ≡ label ∷ []
+  pub named : IsTargetOf tree (label_name (words label)) target
+  pub has : HasTarget tree target
+  pub free : proof_for sections target ≡ None
+  pub plain : HasNoLabelLine proof
 
--- what a file adds: a line end, a label line, and its bytes
-added_text : (bundle name proof : List ℕ)
-    → bundle ++ section_text name (Some proof) ≡ bundle ++ 10 ∷ below name proof
-added_text bundle name proof =
-    ap (λ (t : List ℕ). bundle ++ 10 ∷ 108 ∷ 32 ∷ t) (append_assoc name (10 ∷ []) proof)
-
-added_lines : (bundle name proof : List ℕ) → lines_of name ≡ name ∷ [] →
-    lines_of (bundle ++ 10 ∷ below name proof)
-    ≡ lines_of bundle ++ (108 ∷ 32 ∷ name) ∷ lines_of proof
-added_lines bundle name proof one_line =
-    lines_more bundle (below name proof)
-    ∙ ap (λ (l : List (List ℕ)). lines_of bundle ++ l)
-    (lines_more (108 ∷ 32 ∷ name) proof
-    ∙ ap (λ (l : List (List ℕ)). l ++ lines_of proof)
-    (ap (λ (l : List (List ℕ)). onto_first 108 (onto_first 32 l)) one_line))
-
-module _ (bundle name proof : List ℕ) (case : CaseOf) (target : Target) (is : IsCaseOf bundle case)
-    (may : MayBeAdded case.tree case.sections name target proof) where
-  abbrev label : List ℕ
-  label = 108 ∷ 32 ∷ name
-
+module _ (bundle label proof : List ℕ) (case : CaseOf) (target : Target) (is : IsCaseOf bundle case)
+    (may : MayStandBelow case.tree case.sections label target proof) where
   abbrev whole_text : List ℕ
-  whole_text = bundle ++ 10 ∷ below name proof
+  whole_text = bundle ++ 10 ∷ (label ++ 10 ∷ proof)
 
   lines : lines_of whole_text ≡ lines_of bundle ++ label ∷ lines_of proof
-  lines = added_lines bundle name proof may.one_line
+  lines =
+      lines_more bundle (label ++ 10 ∷ proof)
+      ∙ ap (λ (l : List (List ℕ)). lines_of bundle ++ l)
+      (lines_more label proof
+      ∙ ap (λ (l : List (List ℕ)). l ++ lines_of proof) may.one_line)
 
   more : LabelsMore 1 (lines_of bundle) label (lines_of proof)
-  more = labels_more 1 (lines_of bundle) label (lines_of proof) (label_begun name)
+  more = labels_more 1 (lines_of bundle) label (lines_of proof) may.is_one
 
   abbrev last : Labelled
   last = record { line = more.at; label = words label; section = proof }
@@ -171,9 +166,9 @@ module _ (bundle name proof : List ℕ) (case : CaseOf) (target : Target) (is : 
   icnf : IsAlmost (icnf_text bundle) (icnf_text whole_text)
   icnf =
       subst (λ (l : List (List ℕ)). IsAlmost (icnf_text bundle) (text_before l)) (sym lines)
-      (before_label (lines_of bundle) label (lines_of proof) (label_begun name))
+      (before_label (lines_of bundle) label (lines_of proof) may.is_one)
 
-  one_more : IsCaseWith whole_text case (section ∷ [])
+  pub one_more : IsCaseWith whole_text case (section ∷ [])
   one_more = record {
     whole = record {
       formula = case.formula;
@@ -196,11 +191,22 @@ module _ (bundle name proof : List ℕ) (case : CaseOf) (target : Target) (is : 
     sections = almost_more case.sections sections.changed (section ∷ []) sections.almost;
   }
 
-  -- the bundle with the file stands for the case with its section
-  pub one_added : IsCaseWith (bundle ++ section_text name (Some proof)) case (section ∷ [])
-  one_added =
-      subst (λ (t : List ℕ). IsCaseWith t case (section ∷ []))
-      (sym (added_text bundle name proof)) one_more
+-- the bundle with a file stands for the case with its section
+one_added : (bundle name proof : List ℕ) (case : CaseOf) (target : Target) → IsCaseOf bundle case
+    → MayBeAdded case.tree case.sections name target proof
+    → IsCaseWith (bundle ++ section_text name (Some proof)) case
+    (record { target = target; proof = proof } ∷ [])
+one_added bundle name proof case target is may =
+    subst (λ (t : List ℕ). IsCaseWith t case (record { target = target; proof = proof } ∷ []))
+    (ap (λ (t : List ℕ). bundle ++ 10 ∷ 108 ∷ 32 ∷ t) (sym (append_assoc name (10 ∷ []) proof)))
+    (one_more bundle (108 ∷ 32 ∷ name) proof case target is (record {
+      is_one = label_begun name;
+      one_line = ap (λ (l : List (List ℕ)). onto_first 108 (onto_first 32 l)) may.one_line;
+      named = may.named;
+      has = may.has;
+      free = may.free;
+      plain = may.plain;
+    }))
 
 -- ---- all files
 
@@ -220,7 +226,7 @@ may_almost tree one other (leaf ∷ leaves) almost may = (
       (almost_more one other (section_of leaf.target leaf.proof) almost) may.1,
 )
 
-none_added : (bundle : List ℕ) (case : CaseOf) → IsCaseOf bundle case → IsCaseWith bundle case []
+pub none_added : (bundle : List ℕ) (case : CaseOf) → IsCaseOf bundle case → IsCaseWith bundle case []
 none_added bundle case is = record {
   whole = case;
   is = is;
@@ -232,7 +238,7 @@ none_added bundle case is = record {
 }
 
 -- first one file, and then others
-then_added : (bundle : List ℕ) (case : CaseOf) (first others : List SectionOf)
+pub then_added : (bundle : List ℕ) (case : CaseOf) (first others : List SectionOf)
     (one : IsCaseWith bundle case first) (whole : List ℕ) → IsCaseWith whole one.whole others →
     IsCaseWith whole case (first ++ others)
 then_added bundle case first others one whole two = record {

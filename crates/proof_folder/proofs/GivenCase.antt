@@ -15,7 +15,7 @@ use Rattle.proof_folder.proofs.GivenNames.{one_line, leaf_named}
 use Rattle.proof_folder.proofs.GivenLeaves.{HasCubes, IsOfTree, IsOther, AreOthers, leaves_of_tree}
 use Rattle.proof_folder.proofs.GivenLeaves.{leaves_are_others}
 
-free_behind : (target other : Target) (proof : Option (List ℕ)) (sections : List SectionOf) →
+pub free_behind : (target other : Target) (proof : Option (List ℕ)) (sections : List SectionOf) →
     proof_for sections target ≡ None → same_target other target ≡ false
     → proof_for (sections ++ section_of other proof) target ≡ None
 free_behind target other proof sections free apart =

@@ -1,6 +1,6 @@
 -- The findings of a case with the sections of the proofs that are given for leaves.
-use Rattle.std.proofs.Common.{◌≡◌, ◌≢◌, ◌∙◌, sym, ap, refl, subst, ℕ, List}
-use Rattle.std.proofs.Common.{◌++◌, Option, None, Some, is_some}
+use Rattle.std.proofs.Common.{◌≡◌, ◌≢◌, ◌∙◌, sym, refl, subst, ℕ, List}
+use Rattle.std.proofs.Common.{◌++◌, Option, None, Some}
 use Rattle.case_core.specs.Leaves.{IsTargetAt}
 use Rattle.case_core.specs.Target.{Target}
 use Rattle.case_core.specs.Target.TheVariants.{Leaf as Named, Node}
@@ -9,11 +9,11 @@ use Rattle.case_core.specs.Sections.{IsCaseOf}
 use Rattle.mark_board.specs.declared.mark.Mark.{Mark}
 use Rattle.mark_board.specs.Marking.{mark_at}
 use Rattle.mark_board.specs.Findings.{AreFindings, IsMarkOf}
-use Rattle.proof_folder.specs.Added.{sections_of, texts_of, AreAlmost}
+use Rattle.proof_folder.specs.Added.{sections_of, texts_of}
 use Rattle.proof_folder.specs.Given.{Given, files_of, leaves_of, MayBeGiven, HasFewLeaves}
 use Rattle.proof_folder.specs.Given.{AreMarksBy, IsJudgedAs}
 use Rattle.proof_folder.proofs.AddedMarks.{proof_first, proof_second}
-use Rattle.proof_folder.proofs.AddedMarks.{findings_without_line_ends, almost_for, AlmostTexts}
+use Rattle.proof_folder.proofs.AddedMarks.{findings_without_line_ends}
 use Rattle.proof_folder.proofs.GivenLeaves.{HasCubes, among_leaves, leaves_are_others, given_found}
 use Rattle.proof_folder.proofs.GivenLeaves.{none_of_node}
 use Rattle.proof_folder.proofs.GivenCase.{given_make_a_case}
@@ -59,32 +59,6 @@ module _ (case : CaseOf) (given : Given) (marks : List Mark) (cubes : HasCubes c
     each = λ node target at. each_mark node target at (proof_for case.sections target) refl;
   }
 
--- ---- sections of inner nodes
-
-same_some : (one other : Option (List ℕ)) → AlmostTexts one other → is_some other ≡ is_some one
-same_some None None almost = refl
-same_some None (Some longer) almost = absurd almost
-same_some (Some text) None almost = absurd almost
-same_some (Some text) (Some longer) almost = refl
-
-node_proof : (one other : List SectionOf) (target : Target) → proof_for other target ≡ None →
-    (proof : Option (List ℕ)) → proof_for one target ≡ proof
-    → proof_for (one ++ other) target ≡ proof
-node_proof one other target none None is = proof_second one other target is ∙ none
-node_proof one other target none (Some text) is = proof_first one other target text is
-
-same_nodes : (case : CaseOf) (given : Given) (sections : List SectionOf)
-    → AreAlmost (case.sections ++ sections_of (files_of given case.tree)) sections → (node : ℕ) →
-    is_some (proof_for sections (Node node)) ≡ is_some (proof_for case.sections (Node node))
-same_nodes case given sections almost node =
-    same_some (proof_for (case.sections ++ sections_of (files_of given case.tree)) (Node node))
-    (proof_for sections (Node node))
-    (almost_for (case.sections ++ sections_of (files_of given case.tree)) sections (Node node)
-    almost)
-    ∙ ap is_some
-    (node_proof case.sections (sections_of (files_of given case.tree)) (Node node)
-    (none_of_node given (leaves_of case.tree) node) (proof_for case.sections (Node node)) refl)
-
 pub judged_with_given : (bundle : List ℕ) (case : CaseOf) (given : Given) (marks : List Mark) →
     HasCubes case.tree → HasFewLeaves case.tree
     → IsCaseOf bundle case → MayBeGiven case given → AreMarksBy case given marks
@@ -95,7 +69,6 @@ judged_with_given bundle case given marks cubes few is may are =
       is = with_them.is;
       formula = with_them.formula;
       tree = with_them.tree;
-      nodes = same_nodes case given with_them.whole.sections with_them.sections;
       findings =
           findings_without_line_ends case with_them.whole
           (case.sections ++ sections_of (files_of given case.tree)) marks with_them.formula

@@ -1,19 +1,23 @@
--- What was given for leaves one by one, as one function.
-use Rattle.std.proofs.Common.{◌≡◌, ◌∙◌, sym, refl, subst, ℕ, ◌-◌, ◌≤◌, List, length, arith}
-use Rattle.std.proofs.Common.{Option, None, IfSome, ◌⊎◌, inl, inr, slice_index}
+-- What was given for targets one by one, as one function.
+use Rattle.std.proofs.Common.{◌≡◌, ◌∙◌, sym, refl, subst, ℕ, ◌-◌, ◌≤◌, ◌<◌, List, length, arith}
+use Rattle.std.proofs.Common.{Option, None, Some, IfSome, ◌⊎◌, inl, inr, slice_index}
 use Rattle.std.proofs.lemmas.Bool.{cases_lt}
-use Rattle.case_core.specs.SplitTree.{SplitTree}
-use Rattle.case_core.specs.Leaves.{HasLeaf, IsLeafAt, cube_count, missing_nodes}
+use Rattle.case_core.specs.SplitTree.{SplitTree, missing, cube, split, size, subtree_at, IsSplit}
+use Rattle.case_core.specs.Leaves.{HasLeaf, HasTarget, IsTargetAt, cube_count, missing_nodes}
 use Rattle.case_core.specs.Leaf.{Leaf}
 use Rattle.case_core.specs.Leaf.TheVariants.{Cube, Missing}
-use Rattle.case_core.specs.Case.{CaseOf}
+use Rattle.case_core.specs.Target.{Target}
+use Rattle.case_core.specs.Target.TheVariants.{Leaf as Named, Node}
+use Rattle.case_core.specs.Case.{CaseOf, proof_for}
 use Rattle.mark_board.specs.declared.mark.Mark.{Mark}
 use Rattle.mark_board.specs.Marking.{mark_at}
-use Rattle.proof_folder.specs.Given.{Given, IsGivenFor, AreFoundApart, MayBeGiven, AreMarksBy}
+use Rattle.mark_board.specs.Findings.{IsMarkOf}
+use Rattle.proof_folder.specs.Given.{Given, IsMarkBy, IsGivenFor, AreFoundApart, MayBeGiven}
+use Rattle.proof_folder.specs.Given.{AreMarksBy}
 use Rattle.proof_folder.proofs.GivenLeaves.{HasCubes}
 
 -- a tree has a leaf or it doesn't
-pub has_leaf : (tree : SplitTree) (leaf : Leaf) → HasCubes tree →
+has_leaf : (tree : SplitTree) (leaf : Leaf) → HasCubes tree →
     HasLeaf tree leaf ⊎ (HasLeaf tree leaf → ⊥)
 has_leaf tree (Cube k) cubes = elim (cases_lt k 1) [
   | inl less ↦ inr (λ has. let w = cubes.numbered has.0 k has.1.0 has.1.1 in
@@ -33,49 +37,93 @@ has_leaf tree (Missing j) cubes = elim (cases_lt j 1) [
   ]
 ]
 
+is_split : (tree : SplitTree) → IsSplit tree ⊎ (IsSplit tree → ⊥)
+is_split missing = inr (λ is. is)
+is_split (cube k) = inr (λ is. is)
+is_split (split v positive negative) = inl tt
+
+has_node : (tree : SplitTree) (node : ℕ) → HasTarget tree (Node node) ⊎
+    (HasTarget tree (Node node) → ⊥)
+has_node tree node = elim (cases_lt node (size tree)) [
+  | inl inside ↦ elim (is_split (subtree_at tree node)) [
+    | inl is ↦ inl (node, (refl, inside, is))
+    | inr none ↦ inr (λ has.
+        none (subst (λ (n : ℕ). IsSplit (subtree_at tree n)) has.1.0 has.1.2))
+  ]
+  | inr outside ↦ inr (λ has.
+      let inside : node < size tree =
+      subst (λ (n : ℕ). n < size tree) has.1.0 has.1.1 in omega (arith, inside, outside))
+]
+
+-- a tree has a target or it doesn't
+pub has_target : (tree : SplitTree) (target : Target) → HasCubes tree →
+    HasTarget tree target ⊎ (HasTarget tree target → ⊥)
+has_target tree (Named leaf) cubes = has_leaf tree leaf cubes
+has_target tree (Node node) cubes = has_node tree node
+
 -- and has it at one node
-one_place : (tree : SplitTree) (leaf : Leaf) (i j : ℕ) → HasCubes tree → IsLeafAt tree i leaf →
-    IsLeafAt tree j leaf → i ≡ j
-one_place tree (Cube k) i j cubes a b = cubes.once i j k a.0 b.0 a.1 b.1
-one_place tree (Missing k) i j cubes a b = a.2 ∙ sym b.2
+pub one_place : (tree : SplitTree) (target : Target) (i j : ℕ) → HasCubes tree →
+    IsTargetAt tree i target → IsTargetAt tree j target → i ≡ j
+one_place tree (Named (Cube k)) i j cubes a b = cubes.once i j k a.0 b.0 a.1 b.1
+one_place tree (Named (Missing k)) i j cubes a b = a.2 ∙ sym b.2
+one_place tree (Node k) i j cubes a b = a.0 ∙ sym b.0
 
-module _ (known : Leaf → Option (Option (List ℕ))) (case : CaseOf) (marks : List Mark)
+module _ (known : Target → Option (Option (List ℕ))) (case : CaseOf) (marks : List Mark)
     (cubes : HasCubes case.tree) (are : AreFoundApart known case marks) where
-  abbrev found_for : (leaf : Leaf) → HasLeaf case.tree leaf ⊎ (HasLeaf case.tree leaf → ⊥) →
-      Option (List ℕ)
-  found_for leaf (inl has) = (are.leaves has.0 leaf has.1).0
-  found_for leaf (inr none) = None
+  abbrev found_for : (target : Target)
+      → HasTarget case.tree target ⊎ (HasTarget case.tree target → ⊥) → Option (List ℕ)
+  found_for target (inl has) = (are.targets has.0 target has.1).0
+  found_for target (inr none) = None
 
-  abbrev pub all_given : Given
-  all_given leaf = found_for leaf (has_leaf case.tree leaf cubes)
+  abbrev pub all_given : Target → Option (List ℕ)
+  all_given target = found_for target (has_target case.tree target cubes)
 
-  is_found : (node : ℕ) (leaf : Leaf) → IsLeafAt case.tree node leaf
-      → (either : HasLeaf case.tree leaf ⊎ (HasLeaf case.tree leaf → ⊥))
-      → IsGivenFor (known leaf) case leaf (mark_at marks node) (found_for leaf either)
-  is_found node leaf at (inl has) =
-      subst (λ (n : ℕ). IsGivenFor (known leaf) case leaf (mark_at marks n)
-      (are.leaves has.0 leaf has.1).0) (one_place case.tree leaf has.0 node cubes has.1 at)
-      (are.leaves has.0 leaf has.1).1
-  is_found node leaf at (inr none) = absurd (none (node, at))
+  is_found : (node : ℕ) (target : Target) → IsTargetAt case.tree node target
+      → (either : HasTarget case.tree target ⊎ (HasTarget case.tree target → ⊥))
+      → IsGivenFor (known target) case target (mark_at marks node) (found_for target either)
+  is_found node target at (inl has) =
+      subst (λ (n : ℕ). IsGivenFor (known target) case target (mark_at marks n)
+      (are.targets has.0 target has.1).0) (one_place case.tree target has.0 node cubes has.1 at)
+      (are.targets has.0 target has.1).1
+  is_found node target at (inr none) = absurd (none (node, at))
 
-  is_given : (node : ℕ) (leaf : Leaf) → IsLeafAt case.tree node leaf
-      → IsGivenFor (known leaf) case leaf (mark_at marks node) (all_given leaf)
-  is_given node leaf at = is_found node leaf at (has_leaf case.tree leaf cubes)
+  pub is_given : (node : ℕ) (target : Target) → IsTargetAt case.tree node target
+      → IsGivenFor (known target) case target (mark_at marks node) (all_given target)
+  is_given node target at = is_found node target at (has_target case.tree target cubes)
+
+  -- that for leaves
+  abbrev pub leaves_given : Given
+  leaves_given leaf = all_given (Named leaf)
 
   pub given_is_held : (leaf : Leaf) → HasLeaf case.tree leaf →
-      IfSome (known leaf) (λ held. all_given leaf ≡ held)
-  given_is_held leaf has = (is_given has.0 leaf has.1).held
+      IfSome (known (Named leaf)) (λ held. leaves_given leaf ≡ held)
+  given_is_held leaf has = (is_given has.0 (Named leaf) has.1).held
 
-  pub may_be_given : MayBeGiven case all_given
+  pub may_be_given : MayBeGiven case leaves_given
   may_be_given = record {
-    plain = λ leaf text has is. (is_given has.0 leaf has.1).plain text is;
-    free = λ leaf text has is. (is_given has.0 leaf has.1).free text is;
+    plain = λ leaf text has is. (is_given has.0 (Named leaf) has.1).plain text is;
+    free = λ leaf text has is. (is_given has.0 (Named leaf) has.1).free text is;
   }
 
-  pub marks_by_given : AreMarksBy case all_given marks
-  marks_by_given = record {
-    long = are.long;
-    sections = are.sections;
-    nodes = are.nodes;
-    leaves = λ node leaf at free. (is_given node leaf at).mark_is free;
-  }
+  -- where nothing lies elsewhere for inner nodes
+  module _ (none : (node : ℕ) → known (Node node) ≡ Some None) where
+    nothing : (node : ℕ) → IsTargetAt case.tree node (Node node) → all_given (Node node) ≡ None
+    nothing node at = rw (none node) at (is_given node (Node node) at).held
+
+    node_mark : (node : ℕ) → IsTargetAt case.tree node (Node node)
+        → (section : Option (List ℕ)) → proof_for case.sections (Node node) ≡ section
+        → IsMarkOf case (Node node) (mark_at marks node)
+    node_mark node at None free =
+        rw free
+        (subst (λ (given : Option (List ℕ)). IsMarkBy case (Node node) given (mark_at marks node))
+        (nothing node at) ((is_given node (Node node) at).mark_is free))
+    node_mark node at (Some text) is =
+        are.sections node (Node node) at (λ free. let clash : Some text ≡ None = sym is ∙ free in cc)
+
+    pub marks_by_given : AreMarksBy case leaves_given marks
+    marks_by_given = record {
+      long = are.long;
+      sections = are.sections;
+      nodes = λ node at. node_mark node at (proof_for case.sections (Node node)) refl;
+      leaves = λ node leaf at free. (is_given node (Named leaf) at).mark_is free;
+    }

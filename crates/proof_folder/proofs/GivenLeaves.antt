@@ -173,7 +173,7 @@ not_swapped a b other same =
     subst (λ (t : Target). same_target t b ≡ true) e (same_target-self b) in
     let clash : true ≡ false = sym there ∙ other in cc
 
-swapped : (a b : Target) → same_target a b ≡ false → same_target b a ≡ false
+pub swapped : (a b : Target) → same_target a b ≡ false → same_target b a ≡ false
 swapped a b other = elim (cases_Bool (same_target b a)) [
   | inl same ↦ absurd (not_swapped a b other same)
   | inr apart ↦ apart
@@ -186,7 +186,7 @@ pub past_one : (target other : Target) (proof : Option (List ℕ)) (sections : L
 past_one target other None sections apart = refl
 past_one target other (Some text) sections apart = rw apart refl
 
-at_one : (target : Target) (proof : Option (List ℕ)) (sections : List SectionOf) →
+pub at_one : (target : Target) (proof : Option (List ℕ)) (sections : List SectionOf) →
     proof_for sections target ≡ None
     → proof_for (section_of target proof ++ sections) target ≡ proof
 at_one target None sections none = none

@@ -7,3 +7,4 @@ pub mod GivenLeaves
 mod GivenCase
 pub mod GivenFindings
 pub mod GivenFound
+pub mod GivenBelow

@@ -1,6 +1,6 @@
 -- Proofs that are given for leaves, beside those that stand in a case.
 use Rattle.std.specs.Prelude.{◌≡◌, ◌<◌, ◌+◌, ◌^◌, ℕ, zero, suc, List, [], ◌∷◌, ◌++◌, codes, decimal}
-use Rattle.std.specs.Prelude.{length, map, Option, None, Some, MatchOption, is_some, IfSome}
+use Rattle.std.specs.Prelude.{length, map, Option, None, Some, MatchOption, IfSome}
 use Rattle.case_core.specs.Literal.{Literal}
 use Rattle.case_core.specs.Proof.{Proof, IsProofOf}
 use Rattle.case_core.specs.Judgement.{judgement}
@@ -67,11 +67,11 @@ pub record MayBeGiven (case : CaseOf) (given : Given) : Type 0 where
   pub free : (leaf : Leaf) (text : List ℕ) → HasLeaf case.tree leaf → given leaf ≡ Some text →
       proof_for case.sections (Named leaf) ≡ None
 
--- the mark of a leaf by the proof that is given for it: open where none is, otherwise as it is
--- judged from the formula and the leaf's path
-abbrev pub IsMarkBy : CaseOf → Leaf → Option (List ℕ) → Mark → Type 0
-IsMarkBy case leaf given mark = MatchOption given (mark ≡ Open)
-    (λ text. (path : List Literal) (proof : Proof) → IsPathOf case.tree (Named leaf) path
+-- the mark of a target by the proof that is given for it: open where none is, otherwise as it is
+-- judged from the formula and the target's path
+abbrev pub IsMarkBy : CaseOf → Target → Option (List ℕ) → Mark → Type 0
+IsMarkBy case target given mark = MatchOption given (mark ≡ Open)
+    (λ text. (path : List Literal) (proof : Proof) → IsPathOf case.tree target path
     → IsProofOf text proof → mark ≡ mark_as (judgement case.formula path proof))
 
 -- The marks of a case's nodes where proofs are given for leaves: a target with a section and an
@@ -85,35 +85,31 @@ pub record AreMarksBy (case : CaseOf) (given : Given) (marks : List Mark) : Type
       IsMarkOf case (Node node) (mark_at marks node)
   pub leaves : (node : ℕ) (leaf : Leaf) → IsLeafAt case.tree node leaf →
       proof_for case.sections (Named leaf) ≡ None →
-      IsMarkBy case leaf (given leaf) (mark_at marks node)
+      IsMarkBy case (Named leaf) (given leaf) (mark_at marks node)
 
--- This is given for a leaf: it is what is known to lie there, may be given, and by it a leaf
+-- This is given for a target: it is what is known to lie there, may be given, and by it a target
 -- without a section has this mark.
-pub record IsGivenFor (known : Option (Option (List ℕ))) (case : CaseOf) (leaf : Leaf)
+pub record IsGivenFor (known : Option (Option (List ℕ))) (case : CaseOf) (target : Target)
     (mark : Mark) (given : Option (List ℕ)) : Type 0 where
   pub held : IfSome known (λ held. given ≡ held)
   pub plain : (text : List ℕ) → given ≡ Some text → labels_of text ≡ []
-  pub free : (text : List ℕ) → given ≡ Some text → proof_for case.sections (Named leaf) ≡ None
-  pub mark_is : proof_for case.sections (Named leaf) ≡ None → IsMarkBy case leaf given mark
+  pub free : (text : List ℕ) → given ≡ Some text → proof_for case.sections target ≡ None
+  pub mark_is : proof_for case.sections target ≡ None → IsMarkBy case target given mark
 
--- the marks of a case's nodes where each leaf was judged by itself, by what was given for it
-pub record AreFoundApart (known : Leaf → Option (Option (List ℕ))) (case : CaseOf)
+-- the marks of a case's nodes where each target was judged by itself, by what was given for it
+pub record AreFoundApart (known : Target → Option (Option (List ℕ))) (case : CaseOf)
     (marks : List Mark) : Type 0 where
   pub long : length marks ≡ size case.tree
   pub sections : (node : ℕ) (target : Target) → IsTargetAt case.tree node target →
       HasSection case target → IsMarkOf case target (mark_at marks node)
-  pub nodes : (node : ℕ) → IsTargetAt case.tree node (Node node) →
-      IsMarkOf case (Node node) (mark_at marks node)
-  pub leaves : (node : ℕ) (leaf : Leaf) → IsLeafAt case.tree node leaf →
-      (given : Option (List ℕ)) × IsGivenFor (known leaf) case leaf (mark_at marks node) given
+  pub targets : (node : ℕ) (target : Target) → IsTargetAt case.tree node target →
+      (given : Option (List ℕ)) × IsGivenFor (known target) case target (mark_at marks node) given
 
--- The bundle stands for a case with the same formula, the same tree and sections of the same inner
--- nodes, whose nodes' findings have these marks.
+-- the bundle stands for a case with the same formula and the same tree, whose nodes' findings have
+-- these marks
 pub record IsJudgedAs (bundle : List ℕ) (case : CaseOf) (marks : List Mark) : Type 0 where
   pub whole : CaseOf
   pub is : IsCaseOf bundle whole
   pub formula : whole.formula ≡ case.formula
   pub tree : whole.tree ≡ case.tree
-  pub nodes : (node : ℕ) → is_some (proof_for whole.sections (Node node))
-      ≡ is_some (proof_for case.sections (Node node))
   pub findings : AreFindings whole marks

@@ -1,12 +1,14 @@
 -- Laws of sections that are added to a bundle.
 use Rattle.std.specs.Prelude.{◌≡◌, ◌<◌, ◌^◌, ◌↔◌, ℕ, List, [], ◌∷◌, ◌++◌, codes, Option, IfSome}
+use Rattle.std.specs.Prelude.{None, Some}
 use Rattle.std.specs.List.{Contains}
 use Rattle.case_core.specs.Proof.{Proof, IsProofOf}
 use Rattle.case_core.specs.Tokens.{words}
 use Rattle.case_core.specs.SplitTree.{SplitTree}
 use Rattle.case_core.specs.Leaves.{HasLeaf}
 use Rattle.case_core.specs.Leaf.{Leaf}
-use Rattle.case_core.specs.Target.TheVariants.{Leaf as Named}
+use Rattle.case_core.specs.Target.{Target}
+use Rattle.case_core.specs.Target.TheVariants.{Leaf as Named, Node}
 use Rattle.case_core.specs.Bundle.{lines_of}
 use Rattle.case_core.specs.Label.{label_name, IsTargetOf}
 use Rattle.case_core.specs.Case.{CaseOf, SectionOf}
@@ -67,11 +69,12 @@ JudgedWithLeaves =
     → HasFewLeaves case.tree → MayBeGiven case given → AreMarksBy case given marks
     → IsJudgedAs (bundle ++ texts_of (files_of given case.tree)) case marks
 
--- Where each leaf was judged by itself, by what was given for it, all of that together may be
--- given, and the marks are right for it.
+-- Where each target was judged by itself, by what was given for it, and nothing lies elsewhere for
+-- inner nodes, all that was given for leaves together may be given, and the marks are right for it.
 abbrev pub GivenOneByOne : Type 0
-GivenOneByOne = (bundle : List ℕ) (case : CaseOf) (known : Leaf → Option (Option (List ℕ)))
-    (marks : List Mark) → IsCaseOf bundle case → AreFoundApart known case marks
-    → (given : Given)
-    × ((leaf : Leaf) → HasLeaf case.tree leaf → IfSome (known leaf) (λ held. given leaf ≡ held))
+GivenOneByOne = (bundle : List ℕ) (case : CaseOf) (known : Target → Option (Option (List ℕ)))
+    (marks : List Mark) → IsCaseOf bundle case → ((node : ℕ) → known (Node node) ≡ Some None)
+    → AreFoundApart known case marks → (given : Given)
+    × ((leaf : Leaf) → HasLeaf case.tree leaf →
+    IfSome (known (Named leaf)) (λ held. given leaf ≡ held))
     × MayBeGiven case given × AreMarksBy case given marks

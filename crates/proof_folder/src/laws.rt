@@ -46,8 +46,8 @@ pub fn judged_with_leaves()
     ensures { JudgedWithLeaves }
 {}
 
-/// What was given for the leaves of a case one by one, where each leaf was judged by itself, is
-/// given for all of them together.
+/// What was given for the leaves of a case one by one, where each target was judged by itself and
+/// nothing lies elsewhere for inner nodes, is given for all of them together.
 pub fn given_one_by_one()
     ensures { GivenOneByOne }
 {}

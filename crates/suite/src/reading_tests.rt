@@ -100,7 +100,7 @@ fn read_by(
 {
     assert!(rt; has_target(case.tree(), cube(1)));
     assert!(rt; case.proof_for(cube(1)).is_none());
-    match examiner.examine_read(alloc, Leaf::Cube(1), opened, pieces) {
+    match examiner.examine_read(alloc, cube(1), opened, pieces) {
         Ok(Some(read)) => Ok(Some((read.finding.judged(), read.length))),
         Ok(None) => Ok(None),
         Err(fault) => Err(fault),

@@ -95,9 +95,9 @@ impl Gate for Told {
             .fetch_add(found.length as u64, Ordering::SeqCst);
     }
 
-    fn falls_back(&self, leaf: Leaf) {
+    fn falls_back(&self, target: Target) {
         self.fell_back
-            .fetch_add(one_of(cube_number(leaf)), Ordering::SeqCst);
+            .fetch_add(one_of(cube_of(target)), Ordering::SeqCst);
     }
 
     fn end(&self) {

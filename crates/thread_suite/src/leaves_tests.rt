@@ -1,11 +1,11 @@
-//! Runs by workers that read the proofs of leaves themselves, one at a time: that each is opened
-//! once, and that what is said is what a run says of the bundle with all proofs.
+//! Runs by workers that read proofs themselves, one at a time: that each is opened once, and that
+//! what is said is what a run says of the bundle with all proofs.
 ghost use Rattle.std.specs.Prelude.{◌≡◌, All, vec_len};
 
 use crate::cases::{case, need_count};
 use crate::crew_tests::Crossing;
-use crate::gates::{Told, cube_number, need_each_once, one_of};
-use case_core::{Case, Leaf, ProofForm};
+use crate::gates::{Told, cube_number, cube_of, need_each_once, one_of};
+use case_core::{Case, ProofForm, Target};
 use check_crew::{Gate, LeafProofs, NoGate, Settings};
 use cube_report::{DeviceFault, Fault, Outcome, Source, judge_apart};
 use fixtures::bundles::FOUR_CUBES_REPORT;
@@ -66,6 +66,37 @@ const LABELLED: &[Option<&[u8]>] = &[
     None,
 ];
 
+/// A proof for the third cube, and one for the inner node with the path `1`.
+const BRANCH: &[Option<&[u8]>] = &[
+    None,
+    None,
+    Some(b"7 0 5 6 2 0\n"),
+    None,
+    None,
+    Some(b"6 0 5 3 4 0\n"),
+];
+
+/// The first of them alone.
+const WITH_THIRD: &[Option<&[u8]>] = &[None, None, Some(b"7 0 5 6 2 0\n"), None];
+
+/// A label line in the inner node's proof.
+const LABELLED_BRANCH: &[Option<&[u8]>] = &[
+    None,
+    None,
+    None,
+    None,
+    None,
+    Some(b"6 0 5 3 4 0\nl 1\n"),
+];
+
+/// The same cubes, and a proof for that inner node.
+const ONE_BRANCH: &str = four!("a 1 2 0\na 1 -2 0\na -1 2 0\na -1 -2 0\nl n 1 0\n6 0 5 3 4 0\n");
+
+/// The report where the inner node and the third cube are refuted.
+const BRANCH_REPORT: &[u8] = b"t 4 0 1152921504606846976\n\
+a 1 open\na 2 open\na 3 refuted\na 4 open\nn 1 0 refuted\no -1 -2 0\nw 288230376151711744\n\
+s OPEN\n";
+
 /// The report where the second cube has no proof.
 const OPEN_SECOND_REPORT: &[u8] = b"t 4 0 1152921504606846976\n\
 a 1 refuted\na 2 open\na 3 refuted\na 4 refuted\no 1 -2 0\nw 288230376151711744\ns OPEN\n";
@@ -111,8 +142,17 @@ impl<'t> Source for LentProof<'t> {
     }
 }
 
-/// Proofs in memory, by the numbers of their cubes. It counts how often each is opened, four bits
-/// for each cube, and fails at one of them.
+/// Where the proof of a target stands among those in memory: cubes 1 to 4, and then the inner nodes
+/// from the root on.
+fn place_of(target: Target) -> usize {
+    match target {
+        Target::Leaf(leaf) => (cube_number(leaf) as usize).wrapping_sub(1),
+        Target::Node(node) => 4 + node.number() as usize,
+    }
+}
+
+/// Proofs in memory, by their places. It counts how often each is opened, four bits for each cube
+/// and the lowest for inner nodes, and fails at one of them.
 #[derive(Drop)]
 struct Lent<'t> {
     proofs: &'t [Option<&'t [u8]>],
@@ -136,14 +176,21 @@ impl<'t> LeafProofs for Lent<'t> {
         ProofForm::Unread
     }
 
-    fn open(&mut self, leaf: Leaf) -> Result<Option<LentProof<'t>>, DeviceFault> {
-        let cube = cube_number(leaf);
+    fn may_have(&self, target: Target) -> bool {
+        match target {
+            Target::Leaf(_) => true,
+            Target::Node(_) => matches!(self.proofs.get(place_of(target)), Some(Some(_))),
+        }
+    }
+
+    fn open(&mut self, target: Target) -> Result<Option<LentProof<'t>>, DeviceFault> {
+        let cube = cube_of(target);
         self.opens.fetch_add(one_of(cube), Ordering::SeqCst);
         if matches!(self.failing, Failing::Opening(at) if at == cube) {
             self.failed += 1;
             return Err(DeviceFault::Device);
         }
-        match self.proofs.get((cube as usize).wrapping_sub(1)) {
+        match self.proofs.get(place_of(target)) {
             Some(Some(proof)) => Ok(Some(LentProof {
                 rest: *proof,
                 is_failing: matches!(self.failing, Failing::Reading(at) if at == cube),
@@ -157,11 +204,8 @@ impl<'t> LeafProofs for Lent<'t> {
         self.failed += proof.failed;
     }
 
-    fn length(&self, leaf: Leaf) -> Option<u64> {
-        match self
-            .proofs
-            .get((cube_number(leaf) as usize).wrapping_sub(1))
-        {
+    fn length(&self, target: Target) -> Option<u64> {
+        match self.proofs.get(place_of(target)) {
             Some(Some(proof)) => Some(proof.len() as u64),
             _ => None,
         }
@@ -349,6 +393,31 @@ const LEFT_OPEN: &[LeftOpen] = &[
     (CUBES, SHORT_SECOND, SHORT_SECOND_REPORT, 0x11110),
 ];
 
+/// Ends the test where so many workers don't open and tell of the inner node's proof once, as of
+/// the cube's, or give another report than on the bundle with both proofs.
+fn need_branch<R: Abort + AllocGlobal + Threads + Wait + Sync>(rt: &R, numbers: (u32, u32)) {
+    let gate = Told::new();
+    let opens = AtomicU64::new(0);
+    let said = run_apart(rt, CUBES, numbers, &gate, BRANCH, &opens, Failing::Nothing);
+    need_report(rt, said, BRANCH_REPORT);
+    need_count(rt, "opens", &opens, 0x11111);
+    need_count(rt, "elsewhere", &gate.elsewhere, 2);
+    need_count(rt, "after", &gate.after, 0x1001);
+}
+
+// The proof of an inner node is judged from where it lies, beside those of leaves; the section of
+// one has its mark where nothing lies elsewhere for it.
+#[test]
+fn an_inner_node_elsewhere(rt: HostRuntime) {
+    for workers in [1, 2, 4] {
+        for cut in [0, 1, 6] {
+            need_branch(&rt, (workers, cut));
+        }
+        let third = (ONE_BRANCH, WITH_THIRD, BRANCH_REPORT, 0x1001);
+        need_left_open(&rt, workers, &third);
+    }
+}
+
 /// Ends the test where so many workers give another report, don't open each proof once, or tell of
 /// other cubes.
 fn need_left_open<R: Abort + AllocGlobal + Threads + Wait + Sync>(
@@ -419,6 +488,8 @@ fn all_in_one_bundle(rt: HostRuntime) {
     for workers in [1, 4] {
         need_elsewhere(&rt, workers, CUBES, LABELLED, 0x1000, 0x1000);
         need_elsewhere(&rt, workers, SECOND, ALL, 0x100, 0x1100);
+        need_elsewhere(&rt, workers, CUBES, LABELLED_BRANCH, 0x1, 0x1);
+        need_elsewhere(&rt, workers, ONE_BRANCH, LABELLED_BRANCH, 0x1, 0x1);
     }
 }
 

@@ -17,7 +17,7 @@ use Rattle.mark_board.proofs.MarkingLaws.{test_same, test_other}
 use Rattle.mark_board.proofs.MarkingWalk.{zero_is_marked, some_not_marked, all_is_open}
 use Rattle.mark_board.proofs.MarkingWalk.{less_not_whole}
 use Rattle.node_fields.specs.Fields.{status_fields}
-use Rattle.tree_map.specs.Picture.{is_rejected, one_rejected, shown, colour, frame}
+use Rattle.tree_map.specs.Picture.{is_rejected, one_rejected, shown, color, frame}
 use Rattle.tree_map.specs.Picture.{path_fields, told}
 
 -- ---- rejected proofs
@@ -45,47 +45,47 @@ told_missing case marks node t e = rw e refl
 
 -- ---- the class of a section
 
-pub frame_leaf : (case : CaseOf) (node : ℕ) (t : SplitTree) → IsLeaf t → frame case node t ≡ []
-frame_leaf case node missing s = refl
-frame_leaf case node (cube k) s = refl
-frame_leaf case node (split v p n) s = absurd s
+pub frame_leaf : (marks : List Mark) (node : ℕ) (t : SplitTree) → IsLeaf t → frame marks node t ≡ []
+frame_leaf marks node missing s = refl
+frame_leaf marks node (cube k) s = refl
+frame_leaf marks node (split v p n) s = absurd s
 
--- ---- the class by the colour
+-- ---- the class by the color
 
 module _ (tree : SplitTree) (marks : List Mark) (level node open_under : ℕ) (covered : Bool)
     (is : open_under ≡ open_weight (worth_of tree) (refuted_by marks) node (subtree_at tree node))
   where
-    pub colour_marked : open_under ≡ 0 →
-        codes "r" ≡ colour marks level node covered (subtree_at tree node)
-    colour_marked z = let m = zero_is_marked tree (refuted_by marks) node (sym is ∙ z) in rw m refl
+    pub color_marked : open_under ≡ 0 →
+        codes "r" ≡ color marks level node covered (subtree_at tree node)
+    color_marked z = let m = zero_is_marked tree (refuted_by marks) node (sym is ∙ z) in rw m refl
 
-    pub colour_covered : covered ≡ true → (open_under ≡ 0 → ⊥) →
-        codes "c" ≡ colour marks level node covered (subtree_at tree node)
-    colour_covered under some =
+    pub color_covered : covered ≡ true → (open_under ≡ 0 → ⊥) →
+        codes "c" ≡ color marks level node covered (subtree_at tree node)
+    color_covered under some =
         let m = some_not_marked tree (refuted_by marks) node (λ z. some (is ∙ z)) in
         rw (m, under) refl
 
-    pub colour_rejected : covered ≡ false → (open_under ≡ 0 → ⊥) →
+    pub color_rejected : covered ≡ false → (open_under ≡ 0 → ⊥) →
         one_rejected marks node (shown level (subtree_at tree node)) ≡ true →
-        codes "x" ≡ colour marks level node covered (subtree_at tree node)
-    colour_rejected free some bad =
+        codes "x" ≡ color marks level node covered (subtree_at tree node)
+    color_rejected free some bad =
         let m = some_not_marked tree (refuted_by marks) node (λ z. some (is ∙ z)) in
         rw (m, free, bad) refl
 
-    pub colour_open : covered ≡ false → (open_under ≡ 0 → ⊥) →
+    pub color_open : covered ≡ false → (open_under ≡ 0 → ⊥) →
         one_rejected marks node (shown level (subtree_at tree node)) ≡ false → node < size tree →
         open_under ≡ worth_of tree node →
-        codes "o" ≡ colour marks level node covered (subtree_at tree node)
-    colour_open free some good l whole =
+        codes "o" ≡ color marks level node covered (subtree_at tree node)
+    color_open free some good l whole =
         let m = some_not_marked tree (refuted_by marks) node (λ z. some (is ∙ z)) in
         let w = all_is_open tree (refuted_by marks) node l (sym is ∙ whole) in
         rw (free, m, good, w) refl
 
-    pub colour_part : covered ≡ false → (open_under ≡ 0 → ⊥) →
+    pub color_part : covered ≡ false → (open_under ≡ 0 → ⊥) →
         one_rejected marks node (shown level (subtree_at tree node)) ≡ false → node < size tree →
         (open_under ≡ worth_of tree node → ⊥) →
-        codes "p" ≡ colour marks level node covered (subtree_at tree node)
-    colour_part free some good l part =
+        codes "p" ≡ color marks level node covered (subtree_at tree node)
+    color_part free some good l part =
         let m = some_not_marked tree (refuted_by marks) node (λ z. some (is ∙ z)) in
         let w = less_not_whole tree (refuted_by marks) node l (λ f. part (is ∙ f)) in
         rw (free, m, good, w) refl

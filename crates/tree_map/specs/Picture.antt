@@ -4,12 +4,11 @@
 -- there are below its own: 11 at the root. At level 0 one cell stands for all nodes of its subtree.
 -- No byte of a cell needs an escape in XML: the texts have letters, digits, spaces and minus signs.
 use Rattle.std.specs.Prelude.{ℕ, zero, suc, ◌+◌, ◌-◌, ◌*◌, ◌/◌, ◌%◌, ◌^◌, ◌||◌, max, Bool}
-use Rattle.std.specs.Prelude.{true, false, List, [], ◌++◌, codes, decimal, is_some, if◌then◌else◌}
+use Rattle.std.specs.Prelude.{true, false, List, [], ◌++◌, codes, decimal, if◌then◌else◌}
 use Rattle.std.specs.List.{flat_map}
 use Rattle.std.specs.Int.{div_ceil}
 use Rattle.split_tree.specs.SplitTree.{SplitTree, missing, cube, split, size, total, path_at}
-use Rattle.split_tree.specs.declared.node.Target.TheVariants.{Node}
-use Rattle.case_core.specs.Case.{CaseOf, proof_for}
+use Rattle.case_core.specs.Case.{CaseOf}
 use Rattle.mark_board.specs.declared.mark.Mark.{Mark}
 use Rattle.mark_board.specs.declared.mark.Mark.TheVariants.{Open, Refuted, Rejected}
 use Rattle.mark_board.specs.Marking.{marked, open_weight, wholly_open, mark_at, refuted_by}
@@ -49,21 +48,26 @@ abbrev pub shown : ℕ → SplitTree → ℕ
 shown zero tree = size tree
 shown (suc level) tree = 1
 
--- the class of a cell by its colour: marked, under a marked node, rejected, wholly open, or open in
+-- the class of a cell by its color: marked, under a marked node, rejected, wholly open, or open in
 -- part
-abbrev pub colour : List Mark → ℕ → ℕ → Bool → SplitTree → List ℕ
-colour marks level node covered tree =
+abbrev pub color : List Mark → ℕ → ℕ → Bool → SplitTree → List ℕ
+color marks level node covered tree =
     if marked (refuted_by marks) node tree then codes "r"
     else (if covered then codes "c"
     else (if one_rejected marks node (shown level tree) then codes "x"
     else (if wholly_open (refuted_by marks) node tree then codes "o" else codes "p")))
 
--- and another class for an inner node that has a section of its own
-abbrev pub frame : CaseOf → ℕ → SplitTree → List ℕ
-frame case node missing = []
-frame case node (cube k) = []
-frame case node (split v positive negative) =
-    if is_some (proof_for case.sections (Node node)) then codes " n" else []
+-- and another class for an inner node that has a mark of its own: by the marks of a case's findings
+-- these are the ones that have a section
+abbrev pub frame_by : Mark → List ℕ
+frame_by Open = []
+frame_by Refuted = codes " n"
+frame_by (Rejected step reason) = codes " n"
+
+abbrev pub frame : List Mark → ℕ → SplitTree → List ℕ
+frame marks node missing = []
+frame marks node (cube k) = []
+frame marks node (split v positive negative) = frame_by (mark_at marks node)
 
 abbrev pub path_fields : SplitTree → ℕ → List ℕ
 path_fields tree node = flat_map literal_field (path_at tree node) ++ codes " 0"
@@ -87,7 +91,7 @@ told case marks node (split v positive negative) =
 
 unfoldable pub cell : CaseOf → List Mark → ℕ → ℕ → ℕ → Bool → SplitTree → List ℕ
 cell case marks level left node covered tree =
-    rectangle (colour marks level node covered tree) (frame case node tree) left
+    rectangle (color marks level node covered tree) (frame marks node tree) left
     (40 + 24 * (11 - level)) (2 ^ level)
     ++ codes "<title>" ++ told case marks node tree ++ codes "</title></rect>\n"
 
@@ -114,7 +118,7 @@ rows (suc level) (split v positive negative) = suc (max (rows level positive) (r
 
 -- ---- the whole picture
 
--- its colours: cells that are narrower than 4 have no edge, which would hide them
+-- its colors: cells that are narrower than 4 have no edge, which would hide them
 abbrev pub style : List ℕ
 style =
     codes ">\n<style>text{font:18px sans-serif}"
@@ -123,7 +127,7 @@ style =
     ++ codes ".c{fill:#BBBBBB}.r{fill:#0072B2}.x{fill:#D55E00}.o{fill:#F0E442}.p{fill:#56B4E9}"
     ++ codes "rect.n{stroke:#000000;stroke-width:2}</style>\n"
 
--- its size, as high as it has rows, and its colours
+-- its size, as high as it has rows, and its colors
 unfoldable pub head : ℕ → List ℕ
 head height =
     codes "<svg xmlns=\"http://www.w3.org/2000/svg\""

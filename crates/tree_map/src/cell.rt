@@ -5,7 +5,7 @@ ghost use Rattle.split_tree.specs.SplitTree.{size, subtree_at};
 ghost use Rattle.mark_board.specs.Marking.{mark_at, open_weight, refuted_by};
 ghost use Rattle.mark_board.specs.TopPlaces.{worth_of};
 ghost use Rattle.tree_map.specs.Picture.{attribute, edges, rectangle, is_rejected, one_rejected};
-ghost use Rattle.tree_map.specs.Picture.{shown, colour, frame, own_status, path_fields, told};
+ghost use Rattle.tree_map.specs.Picture.{shown, color, frame, own_status, path_fields, told};
 ghost use Rattle.tree_map.specs.Inner.Picture.{cell_of};
 
 use case_core::{Case, Leaf, NodeId, Target};
@@ -50,8 +50,8 @@ pub(crate) fn write_cell(
         node,
         covered,
     } = cell;
-    let first = colour(boards, level, node, covered, open_under);
-    let second = frame(boards.case(), node);
+    let first = color(boards, level, node, covered, open_under);
+    let second = frame(boards, node);
     write_rectangle(
         text,
         first,
@@ -123,8 +123,8 @@ pub(crate) fn write_attribute(
     Ok(())
 }
 
-/// The class of a cell by its colour.
-fn colour(
+/// The class of a cell by its color.
+fn color(
     boards: &Boards<'_>,
     level: u32,
     node: NodeId,
@@ -135,7 +135,7 @@ fn colour(
     requires weight { open_under
         ≡ open_weight (worth_of boards.now.case.tree) (refuted_by boards.now.marks) node
         (subtree_at boards.now.case.tree node) }
-    ensures { result.now ≡ colour boards.now.marks level node covered
+    ensures { result.now ≡ color boards.now.marks level node covered
         (subtree_at boards.now.case.tree node) }
 {
     if open_under == 0 {
@@ -186,16 +186,18 @@ fn rejected(boards: &Boards<'_>, node: NodeId) -> bool
     matches!(boards.mark_at(node), Mark::Rejected { .. })
 }
 
-/// Another class for an inner node that has a section of its own.
-fn frame(case: &Case, node: NodeId) -> &'static [u8]
-    requires { node < size case.now.tree }
-    ensures { result.now ≡ frame case.now node (subtree_at case.now.tree node) }
+/// Another class for an inner node that has a mark of its own.
+fn frame(boards: &Boards<'_>, node: NodeId) -> &'static [u8]
+    requires { node < size boards.now.case.tree }
+    ensures { result.now
+        ≡ frame boards.now.marks node (subtree_at boards.now.case.tree node) }
 {
-    match case.tree().target_at(node) {
+    let mark = boards.mark_at(node);
+    match boards.case().tree().target_at(node) {
         Target::Leaf(_) => b"",
-        Target::Node(_) => match case.proof_for(Target::Node(node)) {
-            Some(_) => b" n",
-            None => b"",
+        Target::Node(_) => match mark {
+            Mark::Open => b"",
+            _ => b" n",
         },
     }
 }

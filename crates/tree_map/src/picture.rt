@@ -49,7 +49,7 @@ fn rows(tree: &Tree, node: NodeId, level: u32) -> u32
     }
 }
 
-/// The picture's size and its colours. Cells that are narrower than 4 have no edge.
+/// The picture's size and its colors. Cells that are narrower than 4 have no edge.
 #[tactic(auto, unfolding(crate::specs::Picture::head))]
 fn write_head(text: &mut Vec<u8>, height: u32) -> Result<(), AllocError>
     ensures { OnOk result (text.new.items ≡ text.old.items ++ head height) }
@@ -62,7 +62,7 @@ fn write_head(text: &mut Vec<u8>, height: u32) -> Result<(), AllocError>
     Ok(())
 }
 
-/// The picture's colours, behind its size.
+/// The picture's colors, behind its size.
 fn style() -> &'static [u8]
     ensures { result.now ≡ style }
 {
@@ -73,7 +73,7 @@ rect[width=\"1\"],rect[width=\"2\"]{stroke-width:0}\
 rect.n{stroke:#000000;stroke-width:2}</style>\n"
 }
 
-/// What each colour means.
+/// What each color means.
 #[tactic(auto, unfolding(crate::specs::Picture::legend))]
 fn write_legend(text: &mut Vec<u8>) -> Result<(), AllocError>
     ensures { OnOk result (text.new.items ≡ text.old.items ++ legend) }

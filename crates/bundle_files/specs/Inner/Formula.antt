@@ -1,17 +1,15 @@
 -- Where in a text its first line with a token stands, and what reading a formula's file gives.
-use Rattle.std.specs.Prelude.{◌≡◌, ◌≢◌, ◌⊎◌, ℕ, ◌+◌, ◌≤◌, List, [], ◌∷◌, ◌++◌, length, Some}
-use Rattle.std.specs.Prelude.{None, Option}
+use Rattle.std.specs.Prelude.{◌≡◌, ◌≢◌, ◌⊎◌, ℕ, ◌+◌, ◌≤◌, List, [], ◌∷◌, ◌++◌, length, None, Some}
 use Rattle.std.specs.List.{AllByRecursion}
-use Rattle.case_core.specs.Literal.{Literal}
 use Rattle.case_core.specs.Tokens.{Token, line_tokens, token_lines}
-use Rattle.case_core.specs.Dimacs.{Problem, after_problem, greatest_of, IsDimacs, told_problem}
+use Rattle.case_core.specs.Dimacs.{Problem, after_problem, greatest_of}
 use Rattle.case_core.specs.Problem as code
 use Rattle.case_core.specs.Icnf.{Item, StandsFor, clauses_of}
 use Rattle.case_core.specs.Bundle.{lines_of, icnf_text}
 use Rattle.cube_report.specs.declared.fault.Fault.{Fault}
 use Rattle.cube_report.specs.declared.fault.Fault.TheVariants.{Counts, Device, Memory}
-use Rattle.bundle_files.specs.Files.{Held, Gives, IsTextAt}
-use Rattle.bundle_files.specs.Formula.{HasDimacsFault, IsOverwritten}
+use Rattle.file_store.specs.Files.{Held, Gives}
+use Rattle.bundle_files.specs.Formula.{HasDimacsFault}
 
 -- a problem line is there
 abbrev pub HasProblem : List ℕ → Type 0
@@ -35,22 +33,6 @@ pub record IsFirstLine (text : List ℕ) (start count : ℕ) : Type 0 where
   pub one : lines_of line ≡ line ∷ []
   pub lines : (other : List ℕ) → lines_of other ≡ other ∷ [] →
       lines_of (front ++ (other ++ tail)) ≡ before ++ other ∷ after
-
--- the text of a formula's file, with a header over its problem line, and what that line says
-pub record IsFormulaRead (has : List ℕ → List ℕ → Type 0) (path over : List ℕ)
-    (said : code.Problem) : Type 0 where
-  pub text : List ℕ
-  pub given : has path text
-  pub formula : List (List Literal)
-  pub dimacs : IsDimacs text formula
-  pub said_is : said ≡ told_problem dimacs.problem
-  pub overwritten : IsOverwritten text over
-
--- bytes grew by the text of the file, or of the input where no file is asked for
-abbrev pub IsAppended : (List ℕ → List ℕ → Type 0) → Option (List ℕ) → Option (List ℕ) →
-    List ℕ → List ℕ → Type 0
-IsAppended has file input old new =
-    (rest : List ℕ) × IsTextAt has file input rest × (new ≡ old ++ rest)
 
 -- the text of the formula's file has this fault
 abbrev pub IsFaultyFormula : Held → List ℕ → Fault → Type 0

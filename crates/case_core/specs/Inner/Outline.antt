@@ -1,8 +1,6 @@
 -- How an outline goes on, and what the case of one keeps.
-use Rattle.std.specs.Prelude.{ℕ, ◌≡◌, ◌⊎◌, List, [], ◌∷◌, ◌++◌, map}
+use Rattle.std.specs.Prelude.{ℕ, ◌≡◌, List, [], ◌∷◌, ◌++◌, map}
 use Rattle.split_tree.specs.SplitTree.{SplitTree}
-use Rattle.split_tree.specs.declared.node.Leaf.{Leaf}
-use Rattle.split_tree.specs.declared.node.Target.TheVariants.{Leaf as Named, Node}
 use Rattle.case_core.specs.declared.case.Section.{Section}
 use Rattle.case_core.specs.declared.outline.Stretch.{Stretch}
 use Rattle.case_core.specs.Case.{section_in, AreSections}
@@ -26,21 +24,15 @@ abbrev pub moved : Section → Stretch → Section
 moved section place =
     record { target = section.target; start = place.start; length = place.length }
 
--- each section is for a leaf, and stands at its place in the one list as in the other
+-- each section stands at its place in the one list as in the other
 abbrev pub AreMoved : List Section → List Stretch → List Section → Type 0
 AreMoved [] [] [] = Unit {0}
 AreMoved (section ∷ sections) (place ∷ places) (new ∷ news) =
-    (new ≡ moved section place) × ((leaf : Leaf) × (section.target ≡ Named leaf))
-    × AreMoved sections places news
+    (new ≡ moved section place) × AreMoved sections places news
 AreMoved [] [] (new ∷ news) = ⊥
 AreMoved [] (place ∷ places) news = ⊥
 AreMoved (section ∷ sections) [] news = ⊥
 AreMoved (section ∷ sections) (place ∷ places) [] = ⊥
-
--- one of these sections is for an inner node
-abbrev pub HasInner : List Section → Type 0
-HasInner [] = ⊥
-HasInner (section ∷ sections) = ((node : ℕ) × (section.target ≡ Node node)) ⊎ HasInner sections
 
 -- of whichever text the sections are parts, they and the table of their places belong together
 pub record AreTabledIn (tree : SplitTree) (sections : List Section) (places : List ℕ)

@@ -1,44 +1,49 @@
--- What workers find of leaves, and the marks that are compared with it.
-use Rattle.std.specs.Prelude.{◌≡◌, ℕ, List, [], All, Option, Some, Bool, true, false, get_or}
+-- What workers find of targets, and the marks that are compared with it.
+use Rattle.std.specs.Prelude.{◌≡◌, ℕ, List, [], All, Option, None, Some, Bool, true, false, get_or}
 use Rattle.case_core.specs.Bundle.{labels_of}
 use Rattle.case_core.specs.Finding.{IsFoundBy, target_of}
-use Rattle.case_core.specs.Target.TheVariants.{Leaf as Named}
+use Rattle.case_core.specs.Target.{Target}
+use Rattle.case_core.specs.Target.TheVariants.{Node}
 use Rattle.case_core.specs.declared.examiner.ReadFinding.{ReadFinding}
-use Rattle.case_core.specs.Leaf.{Leaf}
-use Rattle.case_core.specs.Leaves.{IsLeafAt}
+use Rattle.case_core.specs.Leaves.{IsTargetAt}
 use Rattle.case_core.specs.Case.{CaseOf}
 use Rattle.mark_board.specs.declared.mark.Mark.{Mark}
 use Rattle.mark_board.specs.Marking.{mark_at}
 use Rattle.proof_folder.specs.Given.{IsGivenFor}
 use Rattle.board_hall.specs.declared.view.View.{View}
 use Rattle.check_crew.specs.LeafProofs.{Known, IsExamined, IsGiven}
-use Rattle.check_crew.specs.declared.leaves.ExaminedLeaf.{ExaminedLeaf}
+use Rattle.check_crew.specs.declared.targets.ExaminedTarget.{ExaminedTarget}
 
--- what was found by the text of the proof that is known to lie there for the leaf, in which no line
--- is a label line
-pub record IsFoundOf (known : Option (Option (List ℕ))) (case : CaseOf) (leaf : Leaf)
+-- what was found by the text of the proof that is known to lie there for the target, in which no
+-- line is a label line
+pub record IsFoundOf (known : Option (Option (List ℕ))) (case : CaseOf) (target : Target)
     (read : ReadFinding) : Type 0 where
   pub of_case : read.finding.case.now ≡ case
-  pub of_leaf : target_of read.finding.leaf read.finding.node ≡ Named leaf
+  pub of_target : target_of read.finding.leaf read.finding.node ≡ target
   pub text : List ℕ
   pub given : IsGiven known (Some text)
   pub plain : labels_of text ≡ []
-  pub found : IsFoundBy case (Named leaf) text read.finding.judged
+  pub found : IsFoundBy case target text read.finding.judged
 
--- a worker found this of leaves of the case
-pub record IsListOf (known : Known) (case : CaseOf) (list : List ExaminedLeaf) : Type 0 where
+-- a worker found this of targets of the case
+pub record IsListOf (known : Known) (case : CaseOf) (list : List ExaminedTarget) : Type 0 where
   pub view : View
   pub of_case : view.of.case ≡ case
-  pub all : All (λ one. IsExamined (known one.leaf) view one.leaf one.examined) list
+  pub all : All (λ one. IsExamined (known one.target) view one.target one.examined) list
 
--- by these marks a leaf that stands at the node has the mark of what was given for it
+-- by these marks a target that stands at the node has the mark of what was given for it
 pub record IsRightAt (known : Known) (case : CaseOf) (marks : List Mark) (node : ℕ) : Type 0 where
-  pub leaf : Leaf
-  pub here : IsLeafAt case.tree node leaf
+  pub target : Target
+  pub here : IsTargetAt case.tree node target
   pub given : Option (List ℕ)
-  pub is : IsGivenFor (known leaf) case leaf (mark_at marks node) given
+  pub is : IsGivenFor (known target) case target (mark_at marks node) given
 
 -- so it is at each node that is noted
 abbrev pub AreRightAt : Known → CaseOf → List Mark → List Bool → Type 0
 AreRightAt known case marks right =
     (node : ℕ) → get_or right node false ≡ true → IsRightAt known case marks node
+
+-- nothing lies elsewhere for the inner nodes that are noted so
+abbrev pub AreAbsent : Known → List Bool → Type 0
+AreAbsent known absent =
+    (node : ℕ) → get_or absent node false ≡ true → IsGiven (known (Node node)) None

@@ -6,7 +6,7 @@ use Rattle.byte_flow.specs.Device.{IsDeviceFault}
 use Rattle.mark_board.specs.Boards.{BoardsOf}
 use Rattle.board_hall.specs.declared.pass.Pass.{Pass}
 use Rattle.board_hall.specs.declared.view.View.{View}
-use Rattle.board_hall.specs.declared.view.Proofs.TheVariants.{OfLeavesElsewhere}
+use Rattle.board_hall.specs.declared.view.Proofs.TheVariants.{Elsewhere as AnyElsewhere}
 use Rattle.board_hall.specs.Halls.{HallOf, core_of, shared_of, view_of, IsPassOf, IsNewPass}
 use Rattle.board_hall.specs.Clauses.{Gathers}
 use Rattle.cube_jobs.specs.Jobs as queue
@@ -25,13 +25,13 @@ use Rattle.check_crew.specs.Seen.{HasSeenSection, HaveSeenSections}
 abbrev pub HasSeenTurn : List ℕ → View → ℕ → Type 0
 HasSeenTurn order v turn = HasSeenSection v (slice_index order turn)
 
--- the hall is of this case, the queue has a turn for each of its sections, and leaves have turns
+-- the hall is of this case, the queue has a turn for each of its sections, and targets have turns
 -- only where the hall takes their proofs from elsewhere
 pub record IsReady {R G : Type 0} (site : Site R G) : Type 0 where
   pub case_is : site.case.now ≡ (core_of site.core.now).case
   pub turns : site.jobs.now.sections ≡ length site.order.now
   pub order_is : IsOrder (length site.case.now.sections) site.order.now
-  pub elsewhere : 0 < length site.leaves.now → (core_of site.core.now).proofs ≡ OfLeavesElsewhere
+  pub elsewhere : 0 < length site.targets.now → (core_of site.core.now).proofs ≡ AnyElsewhere
 
 -- the passes of a worker have done nothing yet, and no call of what it reads by has failed
 pub record IsJobOf {R G P : Type 0} (site : Site R G) (failures : P → ℕ) (job : Job P)
@@ -57,7 +57,7 @@ pub record HasTaken {R G T E : Type 0} (site : Site R G) (pass : Pass) (job_pass
   pub seen : OnOk end (All (HasSeenTurn site.order.now (view_of pass)) job_pass.claims)
 
 -- A worker whose reader holds this hands back what `HasTaken` says. Where no fault stopped it, it
--- tells what became of each leaf that it took; and it met a fault of the device just where a call
+-- tells what became of each target that it took; and it met a fault of the device just where a call
 -- has failed.
 pub record IsShiftOf {R G P : Type 0} (site : Site R G) (held : Known) (failures : P → ℕ)
     (shift : Shift P) : Type 0 where
@@ -68,7 +68,7 @@ pub record IsShiftOf {R G P : Type 0} (site : Site R G) (held : Known) (failures
   pub seen : shift.fault ≡ None →
       All (HasSeenTurn site.order.now (view_of shift.pass)) shift.job_pass.claims
   pub each : shift.fault ≡ None →
-      All (λ one. IsExamined (held one.leaf) (view_of shift.pass) one.leaf one.examined)
+      All (λ one. IsExamined (held one.target) (view_of shift.pass) one.target one.examined)
       shift.examined.items
   pub fault_is : MatchOption shift.fault (failures shift.proofs ≡ 0)
       (IsDeviceFault 0 (failures shift.proofs))

@@ -1,6 +1,7 @@
 -- What is said of the bundle that is asked for, before it is written.
 use Rattle.std.specs.Prelude.{◌≡◌, ℕ, Bool, List, Option, Some, is_some}
 use Rattle.bundle_files.specs.Files.{Held}
+use Rattle.bundle_files.specs.Formula.{IsReadBy}
 use Rattle.cube_report.specs.Correct.{IsOutcome}
 use Rattle.cube_command.specs.Program.{IsBundleFor}
 use Rattle.cube_command.specs.Record.{record_text}
@@ -15,3 +16,12 @@ pub record IsRecordedFor (held : Held) (asked : Asked) (input : Option (List ℕ
   pub bundle : IsBundleFor held asked input read whole
   pub outcome : IsOutcome whole (is_some asked.picture) report map answer
   pub recorded : (path : List ℕ) → asked.out ≡ Some path → made ≡ record_text read report
+
+-- of the bundle of a file and of a formula's: report, picture and answer are what a run on it
+-- promises, and so is the record where one is asked for
+pub record IsRunRecorded (held : Held) (formula : Option (List ℕ)) (path : List ℕ) (asked : Asked)
+    (report map : List ℕ) (answer : Bool) (made : List ℕ) : Type 0 where
+  pub bundle : List ℕ
+  pub read : (input : Option (List ℕ)) → IsReadBy held formula (Some path) input bundle
+  pub outcome : IsOutcome bundle (is_some asked.picture) report map answer
+  pub recorded : (out : List ℕ) → asked.out ≡ Some out → made ≡ record_text bundle report

@@ -1,4 +1,4 @@
-use Rattle.bundle_files.specs.Files.{as_proofs}
+use Rattle.file_store.specs.Files.{as_proofs}
 use Rattle.std.proofs.Common.{rules, ap, ◌≡◌, ◌+◌, ◌++◌, decimal}
 use Rattle.bundle_files.proofs.FaultsSearch.{nothing_looked, looked_on}
 use Rattle.bundle_files.proofs.faults.look_at.Goals as goal

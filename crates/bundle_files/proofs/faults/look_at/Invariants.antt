@@ -1,5 +1,5 @@
 use Rattle.std.proofs.Common.{◌≡◌, ◌≤◌, ◌-◌}
-use Rattle.bundle_files.specs.Files.{StaysAllowed, as_proofs, names_from}
+use Rattle.file_store.specs.Files.{StaysAllowed, as_proofs, names_from}
 use Rattle.bundle_files.proofs.FaultsSearch.{Looked}
 use Rattle.bundle_files.proofs.faults.look_at.Given as goal
 

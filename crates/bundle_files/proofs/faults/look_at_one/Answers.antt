@@ -1,4 +1,4 @@
-use Rattle.bundle_files.specs.Files.{as_proofs}
+use Rattle.file_store.specs.Files.{as_proofs}
 use Rattle.std.proofs.Common.{rules, ◌∙◌}
 use Rattle.bundle_files.proofs.FaultsSearch.{none_looked, one_looked}
 use Rattle.bundle_files.proofs.faults.look_at_one.Goals as goal

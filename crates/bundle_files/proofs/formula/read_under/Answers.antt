@@ -1,6 +1,6 @@
 use Rattle.std.proofs.Common.{List, ℕ, option_map, Bor, Some, inl, refl}
 use Rattle.cube_report.specs.Faults.{IsInputFault}
-use Rattle.bundle_files.specs.Files.{lies_in}
+use Rattle.file_store.specs.Files.{lies_in}
 use Rattle.bundle_files.specs.Formula.{IsFormulaFault}
 use Rattle.bundle_files.proofs.FormulaReading.{adds_clauses, handed_on, under_formula}
 use Rattle.bundle_files.proofs.formula.read_under.Goals as goal

@@ -1,4 +1,4 @@
-use Rattle.bundle_files.specs.Laws.{held_for}
+use Rattle.file_store.specs.Files.{held_for}
 use Rattle.bundle_files.proofs.judge.judge_leaves.Goals as goal
 
 pub returns-in-Ok-clause-apart : goal.returns-in-Ok-clause-apart

@@ -1,4 +1,4 @@
-use Rattle.bundle_files.proofs.FilesApart.{judged_apart}
+use Rattle.bundle_files.proofs.LawsApart.{judged_apart}
 use Rattle.bundle_files.proofs.laws.proofs_judged_apart.Goals as goal
 
 pub returns : goal.returns

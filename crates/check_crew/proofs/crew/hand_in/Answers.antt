@@ -1,6 +1,6 @@
 use Rattle.std.proofs.Common.{◌≡◌, None, arith, true, sym, ◌∙◌}
 use Rattle.std.proofs.lemmas.List.Elements.{All-contains, All-push, All-rest}
-use Rattle.case_core.specs.Leaf.{Leaf}
+use Rattle.case_core.specs.Target.{Target}
 use Rattle.cube_jobs.specs.Jobs as queue
 use Rattle.cube_jobs.specs.Jobs.{JobPassOf}
 use Rattle.board_hall.specs.declared.pass.Pass.{Pass}
@@ -45,6 +45,6 @@ loop-shift-preserved g c =
           (All-push (λ list. IsListOf known site.case.now list.items) _ _ (was.lists known all)
           (list_of (shared_of site.core.now) site.case.now (g.P.LeafProofs.held mine.reader) known
           shift.pass shift.examined.items c.requires.ready.case_is mine.is.own (mine.is.each none)
-          (All-contains (λ one. (leaf : Leaf) → g.P.LeafProofs.held one leaf ≡ known leaf) _
+          (All-contains (λ one. (target : Target) → g.P.LeafProofs.held one target ≡ known target) _
           mine.reader all mine.among)));
     }

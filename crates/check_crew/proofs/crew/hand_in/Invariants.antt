@@ -1,6 +1,6 @@
 use Rattle.std.proofs.Common.{◌≡◌, ◌+◌, true, None, All, vec_len}
 use Rattle.std.specs.Vec.Iter.{into_iter_items, into_iter_len}
-use Rattle.case_core.specs.Leaf.{Leaf}
+use Rattle.case_core.specs.Target.{Target}
 use Rattle.cube_jobs.specs.Jobs as queue
 use Rattle.cube_jobs.specs.Jobs.{JobPassOf}
 use Rattle.board_hall.specs.declared.pass.Pass.{Pass}
@@ -22,7 +22,7 @@ invariant-loop-shift g l = record {
   empty : All (λ (pass : JobPassOf). pass.found_empty ≡ true) l.job_passes.items;
   seen : HaveSeenClaims l.crew.site.order.now l.passes.items l.job_passes.items;
   lists : (known : Known)
-      → All (λ one. (leaf : Leaf) → g.P.LeafProofs.held one leaf ≡ known leaf)
+      → All (λ one. (target : Target) → g.P.LeafProofs.held one target ≡ known target)
       l.crew.readers.now.value.items
       → All (λ list. IsListOf known l.crew.site.case.now list.items) l.lists.items;
 }

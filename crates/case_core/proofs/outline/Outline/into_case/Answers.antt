@@ -1,4 +1,4 @@
-use Rattle.std.proofs.Common.{◌≡◌, ◌≢◌, ◌⊎◌, sym, ap, subst, refl, List, ℕ, map, length}
+use Rattle.std.proofs.Common.{◌≡◌, ◌≢◌, sym, ap, subst, refl, List, ℕ, map, length}
 use Rattle.split_tree.specs.SplitTree.{SplitTree}
 use Rattle.case_core.specs.declared.case.Section.{Section}
 use Rattle.case_core.specs.declared.fault.CaseFault.TheVariants.{Memory}
@@ -6,10 +6,10 @@ use Rattle.case_core.specs.declared.outline.Stretch.{Stretch}
 use Rattle.case_core.specs.Bundle.{icnf_text}
 use Rattle.case_core.specs.Case.{CaseOf, section_in}
 use Rattle.case_core.specs.Sections.{IsCaseOf, IsFaultOf}
-use Rattle.case_core.specs.Inner.Outline.{AreMoved, HasInner, IsOutlinedKept}
-use Rattle.case_core.specs.Outline.{OutlineOf, IsOutlineOf, IsOutlinedCase, HasInnerSection}
+use Rattle.case_core.specs.Inner.Outline.{AreMoved, IsOutlinedKept}
+use Rattle.case_core.specs.Outline.{OutlineOf, IsOutlineOf, IsOutlinedCase}
 use Rattle.case_core.proofs.OutlineCase.{moved_kept, outlined_case, head_case}
-use Rattle.case_core.proofs.OutlineOnly.{no_fault, only_inner, told_only}
+use Rattle.case_core.proofs.OutlineOnly.{no_fault, no_more_places, told_only}
 use Rattle.case_core.proofs.outline.Outline.into_case.Goals as goal
 
 -- the sections that were moved are those of the text that was read
@@ -64,11 +64,10 @@ returns-clause-head c = (
 
 -- why the sections that were read couldn't be moved
 not_moved : (sections read : List Section) (places own : List Stretch) → read ≡ sections
-    → own ≡ places → ((length read ≢ length own) ⊎ HasInner read)
-    → ((length sections ≢ length places) ⊎ HasInner sections)
+    → own ≡ places → length read ≢ length own → length sections ≢ length places
 not_moved sections read places own one other why =
-    subst (λ (s : List Section). (length s ≢ length places) ⊎ HasInner s) one
-    (subst (λ (p : List Stretch). (length read ≢ length p) ⊎ HasInner read) other why)
+    subst (λ (s : List Section). length s ≢ length places) one
+    (subst (λ (p : List Stretch). length read ≢ length p) other why)
 
 pub returns-in_default-clause-only : goal.returns-in_default-clause-only
 returns-in_default-clause-only c =
@@ -79,8 +78,8 @@ returns-in_default-clause-only c =
       length = c.self.inside.length;
     } in
     subst (λ (o : OutlineOf). (text : List ℕ) → IsOutlineOf o text → (case : CaseOf)
-    → IsCaseOf text case → HasInnerSection case.sections) c.self.view_is
-    (λ text outlined case is. only_inner outline text case (record {
+    → IsCaseOf text case → ⊥) c.self.view_is
+    (λ text outlined case is. no_more_places outline text case (record {
       formula = c.in-Ok.parts.formula;
       tree = c.in-Ok.parts.tree;
       sections = map (section_in outline.text) sections;
@@ -103,7 +102,7 @@ returns-in-Err-clause-only c =
     } in
     told_only c.want_of_memory.result (c.in-Err.fault ≢ Memory) _ c.want_of_memory.ensures.nothing
     (λ other. subst (λ (o : OutlineOf). (text : List ℕ) → IsOutlineOf o text → (case : CaseOf)
-    → IsCaseOf text case → HasInnerSection case.sections) c.self.view_is
-    (λ text outlined case is. absurd (no_fault outline text case c.in-Err.fault
+    → IsCaseOf text case → ⊥) c.self.view_is
+    (λ text outlined case is. no_fault outline text case c.in-Err.fault
     (subst (λ (t : List ℕ). IsFaultOf t c.in-Err.fault) c.deref.ensures.value
-    (c.in-Err.ensures.err other)) outlined is)))
+    (c.in-Err.ensures.err other)) outlined is))

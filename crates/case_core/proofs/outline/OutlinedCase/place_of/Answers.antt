@@ -1,26 +1,25 @@
 use Rattle.std.proofs.Common.{◌≡◌, ◌∙◌, sym, ap, subst, arith, List, [], map, length, None, Some}
 use Rattle.std.proofs.Common.{◌<◌, ◌≤◌, ◌≢◌}
 use Rattle.split_tree.specs.SplitTree.{SplitTree}
-use Rattle.split_tree.specs.Leaves.{HasLeaf}
-use Rattle.split_tree.specs.declared.node.Target.TheVariants.{Leaf}
+use Rattle.split_tree.specs.Leaves.{HasTarget}
 use Rattle.case_core.specs.declared.case.Section.{Section}
 use Rattle.case_core.specs.Case.{section_in, part_in, proof_for}
 use Rattle.case_core.specs.Inner.Case.{section_by}
 use Rattle.case_core.specs.Outline.{OutlinedOf}
-use Rattle.case_core.proofs.OutlineCase.{leaf_absent, node_within, place_within, leaf_read}
+use Rattle.case_core.proofs.OutlineCase.{target_absent, node_within, place_within, target_read}
 use Rattle.case_core.proofs.OutlineCase.{section_placed}
 use Rattle.case_core.proofs.outline.OutlinedCase.place_of.Goals.{After-index}
 use Rattle.case_core.proofs.outline.OutlinedCase.place_of.Goals.at
 use Rattle.case_core.proofs.outline.OutlinedCase.place_of.Goals as goal
 
-pub returns-then-not-has_leaf : goal.returns-then-not-has_leaf
-returns-then-not-has_leaf c text =
-    subst (λ (o : OutlinedOf). proof_for (map (section_in text) o.sections) (Leaf c.args.leaf)
+pub returns-then-not-has_target : goal.returns-then-not-has_target
+returns-then-not-has_target c text =
+    subst (λ (o : OutlinedOf). proof_for (map (section_in text) o.sections) c.args.target
     ≡ None) c.self.view_is
-    (leaf_absent c.self.inside.case.tree (map (section_in text) c.self.inside.sections.items)
-    c.args.leaf (c.self.invariant text).are_sections
-    (λ has. let true_is = c.if-not-has_leaf.ensures.1
-    (subst (λ (t : SplitTree). HasLeaf t c.args.leaf) (sym c.tree-tree.ensures.tree) has) in cc))
+    (target_absent c.self.inside.case.tree (map (section_in text) c.self.inside.sections.items)
+    c.args.target (c.self.invariant text).are_sections
+    (λ has. let true_is = c.if-not-has_target.ensures.1
+    (subst (λ (t : SplitTree). HasTarget t c.args.target) (sym c.tree-tree.ensures.tree) has) in cc))
 
 within : (c : After-index) → c.index.result < length c.self.inside.places.items
 within c =
@@ -36,10 +35,10 @@ returns-then-place-eq0 c text =
     let sections : List Section = c.self.inside.sections.items in
     let inside : c.index.result < length c.self.inside.places.items =
     within (at.returns-then-place-eq0 c).After-index in
-    subst (λ (o : OutlinedOf). proof_for (map (section_in text) o.sections) (Leaf c.args.leaf)
+    subst (λ (o : OutlinedOf). proof_for (map (section_in text) o.sections) c.args.target
     ≡ None) c.self.view_is
-    (leaf_read c.self.inside.case.tree c.tree-tree.result.now sections c.self.inside.places.items
-    text c.args.leaf c.node_of_target-node.result c.index.result c.index-2.result.now
+    (target_read c.self.inside.case.tree c.tree-tree.result.now sections c.self.inside.places.items
+    text c.args.target c.node_of_target-node.result c.index.result c.index-2.result.now
     (c.self.invariant text) c.tree-tree.ensures.tree c.node_of_target-node.ensures.here
     c.index.ensures.value inside c.index-2.ensures
     ∙ ap (section_by (map (section_in text) sections)) c.if-place-eq0.true)
@@ -62,11 +61,11 @@ returns c text =
     place_within c.self.inside.case.tree sections c.self.inside.places.items [] c.index.result
     c.index-2.result.now (c.self.invariant []) inside c.index-2.ensures in
     let some : c.index-2.result.now ≢ 0 = λ none. c.if-place-eq0.false none in
-    subst (λ (o : OutlinedOf). proof_for (map (section_in text) o.sections) (Leaf c.args.leaf)
+    subst (λ (o : OutlinedOf). proof_for (map (section_in text) o.sections) c.args.target
     ≡ Some (part_in text c.index-section.result.now.start c.index-section.result.now.length))
     c.self.view_is
-    (leaf_read c.self.inside.case.tree c.tree-tree.result.now sections c.self.inside.places.items
-    text c.args.leaf c.node_of_target-node.result c.index.result c.index-2.result.now
+    (target_read c.self.inside.case.tree c.tree-tree.result.now sections c.self.inside.places.items
+    text c.args.target c.node_of_target-node.result c.index.result c.index-2.result.now
     (c.self.invariant text) c.tree-tree.ensures.tree c.node_of_target-node.ensures.here
     c.index.ensures.value inside c.index-2.ensures
     ∙ section_placed sections text c.index-2.result.now c.index-section.result.now some

@@ -1,0 +1,72 @@
+#!/bin/bash
+# by_call.sh PROGRAM
+# Runs PROGRAM with four workers on the same 32 proofs of 1.9 MB in one file by calls with other
+# words, and says how much memory each took. The status is 1 if a report isn't that all is refuted,
+# or if a call that reads the proofs from their places took more than 1.2 times what the plain one did.
+# What is made is in TMPDIR (/tmp), 190 MB, and removed.
+set -eu
+program=$(realpath "${1:?a program}")
+cd "$(dirname "$0")"
+if [ ! -x bin/measure ]; then
+    mkdir -p bin
+    gcc -O2 -o bin/measure tools/measure.c
+fi
+folder=$(mktemp -d)
+trap 'rm -rf "$folder"' EXIT
+python3 tools/large_folder.py "$folder" 0.06 32
+
+# The sections of these leaves.
+sections() {
+    for number in "$@"; do
+        echo "l $number"
+        cat "$folder/proofs/$number.lrat"
+    done
+}
+leaves=$(seq 32)
+sections $leaves > "$folder/sections"
+cat "$folder/case.icnf" "$folder/sections" > "$folder/bundle"
+# The last two leaves by a proof for the node above them, whose path has a literal less.
+{
+    cat "$folder/case.icnf"
+    sections $(seq 30)
+    awk '/^a / {last = $0} END {sub(/^a/, "n", last); sub(/ -?[0-9]+ 0$/, " 0", last); print "l " last}' "$folder/case.icnf"
+    python3 -c 'import sys; sys.path.insert(0, "tools"); import large_folder as made; made.write_proof(sys.stdout, len(made.CORE) + 5, 1_900_000, False)'
+} > "$folder/inner"
+# The same formula as a DIMACS text, and the rest of the bundle.
+{
+    echo "p cnf $(grep -v '^[ap]' "$folder/case.icnf" | tr ' -' '\n\n' | sort -n | tail -n 1) $(grep -c -v '^[ap]' "$folder/case.icnf")"
+    grep -v '^[ap]' "$folder/case.icnf"
+} > "$folder/formula.cnf"
+{
+    grep '^a' "$folder/case.icnf"
+    cat "$folder/sections"
+} > "$folder/cubes"
+
+failed=0
+plain=0
+# A run on these words, which is named so; by its places where the first word says so.
+measure() {
+    is_placed=$1 name=$2
+    shift 2
+    read -r wall processor kilobytes status <<< "$(bin/measure "$folder/out" "$program" --workers 4 "$@")"
+    [ "$plain" -ne 0 ] || plain=$kilobytes
+    echo "$name: $((kilobytes * 1024 / 100000 / 10)).$((kilobytes * 1024 / 100000 % 10)) MB, $((processor / 1000)) ms of processor time"
+    if [ "$status" -ne 0 ] || [ "$(tail -n 1 "$folder/out")" != "s REFUTED" ]; then
+        echo "$name: not all is refuted (status $status)"
+        failed=1
+    fi
+    if [ "$is_placed" = places ] && [ $((kilobytes * 10)) -gt $((plain * 12)) ]; then
+        echo "$name: more than 1.2 times the plain call's memory"
+        failed=1
+    fi
+}
+measure places "FILE" "$folder/bundle"
+measure places "FILE with --record" --record "$folder/record" "$folder/bundle"
+measure places "FILE with --formula" --formula "$folder/formula.cnf" "$folder/cubes"
+measure places "FILE with --formula and --record" --formula "$folder/formula.cnf" --record "$folder/record" "$folder/cubes"
+measure places "FILE with --map, --log and --record" --map "$folder/map" --log "$folder/log" --record "$folder/record" "$folder/bundle"
+measure places "FILE with a proof for an inner node" "$folder/inner"
+measure places "--proofs DIR" --proofs "$folder/proofs" "$folder/case.icnf"
+measure whole "FILE as a named pipe" <(cat "$folder/bundle")
+measure whole "FILE with --explain" --explain "$folder/bundle"
+exit "$failed"

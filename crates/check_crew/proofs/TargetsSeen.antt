@@ -1,0 +1,174 @@
+-- What a worker has seen after it posted the finding of a target's proof.
+use Rattle.std.proofs.Common.{◌≡◌, ℕ, List, [], ◌∷◌, ◌++◌, Option, None, Some, Bool, refl}
+use Rattle.std.proofs.Common.{sym, ap, All, ◌∙◌, subst, ◌+◌, ◌≤◌, length, arith, inl, inr}
+use Rattle.std.proofs.Common.{Result, Ok, Err, IfOk, IfErr, OnOk}
+use Rattle.std.proofs.Common.{append_assoc, append-nil}
+use Rattle.std.specs.Prelude.{IfSome, option_map}
+use Rattle.std.proofs.lemmas.List.Elements.{All-push, All-weaker}
+use Rattle.case_core.specs.Leaves.{IsTargetAt}
+use Rattle.case_core.specs.Target.{Target}
+use Rattle.case_core.specs.Judged.{Judged}
+use Rattle.case_core.specs.Bundle.{labels_of}
+use Rattle.case_core.specs.Case.{CaseOf, proof_for}
+use Rattle.case_core.specs.Finding.{IsFoundBy, target_of}
+use Rattle.board_hall.specs.declared.view.CutCase.{CutCase}
+use Rattle.board_hall.specs.declared.view.Post.{Post}
+use Rattle.board_hall.specs.declared.view.View.{View}
+use Rattle.board_hall.specs.Clauses.{Stays}
+use Rattle.byte_flow.specs.Device.{IsDeviceFault, IsLeft}
+use Rattle.byte_flow.specs.declared.fault.DeviceFault.{DeviceFault}
+use Rattle.case_core.specs.declared.examiner.ReadFinding.{ReadFinding}
+use Rattle.case_core.specs.Form.{proof_left}
+use Rattle.case_core.specs.ProofForm.{ProofForm}
+use Rattle.check_crew.specs.LeafProofs.{IsGiven, IsLeftOf, IsOpenedOf, HasSeenAs, IsFoundAt}
+use Rattle.check_crew.specs.LeafProofs.{IsExamined, Known, left_text, text_by}
+use Rattle.check_crew.specs.Inner.Apart.{IsFoundOf}
+use Rattle.check_crew.specs.declared.targets.ExaminedTarget.{ExaminedTarget}
+use Rattle.check_crew.specs.declared.targets.Examined.{Examined}
+use Rattle.check_crew.specs.declared.targets.Examined.TheVariants.{Absent, Found, Other}
+use Rattle.check_crew.specs.Seen.{HasSeenMark}
+use Rattle.check_crew.proofs.SeenPosted.{mark_stays}
+
+-- the text of what was read to its end is what is known to lie there
+left_given : (turned : List ℕ → List ℕ) (known : Option (Option (List ℕ)))
+    (left : Option (List ℕ)) (bytes : List ℕ) → IsLeftOf known (option_map turned left) →
+    IsLeft left bytes → IsGiven known (Some (turned bytes))
+left_given turned None left bytes of is = tt
+left_given turned (Some lies) None bytes of is = absurd (cc of.2)
+left_given turned (Some lies) (Some all) bytes of is =
+    ap (λ (b : List ℕ). Some (turned b)) is ∙ of.2 ∙ sym of.1
+
+-- what was found by it is found by what is known to lie there
+pub found_given : {E : Type 0} (result : Result (Option ReadFinding) E)
+    (known : Option (Option (List ℕ))) (left : Option (List ℕ)) (case : CaseOf) (target : Target)
+    (binary : Bool) (form : ProofForm) →
+    ((bytes : List ℕ) → proof_left form bytes ≡ text_by binary bytes) →
+    IsLeftOf known (left_text binary left) →
+    IfOk result (λ some. IfSome some (λ read. (read.finding.case.now ≡ case)
+    × (target_of read.finding.leaf read.finding.node ≡ target)
+    × ((bytes : List ℕ) × IsLeft left bytes × (labels_of (proof_left form bytes) ≡ [])
+    × (length bytes ≡ read.length)
+    × IsFoundBy case target (proof_left form bytes) read.finding.judged))) →
+    IfOk result (λ some. IfSome some (λ read. IsFoundOf known case target read))
+found_given (Err fault) known left case target binary form opened of found = tt
+found_given (Ok None) known left case target binary form opened of found = tt
+found_given (Ok (Some read)) known left case target binary form opened of found = record {
+  of_case = found.0;
+  of_target = found.1;
+  text = proof_left form found.2.0;
+  given =
+      subst (λ (text : List ℕ). IsGiven known (Some text)) (sym (opened found.2.0))
+      (left_given (text_by binary) known left found.2.0 of found.2.1);
+  plain = found.2.2;
+  found = found.2.4;
+}
+
+-- of a target for which nothing was opened there is none
+pub none_opened : {T : Type 0} (known : Option (Option (List ℕ))) (left : T → Option (List ℕ))
+    (found : Option T) → IsOpenedOf known left found → found ≡ None → IsGiven known None
+none_opened known left None is none = is
+none_opened known left (Some one) is none = absurd (cc)
+
+-- how many of its reads have failed
+pub failed_reads : {T : Type 0} (result : Result T DeviceFault) (before failed : ℕ) →
+    OnOk result (failed ≡ 0) → IfErr result (λ fault. IsDeviceFault 0 failed fault) →
+    (failed ≤ 1) × OnOk result (before + failed ≡ before)
+    × IfErr result (λ fault. IsDeviceFault before (before + failed) fault)
+failed_reads (Ok value) before failed ok err = (rw ok (omega arith), rw ok (omega arith), tt)
+failed_reads (Err fault) before failed ok (inl memory) =
+    (rw memory.1 (omega arith), tt, inl (memory.0, rw memory.1 (omega arith)))
+failed_reads (Err fault) before failed ok (inr device) =
+    (rw device.1 (omega arith), tt, inr (device.0, rw device.1 (omega arith)))
+
+-- a pass is its own later one
+pub stays_same : (v : View) → Stays v v
+stays_same v = record {
+  of_same = refl;
+  parts = refl;
+  more = [];
+  seen = sym (append-nil v.seen);
+}
+
+-- what comes later still has seen all
+pub stays_on : (before between after : View) → Stays before between → Stays between after →
+    Stays before after
+stays_on before between after first second = record {
+  of_same = second.of_same ∙ first.of_same;
+  parts = second.parts ∙ first.parts;
+  more = first.more ++ second.more;
+  seen =
+      second.seen
+      ∙ ap (λ (l : List Post). l ++ second.more) first.seen
+      ∙ append_assoc before.seen first.more second.more;
+}
+
+-- what was seen of a target stays seen
+pub as_stays : (before after : View) (target : Target) (judged : Judged) → Stays before after →
+    HasSeenAs before target judged → HasSeenAs after target judged
+as_stays before after target judged stays seen = record {
+  node = seen.node;
+  here = rw stays.of_same seen.here;
+  mark = mark_stays before after seen.node judged stays seen.mark;
+}
+
+-- a mark that was seen at a target's node
+pub seen_as : (k : CutCase) (v : View) (node : ℕ) (target : Target) (judged : Judged) → v.of ≡ k →
+    IsTargetAt k.case.tree node target → HasSeenMark v node judged → HasSeenAs v target judged
+seen_as k v node target judged same here seen = record {
+  node = node;
+  here = rw same here;
+  mark = seen;
+}
+
+-- what was found of the target's proof
+pub found_at : (known : Option (Option (List ℕ))) (k : CutCase) (case : CaseOf) (v : View)
+    (target : Target) (judged : Judged) (text : List ℕ) → v.of ≡ k → case ≡ k.case →
+    IsGiven known (Some text) → labels_of text ≡ [] → proof_for case.sections target ≡ None
+    → IsFoundBy case target text judged → HasSeenAs v target judged →
+    IsFoundAt known v target judged
+found_at known k case v target judged text same of given plain free found seen =
+    let there : case ≡ v.of.case = of ∙ ap (λ (c : CutCase). c.case) (sym same) in record {
+      text = text;
+      given = given;
+      plain = plain;
+      free = subst (λ (c : CaseOf). proof_for c.sections target ≡ None) there free;
+      found = subst (λ (c : CaseOf). IsFoundBy c target text judged) there found;
+      seen = seen;
+    }
+
+-- what was found of a target stays so
+pub examined_stays : (known : Option (Option (List ℕ))) (before after : View) (target : Target)
+    (examined : Examined) → Stays before after → IsExamined known before target examined →
+    IsExamined known after target examined
+examined_stays known before after target Absent stays is = is
+examined_stays known before after target (Found judged) stays is =
+    let of : before.of.case ≡ after.of.case = ap (λ (c : CutCase). c.case) (sym stays.of_same) in
+    record {
+      text = is.text;
+      given = is.given;
+      plain = is.plain;
+      free = subst (λ (c : CaseOf). proof_for c.sections target ≡ None) of is.free;
+      found = subst (λ (c : CaseOf). IsFoundBy c target is.text judged) of is.found;
+      seen = as_stays before after target judged stays is.seen;
+    }
+examined_stays known before after target Other stays is = is
+
+-- so it is of each of a list
+pub all_examined_stay : (known : Known) (before after : View) (list : List ExaminedTarget) →
+    Stays before after
+    → All (λ one. IsExamined (known one.target) before one.target one.examined) list
+    → All (λ one. IsExamined (known one.target) after one.target one.examined) list
+all_examined_stay known before after list stays =
+    All-weaker (λ one. IsExamined (known one.target) before one.target one.examined)
+    (λ one. IsExamined (known one.target) after one.target one.examined)
+    (λ one. examined_stays (known one.target) before after one.target one.examined stays) list
+
+-- and of one target more
+pub examined_more : (known : Known) (before after : View) (list : List ExaminedTarget)
+    (next : ExaminedTarget) → Stays before after
+    → All (λ one. IsExamined (known one.target) before one.target one.examined) list
+    → IsExamined (known next.target) after next.target next.examined
+    → All (λ one. IsExamined (known one.target) after one.target one.examined) (list ++ next ∷ [])
+examined_more known before after list next stays were is =
+    All-push (λ one. IsExamined (known one.target) after one.target one.examined) list next
+    (all_examined_stay known before after list stays were) is

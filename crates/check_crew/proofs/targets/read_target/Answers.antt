@@ -1,0 +1,36 @@
+use Rattle.std.proofs.Common.{arith}
+use Rattle.check_crew.proofs.TargetsSeen.{found_given, failed_reads}
+use Rattle.check_crew.proofs.targets.read_target.Goals as goal
+
+pub close-requires : goal.close-requires
+close-requires g c =
+    let few =
+    failed_reads c.examine_read-found.result (g.P.LeafProofs.failures c.args.proofs.now)
+    (g.P.Proof.Source.failures c.examine_read-found.new.source)
+    (rw c.requires.fresh at c.examine_read-found.ensures.ok)
+    (rw c.requires.fresh at c.examine_read-found.ensures.err) in
+    omega (arith, few.0, c.requires.count)
+
+pub returns-clause-found : goal.returns-clause-found
+returns-clause-found g c =
+    found_given c.examine_read-found.result
+    (g.P.LeafProofs.held c.args.proofs.now c.args.opened.target)
+    (g.P.Proof.Source.remaining c.args.opened.proof) c.args.examiner.now c.args.opened.target
+    g.P.LeafProofs.takes_binary c.form-form.result c.form-form.ensures c.requires.left
+    c.examine_read-found.ensures.found
+
+pub returns-clause-ok : goal.returns-clause-ok
+returns-clause-ok g c =
+    rw c.close.ensures.failures
+    (failed_reads c.examine_read-found.result (g.P.LeafProofs.failures c.args.proofs.now)
+    (g.P.Proof.Source.failures c.examine_read-found.new.source)
+    (rw c.requires.fresh at c.examine_read-found.ensures.ok)
+    (rw c.requires.fresh at c.examine_read-found.ensures.err)).1
+
+pub returns-clause-err : goal.returns-clause-err
+returns-clause-err g c =
+    rw c.close.ensures.failures
+    (failed_reads c.examine_read-found.result (g.P.LeafProofs.failures c.args.proofs.now)
+    (g.P.Proof.Source.failures c.examine_read-found.new.source)
+    (rw c.requires.fresh at c.examine_read-found.ensures.ok)
+    (rw c.requires.fresh at c.examine_read-found.ensures.err)).2

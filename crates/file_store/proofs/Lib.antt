@@ -1,0 +1,6 @@
+pub mod FilesSections
+mod FilesOpened
+mod FilesPaths
+mod BlocksLines
+pub mod PartsOpened
+mod ProofsTurned

@@ -1,0 +1,149 @@
+-- Which bundle is judged, by what is known of the files: the input's or a file's, with the proofs
+-- that a folder has for its leaves.
+use Rattle.std.specs.Prelude.{◌≡◌, ◌≢◌, ℕ, zero, suc, Bool, List, [], ◌∷◌, ◌++◌, map, length}
+use Rattle.std.specs.Prelude.{decimal, Option, None, Some, IfSome, is_some, unwrap_or, ◌⊎◌}
+use Rattle.std.specs.Prelude.{true, false, codes, drop}
+use Rattle.std.specs.Prelude.{option_map}
+use Rattle.std.specs.List.{All, flat_map}
+use Rattle.case_core.specs.Binary.{proof_text}
+use Rattle.case_core.specs.SplitTree.{SplitTree}
+use Rattle.case_core.specs.Target.{Target}
+use Rattle.case_core.specs.Target.TheVariants.{Leaf as Named, Node}
+use Rattle.case_core.specs.Leaves.{missing_nodes, cube_count}
+use Rattle.case_core.specs.Case.{CaseOf}
+use Rattle.case_core.specs.Sections.{IsCaseOf, IsFaultOf}
+use Rattle.case_core.specs.declared.fault.CaseFault.{CaseFault}
+use Rattle.proof_folder.specs.Added.{proof_path, section_text}
+use Rattle.proof_folder.specs.Given.{name_of}
+use Rattle.byte_flow.specs.Device.{IsDeviceFault}
+use Rattle.byte_flow.specs.declared.fault.DeviceFault.{DeviceFault}
+use Rattle.byte_flow.specs.declared.fault.DeviceFault.TheVariants.{Device}
+
+-- what lies at each path, where that is known: no file, or a file with these bytes
+abbrev pub Held : Type 0
+Held = List ℕ → Option (Option (List ℕ))
+
+-- what reading a path gave, no file or these bytes, is what is known to lie there
+abbrev pub Gives : Held → List ℕ → Option (List ℕ) → Type 0
+Gives held path given = IfSome (held path) (λ known. given ≡ known)
+
+-- a text that lies at a path, as far as is known
+abbrev pub lies_in : Held → List ℕ → List ℕ → Type 0
+lies_in held path text = Gives held path (Some text)
+
+-- what may be written at a path may still be written there
+abbrev pub StaysAllowed : (List ℕ → List ℕ → Type 0) → (List ℕ → List ℕ → Type 0) → Type 0
+StaysAllowed old new = (path bytes : List ℕ) → old path bytes → new path bytes
+
+-- the same of every path but this one
+abbrev pub StaysAllowedBeside : List ℕ → (List ℕ → List ℕ → Type 0) → (List ℕ → List ℕ → Type 0) →
+    Type 0
+StaysAllowedBeside path old new =
+    (other bytes : List ℕ) → other ≢ path → old other bytes → new other bytes
+
+-- the text that is read: the one of the file that is asked for, of those that a path has, or the
+-- input
+abbrev pub IsTextAt : (List ℕ → List ℕ → Type 0) → Option (List ℕ) → Option (List ℕ) → List ℕ →
+    Type 0
+IsTextAt has None input text = IfSome input (λ known. text ≡ known)
+IsTextAt has (Some path) input text = has path text
+
+-- the bundle that is read: that of the file that is asked for, or the input
+abbrev pub IsRead : Held → Option (List ℕ) → Option (List ℕ) → List ℕ → Type 0
+IsRead held file input bundle = IsTextAt (lies_in held) file input bundle
+
+-- so many names of leaves of a kind, from this number on
+abbrev pub names_from : List ℕ → ℕ → ℕ → List (List ℕ)
+names_from kind number zero = []
+names_from kind number (suc count) = (kind ++ decimal number) ∷ names_from kind (suc number) count
+
+-- the names of a tree's leaves, in order: 1, 2, .. for the cubes, and m1, m2, .. for the missing
+-- leaves
+abbrev pub leaf_names : SplitTree → List (List ℕ)
+leaf_names tree =
+    names_from (codes "") 1 (cube_count tree)
+    ++ names_from (codes "m") 1 (length (missing_nodes tree))
+
+-- the leaves whose proofs are looked for: those of the bundle's tree, or none where the bundle has
+-- a fault
+abbrev pub AreLeavesOf : List ℕ → List (List ℕ) → Type 0
+AreLeavesOf bundle names =
+    ((case : CaseOf) × IsCaseOf bundle case × (names ≡ leaf_names case.tree))
+    ⊎ ((fault : CaseFault) × IsFaultOf bundle fault × (names ≡ []))
+
+-- what lies at each path, where that is known, as proofs are read: in the place of a binary one the
+-- text that it stands for
+abbrev pub as_proofs : Held → Held
+as_proofs held path = option_map (λ lies. option_map proof_text lies) (held path)
+
+-- Leaves with these names were added, in this order: each whose file is there, with what lies there
+-- as its proof.
+pub record AreAdded (held : Held) (folder : List ℕ) (names : List (List ℕ)) (bundle whole : List ℕ)
+    : Type 0 where
+  pub leaves : List (List ℕ × Option (List ℕ))
+  pub named : map (λ leaf. leaf.0) leaves ≡ names
+  pub files : All (λ leaf. Gives held (proof_path folder leaf.0) leaf.1) leaves
+  pub text : whole ≡ bundle ++ flat_map (λ leaf. section_text leaf.0 leaf.1) leaves
+
+-- the whole is the bundle with the folder's proofs for all leaves of its tree
+abbrev pub IsWithProofs : Held → List ℕ → List ℕ → List ℕ → Type 0
+IsWithProofs held folder bundle whole =
+    (names : List (List ℕ)) × AreLeavesOf bundle names
+    × AreAdded (as_proofs held) folder names bundle whole
+
+-- the bundle that is judged: the one that was read, with the proofs of the folder that is asked for
+abbrev pub IsJudgedOf : Held → Option (List ℕ) → List ℕ → List ℕ → Type 0
+IsJudgedOf held None bundle whole = whole ≡ bundle
+IsJudgedOf held (Some folder) bundle whole = IsWithProofs held folder bundle whole
+
+-- what is known to lie at the path of a leaf's proof, in the place of a binary one its text; for an
+-- inner node a folder has none
+abbrev pub held_for : Held → List ℕ → Target → Option (Option (List ℕ))
+held_for held folder (Named leaf) = as_proofs held (proof_path folder (name_of leaf))
+held_for held folder (Node node) = Some None
+
+-- ---- what single calls do
+
+-- bytes grew by the text of the file, or of the input where no file is asked for
+abbrev pub IsAppended : (List ℕ → List ℕ → Type 0) → Option (List ℕ) → Option (List ℕ) →
+    List ℕ → List ℕ → Type 0
+IsAppended has file input old new =
+    (rest : List ℕ) × IsTextAt has file input rest × (new ≡ old ++ rest)
+
+-- what lies at a path, where it is known what lies there
+abbrev pub held_if : Bool → Option (List ℕ) → Option (Option (List ℕ))
+held_if false lies = None
+held_if true lies = Some lies
+
+-- a file that was opened: it lies there, and its bytes are what is left to read
+abbrev pub IsOpened : Option (List ℕ) → Option (List ℕ) → Type 0
+IsOpened lies remaining = (bytes : List ℕ) × (lies ≡ Some bytes) × (remaining ≡ Some bytes)
+
+-- a file that was opened at a place: it lies there, and its bytes from the place on are what is
+-- left to read
+abbrev pub IsOpenedAt : Option (List ℕ) → ℕ → Option (List ℕ) → Type 0
+IsOpenedAt lies place remaining =
+    (bytes : List ℕ) × (lies ≡ Some bytes) × (remaining ≡ Some (drop place bytes))
+
+-- reading a path appended the bytes of its file, or nothing where there is none
+abbrev pub IsFound : Option (Option (List ℕ)) → List ℕ → List ℕ → Bool → Type 0
+IsFound known old new there =
+    (given : Option (List ℕ)) × IfSome known (λ held. given ≡ held)
+    × (there ≡ is_some given) × (new ≡ old ++ unwrap_or given [])
+
+-- reading a path appended a text of those that it hands over, or nothing where there is no file
+abbrev pub IsHanded : (List ℕ → Type 0) → List ℕ → List ℕ → Bool → Type 0
+IsHanded hands old new false = new ≡ old
+IsHanded hands old new true = (text : List ℕ) × hands text × (new ≡ old ++ text)
+
+-- no file lies at the path that is asked for, as far as is known
+abbrev pub IsAbsent : Held → Option (List ℕ) → Type 0
+IsAbsent held None = ⊥
+IsAbsent held (Some path) = Gives held path None
+
+-- Why a bundle wasn't read, where so many calls had failed and have: want of memory or a failed
+-- call; or a fault of the device without one, where no file is there.
+abbrev pub IsUnread : Held → Option (List ℕ) → ℕ → ℕ → DeviceFault → Type 0
+IsUnread held file before after fault =
+    IsDeviceFault before after fault
+    ⊎ ((fault ≡ Device) × (after ≡ before) × IsAbsent held file)
