@@ -54,7 +54,15 @@ for it in $lower; do
     case $it in */kit/*) ;; *) [ -d "$it" ] || { echo "$it isn't there"; exit 1; } ;; esac
 done
 echo "checked $crate::all, 1 of 1"
-if [ "$verb$is_program" = build1 ] || [ "$verb$is_program" = turn1 ]; then echo > "$made"; else mkdir -p "$made"; fi
+if [ "$verb$is_program" = build1 ] || [ "$verb$is_program" = turn1 ]; then echo > "$made"; exit; fi
+mkdir -p "$made"
+if [ "$verb" = turn ]; then
+    # What a library states: its contracts, and all files of specs/ and proofs/.
+    mkdir -p "$made/interface" "$made/lang/antt"
+    grep -rh ensures src > "$made/interface/stated"
+    for part in specs proofs; do [ ! -d "$part" ] || cp -r "$part" "$made/lang/antt/"; done
+    date +%N > "$made/lang/antt/made.json"
+fi
 RATTLE
     cat > "$here/kit/bin/rattle-link" << 'LINK'
 #!/bin/sh

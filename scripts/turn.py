@@ -4,22 +4,25 @@
     python3 scripts/turn.py              what has changed since the last turn that passed
     python3 scripts/turn.py CRATE ..     the same, and these crates are tried whether or not they have changed
 
-First it proves each crate that has changed, and all above it up to both programs, and builds these. A function is proved anew only where it, or a statement
-that it stands on, has changed: crates/CRATE/out/incremental has what is kept, the folder that `rt check` uses. Libraries that are as the launcher proved them
-are taken from there; the others lie in crates/cubeboard/out/rlib/turn. The programs are out/turn.NAME of their folders, and slower than the launchers': the kit's
-own compiler makes them. Then come tests/rows over these
-programs and, side by side, the scripts that try what the changed crates do (SCRIPTS), the wrong bodies of these crates (scripts/wrong_bodies.py), and the tests
-of the suites above them, unproved (`rt try --test`). The last lines say what was done and what was left out.
+First it proves each crate that has changed, and each above it for which something else is stated than when it was proved: a contract, a type, a definition
+or a lemma of a crate below. Where only a body has changed, that is its own crate alone. Of a crate that is proved, a function is proved anew only where it, or a
+statement that it stands on, has changed: crates/CRATE/out/incremental has what is kept, the folder that `rt check` uses. Both programs are then built of what all
+crates are by now, as out/turn.NAME of their folders; they are slower than the launchers', since the kit's own compiler makes them. The libraries lie in
+crates/cubeboard/out/rlib/turn, with their proofs: the launchers' have none, so that what stands on one serves for no other.
 
-What is proved so rests on files below out/, as the prover says (incremental=trusted): `./check` takes nothing from it, nor do the launchers. A first turn, with
-nothing kept, takes as long as a first call, and tries rows and scripts alone. The status is 0 where all of it passed, 1 where something did not, 70 where the
+Then come tests/rows over these programs and, side by side, the scripts that try what the changed crates do (SCRIPTS), the wrong bodies of these crates
+(scripts/wrong_bodies.py), and the tests of the suites above them, unproved (`rt try --test`). The last lines say what was done and what was left out.
+
+What is proved so rests on files below out/, as the prover says (incremental=trusted), and on libraries of which not all were proved
+over each other: `./check` takes nothing from it, nor do the launchers, nor it from them. A first turn, with nothing kept, takes as long as a first call, and
+tries rows and scripts alone. The status is 0 where all of it passed, 1 where something did not, 70 where the
 turn can't be made.
 """
 import concurrent.futures
 import contextlib
 import fcntl
+import hashlib
 import os
-import shutil
 import subprocess
 import sys
 import time
@@ -39,45 +42,43 @@ SCRIPTS = {
 }
 WORDS = {"cluster": ["loop"]}
 LANES = 4
+# What of a library's files no other crate can name: how its functions are proved, and sums of all.
+OWN = {"Answers.antt", "Invariants.antt", "Proof.antt", "made.json"}
 
 
 class Kept(build.Kept):
-    """Libraries and programs of a turn, beside those of the launchers, which are taken where they are those of the sources."""
+    """Libraries and programs of a turn, beside those of the launchers."""
 
-    def __init__(self, program, sums):
+    def __init__(self, program):
         super().__init__(program)
-        self.launcher, self.sums = build.Kept(program), sums
         self.libraries = build.SHARED / "rlib" / "turn"
         self.passed = build.SHARED / "turn.passed"
-
-    def is_launchers(self, crate):
-        return not crate.is_program and self.launcher.has(crate, self.sums[crate.name])
-
-    def library(self, crate):
-        return self.launcher.library(crate) if self.is_launchers(crate) else super().library(crate)
-
-    def searched(self, crate):
-        return [self.libraries, self.launcher.libraries]
-
-    def settle(self, crates):
-        """Forgets each library of a turn that one of the launchers' takes the place of, since the prover would find both, and what was proved over it."""
-        for crate in crates:
-            made = self.libraries / f"{crate.name}.rlib"
-            if self.is_launchers(crate) and made.exists():
-                shutil.rmtree(made)
-                for name in [crate.name, *build.above(crate.name)]:
-                    (self.libraries / f"{name}.sum").unlink(missing_ok=True)
 
     def made(self, crate):
         return crate.folder / "out" / f"turn.{crate.name}" if crate.is_program else self.library(crate)
 
     def sum_file(self, crate):
-        if crate.is_program:
-            return crate.folder / "out" / "turn.sum"
-        return self.launcher.sum_file(crate) if self.is_launchers(crate) else super().sum_file(crate)
+        return crate.folder / "out" / "turn.sum" if crate.is_program else super().sum_file(crate)
 
     def log(self, crate):
         return self.libraries / f"{crate.name}.log"
+
+    def forget(self, crate):
+        """Forgets a crate alone: what stands on it may serve on."""
+        self.sum_file(crate).unlink(missing_ok=True)
+
+    def note(self, crate, wanted):
+        if not crate.is_program:
+            self.stated_file(crate).write_text(f"{stated_by(self.library(crate))}\n")
+        super().note(crate, wanted)
+
+    def stated_file(self, crate):
+        return self.libraries / f"{crate.name}.stated"
+
+    def stated(self, crate):
+        """A sum of what the library of a crate states, as it was made last."""
+        file = self.stated_file(crate)
+        return file.read_text().strip() if file.is_file() else None
 
     def changed(self, owns):
         """The crates whose own files aren't those of the last turn that passed; None where no turn has passed yet."""
@@ -88,6 +89,42 @@ class Kept(build.Kept):
 
     def note_passed(self, owns):
         self.passed.write_text("".join(f"{name} {own}\n" for name, own in owns.items()))
+
+
+def stated_by(library):
+    """A sum of what a library states: all of its interface and its definitions and lemmas, but for what its own proofs alone can name."""
+    files = [it for part in ("interface", "lang/antt") for it in (library / part).rglob("*") if it.is_file() and it.name not in OWN]
+    made = hashlib.sha256()
+    for file in sorted(files):
+        made.update(f"{file.relative_to(library)} {hashlib.sha256(file.read_bytes()).hexdigest()}\n".encode())
+    return made.hexdigest()
+
+
+class Sums:
+    """For each crate a sum of what it has to be proved over: of its own files and of what each crate below states by now; for a program also of the files of these,
+    which it is made of."""
+
+    def __init__(self, crates, kept):
+        self.crates, self.kept, self.files = {it.name: it for it in crates}, kept, build.sums_of(crates)
+        self.handles = (build.ROOT / "HANDLES").read_text()
+
+    def __getitem__(self, name):
+        crate = self.crates[name]
+        if crate.is_program:
+            return self.files[name]
+        stated = [(it.name, self.kept.stated(it)) for it in below(crate)]
+        return hashlib.sha256(f"{build.NEEDED}\n{self.handles}\n{crate.own} {stated}".encode()).hexdigest()
+
+
+def below(crate):
+    """The crates that one stands on, in the order of their names."""
+    found, left = {}, [*crate.lower]
+    while left:
+        it = left.pop()
+        if it.name not in found:
+            found[it.name] = it
+            left += it.lower
+    return [found[name] for name in sorted(found)]
 
 
 class Prover(build.Prover):
@@ -118,9 +155,8 @@ def alone_in(folder):
 
 
 def kept_of():
-    """What the last turn left, where the sources are still those."""
-    crates = crates_of_programs()
-    return Kept(crates[-1], build.sums_of(crates))
+    """What the last turn left."""
+    return Kept(crates_of_programs()[-1])
 
 
 def crates_of_programs():
@@ -149,20 +185,18 @@ def owns_of(crates):
 
 
 def prove(crates, kept, sums):
-    """Proves what has changed and all above it, and answers the crates that were."""
+    """Proves what has to be proved, and answers these crates."""
     kit = build.Kit()
     kept.make_folders()
     with open(build.SHARED / "lock", "w") as lock:
         fcntl.flock(lock, fcntl.LOCK_EX)
-        kept.settle(crates)
         run = build.Build(crates, kit, kept, sums)
         run.prover = Prover(kit, kept, run.teller)
-        stale = [it.name for it in crates if it.name not in run.proved]
         failed = run.run()
     if failed:
         print(*kept.log(failed).read_text(errors="replace").splitlines()[-25:], sep="\n", file=sys.stderr)
         raise build.Failure(f"the crate {failed.name} isn't proved; all that was said stands in {kept.log(failed)}")
-    return stale
+    return [it.name for it in crates if it.name in run.prover.used]
 
 
 class Tries:
@@ -221,12 +255,12 @@ def turn(names):
     start, crates = time.monotonic(), crates_of_programs()
     if unknown := [it for it in names if it not in build.lines_of_crates()]:
         raise build.Failure(f"crates.txt has no line of {unknown[0]}")
-    sums = build.sums_of(crates)
-    kept, owns = Kept(crates[-1], sums), owns_of(crates)
+    kept = Kept(crates[-1])
+    sums, owns = Sums(crates, kept), owns_of(crates)
     changed = kept.changed(owns)
     tried = {*names} | (changed or set())
-    stale = prove(crates, kept, sums)
-    build.say(f"proved: {', '.join(stale) or 'nothing, since nothing has changed'}; {time.monotonic() - start:.0f} s")
+    proved = prove(crates, kept, sums)
+    build.say(f"proved: {', '.join(proved) or 'nothing, since nothing has changed'}; {time.monotonic() - start:.0f} s")
     tries = Tries(crates, kept)
     done, left = try_all(tries, tried, changed is None and not names)
     failed = tries.failed()

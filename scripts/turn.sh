@@ -39,8 +39,14 @@ lines() {
     printf '%s\n' "$@" | sort
 }
 
+# Changes a body of each of these crates.
 changes() {
     for it; do echo "// more" >> "$(find "$here/copy/crates/$it/src" -type f | sort | head -n 1)"; done
+}
+
+# Adds a line to the first file of a crate with this name below this folder, `*` for any: the crate, the folder, the name.
+adds() {
+    echo "$4" >> "$(find "$here/copy/crates/$1/$2" -type f -name "$3" | sort | head -n 1)"
 }
 
 # The suites above a crate, each with its tests.
@@ -64,10 +70,11 @@ threads "
     turn "where nothing has changed it proves nothing, and tries the rows" 0 "" "rows "
     changes mark_board
     above=$(reach above mark_board | grep -x -F "$all")
+    alone=$(lines cubeboard cubejoin mark_board)
     mark="$({ lines "picture " "rows " "wrong --turn mark_board" && tests_above mark_board; } | sort)"
     FAILS=rows
     export FAILS
-    turn "what has changed and all above it is proved; its wrong bodies, suites and scripts are tried, and where one fails the status is 1" 1 "$above" "$mark"
+    turn "a crate with another body is proved, and the programs; its wrong bodies, suites and scripts are tried, and where one fails the status is 1" 1 "$alone" "$mark"
     grep -q '^turn: 1 failed: rows, ' "$here/err"
     count "what has failed is told" $?
     FAILS=
@@ -75,11 +82,19 @@ threads "
     grep -q '^turn: left out: .*threads.*; the proofs of tests; ' "$here/err"
     count "what is left out is told" $?
     turn "and once it has passed, no more" 0 "" "rows "
+    adds mark_board proofs Answers.antt "-- more"
+    turn "so it is with another proof of a function" 0 "$alone" "$mark"
+    adds mark_board src "*.rt" "// ensures more"
+    turn "all above a crate with another contract is proved" 0 "$above" "$mark"
+    adds mark_board specs "*.antt" "-- more"
+    turn "and with another definition" 0 "$above" "$mark"
+    echo "-- more" >> "$here/copy/crates/mark_board/proofs/Lib.antt"
+    turn "and with other lemmas" 0 "$above" "$mark"
     turn "a crate that is named is tried" 0 "" "$({ lines "picture " "rows " "wrong --turn tree_map" && tests_above tree_map; } | sort)" tree_map
     turn "a crate that there isn't is told" 70 "" "" no_such_crate
     changes suite
     turn "a suite that has changed is tried and not proved" 0 "" "$(lines "rows " "tests suite try --test")"
-    changes cnf_text
+    adds cnf_text src "*.rt" "// ensures more"
     REFUSED=hint_check
     export REFUSED
     turn "where a crate isn't proved nothing is tried" 70 "$(lines cnf_text hint_check lrat_text split_tree)" ""
@@ -88,18 +103,16 @@ threads "
     REFUSED=
 }
 
-# What turns and launchers have of each other.
+# Turns and launchers have nothing of each other.
 claims_beside_launchers() {
     rm -rf "$here"/copy/crates/*/out
     call "the launcher takes nothing from turns" 7 "$(reach below cubeboard)"
-    turn "a turn takes the launcher's libraries" 0 "$(lines cube_join cubeboard cubejoin join_command)" "$scripts"
-    call "and leaves the launcher's program as it was" 7 ""
+    turn "nor a turn from launchers" 0 "$all" "$scripts"
+    call "and it leaves the launcher's program as it was" 7 ""
     changes mark_board
-    turn "what has changed is proved" 0 "$(reach above mark_board | grep -x -F "$all")" "$mark"
-    call "and proved once more for the launcher" 7 "$(reach above mark_board | of_program)"
-    turn "then a turn takes the launcher's, and proves what it has proved over its own" 0 "$(lines cube_join cubejoin join_command)" "rows "
-    [ ! -e "$here/copy/crates/cubeboard/out/rlib/turn/mark_board.rlib" ]
-    count "and its own is gone" $?
+    turn "what has changed is proved" 0 "$alone" "$mark"
+    call "and proved once more for the launcher, with all above it" 7 "$(reach above mark_board | of_program)"
+    turn "of which the turn takes nothing" 0 "" "rows "
     sh "$here/copy/check" --other > /dev/null 2>&1
     [ $? -eq 2 ]
     count "other words are refused" $?
@@ -135,8 +148,12 @@ wrong "no tests" 's/^    for name in above:/    for name in []:/'
 wrong "only the first program" 's/^PROGRAMS = .*/PROGRAMS = ("cubeboard",)/'
 wrong "what is named left out" 's/^    tried = {\*names} | /    tried = /'
 wrong "libraries laid over the launcher's" 's/^        self.libraries = build.SHARED .*/        pass/'
-wrong "libraries left beside the launcher's" 's/^        kept.settle(crates)/        pass/'
-wrong "what was proved over a library that is gone taken as proved" 's/for name in \[crate.name, .*\]:/for name in [crate.name]:/'
+wrong "contracts passed over" 's/for part in ("interface", "lang.antt")/for part in ("lang\/antt",)/'
+wrong "definitions and lemmas passed over" 's/for part in ("interface", "lang.antt")/for part in ("interface",)/'
+wrong "the proofs of functions taken as stated" 's/^OWN = .*/OWN = {"made.json"}/'
+wrong "all above a body proved" 's/^        self.sum_file(crate).unlink(missing_ok=True)/        super().forget(crate)/'
+wrong "only what a crate names looked at" 's/for it in below(crate)\]/for it in crate.lower]/'
+wrong "programs of the old bodies" 's/^        if crate.is_program:$/        if False:/'
 wrong "silence on what is left out" 's/^    build.say(f"left out: .*/    pass/'
 wrong "a word of a gate" 's/and no gate: that is/as good as/'
 finish_turn() {
