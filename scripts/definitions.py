@@ -245,7 +245,7 @@ The bytes are one picture, fixed by the case and by the mark of each node.""",
 ]
 
 HEAD = """<!-- written by scripts/definitions.py: change the script, not this file -->
-# What a sceptic has to read
+# What a skeptic has to read
 
 A claim is worth what its definitions say. The proofs tie the program to them, and nothing but reading ties them to what
 you have in mind. So here is, claim by claim, what there is to read: the clauses that state the claim, and all
