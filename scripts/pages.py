@@ -13,8 +13,8 @@ archive    Each link in a page of the archive that scripts/package.sh makes lead
            says that some don't, by the sentence LEADS_OUT.
 width      No line is wider than 100 columns. Left out are tables, whose rows can't be broken; blocks of code, which
            are commands and sources as they are; and a line of one word, as a long link.
-cells      No cell of a table has more than 15 words. A code span is one word, and a link counts by its text. So does each
-           name of a list, as in the last column of CONTRIBUTING's table of crates.
+cells      No cell of a table has more than 15 words. A code span is one word, and a link counts by its text. In the last
+           column of CONTRIBUTING's table of crates each name is a word.
 examples   Each piece of code, up to a blank line, in a crate's README and in the parts README_PARTS of README stands
            line by line in a source. The paragraph above it links the .rt or .antt file, or several. If it stands in
            none, that paragraph begins with "A sketch".
