@@ -12,15 +12,16 @@ where a public contract or another crate names a word of specs/Inner.
 import argparse
 import re
 import sys
+import textwrap
 from collections import namedtuple
 from pathlib import Path
 
 # The claims: a title, what it says, and its clauses, each by file, function (or type) and names; - is a clause without one.
 CLAIMS = [
     ("`s REFUTED` means that the formula has no model", """
-Where the program ends with status 0, no assignment makes all clauses true of the formula of the bundle that it read,
-from FILE or from its input, whatever the words, the number of workers and the schedule of their threads: `command` is
-the call that `main` makes. Whoever chose the cubes and made the proofs is trusted for nothing. The libraries say the
+If the program ends with status 0, no assignment makes all clauses true of the formula of the bundle that it read, from
+FILE or from its input. That holds whatever the words, the number of workers and the schedule of their threads. `command`
+is the call that `main` makes. Whoever chose the cubes and made the proofs is trusted for nothing. The libraries say the
 same of a report that ends with the line `s REFUTED`, and of `run_io` where it answers true. To say that, no definition
 of trees, proofs or marks is needed.
 
@@ -28,44 +29,47 @@ of trees, proofs or marks is needed.
 hold, so there any text without a model meets `sound`. Its force is that this same code is proved for every store.
 `handed`, the next claim, speaks of the bytes that readings handed over.
 
-What there is to read says what a clause, an assignment and a model are (`Literal`, `Formula`), which clauses a text
-has, however many and long (`Tokens`, `Numbers`, `Icnf`), where in a bundle that text ends (`Bundle`), which words are
-FILE and which bundle is read (`Words`, `Files`), and the statement: `IsFormulaOf`, `IsUnsatisfiable`, and for callers
-of the libraries `SaysRefuted` (`Correct`).""",
+What there is to read says
+
+- what a clause, an assignment and a model are (`Literal`, `Formula`);
+- which clauses a text has, however many and long (`Tokens`, `Numbers`, `Icnf`);
+- where in a bundle that text ends (`Bundle`);
+- which words are FILE and which bundle is read (`Words`, `Files`);
+- the statement: `IsFormulaOf`, `IsUnsatisfiable`, and for callers of the libraries `SaysRefuted` (`Correct`).""",
      ["cube_command/program.rt command sound",
       "cube_report/engine.rt run_one sound",
       "cube_report/engine.rt run sound",
       "cube_report/engine.rt run_io sound"]),
     ("It is said of what was read", """
-Where the program ends with status 0, the formula has no model that it has by one reading of FILE, or by
-its input, and so has the DIMACS text that one reading of CNF gave (`handed`). The clauses above say
-this of files of which it is known what they hold. This one needs no such knowledge, and a path may
-hold another text at each reading. `hands` is a relation of the store: which texts the readings of a
-path hand over. `command` is proved for each store and each such relation that holds of what `read`
-and `outline` answer. The code of a store doesn't depend on it. So take for it, for the built program
-and one call, exactly the texts that its readings of each path gave. Proofs of leaves have no part in
+Where the program ends with status 0, the formula has no model that it has by one reading of FILE, or by its input, and
+so has the DIMACS text that one reading of CNF gave (`handed`). The clauses above say this of files of which it is known
+what they hold. This one needs no such knowledge, and a path may hold another text at each reading. `hands` is a
+relation of the store: which texts the readings of a path hand over. `command` is proved for each store and each such
+relation that holds of what `read` and `outline` answer. The code of a store doesn't depend on it. So take for it, for
+the built program and one call, exactly the texts that its readings of each path gave. Proofs of leaves have no part in
 it: they may be read at any time, and are trusted for nothing.""",
      ["cube_command/program.rt command handed",
       "file_store/store.rt Store::read handed",
       "file_store/store.rt Store::outline handed"]),
     ("With `--formula` the formula of a published file has no model", """
-Where the program ends with status 0 and `--formula CNF` is asked for, the text of that file is a DIMACS text of a formula of which no assignment makes all clauses true. What a bundle is, how the
-file and FILE become one, and what a cube or a label line is, has no part in it.""",
+Where the program ends with status 0 and `--formula CNF` is asked for, the text of that file is a DIMACS text of a
+formula of which no assignment makes all clauses true. What a bundle is, how the file and FILE become one, and what a
+cube or a label line is, has no part in it.""",
      ["cube_command/program.rt command published"]),
     ("A refusal names the first fault", """
 Where a bundle is refused for its own sake, not for want of memory, a failed device or a refused thread, the fault is
-its first one. With status 3 the bundle has a fault, nothing is written to standard output, and standard error gets,
-behind what `--progress` tells, exactly one line, that of the bundle's first fault, or a beginning of it where a write
-to it fails.""",
+its first one. With status 3 the bundle has a fault, and nothing is written to standard output. Standard error gets,
+behind what `--progress` tells, exactly one line, that of the bundle's first fault, or a beginning of it if a write to
+it fails.""",
      ["cube_command/program.rt command fault",
       "cube_report/engine.rt run_one fault",
       "cube_report/engine.rt run fault",
       "cube_report/engine.rt run_io fault"]),
     ("Every line of the report is the definition's", """
-The report is one text, fixed by the case that the bundle stands for and by the mark of each node: what its section's
-proof is judged to be from the formula and the node's path alone, or open where it has no section. With DIR the case is
-that of the bundle and, for each leaf in order and each at most once, a section under the leaf's own label where its
-file is there. With `--map` the picture is another text of the same case and marks.""",
+The report is one text, fixed by the case that the bundle stands for and by the mark of each node. A node's mark is what
+its section's proof is judged to be from the formula and the node's path alone, or open if it has no section. With DIR
+the case is that of the bundle and, for each leaf in order and each at most once, a section under the leaf's own label
+where its file is there. With `--map` the picture is another text of the same case and marks.""",
      ["cube_command/program.rt command refuted open",
       "cube_report/engine.rt run_one text correct",
       "cube_report/engine.rt run text correct",
@@ -73,8 +77,10 @@ file is there. With `--map` the picture is another text of the same case and mar
       "cube_report/engine.rt judge_bundle outcome",
       "cube_report/report.rt report_of -"]),
     ("A record names its formula", """
-With `--record` the file gets the very report that is written to standard output, under a line with the SHA-256 of the iCNF text that was read. So two records with one line are on one text, unless
-SHA-256 gives two texts one digest. `refuted` and `open` say it beside the report (`recorded` of `IsReported`), `records` that nothing else may be written there.""",
+With `--record` the file gets the very report that is written to standard output, under a line with the SHA-256 of the
+iCNF text that was read. So two records with one line are on one text, unless SHA-256 gives two texts one digest.
+`refuted` and `open` say it beside the report (`recorded` of `IsReported`), `records` that nothing else may be written
+there.""",
      ["cube_command/program.rt command refuted open records",
       "cube_command/record.rt digest_line_of -"]),
     ("Streams and status", """
@@ -91,15 +97,19 @@ which has a device of its own, and of what names one file by two paths they say 
       "cube_report/engine.rt run_io nothing beginning device"]),
     ("Nothing else is written, also by a call that never returns", """
 A call that may wait need not return, and then its clauses on what it has written say nothing. So each write asks for
-its leave: a text has to be one that the outlet allows, and `command` and `run_io` are proved for all outlets that allow
-the report on the bundle that is judged, its picture at the path of `--map` and its record at that of `--record`, and
-nowhere else, the line of a fault that this bundle has, the lines of want of memory, of a thread or of a device, which
-are allowed at any time, and where the words can't be taken the parser's text. Whatever they write is one of these,
-before they end or never ending, since each `write` of `Sink` and `Store` asks for that; and after a report nothing is
-known to be allowed. That the program's own outlets allow each text changes nothing: `command` can't ask which they are.
-This is said of `output`, `errors` and `store`. Four more devices are lent to `command`, of which no clause says what
-they write: `gate`, `watch` (for `--progress`, standard error), `log` (LOG), and `explain` (standard error; its type
-reads files and can't write any).""",
+its leave: a text has to be one that the outlet allows. `command` and `run_io` are proved for all outlets that allow
+
+- the report on the bundle that is judged;
+- its picture at the path of `--map` and its record at that of `--record`, and nowhere else;
+- the line of a fault that this bundle has;
+- the lines of want of memory, of a thread or of a device, which are allowed at any time;
+- if the words can't be taken, the parser's text.
+
+Whatever they write is one of these, before they end or never ending, since each `write` of `Sink` and `Store` asks for
+that. After a report nothing is known to be allowed. That the program's own outlets allow each text changes nothing:
+`command` can't ask which they are. This is said of `output`, `errors` and `store`. Four more devices are lent to
+`command`, of which no clause says what they write: `gate`, `watch` (for `--progress`, standard error), `log` (LOG), and
+`explain` (standard error; its type reads files and can't write any).""",
      ["cube_command/program.rt command reports pictures records faults words",
       "cube_command/telling.rt own_words words memory",
       "cube_report/engine.rt run_io allowed",
@@ -109,17 +119,17 @@ reads files and can't write any).""",
       "file_store/store.rt Store::write allowed beside",
       "file_store/store.rt Store::write_counted allowed beside"]),
     ("Reports of several runs, joined: `s REFUTED` means that the formula has no model", """
-Where `cubejoin` ends with status 0, and each RECORD that it has read is one that `cubeboard` wrote, on whichever files,
-none of which has FILE's SHA-256 with another text, no assignment makes all clauses of FILE true: `join_command` is the
-call that `main` of `cubejoin` makes. What is assumed is where the texts come from, and no more on which formula: a
-record of another formula, or of the same in other bytes, is refused. With `--unbound` the texts are plain reports, and
-the premise is that each is the report on FILE's formula and cubes with some proofs. What it writes is the report by the
-joined marks, where a node is refuted that some RECORD refutes. It is a report again, so it can be joined with others;
-where two runs split the sections between them, the joined marks of what they found are those of the one run; and no
-true record or report is refused. With `--formula CNF` the premise is of the bundle that CNF and FILE make, and the text
-of CNF is a DIMACS text of a formula of which then no assignment makes all clauses true. `handed` says the same of what
-one reading of CNF, of FILE and of each RECORD gave, whatever lies there: a RECORD's digest and its marks are those of
-one text.""",
+Let `cubejoin` end with status 0, and let each RECORD that it has read be one that `cubeboard` wrote, on whichever
+files, none of which has FILE's SHA-256 with another text. Then no assignment makes all clauses of FILE true.
+`join_command` is the call that `main` of `cubejoin` makes. What is assumed is where the texts come from, and no more on
+which formula: a record of another formula, or of the same in other bytes, is refused. With `--unbound` the texts are
+plain reports, and the premise is that each is the report on FILE's formula and cubes with some proofs. What it writes
+is the report by the joined marks, where a node is refuted that some RECORD refutes. It is a report again, so it can be
+joined with others. If two runs split the sections between them, the joined marks of what they found are those of the
+one run. No true record or report is refused. With `--formula CNF` the premise is of the bundle that CNF and FILE make,
+and the text of CNF is a DIMACS text of a formula of which then no assignment makes all clauses true. `handed` says the
+same of what one reading of CNF, of FILE and of each RECORD gave, whatever lies there: a RECORD's digest and its marks
+are those of one text.""",
      ["join_command/program.rt join_command sound published refuted open",
       "join_command/program.rt join_command handed",
       "join_command/program.rt join_command status quiet held nothing beginning usage unread taken fault memory device failed broken",
@@ -132,8 +142,9 @@ one text.""",
       "cube_join/laws.rt a_join_is_a_report -",
       "cube_join/laws.rt a_split_run_is_one_run -"]),
     ("bundle_files: the bundle that is judged", """
-It is the file's or the input's, with the proofs of a folder added for the leaves of its tree, in order and each under its own label. What a run says that reads each of
-these proofs when a worker comes to its leaf is what a run on this bundle promises.""",
+It is the file's or the input's, with the proofs of a folder added for the leaves of its tree, in order and each under
+its own label. What a run says that reads each of these proofs when a worker comes to its leaf is what a run on this
+bundle promises.""",
      ["file_store/source.rt read_given held bundle handed ok err kept",
       "bundle_files/formula.rt read_from held bundle handed case fault ok err kept",
       "bundle_files/outlined.rt outline_bundle held read handed fault ok err",
@@ -146,7 +157,8 @@ these proofs when a worker comes to its leaf is what a run on this bundle promis
       "file_store/store.rt Store::reader held none",
       "file_store/store.rt Store::settle held failures"]),
     ("cnf_text: the iCNF text and the DIMACS text", """
-The file that is read is what the text stands for, or the fault is the text's first one. So it is with what the problem line of a DIMACS text says.""",
+The file that is read is what the text stands for, or the fault is the text's first one. So it is with what the problem
+line of a DIMACS text says.""",
      ["cnf_text/icnf.rt read_icnf ok only err",
       "cnf_text/dimacs.rt read_problem ok only err"]),
     ("lrat_text: the steps of a proof", """
@@ -168,8 +180,8 @@ The answer is the tree of the cubes, no two of which clash, or it is the first c
      ["split_tree/tree.rt build tree fit total fault"]),
     ("case_core: the case of a bundle, and what is found of a target", """
 The case is the one that the bundle stands for, or the fault is its first one. What is found of a target is the
-judgement of its section, or, for a leaf without one, of the text of a proof that a source gives, and the type of a
-finding keeps that a refuted target has no model with the formula.""",
+judgement of its section, or, for a leaf without one, of the text of a proof that a source gives. The type of a finding
+keeps that a refuted target has no model with the formula.""",
      ["case_core/bundle.rt read_bundle ok only err",
       "case_core/examiner.rt examine -",
       "case_core/examiner.rt Examiner::examine found",
@@ -192,16 +204,17 @@ single board the findings of a node stand at its own row, and the verdict of a p
       "mark_board/board.rt Board::row_of -",
       "mark_board/board.rt Board::row_of_part -"]),
     ("board_hall: boards shared by threads", """
-Whenever a board's lock is free, it is the board of exactly what was posted on it: what it marks has no model together with the
-formula, an inner node is marked exactly where its own refutation was posted or both its branches are marked, and its open
-word is the sum of the weights of the leaves under no marked node. Each call answers by what its pass has seen, and a hall that
-is closed gives the boards of all that was posted.
+Whenever a board's lock is free, it is the board of exactly what was posted on it. What it marks has no model together
+with the formula. An inner node is marked if and only if its own refutation was posted or both its branches are marked.
+Its open word is the sum of the weights of the leaves under no marked node. Each call answers by what its pass has seen,
+and a hall that is closed gives the boards of all that was posted.
 
-The laws speak of each state that is `Reached` from a hall's start by the steps of a hall. That a running hall is in such a state at every moment is the rule of its table:
-`InHall` in board_hall/src/rule.rt, whose `holds` says that the table's words, the boards at home and the views of all passes are `Reached`, for the case, the cut and the
-number of passes that the hall was opened with. What a rule means is the kit's word (its crate `atomic_table`): it holds of a new table and between any two atomic
-steps of any threads, since a call may take a step only where the rule holds again after it, and that is proved where the step is taken. `Hall::close` says it of the
-state in which a hall ends.""",
+The laws speak of each state that is `Reached` from a hall's start by the steps of a hall. That a running hall is in
+such a state at every moment is the rule of its table: `InHall` in board_hall/src/rule.rt. Its `holds` says that the
+table's words, the boards at home and the views of all passes are `Reached`, for the case, the cut and the number of
+passes that the hall was opened with. What a rule means is the kit's word (its crate `atomic_table`): it holds of a new
+table and between any two atomic steps of any threads. That is so since a call may take a step only if the rule holds
+again after it, and that is proved where the step is taken. `Hall::close` says it of the state in which a hall ends.""",
      ["board_hall/laws.rt free_is_whole -",
       "board_hall/laws.rt free_is_whole_of_leaves posts sections",
       "board_hall/opening.rt Hall::open hall count passes",
@@ -217,10 +230,10 @@ Each section's place is claimed once. Once all workers are joined, each node of 
 for every number of workers, every cut, every gate and every schedule. `command` makes the report by `judge_given` of
 bundle_files, over `conquer` of check_crew, and writes it by `write_all` of byte_flow.
 
-With DIR, or from FILE, each proof is judged while a worker reads it, when it comes to its target, over `conquer_leaves`, in
-a hall for FILE's case whose proofs lie elsewhere. There the laws of board_hall hold word for word, and what a board
-marks refuted has no model; that a target is marked by the judgement of its own proof is no law of that hall: it is
-compared, for each node, when all workers are joined, and `conquer_leaves` gives boards only where it is so.""",
+With DIR, or from FILE, each proof is judged while a worker reads it, when it comes to its target, over
+`conquer_leaves`, in a hall for FILE's case whose proofs lie elsewhere. There the laws of board_hall hold word for word,
+and what a board marks refuted has no model. That a target is marked by the judgement of its own proof is no law of that
+hall. It is compared, for each node, when all workers are joined, and `conquer_leaves` gives boards only if it is so.""",
      ["cube_jobs/jobs.rt Jobs::fill sections count passes",
       "cube_jobs/jobs.rt Jobs::claim same place later claimed none",
       "cube_jobs/jobs.rt Jobs::finish exactly once",
@@ -232,7 +245,7 @@ The bytes are one picture, fixed by the case and by the mark of each node.""",
 ]
 
 HEAD = """<!-- written by scripts/definitions.py: change the script, not this file -->
-# What a sceptic has to read
+# What a skeptic has to read
 
 A claim is worth what its definitions say. The proofs tie the program to them, and nothing but reading ties them to what
 you have in mind. So here is, claim by claim, what there is to read: the clauses that state the claim, and all
@@ -244,10 +257,10 @@ sign, a clause is a list of literals, a formula is a list of clauses, and a text
 numbers.
 
 From the second claim on, a list has only what no claim before it has listed, so that each definition is read once.
-Lines are counted without blank lines and comments, and one that is broken for its width
-counts once. A type counts with its constructors and fields. What a call asks of
-its caller counts with its clauses, but for the leave to write, `allows`: the outlets of the program allow each text, so there no definition can change what
-is asked. The claim on what is written has it.
+Lines are counted without blank lines and comments, and one that is broken for its width counts once. A type counts with
+its constructors and fields. What a call asks of its caller counts with its clauses, but for the leave to write,
+`allows`: the outlets of the program allow each text, so there no definition can change what is asked. The claim on what
+is written has it.
 
 Not among the definitions are:
 
@@ -255,10 +268,11 @@ Not among the definitions are:
   operators and numerals apart;
 - the enums and structs of the code: each claim names those that its definitions name, and src/ has their variants;
 - how a clause sees a value of the code, as a list, a set or a number: a `Vec` as the list of its items, a `Formula` as
-  its clauses, a `Boards` as its case and all nodes' marks. The `impl Model` beside a type says that. By which function it is told from
-  private fields no caller has to know, since the contracts of the calls say what the values are;
-- what a reader, a writer or a store of files says of itself in a clause, as `R.remaining`, `W.contents` or `D.held`. The traits `Source` and `Sink`
-  ([byte_flow/device.rt](../crates/byte_flow/src/device.rt)), `Store` ([file_store/store.rt](../crates/file_store/src/store.rt)) and the kit's `Read` and `Write` say that.
+  its clauses, a `Boards` as its case and all nodes' marks. The `impl Model` beside a type says that. By which function
+  it is told from private fields no caller has to know, since the contracts of the calls say what the values are;
+- what a reader, a writer or a store of files says of itself in a clause, as `R.remaining`, `W.contents` or `D.held`.
+  The traits `Source` and `Sink` ([byte_flow/device.rt](../crates/byte_flow/src/device.rt)), `Store`
+  ([file_store/store.rt](../crates/file_store/src/store.rt)) and the kit's `Read` and `Write` say that.
 """
 
 LAWS = """
@@ -267,9 +281,9 @@ check, already proved, that the definitions mean what they should."""
 
 REST = """
 A claim stands on a few calls. The other public calls, types and traits have contracts of their own, and so have private
-functions. Here is how many definitions of specs/ each crate has, how many of them a claim or a law above stands on, and
-of the others how many other public contracts reach, how many private contracts alone (or by which function a value is
-told from private fields), and how many none.
+functions. Here is how many definitions of specs/ each crate has, and how many of them a claim or a law above stands on.
+Of the others the table says how many other public contracts reach, how many private contracts alone (or by which
+function a value is told from private fields), and how many none.
 
 | Crate | Definitions | Lines | Claims and laws | Other public contracts | Private contracts alone | None |
 |---|---|---|---|---|---|---|"""
@@ -277,6 +291,9 @@ told from private fields), and how many none.
 UNUSED = """
 No contract reaches these, so that only proofs can use them:
 """
+
+COLUMNS = 100
+STAYS = "[|#]|<!--"  # how a line begins that isn't broken
 
 # Words without an import: of the language, of clauses, and of patterns.
 BUILT_IN = set("_ : = λ → × ¬ ⊥ | ↦ Type Unit tt absurd record data where pub let in elim as if then else abbrev "
@@ -622,7 +639,23 @@ def written(repository):
     laws = [clause for clause in repository.clauses if clause.kind == "law" and clause.public]
     lines += ["", "## %d. Laws" % (len(counts) + 1), LAWS, ""] + [law_line(repository, law) for law in laws] + [""]
     lines += list_of(repository, repository.reach(laws), seen, counts)
-    return HEAD + "\n".join(lines + rest_of(repository, seen)) + "\n", counts
+    return broken(HEAD + "\n".join(lines + rest_of(repository, seen)) + "\n"), counts
+
+
+def broken(text):
+    """A page with its paragraphs and the items of its lists broken at COLUMNS columns. Headings, comments and tables stay."""
+    blocks = []
+    for line in text.split("\n"):
+        if line and blocks and blocks[-1] and not re.match(STAYS, blocks[-1]) and not re.match(STAYS + "|- ", line):
+            blocks[-1] += " " + line.strip()
+        else:
+            blocks.append(line)
+    return "\n".join(line for block in blocks for line in ([block] if re.match(STAYS, block) else wrapped(block)))
+
+
+def wrapped(block):
+    indent = "  " if block.startswith("- ") else ""
+    return textwrap.wrap(block, COLUMNS, subsequent_indent=indent, break_long_words=False, break_on_hyphens=False) or [""]
 
 
 def counted(repository, targets):
@@ -646,7 +679,10 @@ def list_of(repository, targets, seen, counts):
     words = [target for target in new if target.kind == "word" and "◌" not in target.name]
     for crate in sorted({word.crate for word in words}, key=lambda crate: (crate != "std", crate)):
         lines.append("- words of %s: %s" % (crate, quoted(sorted({word.name for word in words if word.crate == crate}))))
-    types = ["`%s` in %s" % (t.name, link(t.crate, "src", t.path + ".rt")) for t in sorted(new, key=str) if t.kind == "type"]
+    files = {}
+    for it in sorted((target for target in new if target.kind == "type"), key=str):
+        files.setdefault(link(it.crate, "src", it.path + ".rt"), []).append(it.name)
+    types = ["%s in %s" % (quoted(names), file) for file, names in files.items()]
     return lines + (["- types of the code: " + ", ".join(types)] if types else [])
 
 

@@ -12,7 +12,9 @@ links      Each link in the repository leads to a file or a folder that is there
 archive    Each link in a page of the archive that scripts/package.sh makes leads to what the archive has, or the page
            says that some don't, by the sentence LEADS_OUT.
 width      No line is wider than 100 columns. Left out are tables, whose rows can't be broken; blocks of code, which
-           are commands and sources as they are; a line of one word, as a long link; and the pages of WIDE.
+           are commands and sources as they are; and a line of one word, as a long link.
+cells      No cell of a table has more than 15 words. A code span is one word, and a link counts by its text. In the last
+           column of CONTRIBUTING's table of crates each name is a word.
 examples   Each piece of code, up to a blank line, in a crate's README and in the parts README_PARTS of README stands
            line by line in a source. The paragraph above it links the .rt or .antt file, or several. If it stands in
            none, that paragraph begins with "A sketch".
@@ -35,9 +37,8 @@ import tables
 
 COLUMNS = 100
 WORDS = 40
+WORDS_OF_CELL = 15
 LEFT_OUT = {"out", "bench/bin", "bench/corpus"}
-# Pages whose lines aren't broken yet, and the one that scripts/definitions.py writes.
-WIDE = {"docs/DEFINITIONS.md"}
 LEADS_OUT = "A link that is dead in the archive of the programs leads to a file of the repository."
 SKETCH = "A sketch"
 # The parts of README whose blocks are no commands.
@@ -102,6 +103,11 @@ def without_code(text):
     return re.sub(r"(`+)(?!`).*?(?<!`)\1(?!`)", "CODE", text)
 
 
+def plain(part):
+    """The text of a part, in which a code span is one word, and a link is its text."""
+    return LINK.sub(lambda link: link[0].lstrip("![").split("](")[0], without_code(" ".join(part.lines)))
+
+
 def links(root, page):
     """The links of a page, each with the number of the first line of its part."""
     for part in parts(root, page):
@@ -162,12 +168,25 @@ def against_archive(root):
 
 
 def against_width(root):
-    for page in set(pages(root)) - WIDE:
+    for page in pages(root):
         for part in parts(root, page):
             for number, line in enumerate(part.lines, part.first):
                 words = ITEM.sub("", line, count=1).split()
                 if part.kind not in ("code", "table") and len(line) > COLUMNS and len(words) > 1:
                     yield page, number, f"{len(line)} columns"
+
+
+def cells(part):
+    """The cells of a row of a table."""
+    return plain(part).strip().strip("|").split("|")
+
+
+def against_cells(root):
+    for page in pages(root):
+        for part in parts(root, page):
+            if part.kind == "table":
+                counts = [len(cell.split()) for cell in cells(part)]
+                yield from ((page, part.first, f"a cell of {count} words") for count in counts if count > WORDS_OF_CELL)
 
 
 def stands_in(lines, source):
@@ -244,8 +263,7 @@ def write_crates(root):
 
 def sentences(part):
     """The sentences of a part of a page."""
-    text = LINK.sub(lambda link: link[0].lstrip("![").split("](")[0], without_code(" ".join(part.lines)))
-    for cell in text.strip("|").split("|") if part.kind == "table" else [ITEM.sub("", text, count=1)]:
+    for cell in cells(part) if part.kind == "table" else [ITEM.sub("", plain(part), count=1)]:
         yield from (it for it in END.split(cell.strip()) if re.search(r"\w", it))
 
 
@@ -265,6 +283,7 @@ CLAIMS = {
     "links": against_links,
     "archive": against_archive,
     "width": against_width,
+    "cells": against_cells,
     "examples": against_examples,
     "crates": against_crates,
 }

@@ -1,12 +1,13 @@
 #!/bin/sh
 # Looks at the pages by scripts/pages.py, whose head has the claims: links that lead nowhere, also
-# in the archive of scripts/package.sh; lines wider than 100 columns; examples that are in no
-# source; CONTRIBUTING's table of crates. Then it tries each claim on wrong pages, each of which it
-# has to refuse, and on right ones. It prints how many sentences of each page are long, and no
-# claim follows from that. It runs no program. The last line counts.
+# in the archive of scripts/package.sh; lines wider than 100 columns; cells of tables with more
+# than 15 words; examples that are in no source; CONTRIBUTING's table of crates. Then it tries each
+# claim on wrong pages, each of which it has to refuse, and on right ones. It prints how many
+# sentences of each page are long, and no claim follows from that. It runs no program. The last line
+# counts.
 root=$(CDPATH= cd -- "$(dirname -- "$0")/.." && pwd) || exit 1
 . "$root/scripts/runs.sh"
-claims="links archive width examples crates"
+claims="links archive width cells examples crates"
 
 # A small repository whose pages are right.
 right=$here/right
@@ -21,7 +22,9 @@ printf '%s\n' '# A page' '' 'See [it](docs/IN.md), `no [link](nowhere)` and [out
     'A link that is dead in the archive of the programs leads to a file of the repository.' '' '## As a library' '' \
     'From [lib.rt](crates/low/src/lib.rt):' '' '    // a line' '    one();' '' '    two();' > "$right/README.md"
 printf '%s\n' '# In the archive' '' '## A `heading`, of it' '' 'See [above](#a-heading-of-it).' > "$right/docs/IN.md"
-printf '%s\n' '# Out of it' '' 'See [README](../README.md).' > "$right/docs/OUT.md"
+cell='[one](../README.md) two `three of a span` four five six seven eight nine ten eleven twelve thirteen fourteen fifteen'
+printf '%s\n' '# Out of it' '' 'See [README](../README.md).' '' '| Fifteen words | None |' '|---|---|' \
+    "| $cell | |" > "$right/docs/OUT.md"
 printf '%s\n' '# low' '' 'A sketch, which is in no source:' '' '    three();' > "$right/crates/low/README.md"
 
 # Makes a wrong page: the claim that has to refuse it, what is wrong, the file, and the sed that makes it so.
@@ -43,6 +46,11 @@ wrong archive "a link out of it on another page" docs/IN.md '$a [out](OUT.md)'
 wrong archive "a page of it that isn't there" scripts/package.sh 's/IN/ON/'
 wrong width "a wide line" docs/OUT.md "3s/^/$wide /"
 wrong width "a wide item of a list" CONTRIBUTING.md "s/^- an item/- $wide an item/"
+wrong cells "a cell of sixteen words" docs/OUT.md 's/ fifteen/ fifteen sixteen/'
+wrong cells "a last cell of sixteen words" docs/OUT.md "s,| |$,| sixteen $cell |,"
+wrong cells "a cell whose link has a word more" docs/OUT.md 's/\[one\]/[or one]/'
+wrong cells "a cell whose code span is none" docs/OUT.md 's/`//g'
+wrong cells "a head of sixteen words" docs/OUT.md "s/Fifteen/$(seq -s ' ' 14) fifteen/"
 wrong examples "a line that isn't in the source" README.md 's/^    one();/    three();/'
 wrong examples "a line that is left out" README.md '/^    one();/{N;d}'
 wrong examples "a source that doesn't have it any more" crates/low/src/lib.rt 's/two/three/'
