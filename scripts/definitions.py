@@ -20,10 +20,10 @@ from pathlib import Path
 CLAIMS = [
     ("`s REFUTED` means that the formula has no model", """
 If the program ends with status 0, no assignment makes all clauses true of the formula of the bundle that it read, from
-FILE or from its input. That holds whatever the words, the number of workers and the schedule of their threads. `command`
-is the call that `main` makes. Whoever chose the cubes and made the proofs is trusted for nothing. The libraries say the
-same of a report that ends with the line `s REFUTED`, and of `run_io` where it answers true. To say that, no definition
-of trees, proofs or marks is needed.
+FILE or from its input. That holds whatever the arguments, the number of workers and the schedule of their threads.
+`command` is the call that `main` makes. Whoever chose the cubes and made the proofs is trusted for nothing. The
+libraries say the same of a report that ends with the line `s REFUTED`, and of `run_io` if it answers true. To say that,
+no definition of trees, proofs or marks is needed.
 
 `command` is proved for all readers and all stores of files. No contract says what the system's own files and streams
 hold, so there any text without a model meets `sound`. Its force is that this same code is proved for every store.
@@ -34,33 +34,33 @@ What there is to read says
 - what a clause, an assignment and a model are (`Literal`, `Formula`);
 - which clauses a text has, however many and long (`Tokens`, `Numbers`, `Icnf`);
 - where in a bundle that text ends (`Bundle`);
-- which words are FILE and which bundle is read (`Words`, `Files`);
+- which argument is FILE and which bundle is read (`Words`, `Files`);
 - the statement: `IsFormulaOf`, `IsUnsatisfiable`, and for callers of the libraries `SaysRefuted` (`Correct`).""",
      ["cube_command/program.rt command sound",
       "cube_report/engine.rt run_one sound",
       "cube_report/engine.rt run sound",
       "cube_report/engine.rt run_io sound"]),
     ("It is said of what was read", """
-Where the program ends with status 0, the formula has no model that it has by one reading of FILE, or by its input, and
-so has the DIMACS text that one reading of CNF gave (`handed`). The clauses above say this of files of which it is known
-what they hold. This one needs no such knowledge, and a path may hold another text at each reading. `hands` is a
-relation of the store: which texts the readings of a path hand over. `command` is proved for each store and each such
-relation that holds of what `read` and `outline` answer. The code of a store doesn't depend on it. So take for it, for
-the built program and one call, exactly the texts that its readings of each path gave. Proofs of leaves have no part in
-it: they may be read at any time, and are trusted for nothing.""",
+Let the program end with status 0. Then the formula that it has by one reading of FILE, or by its input, has no model.
+The same holds of the DIMACS text that one reading of CNF gave (`handed`). The clauses above say this of files of which
+it is known what they hold. This one needs no such knowledge, and a path may hold another text at each reading. `hands`
+is a relation of the store: which texts the readings of a path hand over. `command` is proved for each store and each
+such relation that holds of what `read` and `outline` answer. The code of a store does not depend on it. So take for it,
+for the built program and one call, exactly the texts that its readings of each path gave. Proofs of leaves have no part
+in it: they may be read at any time, and are trusted for nothing.""",
      ["cube_command/program.rt command handed",
       "file_store/store.rt Store::read handed",
       "file_store/store.rt Store::outline handed"]),
     ("With `--formula` the formula of a published file has no model", """
-Where the program ends with status 0 and `--formula CNF` is asked for, the text of that file is a DIMACS text of a
-formula of which no assignment makes all clauses true. What a bundle is, how the file and FILE become one, and what a
+Let the program end with status 0, and let `--formula CNF` be asked for. Then the text of that file is a DIMACS text of
+a formula of which no assignment makes all clauses true. What a bundle is, how the file and FILE become one, and what a
 cube or a label line is, has no part in it.""",
      ["cube_command/program.rt command published"]),
     ("A refusal names the first fault", """
-Where a bundle is refused for its own sake, not for want of memory, a failed device or a refused thread, the fault is
-its first one. With status 3 the bundle has a fault, and nothing is written to standard output. Standard error gets,
-behind what `--progress` tells, exactly one line, that of the bundle's first fault, or a beginning of it if a write to
-it fails.""",
+If a bundle is refused for its own sake, and not for want of memory, a failed device or a refused thread, the fault is
+the bundle's first one. With status 3 the bundle has a fault, and nothing is written to standard output. Standard error
+gets, behind what `--progress` prints, exactly one line: that of the bundle's first fault. If a write to standard error
+fails, it gets a beginning of that line.""",
      ["cube_command/program.rt command fault",
       "cube_report/engine.rt run_one fault",
       "cube_report/engine.rt run fault",
@@ -68,8 +68,8 @@ it fails.""",
     ("Every line of the report is the definition's", """
 The report is one text, fixed by the case that the bundle stands for and by the mark of each node. A node's mark is what
 its section's proof is judged to be from the formula and the node's path alone, or open if it has no section. With DIR
-the case is that of the bundle and, for each leaf in order and each at most once, a section under the leaf's own label
-where its file is there. With `--map` the picture is another text of the same case and marks.""",
+the case is that of the bundle with sections added. For each leaf whose file is there, in order and each at most once,
+there is a section under the leaf's own label. With `--map` the picture is another text of the same case and marks.""",
      ["cube_command/program.rt command refuted open",
       "cube_report/engine.rt run_one text correct",
       "cube_report/engine.rt run text correct",
@@ -84,14 +84,15 @@ there.""",
      ["cube_command/program.rt command refuted open records",
       "cube_command/record.rt digest_line_of -"]),
     ("Streams and status", """
-What the program and `run_io` have written where something fails, which files they leave as they are, which lines go to
-standard error, and which status comes when. Of `command`: 2 stands exactly where the words can't be taken, unless
-memory is refused (`usage`, `taken`); with 4, standard error gets the line of F6 or of F14 (`memory`). 5 stands where a
-call that reads or writes failed. Otherwise it stands only where CNF or FILE isn't there, or where LOG couldn't be made,
-and then nothing was read or written (`failed`, `broken`). It comes with the line of F13 (`device`), after nothing or,
-where a write failed, a beginning of the report (`beginning`). The store changes no file that is read (`kept`): not CNF,
-not FILE, and none of DIR that ends in `.lrat`, as their paths are written. These clauses speak of the store. Of LOG,
-which has a device of its own, and of what names one file by two paths they say nothing: scripts/files.sh tries both.""",
+This claim says what the program and `run_io` have written if something fails, which files they leave as they are, which
+lines go to standard error, and which status comes when. Of `command`: the status is 2 if and only if the arguments
+cannot be taken, unless memory is refused (`usage`, `taken`). With 4, standard error gets the line of F6 or of F14
+(`memory`). The status is 5 if a call that reads or writes failed. Otherwise it is 5 only if CNF or FILE is not there, or
+if LOG could not be made. In this last case nothing was read or written (`failed`, `broken`). Status 5 comes with the
+line of F13 (`device`). Standard output has nothing then or, if a write failed, a beginning of the report (`beginning`).
+The store changes no file that is read (`kept`): not CNF, not FILE, and none of DIR that ends in `.lrat`, as their paths
+are written. These clauses speak of the store. Of LOG, which has a device of its own, and of what names one file by two
+paths they say nothing: scripts/files.sh tries both.""",
      ["cube_command/program.rt command status quiet elsewhere undrawn kept nothing beginning usage unread taken none memory device failed broken",
       "cube_command/telling.rt own_words ok err",
       "cube_report/engine.rt run_io nothing beginning device"]),
@@ -103,13 +104,13 @@ its leave: a text has to be one that the outlet allows. `command` and `run_io` a
 - its picture at the path of `--map` and its record at that of `--record`, and nowhere else;
 - the line of a fault that this bundle has;
 - the lines of want of memory, of a thread or of a device, which are allowed at any time;
-- if the words can't be taken, the parser's text.
+- if the arguments cannot be taken, the parser's text.
 
-Whatever they write is one of these, before they end or never ending, since each `write` of `Sink` and `Store` asks for
-that. After a report nothing is known to be allowed. That the program's own outlets allow each text changes nothing:
-`command` can't ask which they are. This is said of `output`, `errors` and `store`. Four more devices are lent to
-`command`, of which no clause says what they write: `gate`, `watch` (for `--progress`, standard error), `log` (LOG), and
-`explain` (standard error; its type reads files and can't write any).""",
+Whatever they write is one of these, before they end or never ending, because each `write` of `Sink` and `Store` asks
+for that. After a report nothing is known to be allowed. That the program's own outlets allow each text changes nothing:
+`command` cannot ask which they are. This is said of `output`, `errors` and `store`. Four more devices are lent to
+`command`. No clause says what they write. They are `gate`, `watch` (for `--progress`, standard error), `log` (LOG), and
+`explain` (standard error; its type reads files and cannot write any).""",
      ["cube_command/program.rt command reports pictures records faults words",
       "cube_command/telling.rt own_words words memory",
       "cube_report/engine.rt run_io allowed",
@@ -119,17 +120,17 @@ that. After a report nothing is known to be allowed. That the program's own outl
       "file_store/store.rt Store::write allowed beside",
       "file_store/store.rt Store::write_counted allowed beside"]),
     ("Reports of several runs, joined: `s REFUTED` means that the formula has no model", """
-Let `cubejoin` end with status 0, and let each RECORD that it has read be one that `cubeboard` wrote, on whichever
-files, none of which has FILE's SHA-256 with another text. Then no assignment makes all clauses of FILE true.
-`join_command` is the call that `main` of `cubejoin` makes. What is assumed is where the texts come from, and no more on
-which formula: a record of another formula, or of the same in other bytes, is refused. With `--unbound` the texts are
-plain reports, and the premise is that each is the report on FILE's formula and cubes with some proofs. What it writes
-is the report by the joined marks, where a node is refuted that some RECORD refutes. It is a report again, so it can be
-joined with others. If two runs split the sections between them, the joined marks of what they found are those of the
-one run. No true record or report is refused. With `--formula CNF` the premise is of the bundle that CNF and FILE make,
-and the text of CNF is a DIMACS text of a formula of which then no assignment makes all clauses true. `handed` says the
-same of what one reading of CNF, of FILE and of each RECORD gave, whatever lies there: a RECORD's digest and its marks
-are those of one text.""",
+Let `cubejoin` end with status 0. Let each RECORD that it has read be one that `cubeboard` wrote, on whichever files,
+none of which has FILE's SHA-256 with another text. Then no assignment makes all clauses of FILE true. `join_command` is
+the call that `main` of `cubejoin` makes. What is assumed is where the texts come from, and not on which formula they
+are. A record of another formula, or of the same formula in other bytes, is refused. With `--unbound` the texts are
+plain reports, and the premise is that each is the report on FILE's formula and cubes with some proofs. What `cubejoin`
+writes is the report by the joined marks. By these marks a node is refuted if some RECORD refutes it. That text is a
+report again, so it can be joined with others. If two runs split the sections between them, the joined marks of what
+they found are those of the one run. No true record or report is refused. With `--formula CNF` the premise is of the
+bundle that CNF and FILE make. Then the text of CNF is a DIMACS text of a formula of which no assignment makes all
+clauses true. `handed` says the same of what one reading of CNF, of FILE and of each RECORD gave, whatever lies there. A
+RECORD's digest and its marks are those of one text.""",
      ["join_command/program.rt join_command sound published refuted open",
       "join_command/program.rt join_command handed",
       "join_command/program.rt join_command status quiet held nothing beginning usage unread taken fault memory device failed broken",
@@ -142,9 +143,9 @@ are those of one text.""",
       "cube_join/laws.rt a_join_is_a_report -",
       "cube_join/laws.rt a_split_run_is_one_run -"]),
     ("bundle_files: the bundle that is judged", """
-It is the file's or the input's, with the proofs of a folder added for the leaves of its tree, in order and each under
-its own label. What a run says that reads each of these proofs when a worker comes to its leaf is what a run on this
-bundle promises.""",
+The bundle is the file's or the input's, with the proofs of a folder added for the leaves of its tree, in order and each
+under its own label. A run may read each of these proofs when a worker comes to its leaf. What such a run says is what a
+run on this bundle promises.""",
      ["file_store/source.rt read_given held bundle handed ok err kept",
       "bundle_files/formula.rt read_from held bundle handed case fault ok err kept",
       "bundle_files/outlined.rt outline_bundle held read handed fault ok err",
@@ -162,7 +163,7 @@ line of a DIMACS text says.""",
      ["cnf_text/icnf.rt read_icnf ok only err",
       "cnf_text/dimacs.rt read_problem ok only err"]),
     ("lrat_text: the steps of a proof", """
-A reader starts with all whole steps of its text; each call takes the next of them, or says that the rest is blank, or
+A reader starts with all whole steps of its text. Each call takes the next of them, or says that the rest is blank, or
 that it is unreadable.""",
      ["lrat_text/steps.rt Steps::new value",
       "lrat_text/steps.rt Steps::next_into step end err"]),
@@ -171,7 +172,7 @@ A proof whose first byte is `a` or `d` is binary, and stands for the text of its
      ["lrat_binary/form.rt ProofForm::turn -",
       "lrat_binary/form.rt turn_from -"]),
     ("hint_check: the judgement of a proof", """
-The answer is the judgement of the live clauses and the proof, with RUP and RAT over all live clauses; where it is
+The answer is the judgement of the live clauses and the proof, with RUP and RAT over all live clauses. If it is
 `Refuted`, the formula and the path have no model together.""",
      ["hint_check/checker.rt Checker::judge judgement refuted",
       "hint_check/judge.rt Judge::judge judgement refuted"]),
@@ -192,8 +193,8 @@ keeps that a refuted target has no model with the formula.""",
       "case_core/finding.rt Finding here only is sound"]),
     ("mark_board: marks, open weight and open branches", """
 A post marks the node of its finding and no other. Marks, open weight and open branches are the definition's, by all
-nodes' marks. A refuted target has no model with its path, and where the root is marked the formula has none. On a
-single board the findings of a node stand at its own row, and the verdict of a part at the part's.""",
+nodes' marks. A refuted target has no model with its path. If the root is marked, the formula has no model. On a single
+board the findings of a node stand at its own row, and the verdict of a part at the part's.""",
      ["mark_board/boards.rt Boards::post same new marks",
       "mark_board/boards.rt Boards::mark_of mark sound",
       "mark_board/boards.rt Boards::root_marked marked sound",
@@ -211,10 +212,11 @@ and a hall that is closed gives the boards of all that was posted.
 
 The laws speak of each state that is `Reached` from a hall's start by the steps of a hall. That a running hall is in
 such a state at every moment is the rule of its table: `InHall` in board_hall/src/rule.rt. Its `holds` says that the
-table's words, the boards at home and the views of all passes are `Reached`, for the case, the cut and the number of
-passes that the hall was opened with. What a rule means is the kit's word (its crate `atomic_table`): it holds of a new
-table and between any two atomic steps of any threads. That is so since a call may take a step only if the rule holds
-again after it, and that is proved where the step is taken. `Hall::close` says it of the state in which a hall ends.""",
+table's words, the boards at home and the views of all passes are `Reached`. They are so for the case, the cut and the
+number of passes that the hall was opened with. What a rule means is the kit's word (its crate `atomic_table`): it holds
+of a new table and between any two atomic steps of any threads. That is so because a call may take a step only if the
+rule holds again after it, and that is proved where the step is taken. `Hall::close` says it of the state in which a
+hall ends.""",
      ["board_hall/laws.rt free_is_whole -",
       "board_hall/laws.rt free_is_whole_of_leaves posts sections",
       "board_hall/opening.rt Hall::open hall count passes",
@@ -230,10 +232,11 @@ Each section's place is claimed once. Once all workers are joined, each node of 
 for every number of workers, every cut, every gate and every schedule. `command` makes the report by `judge_given` of
 bundle_files, over `conquer` of check_crew, and writes it by `write_all` of byte_flow.
 
-With DIR, or from FILE, each proof is judged while a worker reads it, when it comes to its target, over
-`conquer_leaves`, in a hall for FILE's case whose proofs lie elsewhere. There the laws of board_hall hold word for word,
-and what a board marks refuted has no model. That a target is marked by the judgement of its own proof is no law of that
-hall. It is compared, for each node, when all workers are joined, and `conquer_leaves` gives boards only if it is so.""",
+With DIR, or from FILE, each proof is judged while a worker reads it, when the worker comes to its target. That goes
+over `conquer_leaves`, in a hall for FILE's case whose proofs lie elsewhere. There the laws of board_hall hold word for
+word, and what a board marks refuted has no model. That a target is marked by the judgement of its own proof is no law
+of that hall. It is compared, for each node, when all workers are joined, and `conquer_leaves` gives boards only if it
+is so.""",
      ["cube_jobs/jobs.rt Jobs::fill sections count passes",
       "cube_jobs/jobs.rt Jobs::claim same place later claimed none",
       "cube_jobs/jobs.rt Jobs::finish exactly once",
@@ -248,42 +251,43 @@ HEAD = """<!-- written by scripts/definitions.py: change the script, not this fi
 # What a skeptic has to read
 
 A claim is worth what its definitions say. The proofs tie the program to them, and nothing but reading ties them to what
-you have in mind. So here is, claim by claim, what there is to read: the clauses that state the claim, and all
+you have in mind. So here is, claim by claim, what there is to read. That is the clauses that state the claim, and all
 definitions that they stand on, in the order in which they are best read. No other definition can change what the claim
 says. The first claim matters most, and its list is short.
 
 An assignment is any test on variables, that is a function from numbers to true or false. A literal is a variable and a
-sign, a clause is a list of literals, a formula is a list of clauses, and a text is the list of its bytes, which are
+sign. A clause is a list of literals, and a formula is a list of clauses. A text is the list of its bytes, which are
 numbers.
 
 From the second claim on, a list has only what no claim before it has listed, so that each definition is read once.
 Lines are counted without blank lines and comments, and one that is broken for its width counts once. A type counts with
 its constructors and fields. What a call asks of its caller counts with its clauses, but for the leave to write,
-`allows`: the outlets of the program allow each text, so there no definition can change what is asked. The claim on what
-is written has it.
+`allows`. The outlets of the program allow each text, so there no definition can change what is asked. The claim on what
+is written has that leave.
 
 Not among the definitions are:
 
 - the words of the kit's library (`Rattle.std.specs`), such as `map` or `flat_map`: each claim names those that it uses,
   operators and numerals apart;
 - the enums and structs of the code: each claim names those that its definitions name, and src/ has their variants;
-- how a clause sees a value of the code, as a list, a set or a number: a `Vec` as the list of its items, a `Formula` as
-  its clauses, a `Boards` as its case and all nodes' marks. The `impl Model` beside a type says that. By which function
-  it is told from private fields no caller has to know, since the contracts of the calls say what the values are;
+- how a clause sees a value of the code, as a list, a set or a number. It sees a `Vec` as the list of its items, a
+  `Formula` as its clauses, a `Boards` as its case and all nodes' marks. The `impl Model` beside a type says that. By
+  which function it is told from private fields no caller has to know, because the contracts of the calls say what the
+  values are;
 - what a reader, a writer or a store of files says of itself in a clause, as `R.remaining`, `W.contents` or `D.held`.
   The traits `Source` and `Sink` ([byte_flow/device.rt](../crates/byte_flow/src/device.rt)), `Store`
   ([file_store/store.rt](../crates/file_store/src/store.rt)) and the kit's `Read` and `Write` say that.
 """
 
 LAWS = """
-Public functions that do nothing; the contract of each is a law over the definitions. No claim stands on them: each is a
-check, already proved, that the definitions mean what they should."""
+These are public functions that do nothing. The contract of each is a law over the definitions. No claim stands on them:
+each is a check, already proved, that the definitions mean what they should."""
 
 REST = """
 A claim stands on a few calls. The other public calls, types and traits have contracts of their own, and so have private
 functions. Here is how many definitions of specs/ each crate has, and how many of them a claim or a law above stands on.
-Of the others the table says how many other public contracts reach, how many private contracts alone (or by which
-function a value is told from private fields), and how many none.
+The table also counts the other definitions: those that other public contracts reach; those that private contracts alone
+reach, or the function by which a value is told from private fields; and those that none reaches.
 
 | Crate | Definitions | Lines | Claims and laws | Other public contracts | Private contracts alone | None |
 |---|---|---|---|---|---|---|"""
@@ -669,7 +673,7 @@ def list_of(repository, targets, seen, counts):
     seen |= targets
     counts.append(counted(repository, targets))
     told = "%d definitions, %d lines" % counts[-1]
-    lines = [told + (" (%d of them, %d lines, new)" % counted(repository, new) if counts[1:] else "") + ":", ""]
+    lines = []
     for key in repository.order:
         own = [target for target in repository.definitions if target in new and target[1:3] == key]
         if own:
@@ -683,7 +687,9 @@ def list_of(repository, targets, seen, counts):
     for it in sorted((target for target in new if target.kind == "type"), key=str):
         files.setdefault(link(it.crate, "src", it.path + ".rt"), []).append(it.name)
     types = ["%s in %s" % (quoted(names), file) for file, names in files.items()]
-    return lines + (["- types of the code: " + ", ".join(types)] if types else [])
+    lines += ["- types of the code: " + ", ".join(types)] if types else []
+    told += " (%d of them, %d lines, new)" % counted(repository, new) if counts[1:] else ""
+    return [told + ":", ""] + lines if lines else [told + "."]
 
 
 def law_line(repository, law):
