@@ -84,15 +84,15 @@ there.""",
      ["cube_command/program.rt command refuted open records",
       "cube_command/record.rt digest_line_of -"]),
     ("Streams and status", """
-This claim says what the program and `run_io` have written if something fails, which files they leave as they are, which
-lines go to standard error, and which status comes when. Of `command`: the status is 2 if and only if the arguments
-cannot be taken, unless memory is refused (`usage`, `taken`). With 4, standard error gets the line of F6 or of F14
-(`memory`). The status is 5 if a call that reads or writes failed. Otherwise it is 5 only if CNF or FILE is not there, or
-if LOG could not be made. In this last case nothing was read or written (`failed`, `broken`). Status 5 comes with the
-line of F13 (`device`). Standard output has nothing then or, if a write failed, a beginning of the report (`beginning`).
-The store changes no file that is read (`kept`): not CNF, not FILE, and none of DIR that ends in `.lrat`, as their paths
-are written. These clauses speak of the store. Of LOG, which has a device of its own, and of what names one file by two
-paths they say nothing: scripts/files.sh tries both.""",
+This claim says what the program and `run_io` have written if something fails, and which files they leave as they are.
+It also says which lines go to standard error, and which status comes when. Of `command`: the status is 2 if and only if
+the arguments cannot be taken, unless memory is refused (`usage`, `taken`). With 4, standard error gets the line of F6
+or of F14 (`memory`). The status is 5 if a call that reads or writes failed. Otherwise it is 5 only if CNF or FILE is
+not there, or if LOG could not be made. In this last case nothing was read or written (`failed`, `broken`). Status 5
+comes with the line of F13 (`device`). Standard output has nothing then or, if a write failed, a beginning of the report
+(`beginning`). The store changes no file that is read (`kept`): not CNF, not FILE, and none of DIR that ends in `.lrat`,
+as their paths are written. These clauses speak of the store. Of LOG, which has a device of its own, and of what names
+one file by two paths they say nothing: scripts/files.sh tries both.""",
      ["cube_command/program.rt command status quiet elsewhere undrawn kept nothing beginning usage unread taken none memory device failed broken",
       "cube_command/telling.rt own_words ok err",
       "cube_report/engine.rt run_io nothing beginning device"]),
@@ -286,8 +286,8 @@ each is a check, already proved, that the definitions mean what they should."""
 REST = """
 A claim stands on a few calls. The other public calls, types and traits have contracts of their own, and so have private
 functions. Here is how many definitions of specs/ each crate has, and how many of them a claim or a law above stands on.
-The table also counts the other definitions: those that other public contracts reach; those that private contracts alone
-reach, or the function by which a value is told from private fields; and those that none reaches.
+The table also counts the other definitions. Some are reached by other public contracts. Some are reached by private
+contracts alone, or by the function by which a value is told from private fields. The others are reached by none.
 
 | Crate | Definitions | Lines | Claims and laws | Other public contracts | Private contracts alone | None |
 |---|---|---|---|---|---|---|"""
