@@ -57,10 +57,12 @@ echo "checked $crate::all, 1 of 1"
 if [ "$verb$is_program" = build1 ] || [ "$verb$is_program" = turn1 ]; then echo > "$made"; exit; fi
 mkdir -p "$made"
 if [ "$verb" = turn ]; then
-    # What a library states: its contracts, and all files of specs/ and proofs/.
+    # What a library states: what it says of itself, its contracts, and all files of specs/ and proofs/. A sum is another one each time.
+    rm -rf "$made"
     mkdir -p "$made/interface" "$made/lang/antt"
+    { grep -rh crosses src; echo "sum $(date +%N)"; } > "$made/format"
     grep -rh ensures src > "$made/interface/stated"
-    for part in specs proofs; do [ ! -d "$part" ] || cp -r "$part" "$made/lang/antt/"; done
+    for part in specs proofs; do [ ! -d "$part" ] || cp -rl "$part" "$made/lang/antt/"; done
     date +%N > "$made/lang/antt/made.json"
 fi
 RATTLE

@@ -92,11 +92,16 @@ launch() {
     fi
 }
 
-# Runs a command in $here/run, for a minute at most: the input, then the command.
+# Runs a command in $here/run, for a minute at most: the input, then the command. The input is a file; if `$feed` is set, it comes by a pipe, from the command
+# that this names.
 note() {
     input=$1
     shift
-    (cd "$here/run" && timeout 60 "$@") < "$input" > "$here/out" 2> "$here/err"
+    if [ -n "${feed:-}" ]; then
+        "$feed" "$input" 2> /dev/null | (cd "$here/run" && timeout 60 "$@") > "$here/out" 2> "$here/err"
+    else
+        (cd "$here/run" && timeout 60 "$@") < "$input" > "$here/out" 2> "$here/err"
+    fi
     echo $? > "$here/status"
 }
 

@@ -1,7 +1,7 @@
 #!/bin/sh
 # Runs the built program with many threads, and looks at its standard output, its standard error and its status, byte for byte:
 # - on the rows of tests/rows that have no word for the workers or the cut of their own, and on each beginning of the bundle of
-#   tests/prefixes;
+#   tests/prefixes, as a file and by a pipe; and by pipes whose writer is slow;
 # - on bundles that are made here, the report of which is known from how they are made: fewer sections than workers and more,
 #   4,096 sections that are all rejected, all sections under one part, proofs for the root and for inner nodes at each depth, one
 #   long proof among empty ones;
@@ -28,8 +28,24 @@ for input in "$root"/tests/rows/*.in; do
     fi
 done
 
-beginnings --workers 4 --cut 3
 beginnings --workers 32 --cut 6
+
+# The input by a pipe: cut behind each of its bytes, written byte by byte, and by a writer that stops for a second in the midst.
+by_bytes() { dd bs=1 status=none if="$1"; }
+with_a_pause() {
+    half=$(($(wc -c < "$1") / 2))
+    head -c "$half" "$1"
+    sleep 1
+    tail -c +$((half + 1)) "$1"
+}
+feed=cat
+beginnings --workers 4 --cut 3
+for feed in by_bytes with_a_pause; do
+    for name in two_cubes_refuted candidate_without_a_group bundle_below_a_formula; do
+        row "$root/tests/rows/$name" --workers 4 --cut 3
+    done
+done
+feed=
 
 # What the bundles below are made with. Their trees split on variable v at depth v - 1, and nodes of one depth are numbered from 0 in
 # tree order. In `whole`, the formula has the negation of leaf i's path as its clause i + 1, so that leaf i, and no other, is refuted

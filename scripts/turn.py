@@ -42,8 +42,9 @@ SCRIPTS = {
 }
 WORDS = {"cluster": ["loop"]}
 LANES = 4
-# What of a library's files no other crate can name: how its functions are proved, and sums of all.
+# What of a library's files no other crate can name: how its functions are proved, and sums of all. So it is with lines of its file `format`.
 OWN = {"Answers.antt", "Invariants.antt", "Proof.antt", "made.json"}
+OWN_LINES = ("checked ", "sum ")
 
 
 class Kept(build.Kept):
@@ -94,7 +95,8 @@ class Kept(build.Kept):
 def stated_by(library):
     """A sum of what a library states: all of its interface and its definitions and lemmas, but for what its own proofs alone can name."""
     files = [it for part in ("interface", "lang/antt") for it in (library / part).rglob("*") if it.is_file() and it.name not in OWN]
-    made = hashlib.sha256()
+    lines = (library / "format").read_text().splitlines()
+    made = hashlib.sha256("\n".join(it for it in lines if not it.startswith(OWN_LINES)).encode())
     for file in sorted(files):
         made.update(f"{file.relative_to(library)} {hashlib.sha256(file.read_bytes()).hexdigest()}\n".encode())
     return made.hexdigest()

@@ -10,9 +10,18 @@ passed=0
 failed=0
 . "$root/scripts/launcher_claims.sh"
 
+# What each copy is made of: this folder without what no turn looks at, and of the proofs those of mark_board alone, since these claims read none of the others.
+make_base() {
+    copy_folder
+    find "$here/copy/crates" -path '*/proofs/*' ! -path '*/mark_board/*' -type f -delete
+    rm -rf "$here/copy/tests" "$here/copy/docs"
+    mv "$here/copy" "$here/base"
+}
+
 # A copy whose scripts note that they were called, with their words; the one that $FAILS names fails.
 copy_with_notes() {
-    copy_folder
+    rm -rf "$here/copy"
+    cp -r "$here/base" "$here/copy"
     for script in rows explain files picture questions cluster threads refused; do
         printf '#!/bin/sh\necho "%s $*" >> "$HERE/tried"\n[ "$FAILS" != %s ]\n' "$script" "$script" > "$here/copy/scripts/$script.sh"
     done
@@ -86,6 +95,8 @@ threads "
     turn "so it is with another proof of a function" 0 "$alone" "$mark"
     adds mark_board src "*.rt" "// ensures more"
     turn "all above a crate with another contract is proved" 0 "$above" "$mark"
+    adds mark_board src "*.rt" "// crosses threads"
+    turn "and one that says something else of its types" 0 "$above" "$mark"
     adds mark_board specs "*.antt" "-- more"
     turn "and with another definition" 0 "$above" "$mark"
     echo "-- more" >> "$here/copy/crates/mark_board/proofs/Lib.antt"
@@ -137,6 +148,7 @@ wrong() {
 }
 
 stand_in
+make_base
 copy_with_notes
 claims_of_all
 wrong "a failed turn taken as passed" 's/^    if not failed:$/    if True:/'
@@ -150,6 +162,8 @@ wrong "what is named left out" 's/^    tried = {\*names} | /    tried = /'
 wrong "libraries laid over the launcher's" 's/^        self.libraries = build.SHARED .*/        pass/'
 wrong "contracts passed over" 's/for part in ("interface", "lang.antt")/for part in ("lang\/antt",)/'
 wrong "definitions and lemmas passed over" 's/for part in ("interface", "lang.antt")/for part in ("interface",)/'
+wrong "what a library says of its types passed over" 's/^    made = hashlib.sha256(".n".join(.*/    made = hashlib.sha256()/'
+wrong "a sum taken as stated" 's/^OWN_LINES = .*/OWN_LINES = ("checked ",)/'
 wrong "the proofs of functions taken as stated" 's/^OWN = .*/OWN = {"made.json"}/'
 wrong "all above a body proved" 's/^        self.sum_file(crate).unlink(missing_ok=True)/        super().forget(crate)/'
 wrong "only what a crate names looked at" 's/for it in below(crate)\]/for it in crate.lower]/'
