@@ -1,6 +1,6 @@
 -- What the words ask for.
 use Rattle.std.proofs.Common.{◌≡◌, ◌∙◌, ap, refl, ℕ, Bool, Option, Some, List, [], ◌∷◌, map}
-use Rattle.std.proofs.Common.{length, codes, true, None}
+use Rattle.std.proofs.Common.{length, codes, true, false, None}
 use Rattle.std.proofs.Common.{Result, Ok, Err, IfErr, IsErrAnd, subst, sym, inl, inr}
 use Rattle.clap.specs.declared.builder.command.Command.{Command}
 use Rattle.clap.specs.declared.error.Error.{Error}
@@ -12,7 +12,7 @@ use Rattle.clap.specs.Words.{one_text, HasKind, Kinds}
 use Rattle.clap.proofs.OnLiterals.{clap_on_literals}
 use Rattle.clap.proofs.WalkLemmas.{first_value-rows, one_text-rows}
 use Rattle.command_words.specs.Words.{AreApart, AreSpared, AreTaken, Asked, asked_for, asked_of}
-use Rattle.command_words.specs.Words.{nothing_asked, SparesRead, words_taken}
+use Rattle.command_words.specs.Words.{is_given, nothing_asked, SparesRead, words_taken}
 use Rattle.command_words.specs.Request.{Reads, SaysFlag, SaysNumber, flag_text}
 use Rattle.command_words.specs.Inner.Words.{asked_found}
 
@@ -38,6 +38,7 @@ found_asked parser matches words is has =
     let picture = one_asked parser matches words is has (codes "map") in
     let out = one_asked parser matches words is has (codes "record") in
     let log = one_asked parser matches words is has (codes "log") in
+    let lists = ap is_given (one_asked parser matches words is has (codes "list-open")) in
     λ i. record {
       formula = formula i;
       file = file i;
@@ -45,6 +46,7 @@ found_asked parser matches words is has =
       picture = picture i;
       out = out i;
       log = log i;
+      lists = lists i;
     }
 
 -- what holds of an error holds of the result that hands it on
@@ -124,6 +126,10 @@ no_file : asked_for (codes "file") [] ≡ None
 unfolding clap_on_literals
 no_file = refl
 
+no_lists : is_given (asked_for (codes "list-open") []) ≡ false
+unfolding clap_on_literals
+no_lists = refl
+
 no_words_asked : asked_of [] ≡ nothing_asked
 no_words_asked = λ i. record {
   formula = no_formula i;
@@ -132,6 +138,7 @@ no_words_asked = λ i. record {
   picture = no_map i;
   out = no_record i;
   log = no_log i;
+  lists = no_lists i;
 }
 
 -- what isn't asked for is none of the files that are read

@@ -33,4 +33,5 @@ asked_in request = record {
   picture = option_map (λ path. path.now) request.map;
   out = option_map (λ path. path.now) request.out;
   log = option_map (λ path. path.now) request.log;
+  lists = request.list_open;
 }

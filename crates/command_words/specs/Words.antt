@@ -1,5 +1,7 @@
 -- Which words the program takes, and what they ask for.
-use Rattle.std.specs.Prelude.{◌≡◌, ◌≢◌, ◌⊎◌, List, [], ◌∷◌, codes, pos, true, Option, None, Some}
+use Rattle.std.specs.Prelude.{◌≡◌, ◌≢◌, ◌⊎◌, Bool, List, [], ◌∷◌, codes, pos, true, false, Option}
+use Rattle.std.specs.Prelude.{None, Some}
+use Rattle.std.specs.Str.{bytes_eq}
 use Rattle.clap.specs.Words.{App, Rule, Text, fault_of, first_of, matches_of, new_app, new_rule}
 use Rattle.clap.specs.Words.{with_rule}
 use Rattle.proof_folder.specs.Added.{proof_path}
@@ -45,17 +47,23 @@ with_version parser =
 abbrev pub words_taken : App
 words_taken =
     with_rule (with_rule (with_rule (with_rule (with_rule (with_rule (with_rule (with_rule
-    (with_rule (with_rule (with_version (new_app (codes "cubeboard"))) workers_word) cut_word)
-    (path_word (codes "formula"))) (path_word (codes "proofs"))) (flag_word (codes "progress")))
-    (flag_word (codes "explain"))) (path_word (codes "map"))) (path_word (codes "record")))
-    (path_word (codes "log"))) file_word
+    (with_rule (with_rule (with_rule (with_version (new_app (codes "cubeboard"))) workers_word)
+    cut_word) (path_word (codes "formula"))) (path_word (codes "proofs")))
+    (flag_word (codes "progress"))) (flag_word (codes "explain"))) (flag_word (codes "list-open")))
+    (path_word (codes "map"))) (path_word (codes "record"))) (path_word (codes "log"))) file_word
 
 -- the value that `clap` finds in these words
 abbrev pub asked_for : Text → List Text → Option Text
 asked_for name words = first_of name (matches_of words_taken words)
 
--- what words ask for: the formula's own file, FILE and the folder of proofs, which are read, and
--- the files that are written, for the picture, the record and the log
+-- what `clap` finds for a flag that is given
+abbrev pub is_given : Option Text → Bool
+is_given None = false
+is_given (Some text) = bytes_eq text (codes "true")
+
+-- what words ask for: the formula's own file, FILE and the folder of proofs, which are read, the
+-- files that are written, for the picture, the record and the log, and whether the open leaves are
+-- listed in the place of the report
 pub record Asked : Type 0 where
   pub formula : Option Text
   pub file : Option Text
@@ -63,6 +71,7 @@ pub record Asked : Type 0 where
   pub picture : Option Text
   pub out : Option Text
   pub log : Option Text
+  pub lists : Bool
 
 abbrev pub asked_of : List Text → Asked
 asked_of words = record {
@@ -72,9 +81,10 @@ asked_of words = record {
   picture = asked_for (codes "map") words;
   out = asked_for (codes "record") words;
   log = asked_for (codes "log") words;
+  lists = is_given (asked_for (codes "list-open") words);
 }
 
--- no file is asked for
+-- no file is asked for, and no list
 abbrev pub nothing_asked : Asked
 nothing_asked = record {
   formula = None;
@@ -83,6 +93,7 @@ nothing_asked = record {
   picture = None;
   out = None;
   log = None;
+  lists = false;
 }
 
 -- two files, where both are asked for, have two paths

@@ -7,10 +7,11 @@ ghost use Rattle.std.specs.Prelude.{MatchOption};
 ghost use Rattle.clap.specs.Words.{app_of, found_of, kind_of, new_app, one_text, rule_of};
 ghost use Rattle.proof_folder.specs.Added.{proof_path};
 ghost use Rattle.command_words.specs.Words.{AreApart, AreSpared, AreTaken, asked_of, cut_word};
-ghost use Rattle.command_words.specs.Words.{file_word, flag_word, IsNoProof, path_word, SparesRead};
+ghost use Rattle.command_words.specs.Words.{file_word, flag_word, is_given, IsNoProof, path_word};
+ghost use Rattle.command_words.specs.Words.{SparesRead};
 ghost use Rattle.command_words.specs.Words.{with_version, words_taken, workers_word};
 ghost use Rattle.command_words.specs.Request.{asked_in, flag_text, Reads, SaysFlag, SaysNumber};
-ghost use Rattle.command_words.specs.Inner.Words.{asked_found, with_flags, with_inputs};
+ghost use Rattle.command_words.specs.Inner.Words.{asked_found, with_flags, with_inputs, with_lists};
 ghost use Rattle.command_words.specs.Inner.Words.{with_numbers, with_outputs, with_results};
 
 use check_crew::Settings;
@@ -35,6 +36,8 @@ pub struct Request<'a> {
     pub progress: bool,
     /// Whether it is told what was read, and where faults and rejections come from.
     pub explain: bool,
+    /// Whether the names of the leaves are written that aren't refuted, in the report's place.
+    pub list_open: bool,
     /// The file for the picture of the tree, where one is asked for.
     pub map: Option<&'a str>,
     /// The file for the record, where one is asked for; not the picture's.
@@ -119,9 +122,20 @@ fn request_in<'a>(matches: &ArgMatches<'a>) -> Request<'a>
         file: matches.get_str("file"),
         progress: matches.get_flag("progress"),
         explain: matches.get_flag("explain"),
+        list_open: is_given(matches.get_str("list-open")),
         map: matches.get_str("map"),
         out: matches.get_str("record"),
         log: matches.get_str("log"),
+    }
+}
+
+/// Whether a flag is given, by the text that was matched for it.
+fn is_given(text: Option<&str>) -> bool
+    ensures { result ≡ is_given (option_map (λ text. text.now) text.entry) }
+{
+    match text {
+        Some(text) => text == "true",
+        None => false,
     }
 }
 
@@ -278,7 +292,7 @@ fn outputs<'a>(alloc: Global) -> Result<Command<'a>, AllocError>
 fn results<'a>(alloc: Global) -> Result<Command<'a>, AllocError>
     ensures { IfOk result (λ parser. app_of parser ≡ with_results) }
 {
-    flags(alloc)?
+    lists(alloc)?
         .arg(path_word(
             alloc,
             "map",
@@ -291,6 +305,17 @@ fn results<'a>(alloc: Global) -> Result<Command<'a>, AllocError>
             "OUT",
             "Write a record, the report with the SHA-256 of formula and cubes, replacing it",
         ))
+}
+
+/// A parser that also takes what is written in the report's place.
+fn lists<'a>(alloc: Global) -> Result<Command<'a>, AllocError>
+    ensures { IfOk result (λ parser. app_of parser ≡ with_lists) }
+{
+    flags(alloc)?.arg(flag_word(
+        alloc,
+        "list-open",
+        "Print the leaves that aren't refuted, K or mJ, one a line, instead of the report",
+    ))
 }
 
 /// A parser that also takes what is told beside the report.

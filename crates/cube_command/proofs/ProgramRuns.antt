@@ -24,6 +24,7 @@ use Rattle.cube_report.specs.Picture.{map_text}
 use Rattle.cube_report.specs.Bundle.{icnf_text}
 use Rattle.cube_command.specs.Program.{IsMade, IsRefused, IsReported, IsLineWritten, fault_line}
 use Rattle.cube_command.specs.Program.{AllowsFaults, IsBegun, IsBundleFor, IsPictureOn}
+use Rattle.cube_command.specs.Open.{open_names, shown}
 use Rattle.cube_command.specs.Record.{digest_line, record_text}
 use Rattle.cube_command.specs.Sources.{sources_of}
 use Rattle.cube_command.specs.Words.{Asked}
@@ -54,23 +55,23 @@ bundle_of held asked input read whole is_read is_judged = record {
   is_judged = is_judged;
 }
 
--- the report that was written, the picture and the record are those on the bundle that was asked
--- for
+-- what was written, the picture and the record are those of the report on the bundle that was
+-- asked for
 pub reported : (held after : Held) (asked : Asked) (input old new : Option (List ℕ))
-    (read whole text picture made : List ℕ) (draws answer : Bool)
+    (read whole text picture made given : List ℕ) (draws answer : Bool)
     → IsBundleFor held asked input read whole → IsOutcome whole draws text picture answer →
     draws ≡ is_some asked.picture
     → ((at : List ℕ) → asked.out ≡ Some at → made ≡ record_text read text)
-    → Appends old new text → IsMade after asked.picture picture → IsMade after asked.out made →
-    IsReported held after asked input old new answer
-reported held after asked input old new read whole text picture made draws answer
-    bundle outcome drawn owed written there beside = record {
+    → given ≡ shown asked text → Appends old new given → IsMade after asked.picture picture
+    → IsMade after asked.out made → IsReported held after asked input old new answer
+reported held after asked input old new read whole text picture made given draws answer
+    bundle outcome drawn owed is written there beside = record {
       read = read;
       whole = whole;
       bundle = bundle;
       text = text;
       correct = outcome.correct;
-      written = written;
+      written = subst (Appends old new) is written;
       sound =
           λ says. judged_unsatisfiable held asked.folder read whole bundle.is_judged
           (outcome.correct.sound says);
@@ -80,6 +81,15 @@ reported held after asked input old new read whole text picture made draws answe
           (drawn ∙ ap is_some is)) there;
       recorded = made_there after asked.out (record_text read text) made owed beside;
     }
+
+-- what is handed to the output, where the names were made that are asked for, is what is shown
+pub shown_for : (asked : Asked) (lists : Bool) (report names text given : List ℕ)
+    → lists ≡ asked.lists → report ≡ text → (lists ≡ true → names ≡ open_names text)
+    → given ≡ (if lists then names else report) → given ≡ shown asked text
+shown_for asked true report names text given same of made is = is ∙ made refl
+    ∙ ap (λ (b : Bool). if b then open_names text else text) same
+shown_for asked false report names text given same of made is = is ∙ of
+    ∙ ap (λ (b : Bool). if b then open_names text else text) same
 
 -- a record that was begun by the line of the iCNF text, and ended by the report
 pub whole_record : (out : Option (List ℕ)) (read text icnf report begun ended made : List ℕ)
@@ -91,16 +101,18 @@ whole_record out read text icnf report begun ended made same same_text same_made
     rw (← same, ← same_text)
     (same_made ∙ last at is ∙ ap (λ (line : List ℕ). line ++ report) (first at is))
 
--- what was written of a report that failed, if anything, is a beginning of that on the bundle
+-- what was written where that failed, if anything, is a beginning of what is shown of the report on
+-- the bundle
 pub begun_of : {E : Type 0} (run : Result Bool E) (held : Held) (asked : Asked)
-    (input old new : Option (List ℕ)) (read whole text : List ℕ) (before after : ℕ)
-    → IsBundleFor held asked input read whole → IsReportOn whole text
-    → Keeps old new ⊎ ((before < after) × AppendsBeginning old new text)
+    (input old new : Option (List ℕ)) (read whole text given : List ℕ) (before after : ℕ)
+    → IsBundleFor held asked input read whole → IsReportOn whole text → given ≡ shown asked text
+    → Keeps old new ⊎ ((before < after) × AppendsBeginning old new given)
     → OnErr run (Keeps old new ⊎ ((before < after) × IsBegun held asked input old new))
-begun_of (Ok answer) held asked input old new read whole text before after bundle report wrote = tt
-begun_of (Err fault) held asked input old new read whole text before after bundle report
+begun_of (Ok answer) held asked input old new read whole text given before after bundle report is
+    wrote = tt
+begun_of (Err fault) held asked input old new read whole text given before after bundle report is
     (inl kept) = inl kept
-begun_of (Err fault) held asked input old new read whole text before after bundle report
+begun_of (Err fault) held asked input old new read whole text given before after bundle report is
     (inr begun) = inr (
       begun.0,
       record {
@@ -109,7 +121,7 @@ begun_of (Err fault) held asked input old new read whole text before after bundl
         bundle = bundle;
         text = text;
         report = report;
-        written = begun.1;
+        written = subst (AppendsBeginning old new) is begun.1;
       },
     )
 

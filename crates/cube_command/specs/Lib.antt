@@ -2,5 +2,6 @@ pub use Rattle.command_words.specs.Words
 pub mod Sources
 pub mod Headline
 pub mod Record
+pub mod Open
 pub mod Program
 pub mod Inner

@@ -25,6 +25,7 @@ ghost use Rattle.cube_command.specs.Inner.Recorded.{IsRecordedFor, IsRunRecorded
 ghost use Rattle.command_words.specs.Request.{asked_in};
 
 use crate::asked::{Telling, asked_in, fault_in};
+use crate::open::{names_asked, shown};
 use crate::record::{begin_record, end_record};
 use crate::telling::{tell_refused, tell_run};
 use bundle_files::{
@@ -356,7 +357,9 @@ where
         ⊎ IsOneAbsent (D.held store.old) (sources_of (asked_in request.now)) }
 {
     let made = judge_request(rt, store, request, input, gate, telling, bundle)?;
-    write_outcome(store, output, request, &made.outcome, &made.bytes, spared)?;
+    let names = names_asked(rt.alloc(), request.list_open, &made.outcome.text)?;
+    let given = shown(request.list_open, &made.outcome.text, &names);
+    write_outcome(store, output, request, &made, given, spared)?;
     telling.tell_report(rt.alloc(), bundle, &made.outcome.text);
     Ok(made.outcome.refuted)
 }
@@ -595,33 +598,34 @@ where
     })
 }
 
-/// Writes the picture and the record, where files for them are asked for, and then the report.
+/// Writes the picture and the record, where files for them are asked for, and then what is shown of
+/// the report.
 fn write_outcome<D: Store, O: Sink>(
     store: &mut D,
     output: &mut O,
     request: &Request<'_>,
-    outcome: &Outcome,
-    made: &[u8],
+    made: &Recorded,
+    given: &[u8],
     spared: &Spared,
 ) -> Result<(), DeviceFault>
     requires store { D.failures store.old < 2 ^ 64 - 1 }
     requires output { O.failures output.old < 2 ^ 64 - 1 }
-    requires report { O.allows output.old outcome.now.text.items }
+    requires report { O.allows output.old given.now }
     requires picture { (path : List ℕ) → (asked_in request.now).picture ≡ Some path
-        → D.allows store.old path outcome.now.map.items }
+        → D.allows store.old path made.now.outcome.map.items }
     requires recorded { (path : List ℕ) → (asked_in request.now).out ≡ Some path
-        → D.allows store.old path made.now }
+        → D.allows store.old path made.now.bytes.items }
     requires apart { AreApart (asked_in request.now).picture (asked_in request.now).out }
     ensures drawn { OnOk result (IsMade (D.held store.new) (asked_in request.now).picture
-        outcome.now.map.items) }
+        made.now.outcome.map.items) }
     ensures recorded { OnOk result (IsMade (D.held store.new) (asked_in request.now).out
-        made.now) }
+        made.now.bytes.items) }
     ensures elsewhere { (path : List ℕ) → IsElsewhere (asked_in request.now) path
         → D.held store.new path ≡ D.held store.old path }
     ensures undrawn { IfErr result
         (λ fault. fault ≢ DeviceFault.Device → D.held store.new ≡ D.held store.old) }
     ensures written { OnOk result (Appends (O.contents output.old) (O.contents output.new)
-        outcome.now.text.items) }
+        given.now) }
     ensures ok { OnOk result ((D.failures store.new ≡ D.failures store.old)
         × (O.failures output.new ≡ O.failures output.old)) }
     ensures nothing { IfErr result (λ fault. fault ≢ DeviceFault.Device
@@ -629,14 +633,14 @@ fn write_outcome<D: Store, O: Sink>(
     ensures beginning { OnErr result (Keeps (O.contents output.old) (O.contents output.new)
         ⊎ ((O.failures output.old < O.failures output.new)
         × AppendsBeginning (O.contents output.old) (O.contents output.new)
-        outcome.now.text.items)) }
+        given.now)) }
     ensures err { IfErr result (λ fault. IsDeviceFault
         (D.failures store.old + O.failures output.old)
         (D.failures store.new + O.failures output.new) fault) }
 {
-    write_picture(store, request.map, &outcome.map, spared)?;
-    write_record(store, request.out, made, spared)?;
-    write_all(output, &outcome.text)
+    write_picture(store, request.map, &made.outcome.map, spared)?;
+    write_record(store, request.out, &made.bytes, spared)?;
+    write_all(output, given)
 }
 
 /// Writes the picture, where a file for it is asked for.

@@ -1,3 +1,5 @@
+use Rattle.std.proofs.Common.{◌∙◌, ap}
+use Rattle.command_words.specs.Words.{is_given}
 use Rattle.command_words.proofs.words.request_in.Goals as goal
 
 pub returns-clause-settings : goal.returns-clause-settings
@@ -11,9 +13,10 @@ returns-clause-asked c =
     let formula = c.get_str.ensures in
     let folder = c.get_str-2.ensures in
     let file = c.get_str-3.ensures in
-    let picture = c.get_str-4.ensures in
-    let out = c.get_str-5.ensures in
-    let log = c.get_str-6.ensures in
+    let picture = c.get_str-5.ensures in
+    let out = c.get_str-6.ensures in
+    let log = c.get_str-7.ensures in
+    let lists = c.is_given.ensures ∙ ap is_given c.get_str-4.ensures in
     λ i. record {
       formula = formula i;
       file = file i;
@@ -21,4 +24,5 @@ returns-clause-asked c =
       picture = picture i;
       out = out i;
       log = log i;
+      lists = lists i;
     }
