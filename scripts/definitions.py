@@ -65,7 +65,8 @@ to it fails.""",
 The report is one text, fixed by the case that the bundle stands for and by the mark of each node: what its section's
 proof is judged to be from the formula and the node's path alone, or open where it has no section. With DIR the case is
 that of the bundle and, for each leaf in order and each at most once, a section under the leaf's own label where its
-file is there. With `--map` the picture is another text of the same case and marks.""",
+file is there. With `--map` the picture is another text of the same case and marks. With `--list-open` `command` writes,
+in the place of that text, the names of the leaves whose lines in it don't say that they are refuted (`shown`).""",
      ["cube_command/program.rt command refuted open",
       "cube_report/engine.rt run_one text correct",
       "cube_report/engine.rt run text correct",
@@ -73,7 +74,7 @@ file is there. With `--map` the picture is another text of the same case and mar
       "cube_report/engine.rt judge_bundle outcome",
       "cube_report/report.rt report_of -"]),
     ("A record names its formula", """
-With `--record` the file gets the very report that is written to standard output, under a line with the SHA-256 of the iCNF text that was read. So two records with one line are on one text, unless
+With `--record` the file gets the very report that is written to standard output, or whose open leaves are, under a line with the SHA-256 of the iCNF text that was read. So two records with one line are on one text, unless
 SHA-256 gives two texts one digest. `refuted` and `open` say it beside the report (`recorded` of `IsReported`), `records` that nothing else may be written there.""",
      ["cube_command/program.rt command refuted open records",
       "cube_command/record.rt digest_line_of -"]),
@@ -83,7 +84,7 @@ standard error, and which status comes when. Of `command`: 2 stands exactly wher
 memory is refused (`usage`, `taken`); with 4, standard error gets the line of F6 or of F14 (`memory`). 5 stands where a
 call that reads or writes failed. Otherwise it stands only where CNF or FILE isn't there, or where LOG couldn't be made,
 and then nothing was read or written (`failed`, `broken`). It comes with the line of F13 (`device`), after nothing or,
-where a write failed, a beginning of the report (`beginning`). The store changes no file that is read (`kept`): not CNF,
+where a write failed, a beginning of what is shown of the report (`beginning`). The store changes no file that is read (`kept`): not CNF,
 not FILE, and none of DIR that ends in `.lrat`, as their paths are written. These clauses speak of the store. Of LOG,
 which has a device of its own, and of what names one file by two paths they say nothing: scripts/files.sh tries both.""",
      ["cube_command/program.rt command status quiet elsewhere undrawn kept nothing beginning usage unread taken none memory device failed broken",
@@ -92,7 +93,7 @@ which has a device of its own, and of what names one file by two paths they say 
     ("Nothing else is written, also by a call that never returns", """
 A call that may wait need not return, and then its clauses on what it has written say nothing. So each write asks for
 its leave: a text has to be one that the outlet allows, and `command` and `run_io` are proved for all outlets that allow
-the report on the bundle that is judged, its picture at the path of `--map` and its record at that of `--record`, and
+what is shown of the report on the bundle that is judged, its picture at the path of `--map` and its record at that of `--record`, and
 nowhere else, the line of a fault that this bundle has, the lines of want of memory, of a thread or of a device, which
 are allowed at any time, and where the words can't be taken the parser's text. Whatever they write is one of these,
 before they end or never ending, since each `write` of `Sink` and `Store` asks for that; and after a report nothing is

@@ -41,10 +41,10 @@ use std::sync::Wait;
 use std::thread::Threads;
 
 /// The program on these words, which are those after its name: `[--workers N] [--cut D] [--formula
-/// CNF] [--proofs DIR] [--progress] [--explain] [--map SVG] [--record OUT] [--log LOG] [FILE]`. It
-/// reads a bundle from FILE, or from `input` where there is none, and writes the report to `output`
-/// or, where there is no report, one line to `errors`. Files are found by `store`. Both writers
-/// have to write at once, without a buffer of their own.
+/// CNF] [--proofs DIR] [--progress] [--explain] [--list-open] [--map SVG] [--record OUT] [--log
+/// LOG] [FILE]`. It reads a bundle from FILE, or from `input` where there is none, and writes the
+/// report to `output` or, where there is no report, one line to `errors`. Files are found by
+/// `store`. Both writers have to write at once, without a buffer of their own.
 ///
 /// With `--formula CNF` the clauses come from that file, a DIMACS text, and FILE adds cubes and
 /// sections, and no clause: the bundle is that text with its problem line overwritten by `p inccnf`
@@ -67,6 +67,9 @@ use std::thread::Threads;
 /// anew, with all proofs read beforehand, logs them once more. What `log` does is not `store`'s. No
 /// two of the three can be one file, nor one that is read: CNF, FILE or `DIR/NAME.lrat`, as their
 /// paths are written.
+///
+/// With `--list-open` `output` gets the leaves that the report doesn't call refuted, in the report's
+/// place and in its order: a line K for cube K, mJ for missing leaf J. The record has the report.
 ///
 /// Answers the status: 0 for a report that says refuted, 1 for one that says open, 2 where the
 /// words can't be taken or ask for help or the version, after the parser's text on `errors`, 3
@@ -101,8 +104,8 @@ where
     requires output { O.failures output.old < 2 ^ 64 - 1 }
     requires errors { E.failures errors.old < 2 ^ 64 - 1 }
 
-    // All that is written, also where the call doesn't return. To `output`: the report on the
-    // bundle that is judged.
+    // All that is written, also where the call doesn't return. To `output`: what is shown of the
+    // report on the bundle that is judged.
     requires reports { AllowsReportsFor (O.allows output.old) (D.held store.old)
         (asked_of (map S.text words.now)) (I.remaining input.old) }
     // To the file for the picture, and to no other: the picture of that bundle.
@@ -129,8 +132,9 @@ where
     ensures published { IsPublished result (D.held store.old) (asked_of (map S.text words.now)) }
 
     ensures status { IsStatus result }
-    // 0: exactly the report was written, on that bundle with the proofs of DIR: it says refuted.
-    // 1: it says open.
+    // 0: exactly what is shown of the report was written, on that bundle with the proofs of DIR: it
+    // says refuted. 1: it says open. What is shown is the report, and with `--list-open` its open
+    // leaves.
     ensures refuted { result ≡ 0 → IsReported (D.held store.old) (D.held store.new)
         (asked_of (map S.text words.now)) (I.remaining input.old)
         (O.contents output.old) (O.contents output.new) true }
@@ -150,7 +154,7 @@ where
         → D.held store.new path ≡ D.held store.old path }
 
     // With every other status but 5 nothing is written to `output`; with 5 nothing is, or a
-    // beginning of the report where a write failed.
+    // beginning of what is shown of the report where a write failed.
     ensures nothing { 1 < result → result < 5 → Keeps (O.contents output.old)
         (O.contents output.new) }
     ensures beginning { result ≡ 5 → Keeps (O.contents output.old) (O.contents output.new)
