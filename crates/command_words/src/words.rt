@@ -8,7 +8,7 @@ ghost use Rattle.clap.specs.Words.{app_of, found_of, kind_of, new_app, one_text,
 ghost use Rattle.proof_folder.specs.Added.{proof_path};
 ghost use Rattle.command_words.specs.Words.{AreApart, AreSpared, AreTaken, asked_of, cut_word};
 ghost use Rattle.command_words.specs.Words.{file_word, flag_word, is_given, IsNoProof, path_word};
-ghost use Rattle.command_words.specs.Words.{SparesRead};
+ghost use Rattle.command_words.specs.Words.{CanBeDone, GoesWith, SparesRead};
 ghost use Rattle.command_words.specs.Words.{with_version, words_taken, workers_word};
 ghost use Rattle.command_words.specs.Request.{asked_in, flag_text, Reads, SaysFlag, SaysNumber};
 ghost use Rattle.command_words.specs.Inner.Words.{asked_found, with_flags, with_inputs, with_lists};
@@ -28,6 +28,8 @@ pub struct Request<'a> {
     pub settings: Settings,
     /// The file with the formula, where it has one of its own.
     pub formula: Option<&'a str>,
+    /// The one proof of the whole formula, `-` for that on the program's input, where it is given.
+    pub proof: Option<&'a str>,
     /// The folder with the proofs of leaves, where one is given.
     pub proofs: Option<&'a str>,
     /// The file with the bundle, or `None` for the program's input.
@@ -94,7 +96,7 @@ pub fn request_of<'a, S: AsStr>(alloc: Global, words: &'a [S]) -> Result<Request
 {
     let matches = parser(alloc)?.try_get_matches_from(words)?;
     let request = request_in(&matches);
-    match clash_in(&request) {
+    match refusal_of(&request) {
         Some(text) => Err(conflict(alloc, text)?),
         None => Ok(request),
     }
@@ -118,6 +120,7 @@ fn request_in<'a>(matches: &ArgMatches<'a>) -> Request<'a>
     Request {
         settings: settings_in(matches),
         formula: matches.get_str("formula"),
+        proof: matches.get_str("proof"),
         proofs: matches.get_str("proofs"),
         file: matches.get_str("file"),
         progress: matches.get_flag("progress"),
@@ -136,6 +139,39 @@ fn is_given(text: Option<&str>) -> bool
     match text {
         Some(text) => text == "true",
         None => false,
+    }
+}
+
+/// Why the request can't be done, if it can't.
+fn refusal_of(request: &Request<'_>) -> Option<&'static str>
+    ensures none { result ≡ None → CanBeDone (asked_in request.now) }
+    ensures some { IfSome result (λ _. ¬ CanBeDone (asked_in request.now)) }
+{
+    if !fits_proof(request.proof, request.formula, request.file, request.proofs) {
+        return Some("'--proof' needs '--formula', and can't be used with FILE or '--proofs'");
+    }
+    clash_in(request)
+}
+
+/// Whether one proof of the whole formula, where it is asked for, has that formula's own file
+/// beside it, and neither a file with cubes nor a folder of proofs.
+fn fits_proof(
+    proof: Option<&str>,
+    formula: Option<&str>,
+    file: Option<&str>,
+    folder: Option<&str>,
+) -> bool
+    ensures { IsTrue result ↔ GoesWith (option_map (λ path. path.now) proof.entry)
+        (option_map (λ path. path.now) formula.entry)
+        (option_map (λ path. path.now) file.entry)
+        (option_map (λ path. path.now) folder.entry) }
+{
+    match (proof, formula, file, folder) {
+        (None, _, _, _) => true,
+        (Some(_), None, _, _) => false,
+        (Some(_), Some(_), Some(_), _) => false,
+        (Some(_), Some(_), None, Some(_)) => false,
+        (Some(_), Some(_), None, None) => true,
     }
 }
 
@@ -174,6 +210,9 @@ fn spares_read(written: Option<&str>, request: &Request<'_>) -> bool
         return false;
     }
     if !are_apart(written, request.file) {
+        return false;
+    }
+    if !are_apart(written, request.proof) {
         return false;
     }
     is_no_proof(request.proofs, written)
@@ -335,7 +374,7 @@ fn flags<'a>(alloc: Global) -> Result<Command<'a>, AllocError>
         ))
 }
 
-/// A parser that also takes the formula's file and the folder of proofs.
+/// A parser that also takes the formula's file, one proof and the folder of proofs.
 fn inputs<'a>(alloc: Global) -> Result<Command<'a>, AllocError>
     ensures { IfOk result (λ parser. app_of parser ≡ with_inputs) }
 {
@@ -345,6 +384,12 @@ fn inputs<'a>(alloc: Global) -> Result<Command<'a>, AllocError>
             "formula",
             "CNF",
             "Take the clauses from this DIMACS file; FILE has the cubes",
+        ))?
+        .arg(path_word(
+            alloc,
+            "proof",
+            "LRAT",
+            "Check this one proof of the whole formula, text or binary; - is standard input",
         ))?
         .arg(path_word(
             alloc,

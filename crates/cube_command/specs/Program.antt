@@ -14,7 +14,7 @@ use Rattle.cube_report.specs.Correct.{AllowsReports, IsCorrect, IsFaultOn, IsJud
 use Rattle.cube_report.specs.Correct.{IsUnsatisfiable}
 use Rattle.cube_command.specs.Open.{shown}
 use Rattle.cube_command.specs.Record.{AllowsRecords, record_text}
-use Rattle.cube_command.specs.Sources.{sources_of}
+use Rattle.cube_command.specs.Sources.{input_of, sources_of}
 use Rattle.cube_command.specs.Words.{Asked}
 
 -- one of the program's statuses
@@ -30,7 +30,7 @@ IsMade held (Some path) bytes = Gives held path (Some bytes)
 -- the bundle that is read for what is asked for, and the one that is judged: with DIR's proofs
 abbrev pub IsBundleFor : Held → Asked → Option (List ℕ) → List ℕ → List ℕ → Type 0
 IsBundleFor held asked input read whole =
-    IsBundleOf held (sources_of asked) asked.folder input read whole
+    IsBundleOf held (sources_of asked) asked.folder (input_of held asked input) read whole
 
 -- What is shown of the report on the bundle that is asked for was written, and nothing more: the
 -- report itself, where no list is asked for. Its last line gives this answer, and where it says
@@ -54,15 +54,19 @@ pub record IsBundleRefused (held : Held) (asked : Asked) (input : Option (List �
     : Type 0 where
   pub read : List ℕ
   pub whole : List ℕ
-  pub bundle : IsBundleFor held asked input read whole
+  pub bundle : IsBundleOf held (sources_of asked) asked.folder input read whole
   pub first : IsFaultOn whole fault
 
--- the bundle that is asked for has this fault; or the formula's own file has it, or there are
+-- so it is with this in the place of a file; or the formula's own file has the fault, or there are
 -- clauses that aren't in that file
-abbrev pub IsRefused : Held → Asked → Option (List ℕ) → Fault → Type 0
-IsRefused held asked input fault =
+abbrev pub IsRefusedFrom : Held → Asked → Option (List ℕ) → Fault → Type 0
+IsRefusedFrom held asked input fault =
     IsBundleRefused held asked input fault
     ⊎ IsFormulaFault held asked.formula asked.file input fault
+
+-- so it is with what is asked for
+abbrev pub IsRefused : Held → Asked → Option (List ℕ) → Fault → Type 0
+IsRefused held asked input fault = IsRefusedFrom held asked (input_of held asked input) fault
 
 -- a beginning of what is shown of the report on the bundle that is asked for was written
 pub record IsBegun (held : Held) (asked : Asked) (input old new : Option (List ℕ)) : Type 0 where

@@ -2,6 +2,7 @@
 #![tactic(auto)]
 
 mod asked;
+mod one_proof;
 mod open;
 // `command` stands here: a module can't have the name of an item beside it.
 mod program;

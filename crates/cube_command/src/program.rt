@@ -5,7 +5,7 @@ ghost use Rattle.std.specs.Prelude.{option_map, true, false, None, Some, IfOk, I
 ghost use Rattle.std.specs.Prelude.{IsErrOf, IfSome, [], Option};
 ghost use Rattle.std.specs.Io.KnownBytes.{Appends, Keeps};
 ghost use Rattle.cube_report.specs.Device.{AppendsBeginning, IsDeviceFault};
-ghost use Rattle.bundle_files.specs.Files.{StaysAllowed, lies_in};
+ghost use Rattle.bundle_files.specs.Files.{IsAbsent, StaysAllowed, lies_in};
 ghost use Rattle.bundle_files.specs.Formula.{IsOneAbsent, IsUnreadFrom};
 ghost use Rattle.bundle_files.specs.Judging.{IsOutcomeOf, IsRefusedOf, IsJudgingFault};
 ghost use Rattle.bundle_files.specs.Outlined.{IsOutlinedBy, IsRefutedBy};
@@ -14,7 +14,7 @@ ghost use Rattle.cube_report.specs.Faults.{IsInputFault};
 ghost use Rattle.cube_command.specs.Headline.{IsPublished, IsRefutedAsHanded, IsSound};
 ghost use Rattle.cube_command.specs.Headline.{IsSoundAsHanded};
 ghost use Rattle.cube_command.specs.Words.{AreApart, AreTaken, asked_of, IsElsewhere, IsInput};
-ghost use Rattle.cube_command.specs.Sources.{sources_of};
+ghost use Rattle.cube_command.specs.Sources.{input_by, input_of, sources_of};
 ghost use Rattle.cube_command.specs.Words.{nothing_asked};
 ghost use Rattle.cube_command.specs.Record.{record_text};
 ghost use Rattle.cube_command.specs.Program.{IsStatus, IsMade, IsReported, IsRefused, IsBegun};
@@ -22,10 +22,12 @@ ghost use Rattle.cube_command.specs.Program.{IsLineWritten, fault_line, AllowsFa
 ghost use Rattle.cube_command.specs.Program.{AllowsPicturesFor, AllowsRecordsFor};
 ghost use Rattle.cube_command.specs.Program.{AllowsReportsFor};
 ghost use Rattle.cube_command.specs.Inner.Recorded.{IsRecordedFor, IsRunRecorded};
+ghost use Rattle.cube_command.specs.Inner.Recorded.{IsUnreadBy, IsUnreadOf};
 ghost use Rattle.command_words.specs.Request.{asked_in};
 
 use crate::asked::{Telling, asked_in, fault_in};
 use crate::open::{names_asked, shown};
+use crate::one_proof::{Given, text_of_one};
 use crate::record::{begin_record, end_record};
 use crate::telling::{tell_refused, tell_run};
 use bundle_files::{
@@ -194,6 +196,7 @@ where
         (D.failures store.old + I.failures input.old + O.failures output.old
         < D.failures store.new + I.failures input.new + O.failures output.new)
         ⊎ IsOneAbsent (D.held store.old) (sources_of (asked_of (map S.text words.now)))
+        ⊎ IsAbsent (D.held store.old) (asked_of (map S.text words.now)).proof
         ⊎ (((asked_of (map S.text words.now)).log ≢ None)
         × (store.new ≡ store.old) × (input.new ≡ input.old)) }
 {
@@ -289,6 +292,7 @@ where
         (D.failures store.old + I.failures input.old + O.failures output.old
         < D.failures store.new + I.failures input.new + O.failures output.new)
         ⊎ IsOneAbsent (D.held store.old) (sources_of (asked_in request.now))
+        ⊎ IsAbsent (D.held store.old) (asked_in request.now).proof
         ⊎ (((asked_in request.now).log ≢ None)
         × (store.new ≡ store.old) × (input.new ≡ input.old)) }
 {
@@ -358,7 +362,8 @@ where
     ensures broken { IsErrOf result Fault.Device →
         (D.failures store.old + I.failures input.old + O.failures output.old
         < D.failures store.new + I.failures input.new + O.failures output.new)
-        ⊎ IsOneAbsent (D.held store.old) (sources_of (asked_in request.now)) }
+        ⊎ IsOneAbsent (D.held store.old) (sources_of (asked_in request.now))
+        ⊎ IsAbsent (D.held store.old) (asked_in request.now).proof }
 {
     let made = judge_request(rt, store, request, input, gate, telling, bundle)?;
     let names = names_asked(rt.alloc(), request.list_open, &made.outcome.text)?;
@@ -372,8 +377,16 @@ where
 fn inputs_of<'a>(request: &Request<'a>) -> Inputs<'a> {
     Inputs {
         formula: request.formula,
-        file: request.file,
+        file: file_of(request),
         proofs: request.proofs,
+    }
+}
+
+/// The file that is read in the place of the input: that with the bundle, or with one proof.
+fn file_of<'a>(request: &Request<'a>) -> Option<&'a str> {
+    match request.proof {
+        Some(path) if path != "-" => Some(path),
+        _ => request.file,
     }
 }
 
@@ -385,9 +398,96 @@ struct Recorded {
 }
 
 /// What the request's bundle is said to be, and the record of it where a file for that is asked
-/// for. Where the bundle is a file's, no folder adds proofs to it and nothing is told of it, its
-/// proofs are read one by one from their places; else all of it is read first.
+/// for.
 fn judge_request<R, D, I, G, X>(
+    rt: &R,
+    store: &mut D,
+    request: &Request<'_>,
+    input: &mut I,
+    gate: &G,
+    telling: &Telling<'_, X>,
+    bundle: &mut Vec<u8>,
+) -> Result<Recorded, Fault>
+where
+    R: AllocGlobal + Threads + Wait + Sync,
+    D: Store,
+    I: Source,
+    G: Gate + Sync,
+    X: Explain,
+    requires store { D.failures store.old < 2 ^ 64 - 1 }
+    requires input { I.failures input.old < 2 ^ 64 - 1 }
+    ensures held { D.held store.new ≡ D.held store.old }
+    ensures allowed { StaysAllowed (D.allows store.old) (D.allows store.new) }
+    ensures made { IfOk result (λ made. IsRecordedFor (D.held store.old) (asked_in request.now)
+        (input_of (D.held store.old) (asked_in request.now) (I.remaining input.old))
+        made.outcome.text.items made.outcome.map.items made.outcome.refuted made.bytes.items) }
+    ensures handed { IfOk result (λ made. made.outcome.refuted ≡ true → IsRefutedAsHanded D.hands
+        (asked_in request.now) (I.remaining input.old)) }
+    ensures fault { IfErr result (λ fault. IsInputFault fault → IsRefused (D.held store.old)
+        (asked_in request.now) (I.remaining input.old) fault) }
+    ensures ok { OnOk result ((D.failures store.new ≡ D.failures store.old)
+        × (I.failures input.new ≡ I.failures input.old)) }
+    ensures err { IfErr result (IsUnreadOf (D.held store.old) (asked_in request.now)
+        (D.failures store.old + I.failures input.old)
+        (D.failures store.new + I.failures input.new)) }
+{
+    match request.proof {
+        Some(path) => judge_one(rt, store, request, path, input, gate, telling, bundle),
+        None => judge_cubes(rt, store, request, input, gate, telling, bundle),
+    }
+}
+
+/// The same with one proof of the whole formula, at this path.
+fn judge_one<R, D, I, G, X>(
+    rt: &R,
+    store: &mut D,
+    request: &Request<'_>,
+    path: &str,
+    input: &mut I,
+    gate: &G,
+    telling: &Telling<'_, X>,
+    bundle: &mut Vec<u8>,
+) -> Result<Recorded, Fault>
+where
+    R: AllocGlobal + Threads + Wait + Sync,
+    D: Store,
+    I: Source,
+    G: Gate + Sync,
+    X: Explain,
+    requires store { D.failures store.old < 2 ^ 64 - 1 }
+    requires input { I.failures input.old < 2 ^ 64 - 1 }
+    ensures held { D.held store.new ≡ D.held store.old }
+    ensures allowed { StaysAllowed (D.allows store.old) (D.allows store.new) }
+    ensures made { IfOk result (λ made. IsRecordedFor (D.held store.old) (asked_in request.now)
+        (input_by (D.held store.old) (Some path.now) (I.remaining input.old))
+        made.outcome.text.items made.outcome.map.items made.outcome.refuted made.bytes.items) }
+    ensures handed { IfOk result (λ made. made.outcome.refuted ≡ true → IsRefutedFrom D.hands
+        (asked_in request.now) None) }
+    ensures fault { IfErr result (λ fault. IsInputFault fault → IsRefusedFrom (D.held store.old)
+        (asked_in request.now)
+        (input_by (D.held store.old) (Some path.now) (I.remaining input.old)) fault) }
+    ensures ok { OnOk result ((D.failures store.new ≡ D.failures store.old)
+        × (I.failures input.new ≡ I.failures input.old)) }
+    ensures err { IfErr result (IsUnreadBy (D.held store.old) (sources_of (asked_in request.now))
+        (Some path.now) (D.failures store.old + I.failures input.old)
+        (D.failures store.new + I.failures input.new)) }
+{
+    let text = text_of_one(rt.alloc(), store, input, path)?;
+    judge_cubes(
+        rt,
+        store,
+        request,
+        &mut Given::new(&text),
+        gate,
+        telling,
+        bundle,
+    )
+}
+
+/// The same with cubes and their proofs. Where the bundle is a file's, no folder adds proofs to it
+/// and nothing is told of it, its proofs are read one by one from their places; else all of it is
+/// read first.
+fn judge_cubes<R, D, I, G, X>(
     rt: &R,
     store: &mut D,
     request: &Request<'_>,
@@ -409,9 +509,9 @@ where
     ensures made { IfOk result (λ made. IsRecordedFor (D.held store.old) (asked_in request.now)
         (I.remaining input.old) made.outcome.text.items made.outcome.map.items
         made.outcome.refuted made.bytes.items) }
-    ensures handed { IfOk result (λ made. made.outcome.refuted ≡ true → IsRefutedAsHanded D.hands
+    ensures handed { IfOk result (λ made. made.outcome.refuted ≡ true → IsRefutedFrom D.hands
         (asked_in request.now) (I.remaining input.old)) }
-    ensures fault { IfErr result (λ fault. IsInputFault fault → IsRefused (D.held store.old)
+    ensures fault { IfErr result (λ fault. IsInputFault fault → IsRefusedFrom (D.held store.old)
         (asked_in request.now) (I.remaining input.old) fault) }
     ensures ok { OnOk result ((D.failures store.new ≡ D.failures store.old)
         × (I.failures input.new ≡ I.failures input.old)) }
@@ -444,7 +544,7 @@ where
         → IsRecordedFor (D.held store.old) (asked_in request.now) input made.outcome.text.items
         made.outcome.map.items made.outcome.refuted made.bytes.items)) }
     ensures handed { IfOk result (λ some. IfSome some (λ made. made.outcome.refuted ≡ true
-        → (input : Option (List ℕ)) → IsRefutedAsHanded D.hands (asked_in request.now) input)) }
+        → (input : Option (List ℕ)) → IsRefutedFrom D.hands (asked_in request.now) input)) }
     ensures fault { IfErr result (λ fault. ¬ IsInputFault fault) }
     ensures ok { OnOk result (D.failures store.new ≡ D.failures store.old) }
     ensures err { IfErr result (IsUnreadFrom (D.held store.old) (sources_of (asked_in request.now))
@@ -534,9 +634,9 @@ where
     ensures made { IfOk result (λ made. IsRecordedFor (D.held store.old) (asked_in request.now)
         (I.remaining input.old) made.outcome.text.items made.outcome.map.items
         made.outcome.refuted made.bytes.items) }
-    ensures handed { IfOk result (λ made. made.outcome.refuted ≡ true → IsRefutedAsHanded D.hands
+    ensures handed { IfOk result (λ made. made.outcome.refuted ≡ true → IsRefutedFrom D.hands
         (asked_in request.now) (I.remaining input.old)) }
-    ensures fault { IfErr result (λ fault. IsInputFault fault → IsRefused (D.held store.old)
+    ensures fault { IfErr result (λ fault. IsInputFault fault → IsRefusedFrom (D.held store.old)
         (asked_in request.now) (I.remaining input.old) fault) }
     ensures ok { OnOk result ((D.failures store.new ≡ D.failures store.old)
         × (I.failures input.new ≡ I.failures input.old)) }

@@ -10,12 +10,13 @@ abbrev pub with_numbers : App
 with_numbers =
     with_rule (with_rule (with_version (new_app (codes "cubeboard"))) workers_word) cut_word
 
--- those with the formula's file and the folder of proofs, then with what is told beside the report,
+-- those with the formula's file, one proof and the folder of proofs, then with what is told beside the report,
 -- then with what is written in its place, then with the files for the picture and the record, then
 -- with that for the log
 abbrev pub with_inputs : App
 with_inputs =
-    with_rule (with_rule with_numbers (path_word (codes "formula"))) (path_word (codes "proofs"))
+    with_rule (with_rule (with_rule with_numbers (path_word (codes "formula")))
+    (path_word (codes "proof"))) (path_word (codes "proofs"))
 
 abbrev pub with_flags : App
 with_flags =
@@ -36,6 +37,7 @@ abbrev pub asked_found : Found → Asked
 asked_found found = record {
   formula = first_value found (codes "formula");
   file = first_value found (codes "file");
+  proof = first_value found (codes "proof");
   folder = first_value found (codes "proofs");
   picture = first_value found (codes "map");
   out = first_value found (codes "record");
