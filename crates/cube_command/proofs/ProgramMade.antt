@@ -15,7 +15,7 @@ use Rattle.cube_report.specs.Case.{CaseOf}
 use Rattle.cube_report.specs.Correct.{IsOutcome, IsUnsatisfiable}
 use Rattle.bundle_files.specs.Sections.{IsCaseOf}
 use Rattle.cube_report.specs.declared.fault.Fault.{Fault}
-use Rattle.cube_command.specs.Headline.{IsFormulaRefuted, IsRefutedAsHanded}
+use Rattle.cube_command.specs.Headline.{IsFormulaRefuted, IsRefutedFrom}
 use Rattle.cube_command.specs.Record.{digest_line, record_text}
 use Rattle.cube_command.specs.Sources.{sources_of}
 use Rattle.cube_command.specs.Words.{Asked}
@@ -112,7 +112,7 @@ pub handed_section : (run : Result (Option Recorded) Fault) (hands : List ℕ �
     → IfOk run (λ some. IfSome some (λ made. made.outcome.refuted ≡ true
     → IsRefutedBy hands asked.formula path))
     → IfOk run (λ some. IfSome some (λ made. made.outcome.refuted ≡ true
-    → (input : Option (List ℕ)) → IsRefutedAsHanded hands asked input))
+    → (input : Option (List ℕ)) → IsRefutedFrom hands asked input))
 handed_section (Err fault) hands asked path file handed = tt
 handed_section (Ok None) hands asked path file handed = tt
 handed_section (Ok (Some made)) hands asked path file handed = λ says input.
@@ -134,7 +134,7 @@ pub handed_read : (run : Result Recorded Fault) (hands : List ℕ → List ℕ �
     → IsBundleBy hands asked.formula asked.file input read
     → IfOk run (λ made. IsOutcomeOf held asked.folder read draws made.outcome.text.items
     made.outcome.map.items made.outcome.refuted)
-    → IfOk run (λ made. made.outcome.refuted ≡ true → IsRefutedAsHanded hands asked input)
+    → IfOk run (λ made. made.outcome.refuted ≡ true → IsRefutedFrom hands asked input)
 handed_read (Err fault) hands held asked input read draws is outcome = tt
 handed_read (Ok made) hands held asked input read draws is outcome = λ says.
     let none : IsUnsatisfiable read =

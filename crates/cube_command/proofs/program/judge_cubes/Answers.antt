@@ -1,4 +1,4 @@
-use Rattle.cube_command.proofs.program.judge_request.Goals as goal
+use Rattle.cube_command.proofs.program.judge_cubes.Goals as goal
 
 pub returns-in-Some-clause-made : goal.returns-in-Some-clause-made
 returns-in-Some-clause-made g c =
