@@ -5,7 +5,7 @@ use Rattle.std.specs.Prelude.{IfSome, is_some, option_map, if◌then◌else◌}
 use Rattle.std.proofs.Common.{Result, Ok, Err, IfOk, IfErr, OnErr, MatchResult, inl, inr, arith}
 use Rattle.std.specs.Io.KnownBytes.{Appends, Keeps}
 use Rattle.bundle_files.specs.Files.{Held, Gives, IsJudgedOf, lies_in}
-use Rattle.bundle_files.specs.Formula.{IsReadBy, IsReadFrom}
+use Rattle.bundle_files.specs.Formula.{IsBundleOf, IsReadBy, IsReadFrom}
 use Rattle.bundle_files.proofs.FormulaText.{published}
 use Rattle.bundle_files.proofs.LawsFormula.{judged_unsatisfiable}
 use Rattle.cube_report.specs.declared.fault.Fault.{Fault}
@@ -26,7 +26,7 @@ use Rattle.cube_command.specs.Program.{IsMade, IsRefused, IsReported, IsLineWrit
 use Rattle.cube_command.specs.Program.{AllowsFaults, IsBegun, IsBundleFor, IsPictureOn}
 use Rattle.cube_command.specs.Open.{open_names, shown}
 use Rattle.cube_command.specs.Record.{digest_line, record_text}
-use Rattle.cube_command.specs.Sources.{sources_of}
+use Rattle.cube_command.specs.Sources.{input_of, sources_of}
 use Rattle.cube_command.specs.Words.{Asked}
 use Rattle.cube_command.specs.Inner.Telling.{IsFaultWritten, status_of, status_of_answer}
 
@@ -49,7 +49,7 @@ some_mapped f (Some path) there is = is
 -- a bundle that was read, and the one that is judged for it
 pub bundle_of : (held : Held) (asked : Asked) (input : Option (List ℕ)) (read whole : List ℕ) →
     IsReadFrom held (sources_of asked) input read → IsJudgedOf held asked.folder read whole →
-    IsBundleFor held asked input read whole
+    IsBundleOf held (sources_of asked) asked.folder input read whole
 bundle_of held asked input read whole is_read is_judged = record {
   is_read = is_read;
   is_judged = is_judged;
@@ -244,7 +244,8 @@ pub sound_run : (held later : Held) (asked : Asked) (input out_old out_new : Opt
     (before after : ℕ)
     → ToldRun run status Same old new before after
     → IfOk run (IsReported held later asked input out_old out_new) → status ≡ 0
-    → (read : List ℕ) × IsReadFrom held (sources_of asked) input read × IsUnsatisfiable read
+    → (read : List ℕ) × IsReadFrom held (sources_of asked) (input_of held asked input) read
+    × IsUnsatisfiable read
 sound_run held later asked input out_old out_new (Ok true) status Same old new before after told
     report is = (report.read, report.bundle.is_read, report.sound refl)
 sound_run held later asked input out_old out_new (Ok false) status Same old new before after told
@@ -282,10 +283,10 @@ published_by : (held later : Held) (asked : Asked) (input out_old out_new : Opti
     → IfSome formula (IsPublishedAt held)
 published_by held later asked input out_old out_new None same report = tt
 published_by held later asked input out_old out_new (Some path) same report =
-    published (lies_in held) held path asked.file input asked.folder report.read report.whole
-    report.correct.case
-    (subst (λ (f : Option (List ℕ)). IsReadBy held f asked.file input report.read) same
-    report.bundle.is_read) report.bundle.is_judged report.correct.judged.case_is
+    published (lies_in held) held path asked.file (input_of held asked input) asked.folder
+    report.read report.whole report.correct.case
+    (subst (λ (f : Option (List ℕ)). IsReadBy held f asked.file (input_of held asked input)
+    report.read) same report.bundle.is_read) report.bundle.is_judged report.correct.judged.case_is
     (report.sound refl)
 
 pub published_run : (held later : Held) (asked : Asked) (input out_old out_new : Option (List ℕ))

@@ -3,5 +3,6 @@ pub mod Sources
 pub mod Headline
 pub mod Record
 pub mod Open
+pub mod Laws
 pub mod Program
 pub mod Inner

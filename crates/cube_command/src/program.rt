@@ -26,8 +26,8 @@ ghost use Rattle.cube_command.specs.Inner.Recorded.{IsUnreadBy, IsUnreadOf};
 ghost use Rattle.command_words.specs.Request.{asked_in};
 
 use crate::asked::{Telling, asked_in, fault_in};
-use crate::open::{names_asked, shown};
 use crate::one_proof::{Given, text_of_one};
+use crate::open::{names_asked, shown};
 use crate::record::{begin_record, end_record};
 use crate::telling::{tell_refused, tell_run};
 use bundle_files::{
@@ -70,8 +70,8 @@ use std::thread::Threads;
 /// two of the three can be one file, nor one that is read: CNF, FILE or `DIR/NAME.lrat`, as their
 /// paths are written.
 ///
-/// With `--list-open` `output` gets the leaves that the report doesn't call refuted, in the report's
-/// place and in its order: a line K for cube K, mJ for missing leaf J. The record has the report.
+/// With `--list-open` `output` gets, in the report's place and in its order, the leaves that it
+/// doesn't call refuted: a line K for cube K, mJ for missing leaf J. The record has the report.
 ///
 /// Answers the status: 0 for a report that says refuted, 1 for one that says open, 2 where the
 /// words can't be taken or ask for help or the version, after the parser's text on `errors`, 3

@@ -1,4 +1,4 @@
-use Rattle.std.proofs.Common.{◌≡◌, ◌∙◌, sym, rules}
+use Rattle.std.proofs.Common.{◌∙◌, sym, rules}
 use Rattle.cube_command.proofs.OpenNames.{cube_line, missing_line, other_line, refuted_line}
 use Rattle.cube_command.proofs.open.add_name.Goals as goal
 
