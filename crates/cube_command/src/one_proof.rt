@@ -15,6 +15,7 @@ use std::io;
 use std::io::Read;
 
 /// A text as a source, of which no read fails.
+#[derive(Drop)]
 pub(crate) struct Given<'t> {
     text: &'t [u8],
 }
@@ -22,7 +23,7 @@ pub(crate) struct Given<'t> {
 impl<'t> Given<'t> {
     /// This text, from its beginning on.
     pub(crate) fn new(text: &'t [u8]) -> Given<'t>
-        ensures { result.text ≡ text }
+        ensures { result.text ≡ text.entry }
     {
         Given { text }
     }

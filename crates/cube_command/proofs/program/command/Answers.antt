@@ -1,4 +1,4 @@
-use Rattle.std.proofs.Common.{◌≡◌, arith, map, subst, sym}
+use Rattle.std.proofs.Common.{◌≡◌, arith, map, subst, sym, true, IfOk}
 use Rattle.cube_command.specs.Words.{AreApart, Asked, asked_of, IsElsewhere}
 use Rattle.cube_command.specs.Headline.{IsRefutedAsHanded}
 use Rattle.cube_command.specs.Program.{AllowsPicturesFor, AllowsRecordsFor, AllowsReportsFor}
@@ -119,4 +119,7 @@ returns-in-Ok-clause-handed g c = λ zero.
     (g.E.Sink.contents c.args.errors.now) (g.E.Sink.contents c.tell_run-status.new.errors)
     (g.E.Sink.failures c.args.errors.now) (g.E.Sink.failures c.tell_run-status.new.errors)
     c.tell_run-status.ensures.told
-    (rw c.in-Ok.ensures.asked at c.run_request-run.ensures.handed) zero
+    (subst
+    (λ (a : Asked). IfOk c.run_request-run.result (λ refuted. refuted ≡ true
+    → IsRefutedAsHanded g.D.Store.hands a (g.I.Source.remaining c.args.input.now)))
+    c.in-Ok.ensures.asked c.run_request-run.ensures.handed) zero
