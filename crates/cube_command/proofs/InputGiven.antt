@@ -1,33 +1,29 @@
--- What is said of a run on a text, where less is known of what it was: one proof in the place of
--- cubes and proofs.
-use Rattle.std.proofs.Common.{◌≡◌, ◌∙◌, ◌+◌, ◌⊎◌, arith, inl, inr, ℕ, Bool, List, Option, None, Some}
-use Rattle.std.proofs.Common.{Result, Ok, Err, IfOk, IfErr, true}
-use Rattle.std.specs.Prelude.{IfSome}
-use Rattle.cube_report.specs.Device.{IsLeft}
+-- What is said of a run on one proof, in the place of cubes and proofs.
+use Rattle.std.proofs.Common.{◌≡◌, refl, subst, sym, ℕ, Bool, List, Option, None, Some, Result, Ok, Err}
+use Rattle.std.proofs.Common.{IfOk, IfErr, true}
 use Rattle.cube_report.specs.declared.fault.Fault.{Fault}
-use Rattle.cube_report.specs.declared.fault.Fault.TheVariants.{Device}
 use Rattle.cube_report.specs.Faults.{IsInputFault}
-use Rattle.bundle_files.specs.Files.{Held, IsTextAt, lies_in}
-use Rattle.bundle_files.specs.Formula.{AddsClauses, IsBundleBy, IsFormulaFault, IsUnder}
-use Rattle.bundle_files.specs.Formula.{IsUnreadFrom, Sources}
+use Rattle.bundle_files.specs.Files.{Held, IsTextAt}
+use Rattle.bundle_files.specs.Formula.{IsBundleBy, IsBundleOf, IsUnder}
 use Rattle.cube_command.specs.Headline.{IsRefutedFrom}
 use Rattle.cube_command.specs.Program.{IsRefusedFrom}
+use Rattle.cube_command.specs.Sources.{IsSoBy, sources_of}
 use Rattle.cube_command.specs.Words.{Asked}
-use Rattle.cube_command.specs.Inner.Recorded.{IsRecordedFor}
+use Rattle.cube_command.specs.Inner.Recorded.{IsRecordedFor, IsRecordedFrom}
 use Rattle.cube_command.specs.declared.program.Recorded.{Recorded}
 
-text_at : (has : List ℕ → List ℕ → Type 0) (file left : Option (List ℕ)) (text rest : List ℕ)
-    → IsLeft left text → IsTextAt has file (Some text) rest → IsTextAt has file left rest
-text_at has None None text rest is at = tt
-text_at has None (Some known) text rest is at = at ∙ is
-text_at has (Some path) left text rest is at = at
+-- ---- where nothing is known of what lies at a path
 
-bundle_by : (has : List ℕ → List ℕ → Type 0) (formula file left : Option (List ℕ))
+text_at : (has : List ℕ → List ℕ → Type 0) (file : Option (List ℕ)) (text rest : List ℕ) →
+    IsTextAt has file (Some text) rest → IsTextAt has file None rest
+text_at has None text rest at = tt
+text_at has (Some path) text rest at = at
+
+bundle_by : (has : List ℕ → List ℕ → Type 0) (formula file : Option (List ℕ))
     (text read : List ℕ)
-    → IsLeft left text → IsBundleBy has formula file (Some text) read →
-    IsBundleBy has formula file left read
-bundle_by has None file left text read is by = text_at has file left text read is by
-bundle_by has (Some path) file left text read is by = record {
+    → IsBundleBy has formula file (Some text) read → IsBundleBy has formula file None read
+bundle_by has None file text read by = text_at has file text read by
+bundle_by has (Some path) file text read by = record {
   text = by.text;
   given = by.given;
   formula = by.formula;
@@ -35,73 +31,9 @@ bundle_by has (Some path) file left text read is by = record {
   over = by.over;
   overwritten = by.overwritten;
   rest = by.rest;
-  is_rest = text_at has file left text by.rest is by.is_rest;
+  is_rest = text_at has file text by.rest by.is_rest;
   whole = by.whole;
   no_clause_more = by.no_clause_more;
-}
-
-formula_fault : (held : Held) (formula file left : Option (List ℕ)) (text : List ℕ) (fault : Fault)
-    → IsLeft left text → IsFormulaFault held formula file (Some text) fault →
-    IsFormulaFault held formula file left fault
-formula_fault held None file left text fault is has = has
-formula_fault held (Some path) file left text fault is (given, lies, inl dimacs) =
-    (given, lies, inl dimacs)
-formula_fault held (Some path) file left text fault is (given, lies, inr adds) = (
-  given,
-  lies,
-  inr (record {
-    formula = adds.formula;
-    dimacs = adds.dimacs;
-    over = adds.over;
-    overwritten = adds.overwritten;
-    rest = adds.rest;
-    is_rest = text_at (lies_in held) file left text adds.rest is adds.is_rest;
-    items = adds.items;
-    stands = adds.stands;
-    more = adds.more;
-    is = adds.is;
-  }),
-)
-
-refused_from : (held : Held) (asked : Asked) (left : Option (List ℕ)) (text : List ℕ)
-    (fault : Fault)
-    → IsLeft left text → IsRefusedFrom held asked (Some text) fault →
-    IsRefusedFrom held asked left fault
-refused_from held asked left text fault is (inl bundle) = inl (record {
-  read = bundle.read;
-  whole = bundle.whole;
-  bundle = record {
-    is_read =
-        bundle_by (lies_in held) asked.formula asked.file left text bundle.read is
-        bundle.bundle.is_read;
-    is_judged = bundle.bundle.is_judged;
-  };
-  first = bundle.first;
-})
-refused_from held asked left text fault is (inr formula) =
-    inr (formula_fault held asked.formula asked.file left text fault is formula)
-
--- ---- the run
-
-pub made_given : (run : Result Recorded Fault) (held : Held) (asked : Asked)
-    (left : Option (List ℕ)) (text : List ℕ)
-    → IsLeft left text
-    → IfOk run (λ made. IsRecordedFor held asked (Some text) made.outcome.text.items
-    made.outcome.map.items made.outcome.refuted made.bytes.items)
-    → IfOk run (λ made. IsRecordedFor held asked left made.outcome.text.items
-    made.outcome.map.items made.outcome.refuted made.bytes.items)
-made_given (Err fault) held asked left text is made = tt
-made_given (Ok recorded) held asked left text is made = record {
-  read = made.read;
-  whole = made.whole;
-  bundle = record {
-    is_read =
-        bundle_by (lies_in held) asked.formula asked.file left text made.read is
-        made.bundle.is_read;
-    is_judged = made.bundle.is_judged;
-  };
-  outcome = made.outcome;
-  recorded = made.recorded;
 }
 
 pub handed_given : (run : Result Recorded Fault) (hands : List ℕ → List ℕ → Type 0)
@@ -112,17 +44,67 @@ handed_given (Err fault) hands asked text handed = tt
 handed_given (Ok recorded) hands asked text handed = λ says.
     let refuted = handed says in record {
       read = refuted.read;
-      handed =
-          bundle_by hands asked.formula asked.file None text refuted.read tt refuted.handed;
+      handed = bundle_by hands asked.formula asked.file text refuted.read refuted.handed;
       none = refuted.none;
       formula = refuted.formula;
     }
 
-pub refused_given : (run : Result Recorded Fault) (held : Held) (asked : Asked)
-    (left : Option (List ℕ)) (text : List ℕ)
-    → IsLeft left text
-    → IfErr run (λ fault. IsInputFault fault → IsRefusedFrom held asked (Some text) fault)
-    → IfErr run (λ fault. IsInputFault fault → IsRefusedFrom held asked left fault)
-refused_given (Ok recorded) held asked left text is refused = tt
-refused_given (Err fault) held asked left text is refused =
-    λ input. refused_from held asked left text fault is (refused input)
+-- ---- what is so of a text that is one proof's
+
+pub ok_given : (run : Result Recorded Fault) (held : Held) (path : List ℕ)
+    (input : Option (List ℕ)) (text : List ℕ) (So : Option (List ℕ) → Recorded → Type 0)
+    → IsSoBy held (Some path) input (λ given. given ≡ Some text)
+    → IfOk run (So (Some text))
+    → IfOk run (λ made. IsSoBy held (Some path) input (λ given. So given made))
+ok_given (Err fault) held path input text So is made = tt
+ok_given (Ok recorded) held path input text So is made =
+    (is.0, is.1, subst (λ (g : Option (List ℕ)). So g recorded) (sym is.2) made)
+
+pub err_given : (run : Result Recorded Fault) (held : Held) (path : List ℕ)
+    (input : Option (List ℕ)) (text : List ℕ) (So : Option (List ℕ) → Fault → Type 0)
+    → IsSoBy held (Some path) input (λ given. given ≡ Some text)
+    → IfErr run (λ fault. IsInputFault fault → So (Some text) fault)
+    → IfErr run
+    (λ fault. IsInputFault fault → IsSoBy held (Some path) input (λ given. So given fault))
+err_given (Ok recorded) held path input text So is refused = tt
+err_given (Err fault) held path input text So is refused = λ of_input.
+    (is.0, is.1, subst (λ (g : Option (List ℕ)). So g fault) (sym is.2) (refused of_input))
+
+-- ---- what is so of what is asked for
+
+recorded_by : (held : Held) (asked : Asked) (proof input : Option (List ℕ))
+    (report map : List ℕ) (answer : Bool) (made : List ℕ) → proof ≡ asked.proof
+    → IsSoBy held proof input
+    (λ given. IsRecordedFrom held asked given report map answer made)
+    → IsRecordedFor held asked input report map answer made
+recorded_by held asked None input report map answer made same run = record {
+  read = run.read;
+  whole = run.whole;
+  bundle = subst (λ (p : Option (List ℕ)). IsSoBy held p input (λ given. IsBundleOf held
+      (sources_of asked) asked.folder given run.read run.whole)) same run.bundle;
+  outcome = run.outcome;
+  recorded = run.recorded;
+}
+recorded_by held asked (Some path) input report map answer made same run =
+    let one = run.2 in record {
+      read = one.read;
+      whole = one.whole;
+      bundle =
+          subst (λ (p : Option (List ℕ)). IsSoBy held p input (λ given. IsBundleOf held
+          (sources_of asked) asked.folder given one.read one.whole)) same
+          (run.0, run.1, one.bundle);
+      outcome = one.outcome;
+      recorded = one.recorded;
+    }
+
+pub recorded_for : (run : Result Recorded Fault) (held : Held) (asked : Asked)
+    (input : Option (List ℕ))
+    → IfOk run (λ made. IsSoBy held asked.proof input
+    (λ given. IsRecordedFrom held asked given made.outcome.text.items made.outcome.map.items
+    made.outcome.refuted made.bytes.items))
+    → IfOk run (λ made. IsRecordedFor held asked input made.outcome.text.items
+    made.outcome.map.items made.outcome.refuted made.bytes.items)
+recorded_for (Err fault) held asked input made = tt
+recorded_for (Ok recorded) held asked input made =
+    recorded_by held asked asked.proof input recorded.outcome.text.items
+    recorded.outcome.map.items recorded.outcome.refuted recorded.bytes.items refl made

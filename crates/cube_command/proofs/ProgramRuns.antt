@@ -26,7 +26,7 @@ use Rattle.cube_command.specs.Program.{IsMade, IsRefused, IsReported, IsLineWrit
 use Rattle.cube_command.specs.Program.{AllowsFaults, IsBegun, IsBundleFor, IsPictureOn}
 use Rattle.cube_command.specs.Open.{open_names, shown}
 use Rattle.cube_command.specs.Record.{digest_line, record_text}
-use Rattle.cube_command.specs.Sources.{input_of, sources_of}
+use Rattle.cube_command.specs.Sources.{IsSoBy, IsSoOf, of_one_proof, sources_of}
 use Rattle.cube_command.specs.Words.{Asked}
 use Rattle.cube_command.specs.Inner.Telling.{IsFaultWritten, status_of, status_of_answer}
 
@@ -55,6 +55,24 @@ bundle_of held asked input read whole is_read is_judged = record {
   is_judged = is_judged;
 }
 
+-- what the bundle was read from
+given_for : (held : Held) (asked : Asked) (proof input : Option (List ℕ)) (read whole : List ℕ)
+    → IsSoBy held proof input
+    (λ given. IsBundleOf held (sources_of asked) asked.folder given read whole)
+    → (given : Option (List ℕ))
+    × IsBundleOf held (sources_of asked) asked.folder given read whole
+given_for held asked None input read whole bundle = (input, bundle)
+given_for held asked (Some path) input read whole bundle =
+    (Some (of_one_proof bundle.0), bundle.2)
+
+read_for : (held : Held) (asked : Asked) (proof input : Option (List ℕ)) (read whole : List ℕ)
+    → IsSoBy held proof input
+    (λ given. IsBundleOf held (sources_of asked) asked.folder given read whole)
+    → IsSoBy held proof input (λ given. IsReadFrom held (sources_of asked) given read)
+read_for held asked None input read whole bundle = bundle.is_read
+read_for held asked (Some path) input read whole bundle =
+    (bundle.0, bundle.1, bundle.2.is_read)
+
 -- what was written, the picture and the record are those of the report on the bundle that was
 -- asked for
 pub reported : (held after : Held) (asked : Asked) (input old new : Option (List ℕ))
@@ -73,7 +91,8 @@ reported held after asked input old new read whole text picture made given draws
       correct = outcome.correct;
       written = subst (Appends old new) is written;
       sound =
-          λ says. judged_unsatisfiable held asked.folder read whole bundle.is_judged
+          λ says. judged_unsatisfiable held asked.folder read whole
+          (given_for held asked asked.proof input read whole bundle).1.is_judged
           (outcome.correct.sound says);
       drawn = made_there after asked.picture _ picture
           (λ at is. outcome.drawn
@@ -244,10 +263,15 @@ pub sound_run : (held later : Held) (asked : Asked) (input out_old out_new : Opt
     (before after : ℕ)
     → ToldRun run status Same old new before after
     → IfOk run (IsReported held later asked input out_old out_new) → status ≡ 0
-    → (read : List ℕ) × IsReadFrom held (sources_of asked) (input_of held asked input) read
+    → (read : List ℕ)
+    × IsSoOf held asked input (λ given. IsReadFrom held (sources_of asked) given read)
     × IsUnsatisfiable read
 sound_run held later asked input out_old out_new (Ok true) status Same old new before after told
-    report is = (report.read, report.bundle.is_read, report.sound refl)
+    report is = (
+      report.read,
+      read_for held asked asked.proof input report.read report.whole report.bundle,
+      report.sound refl,
+    )
 sound_run held later asked input out_old out_new (Ok false) status Same old new before after told
     report is = let one : status ≡ 1 = told.0 in absurd (omega arith)
 sound_run held later asked input out_old out_new (Err fault) status Same old new before after
@@ -283,10 +307,11 @@ published_by : (held later : Held) (asked : Asked) (input out_old out_new : Opti
     → IfSome formula (IsPublishedAt held)
 published_by held later asked input out_old out_new None same report = tt
 published_by held later asked input out_old out_new (Some path) same report =
-    published (lies_in held) held path asked.file (input_of held asked input) asked.folder
-    report.read report.whole report.correct.case
-    (subst (λ (f : Option (List ℕ)). IsReadBy held f asked.file (input_of held asked input)
-    report.read) same report.bundle.is_read) report.bundle.is_judged report.correct.judged.case_is
+    let given = given_for held asked asked.proof input report.read report.whole report.bundle in
+    published (lies_in held) held path asked.file given.0 asked.folder report.read report.whole
+    report.correct.case
+    (subst (λ (f : Option (List ℕ)). IsReadBy held f asked.file given.0 report.read) same
+    given.1.is_read) given.1.is_judged report.correct.judged.case_is
     (report.sound refl)
 
 pub published_run : (held later : Held) (asked : Asked) (input out_old out_new : Option (List ℕ))

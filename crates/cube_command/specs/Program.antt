@@ -14,7 +14,7 @@ use Rattle.cube_report.specs.Correct.{AllowsReports, IsCorrect, IsFaultOn, IsJud
 use Rattle.cube_report.specs.Correct.{IsUnsatisfiable}
 use Rattle.cube_command.specs.Open.{shown}
 use Rattle.cube_command.specs.Record.{AllowsRecords, record_text}
-use Rattle.cube_command.specs.Sources.{input_of, sources_of}
+use Rattle.cube_command.specs.Sources.{IsSoOf, sources_of}
 use Rattle.cube_command.specs.Words.{Asked}
 
 -- one of the program's statuses
@@ -30,7 +30,8 @@ IsMade held (Some path) bytes = Gives held path (Some bytes)
 -- the bundle that is read for what is asked for, and the one that is judged: with DIR's proofs
 abbrev pub IsBundleFor : Held → Asked → Option (List ℕ) → List ℕ → List ℕ → Type 0
 IsBundleFor held asked input read whole =
-    IsBundleOf held (sources_of asked) asked.folder (input_of held asked input) read whole
+    IsSoOf held asked input
+    (λ given. IsBundleOf held (sources_of asked) asked.folder given read whole)
 
 -- What is shown of the report on the bundle that is asked for was written, and nothing more: the
 -- report itself, where no list is asked for. Its last line gives this answer, and where it says
@@ -66,7 +67,8 @@ IsRefusedFrom held asked input fault =
 
 -- so it is with what is asked for
 abbrev pub IsRefused : Held → Asked → Option (List ℕ) → Fault → Type 0
-IsRefused held asked input fault = IsRefusedFrom held asked (input_of held asked input) fault
+IsRefused held asked input fault =
+    IsSoOf held asked input (λ given. IsRefusedFrom held asked given fault)
 
 -- a beginning of what is shown of the report on the bundle that is asked for was written
 pub record IsBegun (held : Held) (asked : Asked) (input old new : Option (List ℕ)) : Type 0 where

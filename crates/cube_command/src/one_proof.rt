@@ -1,11 +1,11 @@
 //! One proof of the whole formula, in the place of a text of cubes and proofs.
 
-ghost use Rattle.std.specs.Prelude.{◌≡◌, ◌≢◌, ◌⊎◌, ◌<◌, ◌+◌, ◌^◌, ◌-◌, Some, option_map, IfOk};
-ghost use Rattle.std.specs.Prelude.{IfErr, OnOk};
-ghost use Rattle.lrat_binary.specs.Binary.{proof_text};
-ghost use Rattle.cube_report.specs.Device.{IsDeviceFault, IsLeft, IsReadOf};
+ghost use Rattle.std.specs.Prelude.{◌≡◌, ◌<◌, ◌+◌, ◌++◌, ◌^◌, ◌-◌, ℕ, List, Some, IfOk, IfErr};
+ghost use Rattle.std.specs.Prelude.{IfSome, OnOk};
+ghost use Rattle.case_core.specs.Binary.{proof_text};
+ghost use Rattle.cube_report.specs.Device.{IsDeviceFault};
 ghost use Rattle.bundle_files.specs.Files.{IsUnread, StaysAllowed};
-ghost use Rattle.cube_command.specs.Sources.{input_by, proof_at};
+ghost use Rattle.cube_command.specs.Sources.{IsProofAt, IsSoBy};
 
 use bundle_files::Store;
 use case_core::turn_from;
@@ -56,8 +56,8 @@ pub(crate) fn text_of_one<D: Store, I: Source>(
     requires input { I.failures input.old < 2 ^ 64 - 1 }
     ensures held { D.held store.new ≡ D.held store.old }
     ensures allowed { StaysAllowed (D.allows store.old) (D.allows store.new) }
-    ensures text { IfOk result (λ text. IsLeft
-        (input_by (D.held store.old) (Some path.now) (I.remaining input.old)) text.items) }
+    ensures text { IfOk result (λ text. IsSoBy (D.held store.old) (Some path.now)
+        (I.remaining input.old) (λ given. given ≡ Some text.items)) }
     ensures ok { OnOk result ((D.failures store.new ≡ D.failures store.old)
         × (I.failures input.new ≡ I.failures input.old)) }
     ensures err { IfErr result (IsUnread (D.held store.old) (Some path.now)
@@ -82,9 +82,9 @@ fn append_proof<D: Store, I: Source>(
     requires input { I.failures input.old < 2 ^ 64 - 1 }
     ensures held { D.held store.new ≡ D.held store.old }
     ensures allowed { StaysAllowed (D.allows store.old) (D.allows store.new) }
-    ensures read { OnOk result (IsReadOf
-        (proof_at (D.held store.old) path.now (I.remaining input.old))
-        text.old.items text.new.items) }
+    ensures read { OnOk result ((proof : List ℕ)
+        × IsProofAt (D.held store.old) path.now (I.remaining input.old) proof
+        × (text.new.items ≡ text.old.items ++ proof)) }
     ensures ok { OnOk result ((D.failures store.new ≡ D.failures store.old)
         × (I.failures input.new ≡ I.failures input.old)) }
     ensures err { IfErr result (IsUnread (D.held store.old) (Some path.now)
@@ -107,8 +107,9 @@ fn append_input<I: Source>(
     text: &mut Vec<u8>,
 ) -> Result<(), DeviceFault>
     requires { I.failures input.old < 2 ^ 64 - 1 }
-    ensures read { OnOk result (IsReadOf (option_map proof_text (I.remaining input.old))
-        text.old.items text.new.items) }
+    ensures read { OnOk result ((proof : List ℕ)
+        × IfSome (I.remaining input.old) (λ known. proof ≡ proof_text known)
+        × (text.new.items ≡ text.old.items ++ proof)) }
     ensures ok { OnOk result (I.failures input.new ≡ I.failures input.old) }
     ensures err { IfErr result
         (λ fault. IsDeviceFault (I.failures input.old) (I.failures input.new) fault) }

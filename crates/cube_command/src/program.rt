@@ -14,14 +14,14 @@ ghost use Rattle.cube_report.specs.Faults.{IsInputFault};
 ghost use Rattle.cube_command.specs.Headline.{IsPublished, IsRefutedAsHanded, IsSound};
 ghost use Rattle.cube_command.specs.Headline.{IsRefutedFrom, IsSoundAsHanded};
 ghost use Rattle.cube_command.specs.Words.{AreApart, AreTaken, asked_of, IsElsewhere, IsInput};
-ghost use Rattle.cube_command.specs.Sources.{input_by, input_of, sources_of};
+ghost use Rattle.cube_command.specs.Sources.{IsSoBy, sources_of};
 ghost use Rattle.cube_command.specs.Words.{nothing_asked};
 ghost use Rattle.cube_command.specs.Record.{record_text};
 ghost use Rattle.cube_command.specs.Program.{IsStatus, IsMade, IsReported, IsRefused, IsBegun};
 ghost use Rattle.cube_command.specs.Program.{IsLineWritten, fault_line, AllowsFaults};
 ghost use Rattle.cube_command.specs.Program.{AllowsPicturesFor, AllowsRecordsFor};
 ghost use Rattle.cube_command.specs.Program.{AllowsReportsFor, IsRefusedFrom};
-ghost use Rattle.cube_command.specs.Inner.Recorded.{IsRecordedFor, IsRunRecorded};
+ghost use Rattle.cube_command.specs.Inner.Recorded.{IsRecordedFor, IsRecordedFrom, IsRunRecorded};
 ghost use Rattle.cube_command.specs.Inner.Recorded.{IsUnreadBy, IsUnreadOf};
 ghost use Rattle.command_words.specs.Request.{asked_in};
 
@@ -419,8 +419,8 @@ where
     ensures held { D.held store.new ≡ D.held store.old }
     ensures allowed { StaysAllowed (D.allows store.old) (D.allows store.new) }
     ensures made { IfOk result (λ made. IsRecordedFor (D.held store.old) (asked_in request.now)
-        (input_of (D.held store.old) (asked_in request.now) (I.remaining input.old))
-        made.outcome.text.items made.outcome.map.items made.outcome.refuted made.bytes.items) }
+        (I.remaining input.old) made.outcome.text.items made.outcome.map.items
+        made.outcome.refuted made.bytes.items) }
     ensures handed { IfOk result (λ made. made.outcome.refuted ≡ true → IsRefutedAsHanded D.hands
         (asked_in request.now) (I.remaining input.old)) }
     ensures fault { IfErr result (λ fault. IsInputFault fault → IsRefused (D.held store.old)
@@ -458,14 +458,15 @@ where
     requires input { I.failures input.old < 2 ^ 64 - 1 }
     ensures held { D.held store.new ≡ D.held store.old }
     ensures allowed { StaysAllowed (D.allows store.old) (D.allows store.new) }
-    ensures made { IfOk result (λ made. IsRecordedFor (D.held store.old) (asked_in request.now)
-        (input_by (D.held store.old) (Some path.now) (I.remaining input.old))
-        made.outcome.text.items made.outcome.map.items made.outcome.refuted made.bytes.items) }
+    ensures made { IfOk result (λ made. IsSoBy (D.held store.old) (Some path.now)
+        (I.remaining input.old) (λ given. IsRecordedFrom (D.held store.old)
+        (asked_in request.now) given made.outcome.text.items made.outcome.map.items
+        made.outcome.refuted made.bytes.items)) }
     ensures handed { IfOk result (λ made. made.outcome.refuted ≡ true → IsRefutedFrom D.hands
         (asked_in request.now) None) }
-    ensures fault { IfErr result (λ fault. IsInputFault fault → IsRefusedFrom (D.held store.old)
-        (asked_in request.now)
-        (input_by (D.held store.old) (Some path.now) (I.remaining input.old)) fault) }
+    ensures fault { IfErr result (λ fault. IsInputFault fault → IsSoBy (D.held store.old)
+        (Some path.now) (I.remaining input.old)
+        (λ given. IsRefusedFrom (D.held store.old) (asked_in request.now) given fault)) }
     ensures ok { OnOk result ((D.failures store.new ≡ D.failures store.old)
         × (I.failures input.new ≡ I.failures input.old)) }
     ensures err { IfErr result (IsUnreadBy (D.held store.old) (sources_of (asked_in request.now))
@@ -506,7 +507,7 @@ where
     requires input { I.failures input.old < 2 ^ 64 - 1 }
     ensures held { D.held store.new ≡ D.held store.old }
     ensures allowed { StaysAllowed (D.allows store.old) (D.allows store.new) }
-    ensures made { IfOk result (λ made. IsRecordedFor (D.held store.old) (asked_in request.now)
+    ensures made { IfOk result (λ made. IsRecordedFrom (D.held store.old) (asked_in request.now)
         (I.remaining input.old) made.outcome.text.items made.outcome.map.items
         made.outcome.refuted made.bytes.items) }
     ensures handed { IfOk result (λ made. made.outcome.refuted ≡ true → IsRefutedFrom D.hands
@@ -541,7 +542,7 @@ where
     ensures held { D.held store.new ≡ D.held store.old }
     ensures allowed { StaysAllowed (D.allows store.old) (D.allows store.new) }
     ensures made { IfOk result (λ some. IfSome some (λ made. (input : Option (List ℕ))
-        → IsRecordedFor (D.held store.old) (asked_in request.now) input made.outcome.text.items
+        → IsRecordedFrom (D.held store.old) (asked_in request.now) input made.outcome.text.items
         made.outcome.map.items made.outcome.refuted made.bytes.items)) }
     ensures handed { IfOk result (λ some. IfSome some (λ made. made.outcome.refuted ≡ true
         → (input : Option (List ℕ)) → IsRefutedFrom D.hands (asked_in request.now) input)) }
@@ -631,7 +632,7 @@ where
     requires input { I.failures input.old < 2 ^ 64 - 1 }
     ensures held { D.held store.new ≡ D.held store.old }
     ensures allowed { StaysAllowed (D.allows store.old) (D.allows store.new) }
-    ensures made { IfOk result (λ made. IsRecordedFor (D.held store.old) (asked_in request.now)
+    ensures made { IfOk result (λ made. IsRecordedFrom (D.held store.old) (asked_in request.now)
         (I.remaining input.old) made.outcome.text.items made.outcome.map.items
         made.outcome.refuted made.bytes.items) }
     ensures handed { IfOk result (λ made. made.outcome.refuted ≡ true → IsRefutedFrom D.hands

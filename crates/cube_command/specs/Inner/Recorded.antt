@@ -5,14 +5,23 @@ use Rattle.bundle_files.specs.Formula.{IsBundleOf, IsReadBy, IsUnreadFrom, Sourc
 use Rattle.cube_report.specs.declared.fault.Fault.{Fault}
 use Rattle.cube_report.specs.declared.fault.Fault.TheVariants.{Device}
 use Rattle.cube_report.specs.Correct.{IsOutcome}
+use Rattle.cube_command.specs.Program.{IsBundleFor}
 use Rattle.cube_command.specs.Record.{record_text}
 use Rattle.cube_command.specs.Sources.{sources_of}
 use Rattle.cube_command.specs.Words.{Asked}
 
--- with this in the place of a file, report, picture and answer are what a run on the bundle that is
--- asked for promises, and where a record is asked for, this is the one of the bundle that was read
--- and of the report
+-- report, picture and answer are what a run on the bundle that is asked for promises, and where a
+-- record is asked for, this is the one of the bundle that was read and of the report
 pub record IsRecordedFor (held : Held) (asked : Asked) (input : Option (List ℕ))
+    (report map : List ℕ) (answer : Bool) (made : List ℕ) : Type 0 where
+  pub read : List ℕ
+  pub whole : List ℕ
+  pub bundle : IsBundleFor held asked input read whole
+  pub outcome : IsOutcome whole (is_some asked.picture) report map answer
+  pub recorded : (path : List ℕ) → asked.out ≡ Some path → made ≡ record_text read report
+
+-- the same with this in the place of a file
+pub record IsRecordedFrom (held : Held) (asked : Asked) (input : Option (List ℕ))
     (report map : List ℕ) (answer : Bool) (made : List ℕ) : Type 0 where
   pub read : List ℕ
   pub whole : List ℕ
