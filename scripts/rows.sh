@@ -96,6 +96,12 @@ refuses --explain --explain --explain
 refuses --explain --explain=1
 refuses --list-open --list-open --list-open
 refuses --list-open --list-open=1
+# One proof goes with the formula's own file, and with nothing else that has cubes.
+alone="'--proof' needs '--formula', and can't be used with FILE or '--proofs'"
+refuses "$alone" --proof proof.lrat
+refuses "$alone" --proof proof.lrat case.icnf
+refuses "$alone" --proof proof.lrat --formula formula.cnf case.icnf
+refuses "$alone" --proof proof.lrat --formula formula.cnf --proofs proofs
 
 # What is read isn't written over: FILE, the formula's file, a proof, whether it is there or not.
 lay_out "$root/tests/rows/two_cubes_refuted"
@@ -103,6 +109,7 @@ cp "$root/tests/rows/two_cubes_refuted.in" "$here/run/case.icnf"
 for word in --map --record --log; do
     refuses "'$word' can't name a file that is read" "$word" case.icnf case.icnf
     refuses "'$word' can't name a file that is read" "$word" formula.cnf --formula formula.cnf case.icnf
+    refuses "'$word' can't name a file that is read" "$word" proof.lrat --formula formula.cnf --proof proof.lrat
     refuses "'$word' can't name a file that is read" "$word" proofs/1.lrat --proofs proofs
     refuses "'$word' can't name a file that is read" --proofs proofs/ "$word" proofs//any.lrat case.icnf
 done
