@@ -54,8 +54,7 @@ const VERSION: &str = "0.1.0 (proved by a Rattle kit with logic dac8208d650f15bf
 
 /// What `--help` says below the words.
 const FORMATS: &str = "\
-FILE is a bundle: a formula and cubes in iCNF, then proofs, each below a label line.
-  p inccnf      the header
+FILE is a bundle: p inccnf, clauses and cubes (iCNF), then proofs below label lines.
   1 -2 0        a clause; clause number i has the id i
   a 1 0         a cube; all must be leaves of one tree, in the order of its splits
   l 1           the text LRAT proof below is for cube 1. It starts from the m clauses
