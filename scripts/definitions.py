@@ -69,7 +69,9 @@ fails, it gets a beginning of that line.""",
 The report is one text, fixed by the case that the bundle stands for and by the mark of each node. A node's mark is what
 its section's proof is judged to be from the formula and the node's path alone, or open if it has no section. With DIR
 the case is that of the bundle with sections added. For each leaf whose file is there, in order and each at most once,
-there is a section under the leaf's own label. With `--map` the picture is another text of the same case and marks.""",
+there is a section under the leaf's own label. With `--map` the picture is another text of the same case and marks.
+With `--list-open` `command` writes, in the place of the report, the names of the leaves whose lines in it do not say
+that they are refuted (`shown`).""",
      ["cube_command/program.rt command refuted open",
       "cube_report/engine.rt run_one text correct",
       "cube_report/engine.rt run text correct",
@@ -77,7 +79,7 @@ there is a section under the leaf's own label. With `--map` the picture is anoth
       "cube_report/engine.rt judge_bundle outcome",
       "cube_report/report.rt report_of -"]),
     ("A record names its formula", """
-With `--record` the file gets the very report that is written to standard output, under a line with the SHA-256 of the
+With `--record` the file gets the very report that is written to standard output, or whose open leaves are, under a line with the SHA-256 of the
 iCNF text that was read. So two records with one line are on one text, unless SHA-256 gives two texts one digest.
 `refuted` and `open` say it beside the report (`recorded` of `IsReported`), `records` that nothing else may be written
 there.""",
@@ -87,10 +89,10 @@ there.""",
 This claim says what the program and `run_io` have written if something fails, and which files they leave as they are.
 It also says which lines go to standard error, and which status comes when. Of `command`: the status is 2 if and only if
 the arguments cannot be taken, unless memory is refused (`usage`, `taken`). With 4, standard error gets the line of F6
-or of F14 (`memory`). The status is 5 if a call that reads or writes failed. Otherwise it is 5 only if CNF or FILE is
-not there, or if LOG could not be made. In this last case nothing was read or written (`failed`, `broken`). Status 5
-comes with the line of F13 (`device`). Standard output has nothing then or, if a write failed, a beginning of the report
-(`beginning`). The store changes no file that is read (`kept`): not CNF, not FILE, and none of DIR that ends in `.lrat`,
+or of F14 (`memory`). The status is 5 if a call that reads or writes failed. Otherwise it is 5 only if CNF, FILE or
+LRAT is not there, or if LOG could not be made. In this last case nothing was read or written (`failed`, `broken`). Status 5
+comes with the line of F13 (`device`). Standard output has nothing then or, if a write failed, a beginning of what is
+shown of the report (`beginning`). The store changes no file that is read (`kept`): not CNF, not FILE, not LRAT, and none of DIR that ends in `.lrat`,
 as their paths are written. These clauses speak of the store. Of LOG, which has a device of its own, and of what names
 one file by two paths they say nothing: scripts/files.sh tries both.""",
      ["cube_command/program.rt command status quiet elsewhere undrawn kept nothing beginning usage unread taken none memory device failed broken",
@@ -100,7 +102,7 @@ one file by two paths they say nothing: scripts/files.sh tries both.""",
 A call that may wait need not return, and then its clauses on what it has written say nothing. So each write asks for
 its leave: a text has to be one that the outlet allows. `command` and `run_io` are proved for all outlets that allow
 
-- the report on the bundle that is judged;
+- what is shown of the report on the bundle that is judged;
 - its picture at the path of `--map` and its record at that of `--record`, and nowhere else;
 - the line of a fault that this bundle has;
 - the lines of want of memory, of a thread or of a device, which are allowed at any time;

@@ -12,9 +12,14 @@ blocks=$(ls "$here/page" | sed -n 's/^questions to a report\.//p' | tr '\n' ' ')
 [ "$blocks" = "1 2 3 4 5 6 7 " ]
 count "the page has seven questions" $?
 
+# The page calls the program by its name.
+mkdir "$here/bin"
+printf '#!/bin/sh\nexec "%s" "$@"\n' "$program" > "$here/bin/cubeboard"
+chmod +x "$here/bin/cubeboard"
+
 # Asks one of them in the folder of the report: its number.
 ask() {
-    (cd "$here/run" && sh "$here/page/questions to a report.$1" 2>&1)
+    (cd "$here/run" && PATH="$here/bin:$PATH" sh "$here/page/questions to a report.$1" 2>&1)
 }
 
 # How many lines its answer has: its number.
@@ -40,7 +45,8 @@ count "the answers are those of tests/questions" $?
 for report in "$root"/examples/*.report; do
     example=${report%.report}
     cp "$report" "$here/run/report"
-    if [ -d "$example" ]; then cp "$example/case.icnf" "$here/run/"; else cp "$example.icnf" "$here/run/case.icnf"; fi
+    rm -rf "$here/run/proofs"
+    if [ -d "$example" ]; then cp -r "$example/case.icnf" "$example/proofs" "$here/run/"; else cp "$example.icnf" "$here/run/case.icnf"; fi
     open=$(grep -c '^o ' "$report")
     [ "$(lines_of 3)" -eq "$(ask 2)" ] && [ "$(lines_of 6)" -le "$(ask 2)" ] && [ "$(lines_of 6)" -ge "$open" ] &&
         [ "$(lines_of 5)" -eq "$open" ] && [ "$(lines_of 7)" -eq "$open" ]

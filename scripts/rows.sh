@@ -94,6 +94,14 @@ refuses --progress --progress --progress
 refuses --progress --progress=1
 refuses --explain --explain --explain
 refuses --explain --explain=1
+refuses --list-open --list-open --list-open
+refuses --list-open --list-open=1
+# One proof goes with the formula's own file, and with nothing else that has cubes.
+alone="'--proof' needs '--formula', and can't be used with FILE or '--proofs'"
+refuses "$alone" --proof proof.lrat
+refuses "$alone" --proof proof.lrat case.icnf
+refuses "$alone" --proof proof.lrat --formula formula.cnf case.icnf
+refuses "$alone" --proof proof.lrat --formula formula.cnf --proofs proofs
 
 # What is read isn't written over: FILE, the formula's file, a proof, whether it is there or not.
 lay_out "$root/tests/rows/two_cubes_refuted"
@@ -101,6 +109,7 @@ cp "$root/tests/rows/two_cubes_refuted.in" "$here/run/case.icnf"
 for word in --map --record --log; do
     refuses "'$word' can't name a file that is read" "$word" case.icnf case.icnf
     refuses "'$word' can't name a file that is read" "$word" formula.cnf --formula formula.cnf case.icnf
+    refuses "'$word' can't name a file that is read" "$word" proof.lrat --formula formula.cnf --proof proof.lrat
     refuses "'$word' can't name a file that is read" "$word" proofs/1.lrat --proofs proofs
     refuses "'$word' can't name a file that is read" --proofs proofs/ "$word" proofs//any.lrat case.icnf
 done
@@ -255,6 +264,14 @@ rm "$here/run/a.record"
 run "$refuted.in" --record a.record --map tree.svg
 has_given "$refuted.out" "$refuted.err" "$refuted.status" && is_record "$here/text" && [ "$(head -c 5 "$here/run/tree.svg")" = "<svg " ]
 count "a record and a picture" $?
+# (the list of the open leaves takes the report's place on standard output, and not in the record)
+left=$root/tests/rows/folder_without_the_first_missing_leaf
+lay_out "$left"
+echo m1 > "$here/list"
+run /dev/null --list-open --record a.record --map tree.svg --proofs proofs case.icnf
+has_given "$here/list" "$left.err" "$left.status" && [ "$(head -c 5 "$here/run/tree.svg")" = "<svg " ] \
+    && { printf 'i %s\n' "$(sha256sum < "$left.icnf" | cut -c1-64)" && cat "$left.out"; } | cmp -s - "$here/run/a.record"
+count "a whole record beside a list of open leaves" $?
 lay_out "$root/tests/rows/formula_and_cubes_in_files"
 { printf 'p inccnf \n' && tail -n +2 "$here/run/formula.cnf" && echo && sed '/^l /,$d' "$here/run/case.icnf"; } > "$here/text"
 run /dev/null --formula formula.cnf --record a.record case.icnf

@@ -35,7 +35,7 @@ SCRIPTS = {
     "explain": {"lrat_binary", "cube_explain", "cube_command", "cube_report", "cubeboard"},
     "files": {"byte_flow", "file_store", "bundle_files", "run_watch", "cube_command", "join_command", "cubeboard", "cubejoin"},
     "picture": {"tree_map", "node_fields", "split_tree", "mark_board"},
-    "questions": {"cube_report", "node_fields"},
+    "questions": {"cube_report", "node_fields", "cube_command"},
     "cluster": {"join_command", "cube_join", "cubejoin"},
     "threads": {"byte_flow", "board_hall", "cube_jobs", "check_crew", "file_store", "bundle_files", "run_watch", "cube_command", "cubeboard"},
     "refused": {"lrat_binary", "hint_check", "case_core", "check_crew", "file_store", "bundle_files", "join_command"},

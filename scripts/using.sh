@@ -182,6 +182,9 @@ try() {
     block 6.1
     [ "$status" -eq 1 ] && grep -q '^a 8 rejected 1 unreadable$' "$here/out" && grep -q '^explain: .*proofs/8.lrat' "$here/err"
     count "$2: the example: what is told of a proof that is rejected" $?
+    block 6.2
+    [ "$status" -eq 1 ] && [ "$(tr '\n' ' ' < "$here/out")" = "1 2 8 14 " ] && [ ! -s "$here/err" ]
+    count "$2: the example: the list of the leaves that are left" $?
     "$root/cubeboard" --proofs proofs case.icnf > report
     . "$here/labels" > labels
     [ "$(tr '\n' ',' < labels)" = "l n 16 17 15 0,l 8,l 14," ]
@@ -210,7 +213,7 @@ fi
 
 cut_page "$root/docs/USING.md"
 blocks=$(ls "$here/page" | tr '\n' ' ')
-if [ "$blocks" != "1.1 2.1 2.2 3.1 3.2 4.1 4.2 4.3 4.4 4.5 4.6 4.7 4.8 4.9 5.1 5.2 5.3 5.4 5.5 5.6 6.1 8.1 8.2 8.3 8.4 8.5 8.6 8.7 " ]; then
+if [ "$blocks" != "1.1 2.1 2.2 3.1 3.2 4.1 4.2 4.3 4.4 4.5 4.6 4.7 4.8 4.9 5.1 5.2 5.3 5.4 5.5 5.6 6.1 6.2 8.1 8.2 8.3 8.4 8.5 8.6 8.7 " ]; then
     fail "the page has the blocks $blocks, which this script doesn't know"
     finish
 fi

@@ -23,6 +23,9 @@ const MAP: &[&str] = &["--map", "tree.svg"];
 
 const RECORD: &[&str] = &["--record", "a.record"];
 
+/// Those for a record, and for the open leaves in the place of the report.
+const LISTED: &[&str] = &["--record", "a.record", "--list-open"];
+
 /// How the program ends where it reports.
 const REPORTED: Ending<'static> = (0, BOTH_CUBES_REPORT, b"");
 
@@ -80,11 +83,13 @@ fn leaves<R: AllocGlobal + Abort + Threads + Wait + Sync>(
 /// No call fails.
 const NEVER: (u64, DeviceFault, u64) = (0, DeviceFault::Device, 0);
 
-// The file lies at the path that the words say. Without a word none is made.
+// The file lies at the path that the words say. Without a word none is made. A record has the whole
+// report, also where that isn't written.
 #[test]
 fn a_file_is_made(rt: HostRuntime) -> Result<(), Fail> {
     leaves(&rt, MAP, NEVER, REPORTED, Left::Picture)?;
     leaves(&rt, RECORD, NEVER, REPORTED, Left::Record)?;
+    leaves(&rt, LISTED, NEVER, (0, b"", b""), Left::Record)?;
     leaves(&rt, &[], NEVER, REPORTED, Left::Nothing)
 }
 

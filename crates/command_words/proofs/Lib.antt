@@ -1,2 +1,3 @@
+pub mod WordsProof
 pub mod WordsPaths
 pub mod WordsRequests

@@ -27,11 +27,11 @@ apart_where one other = (
   λ apart. unless_equal one other (bytes_eq one other) refl apart,
 )
 
--- where two things are so, all three are exactly where the last one is
-pub all_with_last : {A B C : Type 0} (last : Bool) → A → B → IsTrue last ↔ C →
-    IsTrue last ↔ (A × B × C)
-all_with_last last one two three =
-    (λ yes. (one, two, three.0 yes), λ all. three.1 all.2)
+-- where three things are so, all four are exactly where the last one is
+pub all_with_last : {A B C D : Type 0} (last : Bool) → A → B → C → IsTrue last ↔ D →
+    IsTrue last ↔ (A × B × C × D)
+all_with_last last one two three four =
+    (λ yes. (one, two, three, four.0 yes), λ all. four.1 all.3)
 
 -- ---- proofs of a folder
 
@@ -104,7 +104,11 @@ input_apart asked path spared (inr (inl file)) = (
   λ there. spared.1.1 path there file,
   λ there. spared.2.1 path there file,
 )
-input_apart asked path spared (inr (inr proof)) = (
-  λ there. spared.1.2 proof.0 path proof.1 proof.2 there proof.3,
-  λ there. spared.2.2 proof.0 path proof.1 proof.2 there proof.3,
+input_apart asked path spared (inr (inr (inl one))) = (
+  λ there. spared.1.2 path there one,
+  λ there. spared.2.2 path there one,
+)
+input_apart asked path spared (inr (inr (inr proof))) = (
+  λ there. spared.1.3 proof.0 path proof.1 proof.2 there proof.3,
+  λ there. spared.2.3 proof.0 path proof.1 proof.2 there proof.3,
 )

@@ -1,6 +1,6 @@
 -- What the words ask for.
 use Rattle.std.proofs.Common.{◌≡◌, ◌∙◌, ap, refl, ℕ, Bool, Option, Some, List, [], ◌∷◌, map}
-use Rattle.std.proofs.Common.{length, codes, true, None}
+use Rattle.std.proofs.Common.{length, codes, true, false, None}
 use Rattle.std.proofs.Common.{Result, Ok, Err, IfErr, IsErrAnd, subst, sym, inl, inr}
 use Rattle.clap.specs.declared.builder.command.Command.{Command}
 use Rattle.clap.specs.declared.error.Error.{Error}
@@ -12,7 +12,7 @@ use Rattle.clap.specs.Words.{one_text, HasKind, Kinds}
 use Rattle.clap.proofs.OnLiterals.{clap_on_literals}
 use Rattle.clap.proofs.WalkLemmas.{first_value-rows, one_text-rows}
 use Rattle.command_words.specs.Words.{AreApart, AreSpared, AreTaken, Asked, asked_for, asked_of}
-use Rattle.command_words.specs.Words.{nothing_asked, SparesRead, words_taken}
+use Rattle.command_words.specs.Words.{CanBeDone, is_given, nothing_asked, SparesRead, words_taken}
 use Rattle.command_words.specs.Request.{Reads, SaysFlag, SaysNumber, flag_text}
 use Rattle.command_words.specs.Inner.Words.{asked_found}
 
@@ -34,17 +34,21 @@ pub found_asked : (parser : Command) (matches : ArgMatches) (words : List Text)
 found_asked parser matches words is has =
     let formula = one_asked parser matches words is has (codes "formula") in
     let file = one_asked parser matches words is has (codes "file") in
+    let proof = one_asked parser matches words is has (codes "proof") in
     let folder = one_asked parser matches words is has (codes "proofs") in
     let picture = one_asked parser matches words is has (codes "map") in
     let out = one_asked parser matches words is has (codes "record") in
     let log = one_asked parser matches words is has (codes "log") in
+    let lists = ap is_given (one_asked parser matches words is has (codes "list-open")) in
     λ i. record {
       formula = formula i;
       file = file i;
+      proof = proof i;
       folder = folder i;
       picture = picture i;
       out = out i;
       log = log i;
+      lists = lists i;
     }
 
 -- what holds of an error holds of the result that hands it on
@@ -76,20 +80,20 @@ taken_fails parser words error is fails taken =
     among_none error (fault_of (app_of parser) words)
     (ap (λ (a : App). fault_of a words) is ∙ taken.0) (fails (parser_simple parser is))
 
--- words that were parsed, and whose files can be written where they say, are taken
+-- words that were parsed, and what they ask for can be done, are taken
 pub parsed_taken : (parser : Command) (words : List Text) (asked : Asked)
     → app_of parser ≡ words_taken
     → (is_simple_and_free (app_of parser) ≡ true → fault_of (app_of parser) words ≡ [])
-    → asked ≡ asked_of words → AreSpared asked → AreTaken words
-parsed_taken parser words asked is parsed asked_is spared = (
+    → asked ≡ asked_of words → CanBeDone asked → AreTaken words
+parsed_taken parser words asked is parsed asked_is done = (
   sym (ap (λ (a : App). fault_of a words) is) ∙ parsed (parser_simple parser is),
-  subst AreSpared asked_is spared,
+  subst CanBeDone asked_is done,
 )
 
--- words whose files can't be written where they say aren't taken
+-- words that ask for what can't be done aren't taken
 pub clash_untaken : (words : List Text) (asked : Asked) → asked ≡ asked_of words
-    → ¬ AreSpared asked → ¬ AreTaken words
-clash_untaken words asked asked_is clash taken = clash (subst AreSpared (sym asked_is) taken.1)
+    → ¬ CanBeDone asked → ¬ AreTaken words
+clash_untaken words asked asked_is clash taken = clash (subst CanBeDone (sym asked_is) taken.1)
 
 no_fault : fault_of words_taken [] ≡ []
 unfolding clap_on_literals
@@ -124,19 +128,30 @@ no_file : asked_for (codes "file") [] ≡ None
 unfolding clap_on_literals
 no_file = refl
 
+no_proof : asked_for (codes "proof") [] ≡ None
+unfolding clap_on_literals
+no_proof = refl
+
+no_lists : is_given (asked_for (codes "list-open") []) ≡ false
+unfolding clap_on_literals
+no_lists = refl
+
 no_words_asked : asked_of [] ≡ nothing_asked
 no_words_asked = λ i. record {
   formula = no_formula i;
   file = no_file i;
+  proof = no_proof i;
   folder = no_proofs i;
   picture = no_map i;
   out = no_record i;
   log = no_log i;
+  lists = no_lists i;
 }
 
 -- what isn't asked for is none of the files that are read
 spared_of_none : (written : Option Text) → written ≡ None → SparesRead written nothing_asked
 spared_of_none written is = (
+  apart_of_none written None is,
   apart_of_none written None is,
   apart_of_none written None is,
   λ in_folder path name one other same. absurd (cc),
@@ -152,8 +167,11 @@ nothing_spared = (
   spared_of_none None refl,
 )
 
+nothing_done : CanBeDone nothing_asked
+nothing_done = (λ path asked. absurd (cc), nothing_spared)
+
 no_words_taken : AreTaken []
-no_words_taken = (no_fault, subst AreSpared (sym no_words_asked) nothing_spared)
+no_words_taken = (no_fault, subst CanBeDone (sym no_words_asked) nothing_done)
 
 no_words : {A B : Type 0} (f : A → B) (words : List A) → length words ≡ 0 → map f words ≡ []
 no_words f [] none = refl

@@ -29,8 +29,10 @@ abbrev pub asked_in : Request → Asked
 asked_in request = record {
   formula = option_map (λ path. path.now) request.formula;
   file = option_map (λ path. path.now) request.file;
+  proof = option_map (λ path. path.now) request.proof;
   folder = option_map (λ path. path.now) request.proofs;
   picture = option_map (λ path. path.now) request.map;
   out = option_map (λ path. path.now) request.out;
   log = option_map (λ path. path.now) request.log;
+  lists = request.list_open;
 }

@@ -7,10 +7,11 @@ ghost use Rattle.std.specs.Prelude.{MatchOption};
 ghost use Rattle.clap.specs.Words.{app_of, found_of, kind_of, new_app, one_text, rule_of};
 ghost use Rattle.proof_folder.specs.Added.{proof_path};
 ghost use Rattle.command_words.specs.Words.{AreApart, AreSpared, AreTaken, asked_of, cut_word};
-ghost use Rattle.command_words.specs.Words.{file_word, flag_word, IsNoProof, path_word, SparesRead};
+ghost use Rattle.command_words.specs.Words.{file_word, flag_word, is_given, IsNoProof, path_word};
+ghost use Rattle.command_words.specs.Words.{CanBeDone, GoesWith, SparesRead};
 ghost use Rattle.command_words.specs.Words.{with_version, words_taken, workers_word};
 ghost use Rattle.command_words.specs.Request.{asked_in, flag_text, Reads, SaysFlag, SaysNumber};
-ghost use Rattle.command_words.specs.Inner.Words.{asked_found, with_flags, with_inputs};
+ghost use Rattle.command_words.specs.Inner.Words.{asked_found, with_flags, with_inputs, with_lists};
 ghost use Rattle.command_words.specs.Inner.Words.{with_numbers, with_outputs, with_results};
 
 use check_crew::Settings;
@@ -27,6 +28,8 @@ pub struct Request<'a> {
     pub settings: Settings,
     /// The file with the formula, where it has one of its own.
     pub formula: Option<&'a str>,
+    /// The one proof of the whole formula, `-` for that on the program's input, where it is given.
+    pub proof: Option<&'a str>,
     /// The folder with the proofs of leaves, where one is given.
     pub proofs: Option<&'a str>,
     /// The file with the bundle, or `None` for the program's input.
@@ -35,6 +38,8 @@ pub struct Request<'a> {
     pub progress: bool,
     /// Whether it is told what was read, and where faults and rejections come from.
     pub explain: bool,
+    /// Whether the names of the leaves are written that aren't refuted, in the report's place.
+    pub list_open: bool,
     /// The file for the picture of the tree, where one is asked for.
     pub map: Option<&'a str>,
     /// The file for the record, where one is asked for; not the picture's.
@@ -49,8 +54,7 @@ const VERSION: &str = "0.1.0 (proved by a Rattle kit with logic dac8208d650f15bf
 
 /// What `--help` says below the words.
 const FORMATS: &str = "\
-FILE is a bundle: a formula and cubes in iCNF, then proofs, each below a label line.
-  p inccnf      the header
+FILE is a bundle: p inccnf, clauses and cubes (iCNF), then proofs below label lines.
   1 -2 0        a clause; clause number i has the id i
   a 1 0         a cube; all must be leaves of one tree, in the order of its splits
   l 1           the text LRAT proof below is for cube 1. It starts from the m clauses
@@ -91,7 +95,7 @@ pub fn request_of<'a, S: AsStr>(alloc: Global, words: &'a [S]) -> Result<Request
 {
     let matches = parser(alloc)?.try_get_matches_from(words)?;
     let request = request_in(&matches);
-    match clash_in(&request) {
+    match refusal_of(&request) {
         Some(text) => Err(conflict(alloc, text)?),
         None => Ok(request),
     }
@@ -115,13 +119,58 @@ fn request_in<'a>(matches: &ArgMatches<'a>) -> Request<'a>
     Request {
         settings: settings_in(matches),
         formula: matches.get_str("formula"),
+        proof: matches.get_str("proof"),
         proofs: matches.get_str("proofs"),
         file: matches.get_str("file"),
         progress: matches.get_flag("progress"),
         explain: matches.get_flag("explain"),
+        list_open: is_given(matches.get_str("list-open")),
         map: matches.get_str("map"),
         out: matches.get_str("record"),
         log: matches.get_str("log"),
+    }
+}
+
+/// Whether a flag is given, by the text that was matched for it.
+fn is_given(text: Option<&str>) -> bool
+    ensures { result ≡ is_given (option_map (λ text. text.now) text.entry) }
+{
+    match text {
+        Some(text) => text == "true",
+        None => false,
+    }
+}
+
+/// Why the request can't be done, if it can't.
+fn refusal_of(request: &Request<'_>) -> Option<&'static str>
+    ensures none { result ≡ None → CanBeDone (asked_in request.now) }
+    ensures some { IfSome result (λ _. ¬ CanBeDone (asked_in request.now)) }
+{
+    if !fits_proof(request.proof, request.formula, request.file, request.proofs) {
+        return Some("'--proof' needs '--formula', and can't be used with FILE or '--proofs'");
+    }
+    clash_in(request)
+}
+
+/// Whether one proof of the whole formula, where it is asked for, has that formula's own file
+/// beside it, and neither a file with cubes nor a folder of proofs.
+fn fits_proof(
+    proof: Option<&str>,
+    formula: Option<&str>,
+    file: Option<&str>,
+    folder: Option<&str>,
+) -> bool
+    ensures { IsTrue result ↔ GoesWith (option_map (λ path. path.now) proof.entry)
+        (option_map (λ path. path.now) formula.entry)
+        (option_map (λ path. path.now) file.entry)
+        (option_map (λ path. path.now) folder.entry) }
+{
+    match (proof, formula, file, folder) {
+        (None, _, _, _) => true,
+        (Some(_), None, _, _) => false,
+        (Some(_), Some(_), Some(_), _) => false,
+        (Some(_), Some(_), None, Some(_)) => false,
+        (Some(_), Some(_), None, None) => true,
     }
 }
 
@@ -160,6 +209,9 @@ fn spares_read(written: Option<&str>, request: &Request<'_>) -> bool
         return false;
     }
     if !are_apart(written, request.file) {
+        return false;
+    }
+    if !are_apart(written, request.proof) {
         return false;
     }
     is_no_proof(request.proofs, written)
@@ -278,7 +330,7 @@ fn outputs<'a>(alloc: Global) -> Result<Command<'a>, AllocError>
 fn results<'a>(alloc: Global) -> Result<Command<'a>, AllocError>
     ensures { IfOk result (λ parser. app_of parser ≡ with_results) }
 {
-    flags(alloc)?
+    lists(alloc)?
         .arg(path_word(
             alloc,
             "map",
@@ -291,6 +343,17 @@ fn results<'a>(alloc: Global) -> Result<Command<'a>, AllocError>
             "OUT",
             "Write a record, the report with the SHA-256 of formula and cubes, replacing it",
         ))
+}
+
+/// A parser that also takes what is written in the report's place.
+fn lists<'a>(alloc: Global) -> Result<Command<'a>, AllocError>
+    ensures { IfOk result (λ parser. app_of parser ≡ with_lists) }
+{
+    flags(alloc)?.arg(flag_word(
+        alloc,
+        "list-open",
+        "Print the leaves that aren't refuted, K or mJ, one a line, instead of the report",
+    ))
 }
 
 /// A parser that also takes what is told beside the report.
@@ -310,7 +373,7 @@ fn flags<'a>(alloc: Global) -> Result<Command<'a>, AllocError>
         ))
 }
 
-/// A parser that also takes the formula's file and the folder of proofs.
+/// A parser that also takes the formula's file, one proof and the folder of proofs.
 fn inputs<'a>(alloc: Global) -> Result<Command<'a>, AllocError>
     ensures { IfOk result (λ parser. app_of parser ≡ with_inputs) }
 {
@@ -320,6 +383,12 @@ fn inputs<'a>(alloc: Global) -> Result<Command<'a>, AllocError>
             "formula",
             "CNF",
             "Take the clauses from this DIMACS file; FILE has the cubes",
+        ))?
+        .arg(path_word(
+            alloc,
+            "proof",
+            "LRAT",
+            "Check this one proof of the whole formula, text or binary; - is standard input",
         ))?
         .arg(path_word(
             alloc,

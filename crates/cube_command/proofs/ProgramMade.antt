@@ -15,11 +15,11 @@ use Rattle.cube_report.specs.Case.{CaseOf}
 use Rattle.cube_report.specs.Correct.{IsOutcome, IsUnsatisfiable}
 use Rattle.bundle_files.specs.Sections.{IsCaseOf}
 use Rattle.cube_report.specs.declared.fault.Fault.{Fault}
-use Rattle.cube_command.specs.Headline.{IsFormulaRefuted, IsRefutedAsHanded}
+use Rattle.cube_command.specs.Headline.{IsFormulaRefuted, IsRefutedFrom}
 use Rattle.cube_command.specs.Record.{digest_line, record_text}
 use Rattle.cube_command.specs.Sources.{sources_of}
 use Rattle.cube_command.specs.Words.{Asked}
-use Rattle.cube_command.specs.Inner.Recorded.{IsRecordedFor, IsRunRecorded}
+use Rattle.cube_command.specs.Inner.Recorded.{IsRecordedFrom, IsRunRecorded}
 use Rattle.cube_command.specs.declared.program.Recorded.{Recorded}
 use Rattle.cube_command.proofs.ProgramRuns.{bundle_of, whole_record}
 
@@ -31,7 +31,7 @@ pub made_of : (run : Result Recorded Fault) (held : Held) (asked : Asked)
     made.outcome.map.items made.outcome.refuted)
     → IfOk run (λ made. (path : List ℕ) → asked.out ≡ Some path
     → made.bytes.items ≡ record_text read made.outcome.text.items)
-    → IfOk run (λ made. IsRecordedFor held asked input made.outcome.text.items
+    → IfOk run (λ made. IsRecordedFrom held asked input made.outcome.text.items
     made.outcome.map.items made.outcome.refuted made.bytes.items)
 made_of (Err fault) held asked input read draws is_read drawn outcome recorded = tt
 made_of (Ok made) held asked input read draws is_read drawn outcome recorded = record {
@@ -79,7 +79,7 @@ pub made_by_section : (run : Result (Option Recorded) Fault) (held : Held) (aske
     → IfOk run (λ some. IfSome some (λ made. IsRunRecorded held asked.formula path asked
     made.outcome.text.items made.outcome.map.items made.outcome.refuted made.bytes.items))
     → IfOk run (λ some. IfSome some (λ made. (input : Option (List ℕ))
-    → IsRecordedFor held asked input made.outcome.text.items made.outcome.map.items
+    → IsRecordedFrom held asked input made.outcome.text.items made.outcome.map.items
     made.outcome.refuted made.bytes.items))
 made_by_section (Err fault) held asked path file folder made = tt
 made_by_section (Ok None) held asked path file folder made = tt
@@ -112,7 +112,7 @@ pub handed_section : (run : Result (Option Recorded) Fault) (hands : List ℕ �
     → IfOk run (λ some. IfSome some (λ made. made.outcome.refuted ≡ true
     → IsRefutedBy hands asked.formula path))
     → IfOk run (λ some. IfSome some (λ made. made.outcome.refuted ≡ true
-    → (input : Option (List ℕ)) → IsRefutedAsHanded hands asked input))
+    → (input : Option (List ℕ)) → IsRefutedFrom hands asked input))
 handed_section (Err fault) hands asked path file handed = tt
 handed_section (Ok None) hands asked path file handed = tt
 handed_section (Ok (Some made)) hands asked path file handed = λ says input.
@@ -134,7 +134,7 @@ pub handed_read : (run : Result Recorded Fault) (hands : List ℕ → List ℕ �
     → IsBundleBy hands asked.formula asked.file input read
     → IfOk run (λ made. IsOutcomeOf held asked.folder read draws made.outcome.text.items
     made.outcome.map.items made.outcome.refuted)
-    → IfOk run (λ made. made.outcome.refuted ≡ true → IsRefutedAsHanded hands asked input)
+    → IfOk run (λ made. made.outcome.refuted ≡ true → IsRefutedFrom hands asked input)
 handed_read (Err fault) hands held asked input read draws is outcome = tt
 handed_read (Ok made) hands held asked input read draws is outcome = λ says.
     let none : IsUnsatisfiable read =

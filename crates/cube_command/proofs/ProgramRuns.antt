@@ -5,7 +5,7 @@ use Rattle.std.specs.Prelude.{IfSome, is_some, option_map, if◌then◌else◌}
 use Rattle.std.proofs.Common.{Result, Ok, Err, IfOk, IfErr, OnErr, MatchResult, inl, inr, arith}
 use Rattle.std.specs.Io.KnownBytes.{Appends, Keeps}
 use Rattle.bundle_files.specs.Files.{Held, Gives, IsJudgedOf, lies_in}
-use Rattle.bundle_files.specs.Formula.{IsReadBy, IsReadFrom}
+use Rattle.bundle_files.specs.Formula.{IsBundleOf, IsReadBy, IsReadFrom}
 use Rattle.bundle_files.proofs.FormulaText.{published}
 use Rattle.bundle_files.proofs.LawsFormula.{judged_unsatisfiable}
 use Rattle.cube_report.specs.declared.fault.Fault.{Fault}
@@ -24,8 +24,9 @@ use Rattle.cube_report.specs.Picture.{map_text}
 use Rattle.cube_report.specs.Bundle.{icnf_text}
 use Rattle.cube_command.specs.Program.{IsMade, IsRefused, IsReported, IsLineWritten, fault_line}
 use Rattle.cube_command.specs.Program.{AllowsFaults, IsBegun, IsBundleFor, IsPictureOn}
+use Rattle.cube_command.specs.Open.{open_names, shown}
 use Rattle.cube_command.specs.Record.{digest_line, record_text}
-use Rattle.cube_command.specs.Sources.{sources_of}
+use Rattle.cube_command.specs.Sources.{IsSoBy, IsSoOf, of_one_proof, sources_of}
 use Rattle.cube_command.specs.Words.{Asked}
 use Rattle.cube_command.specs.Inner.Telling.{IsFaultWritten, status_of, status_of_answer}
 
@@ -48,31 +49,50 @@ some_mapped f (Some path) there is = is
 -- a bundle that was read, and the one that is judged for it
 pub bundle_of : (held : Held) (asked : Asked) (input : Option (List ℕ)) (read whole : List ℕ) →
     IsReadFrom held (sources_of asked) input read → IsJudgedOf held asked.folder read whole →
-    IsBundleFor held asked input read whole
+    IsBundleOf held (sources_of asked) asked.folder input read whole
 bundle_of held asked input read whole is_read is_judged = record {
   is_read = is_read;
   is_judged = is_judged;
 }
 
--- the report that was written, the picture and the record are those on the bundle that was asked
--- for
+-- what the bundle was read from
+given_for : (held : Held) (asked : Asked) (proof input : Option (List ℕ)) (read whole : List ℕ)
+    → IsSoBy held proof input
+    (λ given. IsBundleOf held (sources_of asked) asked.folder given read whole)
+    → (given : Option (List ℕ))
+    × IsBundleOf held (sources_of asked) asked.folder given read whole
+given_for held asked None input read whole bundle = (input, bundle)
+given_for held asked (Some path) input read whole bundle =
+    (Some (of_one_proof bundle.0), bundle.2)
+
+read_for : (held : Held) (asked : Asked) (proof input : Option (List ℕ)) (read whole : List ℕ)
+    → IsSoBy held proof input
+    (λ given. IsBundleOf held (sources_of asked) asked.folder given read whole)
+    → IsSoBy held proof input (λ given. IsReadFrom held (sources_of asked) given read)
+read_for held asked None input read whole bundle = bundle.is_read
+read_for held asked (Some path) input read whole bundle =
+    (bundle.0, bundle.1, bundle.2.is_read)
+
+-- what was written, the picture and the record are those of the report on the bundle that was
+-- asked for
 pub reported : (held after : Held) (asked : Asked) (input old new : Option (List ℕ))
-    (read whole text picture made : List ℕ) (draws answer : Bool)
+    (read whole text picture made given : List ℕ) (draws answer : Bool)
     → IsBundleFor held asked input read whole → IsOutcome whole draws text picture answer →
     draws ≡ is_some asked.picture
     → ((at : List ℕ) → asked.out ≡ Some at → made ≡ record_text read text)
-    → Appends old new text → IsMade after asked.picture picture → IsMade after asked.out made →
-    IsReported held after asked input old new answer
-reported held after asked input old new read whole text picture made draws answer
-    bundle outcome drawn owed written there beside = record {
+    → given ≡ shown asked text → Appends old new given → IsMade after asked.picture picture
+    → IsMade after asked.out made → IsReported held after asked input old new answer
+reported held after asked input old new read whole text picture made given draws answer
+    bundle outcome drawn owed is written there beside = record {
       read = read;
       whole = whole;
       bundle = bundle;
       text = text;
       correct = outcome.correct;
-      written = written;
+      written = subst (Appends old new) is written;
       sound =
-          λ says. judged_unsatisfiable held asked.folder read whole bundle.is_judged
+          λ says. judged_unsatisfiable held asked.folder read whole
+          (given_for held asked asked.proof input read whole bundle).1.is_judged
           (outcome.correct.sound says);
       drawn = made_there after asked.picture _ picture
           (λ at is. outcome.drawn
@@ -80,6 +100,15 @@ reported held after asked input old new read whole text picture made draws answe
           (drawn ∙ ap is_some is)) there;
       recorded = made_there after asked.out (record_text read text) made owed beside;
     }
+
+-- what is handed to the output, where the names were made that are asked for, is what is shown
+pub shown_for : (asked : Asked) (lists : Bool) (report names text given : List ℕ)
+    → lists ≡ asked.lists → report ≡ text → (lists ≡ true → names ≡ open_names text)
+    → given ≡ (if lists then names else report) → given ≡ shown asked text
+shown_for asked true report names text given same of made is = is ∙ made refl
+    ∙ ap (λ (b : Bool). if b then open_names text else text) same
+shown_for asked false report names text given same of made is = is ∙ of
+    ∙ ap (λ (b : Bool). if b then open_names text else text) same
 
 -- a record that was begun by the line of the iCNF text, and ended by the report
 pub whole_record : (out : Option (List ℕ)) (read text icnf report begun ended made : List ℕ)
@@ -91,16 +120,18 @@ whole_record out read text icnf report begun ended made same same_text same_made
     rw (← same, ← same_text)
     (same_made ∙ last at is ∙ ap (λ (line : List ℕ). line ++ report) (first at is))
 
--- what was written of a report that failed, if anything, is a beginning of that on the bundle
+-- what was written where that failed, if anything, is a beginning of what is shown of the report on
+-- the bundle
 pub begun_of : {E : Type 0} (run : Result Bool E) (held : Held) (asked : Asked)
-    (input old new : Option (List ℕ)) (read whole text : List ℕ) (before after : ℕ)
-    → IsBundleFor held asked input read whole → IsReportOn whole text
-    → Keeps old new ⊎ ((before < after) × AppendsBeginning old new text)
+    (input old new : Option (List ℕ)) (read whole text given : List ℕ) (before after : ℕ)
+    → IsBundleFor held asked input read whole → IsReportOn whole text → given ≡ shown asked text
+    → Keeps old new ⊎ ((before < after) × AppendsBeginning old new given)
     → OnErr run (Keeps old new ⊎ ((before < after) × IsBegun held asked input old new))
-begun_of (Ok answer) held asked input old new read whole text before after bundle report wrote = tt
-begun_of (Err fault) held asked input old new read whole text before after bundle report
+begun_of (Ok answer) held asked input old new read whole text given before after bundle report is
+    wrote = tt
+begun_of (Err fault) held asked input old new read whole text given before after bundle report is
     (inl kept) = inl kept
-begun_of (Err fault) held asked input old new read whole text before after bundle report
+begun_of (Err fault) held asked input old new read whole text given before after bundle report is
     (inr begun) = inr (
       begun.0,
       record {
@@ -109,7 +140,7 @@ begun_of (Err fault) held asked input old new read whole text before after bundl
         bundle = bundle;
         text = text;
         report = report;
-        written = begun.1;
+        written = subst (AppendsBeginning old new) is begun.1;
       },
     )
 
@@ -232,9 +263,15 @@ pub sound_run : (held later : Held) (asked : Asked) (input out_old out_new : Opt
     (before after : ℕ)
     → ToldRun run status Same old new before after
     → IfOk run (IsReported held later asked input out_old out_new) → status ≡ 0
-    → (read : List ℕ) × IsReadFrom held (sources_of asked) input read × IsUnsatisfiable read
+    → (read : List ℕ)
+    × IsSoOf held asked input (λ given. IsReadFrom held (sources_of asked) given read)
+    × IsUnsatisfiable read
 sound_run held later asked input out_old out_new (Ok true) status Same old new before after told
-    report is = (report.read, report.bundle.is_read, report.sound refl)
+    report is = (
+      report.read,
+      read_for held asked asked.proof input report.read report.whole report.bundle,
+      report.sound refl,
+    )
 sound_run held later asked input out_old out_new (Ok false) status Same old new before after told
     report is = let one : status ≡ 1 = told.0 in absurd (omega arith)
 sound_run held later asked input out_old out_new (Err fault) status Same old new before after
@@ -270,10 +307,11 @@ published_by : (held later : Held) (asked : Asked) (input out_old out_new : Opti
     → IfSome formula (IsPublishedAt held)
 published_by held later asked input out_old out_new None same report = tt
 published_by held later asked input out_old out_new (Some path) same report =
-    published (lies_in held) held path asked.file input asked.folder report.read report.whole
+    let given = given_for held asked asked.proof input report.read report.whole report.bundle in
+    published (lies_in held) held path asked.file given.0 asked.folder report.read report.whole
     report.correct.case
-    (subst (λ (f : Option (List ℕ)). IsReadBy held f asked.file input report.read) same
-    report.bundle.is_read) report.bundle.is_judged report.correct.judged.case_is
+    (subst (λ (f : Option (List ℕ)). IsReadBy held f asked.file given.0 report.read) same
+    given.1.is_read) given.1.is_judged report.correct.judged.case_is
     (report.sound refl)
 
 pub published_run : (held later : Held) (asked : Asked) (input out_old out_new : Option (List ℕ))

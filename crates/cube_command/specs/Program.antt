@@ -12,8 +12,9 @@ use Rattle.cube_report.specs.Faults.{IsInputFault, fault_text}
 use Rattle.cube_report.specs.Device.{AppendsBeginning}
 use Rattle.cube_report.specs.Correct.{AllowsReports, IsCorrect, IsFaultOn, IsJudged, IsReportOn}
 use Rattle.cube_report.specs.Correct.{IsUnsatisfiable}
+use Rattle.cube_command.specs.Open.{shown}
 use Rattle.cube_command.specs.Record.{AllowsRecords, record_text}
-use Rattle.cube_command.specs.Sources.{sources_of}
+use Rattle.cube_command.specs.Sources.{IsSoOf, sources_of}
 use Rattle.cube_command.specs.Words.{Asked}
 
 -- one of the program's statuses
@@ -29,12 +30,14 @@ IsMade held (Some path) bytes = Gives held path (Some bytes)
 -- the bundle that is read for what is asked for, and the one that is judged: with DIR's proofs
 abbrev pub IsBundleFor : Held → Asked → Option (List ℕ) → List ℕ → List ℕ → Type 0
 IsBundleFor held asked input read whole =
-    IsBundleOf held (sources_of asked) asked.folder input read whole
+    IsSoOf held asked input
+    (λ given. IsBundleOf held (sources_of asked) asked.folder given read whole)
 
--- The report on the bundle that is asked for was written, and nothing more; its last line
--- gives this answer, and where it says refuted, the formula of the bundle that was read has no
--- model. Where a picture is asked for, that of the same case by the same marks was written; where a
--- record is, that of the bundle that was read and of the very report.
+-- What is shown of the report on the bundle that is asked for was written, and nothing more: the
+-- report itself, where no list is asked for. Its last line gives this answer, and where it says
+-- refuted, the formula of the bundle that was read has no model. Where a picture is asked for, that
+-- of the same case by the same marks was written; where a record is, that of the bundle that was
+-- read and of the very report.
 pub record IsReported (held after : Held) (asked : Asked) (input old new : Option (List ℕ))
     (answer : Bool) : Type 0 where
   pub read : List ℕ
@@ -42,7 +45,7 @@ pub record IsReported (held after : Held) (asked : Asked) (input old new : Optio
   pub bundle : IsBundleFor held asked input read whole
   pub text : List ℕ
   pub correct : IsCorrect whole text answer
-  pub written : Appends old new text
+  pub written : Appends old new (shown asked text)
   pub sound : answer ≡ true → IsUnsatisfiable read
   pub drawn : IsMade after asked.picture (map_text correct.case correct.marks)
   pub recorded : IsMade after asked.out (record_text read text)
@@ -52,24 +55,29 @@ pub record IsBundleRefused (held : Held) (asked : Asked) (input : Option (List �
     : Type 0 where
   pub read : List ℕ
   pub whole : List ℕ
-  pub bundle : IsBundleFor held asked input read whole
+  pub bundle : IsBundleOf held (sources_of asked) asked.folder input read whole
   pub first : IsFaultOn whole fault
 
--- the bundle that is asked for has this fault; or the formula's own file has it, or there are
+-- so it is with this in the place of a file; or the formula's own file has the fault, or there are
 -- clauses that aren't in that file
-abbrev pub IsRefused : Held → Asked → Option (List ℕ) → Fault → Type 0
-IsRefused held asked input fault =
+abbrev pub IsRefusedFrom : Held → Asked → Option (List ℕ) → Fault → Type 0
+IsRefusedFrom held asked input fault =
     IsBundleRefused held asked input fault
     ⊎ IsFormulaFault held asked.formula asked.file input fault
 
--- a beginning of the report on the bundle that is asked for was written
+-- so it is with what is asked for
+abbrev pub IsRefused : Held → Asked → Option (List ℕ) → Fault → Type 0
+IsRefused held asked input fault =
+    IsSoOf held asked input (λ given. IsRefusedFrom held asked given fault)
+
+-- a beginning of what is shown of the report on the bundle that is asked for was written
 pub record IsBegun (held : Held) (asked : Asked) (input old new : Option (List ℕ)) : Type 0 where
   pub read : List ℕ
   pub whole : List ℕ
   pub bundle : IsBundleFor held asked input read whole
   pub text : List ℕ
   pub report : IsReportOn whole text
-  pub written : AppendsBeginning old new text
+  pub written : AppendsBeginning old new (shown asked text)
 
 -- the line that tells a fault
 abbrev pub fault_line : Fault → List ℕ
@@ -93,10 +101,11 @@ IsPictureOn bundle picture =
 abbrev pub AllowsPictures : (List ℕ → Type 0) → List ℕ → Type 0
 AllowsPictures texts bundle = (picture : List ℕ) → IsPictureOn bundle picture → texts picture
 
--- these texts have each report on the bundle that is asked for
+-- these texts have what is shown of each report on the bundle that is asked for
 abbrev pub AllowsReportsFor : (List ℕ → Type 0) → Held → Asked → Option (List ℕ) → Type 0
 AllowsReportsFor texts held asked input =
-    (read whole : List ℕ) → IsBundleFor held asked input read whole → AllowsReports texts whole
+    (read whole : List ℕ) → IsBundleFor held asked input read whole →
+    AllowsReports (λ report. texts (shown asked report)) whole
 
 -- where a picture is asked for, its file may have each picture of that bundle
 abbrev pub AllowsPicturesFor : (List ℕ → List ℕ → Type 0) → Held → Asked → Option (List ℕ) →

@@ -2,6 +2,9 @@
 #![tactic(auto)]
 
 mod asked;
+mod laws;
+mod one_proof;
+mod open;
 // `command` stands here: a module can't have the name of an item beside it.
 mod program;
 mod record;
@@ -9,6 +12,7 @@ mod telling;
 
 pub use bundle_files::{FileId, FileStore, Inputs, Opener, Spared, Store, SystemFiles};
 pub use cube_report::{Asked, Counted, Explain, Found, Gate, NoExplain, NoGate, Sink, Source};
+pub use laws::a_list_names_the_open_leaves;
 pub use program::command;
 pub use record::digest_line_of;
 pub use run_watch::{

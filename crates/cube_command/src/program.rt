@@ -5,26 +5,29 @@ ghost use Rattle.std.specs.Prelude.{option_map, true, false, None, Some, IfOk, I
 ghost use Rattle.std.specs.Prelude.{IsErrOf, IfSome, [], Option};
 ghost use Rattle.std.specs.Io.KnownBytes.{Appends, Keeps};
 ghost use Rattle.cube_report.specs.Device.{AppendsBeginning, IsDeviceFault};
-ghost use Rattle.bundle_files.specs.Files.{StaysAllowed, lies_in};
+ghost use Rattle.bundle_files.specs.Files.{IsAbsent, StaysAllowed, lies_in};
 ghost use Rattle.bundle_files.specs.Formula.{IsOneAbsent, IsUnreadFrom};
 ghost use Rattle.bundle_files.specs.Judging.{IsOutcomeOf, IsRefusedOf, IsJudgingFault};
 ghost use Rattle.bundle_files.specs.Outlined.{IsOutlinedBy, IsRefutedBy};
 ghost use Rattle.bundle_files.specs.Sections.{IsCaseOf};
 ghost use Rattle.cube_report.specs.Faults.{IsInputFault};
 ghost use Rattle.cube_command.specs.Headline.{IsPublished, IsRefutedAsHanded, IsSound};
-ghost use Rattle.cube_command.specs.Headline.{IsSoundAsHanded};
+ghost use Rattle.cube_command.specs.Headline.{IsRefutedFrom, IsSoundAsHanded};
 ghost use Rattle.cube_command.specs.Words.{AreApart, AreTaken, asked_of, IsElsewhere, IsInput};
-ghost use Rattle.cube_command.specs.Sources.{sources_of};
+ghost use Rattle.cube_command.specs.Sources.{IsSoBy, sources_of};
 ghost use Rattle.cube_command.specs.Words.{nothing_asked};
 ghost use Rattle.cube_command.specs.Record.{record_text};
 ghost use Rattle.cube_command.specs.Program.{IsStatus, IsMade, IsReported, IsRefused, IsBegun};
 ghost use Rattle.cube_command.specs.Program.{IsLineWritten, fault_line, AllowsFaults};
 ghost use Rattle.cube_command.specs.Program.{AllowsPicturesFor, AllowsRecordsFor};
-ghost use Rattle.cube_command.specs.Program.{AllowsReportsFor};
-ghost use Rattle.cube_command.specs.Inner.Recorded.{IsRecordedFor, IsRunRecorded};
+ghost use Rattle.cube_command.specs.Program.{AllowsReportsFor, IsRefusedFrom};
+ghost use Rattle.cube_command.specs.Inner.Recorded.{IsRecordedFor, IsRecordedFrom, IsRunRecorded};
+ghost use Rattle.cube_command.specs.Inner.Recorded.{IsUnreadBy, IsUnreadOf};
 ghost use Rattle.command_words.specs.Request.{asked_in};
 
 use crate::asked::{Telling, asked_in, fault_in};
+use crate::one_proof::{Given, text_of_one};
+use crate::open::{names_asked, shown};
 use crate::record::{begin_record, end_record};
 use crate::telling::{tell_refused, tell_run};
 use bundle_files::{
@@ -40,10 +43,10 @@ use std::sync::Wait;
 use std::thread::Threads;
 
 /// The program on these words, which are those after its name: `[--workers N] [--cut D] [--formula
-/// CNF] [--proofs DIR] [--progress] [--explain] [--map SVG] [--record OUT] [--log LOG] [FILE]`. It
-/// reads a bundle from FILE, or from `input` where there is none, and writes the report to `output`
-/// or, where there is no report, one line to `errors`. Files are found by `store`. Both writers
-/// have to write at once, without a buffer of their own.
+/// CNF] [--proofs DIR] [--progress] [--explain] [--list-open] [--map SVG] [--record OUT] [--log
+/// LOG] [FILE]`. It reads a bundle from FILE, or from `input` where there is none, and writes the
+/// report to `output` or, where there is no report, one line to `errors`. Files are found by
+/// `store`. Both writers have to write at once, without a buffer of their own.
 ///
 /// With `--formula CNF` the clauses come from that file, a DIMACS text, and FILE adds cubes and
 /// sections, and no clause: the bundle is that text with its problem line overwritten by `p inccnf`
@@ -66,6 +69,9 @@ use std::thread::Threads;
 /// anew, with all proofs read beforehand, logs them once more. What `log` does is not `store`'s. No
 /// two of the three can be one file, nor one that is read: CNF, FILE or `DIR/NAME.lrat`, as their
 /// paths are written.
+///
+/// With `--list-open` `output` gets, in the report's place and in its order, the leaves that it
+/// doesn't call refuted: a line K for cube K, mJ for missing leaf J. The record has the report.
 ///
 /// Answers the status: 0 for a report that says refuted, 1 for one that says open, 2 where the
 /// words can't be taken or ask for help or the version, after the parser's text on `errors`, 3
@@ -100,8 +106,8 @@ where
     requires output { O.failures output.old < 2 ^ 64 - 1 }
     requires errors { E.failures errors.old < 2 ^ 64 - 1 }
 
-    // All that is written, also where the call doesn't return. To `output`: the report on the
-    // bundle that is judged.
+    // All that is written, also where the call doesn't return. To `output`: what is shown of the
+    // report on the bundle that is judged.
     requires reports { AllowsReportsFor (O.allows output.old) (D.held store.old)
         (asked_of (map S.text words.now)) (I.remaining input.old) }
     // To the file for the picture, and to no other: the picture of that bundle.
@@ -128,8 +134,9 @@ where
     ensures published { IsPublished result (D.held store.old) (asked_of (map S.text words.now)) }
 
     ensures status { IsStatus result }
-    // 0: exactly the report was written, on that bundle with the proofs of DIR: it says refuted.
-    // 1: it says open.
+    // 0: exactly what is shown of the report was written, on that bundle with the proofs of DIR: it
+    // says refuted. 1: it says open. What is shown is the report, and with `--list-open` its open
+    // leaves.
     ensures refuted { result ≡ 0 → IsReported (D.held store.old) (D.held store.new)
         (asked_of (map S.text words.now)) (I.remaining input.old)
         (O.contents output.old) (O.contents output.new) true }
@@ -149,7 +156,7 @@ where
         → D.held store.new path ≡ D.held store.old path }
 
     // With every other status but 5 nothing is written to `output`; with 5 nothing is, or a
-    // beginning of the report where a write failed.
+    // beginning of what is shown of the report where a write failed.
     ensures nothing { 1 < result → result < 5 → Keeps (O.contents output.old)
         (O.contents output.new) }
     ensures beginning { result ≡ 5 → Keeps (O.contents output.old) (O.contents output.new)
@@ -189,6 +196,7 @@ where
         (D.failures store.old + I.failures input.old + O.failures output.old
         < D.failures store.new + I.failures input.new + O.failures output.new)
         ⊎ IsOneAbsent (D.held store.old) (sources_of (asked_of (map S.text words.now)))
+        ⊎ IsAbsent (D.held store.old) (asked_of (map S.text words.now)).proof
         ⊎ (((asked_of (map S.text words.now)).log ≢ None)
         × (store.new ≡ store.old) × (input.new ≡ input.old)) }
 {
@@ -284,6 +292,7 @@ where
         (D.failures store.old + I.failures input.old + O.failures output.old
         < D.failures store.new + I.failures input.new + O.failures output.new)
         ⊎ IsOneAbsent (D.held store.old) (sources_of (asked_in request.now))
+        ⊎ IsAbsent (D.held store.old) (asked_in request.now).proof
         ⊎ (((asked_in request.now).log ≢ None)
         × (store.new ≡ store.old) × (input.new ≡ input.old)) }
 {
@@ -353,10 +362,13 @@ where
     ensures broken { IsErrOf result Fault.Device →
         (D.failures store.old + I.failures input.old + O.failures output.old
         < D.failures store.new + I.failures input.new + O.failures output.new)
-        ⊎ IsOneAbsent (D.held store.old) (sources_of (asked_in request.now)) }
+        ⊎ IsOneAbsent (D.held store.old) (sources_of (asked_in request.now))
+        ⊎ IsAbsent (D.held store.old) (asked_in request.now).proof }
 {
     let made = judge_request(rt, store, request, input, gate, telling, bundle)?;
-    write_outcome(store, output, request, &made.outcome, &made.bytes, spared)?;
+    let names = names_asked(rt.alloc(), request.list_open, &made.outcome.text)?;
+    let given = shown(request.list_open, &made.outcome.text, &names);
+    write_outcome(store, output, request, &made, given, spared)?;
     telling.tell_report(rt.alloc(), bundle, &made.outcome.text);
     Ok(made.outcome.refuted)
 }
@@ -365,8 +377,16 @@ where
 fn inputs_of<'a>(request: &Request<'a>) -> Inputs<'a> {
     Inputs {
         formula: request.formula,
-        file: request.file,
+        file: file_of(request),
         proofs: request.proofs,
+    }
+}
+
+/// The file that is read in the place of the input: that with the bundle, or with one proof.
+fn file_of<'a>(request: &Request<'a>) -> Option<&'a str> {
+    match request.proof {
+        Some(path) if path != "-" => Some(path),
+        _ => request.file,
     }
 }
 
@@ -378,8 +398,7 @@ struct Recorded {
 }
 
 /// What the request's bundle is said to be, and the record of it where a file for that is asked
-/// for. Where the bundle is a file's, no folder adds proofs to it and nothing is told of it, its
-/// proofs are read one by one from their places; else all of it is read first.
+/// for.
 fn judge_request<R, D, I, G, X>(
     rt: &R,
     store: &mut D,
@@ -405,6 +424,95 @@ where
     ensures handed { IfOk result (λ made. made.outcome.refuted ≡ true → IsRefutedAsHanded D.hands
         (asked_in request.now) (I.remaining input.old)) }
     ensures fault { IfErr result (λ fault. IsInputFault fault → IsRefused (D.held store.old)
+        (asked_in request.now) (I.remaining input.old) fault) }
+    ensures ok { OnOk result ((D.failures store.new ≡ D.failures store.old)
+        × (I.failures input.new ≡ I.failures input.old)) }
+    ensures err { IfErr result (IsUnreadOf (D.held store.old) (asked_in request.now)
+        (D.failures store.old + I.failures input.old)
+        (D.failures store.new + I.failures input.new)) }
+{
+    match request.proof {
+        Some(path) => judge_one(rt, store, request, path, input, gate, telling, bundle),
+        None => judge_cubes(rt, store, request, input, gate, telling, bundle),
+    }
+}
+
+/// The same with one proof of the whole formula, at this path.
+fn judge_one<R, D, I, G, X>(
+    rt: &R,
+    store: &mut D,
+    request: &Request<'_>,
+    path: &str,
+    input: &mut I,
+    gate: &G,
+    telling: &Telling<'_, X>,
+    bundle: &mut Vec<u8>,
+) -> Result<Recorded, Fault>
+where
+    R: AllocGlobal + Threads + Wait + Sync,
+    D: Store,
+    I: Source,
+    G: Gate + Sync,
+    X: Explain,
+    requires store { D.failures store.old < 2 ^ 64 - 1 }
+    requires input { I.failures input.old < 2 ^ 64 - 1 }
+    ensures held { D.held store.new ≡ D.held store.old }
+    ensures allowed { StaysAllowed (D.allows store.old) (D.allows store.new) }
+    ensures made { IfOk result (λ made. IsSoBy (D.held store.old) (Some path.now)
+        (I.remaining input.old) (λ given. IsRecordedFrom (D.held store.old)
+        (asked_in request.now) given made.outcome.text.items made.outcome.map.items
+        made.outcome.refuted made.bytes.items)) }
+    ensures handed { IfOk result (λ made. made.outcome.refuted ≡ true → IsRefutedFrom D.hands
+        (asked_in request.now) None) }
+    ensures fault { IfErr result (λ fault. IsInputFault fault → IsSoBy (D.held store.old)
+        (Some path.now) (I.remaining input.old)
+        (λ given. IsRefusedFrom (D.held store.old) (asked_in request.now) given fault)) }
+    ensures ok { OnOk result ((D.failures store.new ≡ D.failures store.old)
+        × (I.failures input.new ≡ I.failures input.old)) }
+    ensures err { IfErr result (IsUnreadBy (D.held store.old) (sources_of (asked_in request.now))
+        (Some path.now) (D.failures store.old + I.failures input.old)
+        (D.failures store.new + I.failures input.new)) }
+{
+    let text = text_of_one(rt.alloc(), store, input, path)?;
+    judge_cubes(
+        rt,
+        store,
+        request,
+        &mut Given::new(&text),
+        gate,
+        telling,
+        bundle,
+    )
+}
+
+/// The same with cubes and their proofs. Where the bundle is a file's, no folder adds proofs to it
+/// and nothing is told of it, its proofs are read one by one from their places; else all of it is
+/// read first.
+fn judge_cubes<R, D, I, G, X>(
+    rt: &R,
+    store: &mut D,
+    request: &Request<'_>,
+    input: &mut I,
+    gate: &G,
+    telling: &Telling<'_, X>,
+    bundle: &mut Vec<u8>,
+) -> Result<Recorded, Fault>
+where
+    R: AllocGlobal + Threads + Wait + Sync,
+    D: Store,
+    I: Source,
+    G: Gate + Sync,
+    X: Explain,
+    requires store { D.failures store.old < 2 ^ 64 - 1 }
+    requires input { I.failures input.old < 2 ^ 64 - 1 }
+    ensures held { D.held store.new ≡ D.held store.old }
+    ensures allowed { StaysAllowed (D.allows store.old) (D.allows store.new) }
+    ensures made { IfOk result (λ made. IsRecordedFrom (D.held store.old) (asked_in request.now)
+        (I.remaining input.old) made.outcome.text.items made.outcome.map.items
+        made.outcome.refuted made.bytes.items) }
+    ensures handed { IfOk result (λ made. made.outcome.refuted ≡ true → IsRefutedFrom D.hands
+        (asked_in request.now) (I.remaining input.old)) }
+    ensures fault { IfErr result (λ fault. IsInputFault fault → IsRefusedFrom (D.held store.old)
         (asked_in request.now) (I.remaining input.old) fault) }
     ensures ok { OnOk result ((D.failures store.new ≡ D.failures store.old)
         × (I.failures input.new ≡ I.failures input.old)) }
@@ -434,10 +542,10 @@ where
     ensures held { D.held store.new ≡ D.held store.old }
     ensures allowed { StaysAllowed (D.allows store.old) (D.allows store.new) }
     ensures made { IfOk result (λ some. IfSome some (λ made. (input : Option (List ℕ))
-        → IsRecordedFor (D.held store.old) (asked_in request.now) input made.outcome.text.items
+        → IsRecordedFrom (D.held store.old) (asked_in request.now) input made.outcome.text.items
         made.outcome.map.items made.outcome.refuted made.bytes.items)) }
     ensures handed { IfOk result (λ some. IfSome some (λ made. made.outcome.refuted ≡ true
-        → (input : Option (List ℕ)) → IsRefutedAsHanded D.hands (asked_in request.now) input)) }
+        → (input : Option (List ℕ)) → IsRefutedFrom D.hands (asked_in request.now) input)) }
     ensures fault { IfErr result (λ fault. ¬ IsInputFault fault) }
     ensures ok { OnOk result (D.failures store.new ≡ D.failures store.old) }
     ensures err { IfErr result (IsUnreadFrom (D.held store.old) (sources_of (asked_in request.now))
@@ -524,12 +632,12 @@ where
     requires input { I.failures input.old < 2 ^ 64 - 1 }
     ensures held { D.held store.new ≡ D.held store.old }
     ensures allowed { StaysAllowed (D.allows store.old) (D.allows store.new) }
-    ensures made { IfOk result (λ made. IsRecordedFor (D.held store.old) (asked_in request.now)
+    ensures made { IfOk result (λ made. IsRecordedFrom (D.held store.old) (asked_in request.now)
         (I.remaining input.old) made.outcome.text.items made.outcome.map.items
         made.outcome.refuted made.bytes.items) }
-    ensures handed { IfOk result (λ made. made.outcome.refuted ≡ true → IsRefutedAsHanded D.hands
+    ensures handed { IfOk result (λ made. made.outcome.refuted ≡ true → IsRefutedFrom D.hands
         (asked_in request.now) (I.remaining input.old)) }
-    ensures fault { IfErr result (λ fault. IsInputFault fault → IsRefused (D.held store.old)
+    ensures fault { IfErr result (λ fault. IsInputFault fault → IsRefusedFrom (D.held store.old)
         (asked_in request.now) (I.remaining input.old) fault) }
     ensures ok { OnOk result ((D.failures store.new ≡ D.failures store.old)
         × (I.failures input.new ≡ I.failures input.old)) }
@@ -595,33 +703,34 @@ where
     })
 }
 
-/// Writes the picture and the record, where files for them are asked for, and then the report.
+/// Writes the picture and the record, where files for them are asked for, and then what is shown of
+/// the report.
 fn write_outcome<D: Store, O: Sink>(
     store: &mut D,
     output: &mut O,
     request: &Request<'_>,
-    outcome: &Outcome,
-    made: &[u8],
+    made: &Recorded,
+    given: &[u8],
     spared: &Spared,
 ) -> Result<(), DeviceFault>
     requires store { D.failures store.old < 2 ^ 64 - 1 }
     requires output { O.failures output.old < 2 ^ 64 - 1 }
-    requires report { O.allows output.old outcome.now.text.items }
+    requires report { O.allows output.old given.now }
     requires picture { (path : List ℕ) → (asked_in request.now).picture ≡ Some path
-        → D.allows store.old path outcome.now.map.items }
+        → D.allows store.old path made.now.outcome.map.items }
     requires recorded { (path : List ℕ) → (asked_in request.now).out ≡ Some path
-        → D.allows store.old path made.now }
+        → D.allows store.old path made.now.bytes.items }
     requires apart { AreApart (asked_in request.now).picture (asked_in request.now).out }
     ensures drawn { OnOk result (IsMade (D.held store.new) (asked_in request.now).picture
-        outcome.now.map.items) }
+        made.now.outcome.map.items) }
     ensures recorded { OnOk result (IsMade (D.held store.new) (asked_in request.now).out
-        made.now) }
+        made.now.bytes.items) }
     ensures elsewhere { (path : List ℕ) → IsElsewhere (asked_in request.now) path
         → D.held store.new path ≡ D.held store.old path }
     ensures undrawn { IfErr result
         (λ fault. fault ≢ DeviceFault.Device → D.held store.new ≡ D.held store.old) }
     ensures written { OnOk result (Appends (O.contents output.old) (O.contents output.new)
-        outcome.now.text.items) }
+        given.now) }
     ensures ok { OnOk result ((D.failures store.new ≡ D.failures store.old)
         × (O.failures output.new ≡ O.failures output.old)) }
     ensures nothing { IfErr result (λ fault. fault ≢ DeviceFault.Device
@@ -629,14 +738,14 @@ fn write_outcome<D: Store, O: Sink>(
     ensures beginning { OnErr result (Keeps (O.contents output.old) (O.contents output.new)
         ⊎ ((O.failures output.old < O.failures output.new)
         × AppendsBeginning (O.contents output.old) (O.contents output.new)
-        outcome.now.text.items)) }
+        given.now)) }
     ensures err { IfErr result (λ fault. IsDeviceFault
         (D.failures store.old + O.failures output.old)
         (D.failures store.new + O.failures output.new) fault) }
 {
-    write_picture(store, request.map, &outcome.map, spared)?;
-    write_record(store, request.out, made, spared)?;
-    write_all(output, &outcome.text)
+    write_picture(store, request.map, &made.outcome.map, spared)?;
+    write_record(store, request.out, &made.bytes, spared)?;
+    write_all(output, given)
 }
 
 /// Writes the picture, where a file for it is asked for.

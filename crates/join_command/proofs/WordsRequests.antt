@@ -9,7 +9,8 @@ use Rattle.clap.specs.Words.{first_value, found_of, is_simple, is_simple_and_fre
 use Rattle.clap.specs.Words.{matches_of}
 use Rattle.clap.proofs.OnLiterals.{clap_on_literals}
 use Rattle.clap.proofs.WalkLemmas.{first_value-rows, raw_values-rows}
-use Rattle.join_command.specs.Words.{AreTaken, asked_of, is_given, words_taken}
+use Rattle.cube_command.specs.Words.{is_given}
+use Rattle.join_command.specs.Words.{AreTaken, asked_of, words_taken}
 use Rattle.join_command.specs.Inner.Words.{records_found}
 
 -- the file that the parser's matches hold is the one that the words ask for

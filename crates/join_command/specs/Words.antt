@@ -1,13 +1,11 @@
 -- Which words `cubejoin` takes, and what they ask for.
-use Rattle.std.specs.Prelude.{◌≡◌, Bool, List, [], codes, true, false, Option, None, Some}
-use Rattle.std.specs.Prelude.{unwrap_or}
-use Rattle.std.specs.Str.{bytes_eq}
+use Rattle.std.specs.Prelude.{◌≡◌, Bool, List, [], codes, true, Option, Some, unwrap_or}
 use Rattle.clap.specs.Lexer.{usize_max}
 use Rattle.clap.specs.Words.{App, Rule, Text, all_of, fault_of, first_of, matches_of, new_app}
 use Rattle.clap.specs.Words.{new_rule, with_rule}
 use Rattle.clap.specs.declared.builder.action.ArgAction.TheVariants.{Append}
 use Rattle.bundle_files.specs.Formula.{Sources, sources_by}
-use Rattle.cube_command.specs.Words.{flag_word, path_word, with_version}
+use Rattle.cube_command.specs.Words.{flag_word, is_given, path_word, with_version}
 
 -- one text without a name, which has to be there
 abbrev pub file_word : Rule
@@ -32,11 +30,6 @@ words_taken =
 -- version
 abbrev pub AreTaken : List Text → Type 0
 AreTaken words = fault_of words_taken words ≡ []
-
--- what `clap` finds for a flag that is given
-abbrev pub is_given : Option Text → Bool
-is_given None = false
-is_given (Some text) = bytes_eq text (codes "true")
 
 -- what words ask for: the formula's own file, where it has one, FILE, the RECORDs in order, and
 -- whether they are plain reports

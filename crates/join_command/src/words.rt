@@ -2,8 +2,8 @@
 
 ghost use Rattle.std.specs.Prelude.{◌≡◌, false, map, option_map, codes, IfOk, IfErr};
 ghost use Rattle.clap.specs.Words.{app_of, found_of, kind_of, new_app, rule_of};
-ghost use Rattle.cube_command.specs.Words.{flag_word, path_word, with_version};
-ghost use Rattle.join_command.specs.Words.{AreTaken, asked_of, file_word, is_given, records_word};
+ghost use Rattle.cube_command.specs.Words.{flag_word, is_given, path_word, with_version};
+ghost use Rattle.join_command.specs.Words.{AreTaken, asked_of, file_word, records_word};
 ghost use Rattle.join_command.specs.Words.{words_taken};
 ghost use Rattle.join_command.specs.Inner.Words.{asked_in, records_found};
 

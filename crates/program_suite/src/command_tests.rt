@@ -260,6 +260,22 @@ fn proofs_of_a_folder(rt: HostRuntime) {
     }
 }
 
+/// The same words, and that for the open leaves.
+const LISTED: &[&str] = &["--list-open", "--workers", "1", "--proofs", "D"];
+
+// In the report's place stand the leaves that aren't refuted, in its order, also where none is.
+#[test]
+fn open_leaves_are_listed(rt: HostRuntime) {
+    let calls: [(&[File<'_>], Ending<'_>); 3] = [
+        (&[], (1, b"1\n2\nm1\nm2\n", b"")),
+        (WITHOUT_M1, (1, b"m1\n", b"")),
+        (ALL_FILES, (0, b"", b"")),
+    ];
+    for (files, ending) in calls {
+        asks_for(&rt, files, &unfailing(LISTED, MIXED), ending, PROOF_PATHS);
+    }
+}
+
 /// A file in which another label line is no name of a leaf, and the paths up to the fourth call.
 const FAULTY_FILE: &[File<'static>] = &[("D/1.lrat", b"l x\n")];
 

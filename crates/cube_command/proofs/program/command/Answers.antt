@@ -1,4 +1,4 @@
-use Rattle.std.proofs.Common.{◌≡◌, arith, map, subst, sym}
+use Rattle.std.proofs.Common.{◌≡◌, arith, map, subst, sym, true, IfOk}
 use Rattle.cube_command.specs.Words.{AreApart, Asked, asked_of, IsElsewhere}
 use Rattle.cube_command.specs.Headline.{IsRefutedAsHanded}
 use Rattle.cube_command.specs.Program.{AllowsPicturesFor, AllowsRecordsFor, AllowsReportsFor}
@@ -32,7 +32,7 @@ run_request-run-requires-clause-records g c = λ κs within.
 pub run_request-run-requires-clause-apart : goal.run_request-run-requires-clause-apart
 run_request-run-requires-clause-apart g c = λ κs within.
     subst (λ (a : Asked). AreApart a.picture a.out) (sym c.in-Ok.ensures.asked)
-    c.in-Ok.ensures.taken.1.0
+    c.in-Ok.ensures.taken.1.1.0
 
 pub tell_run-status-requires-clause-fault : goal.tell_run-status-requires-clause-fault
 tell_run-status-requires-clause-fault g c =
@@ -103,7 +103,7 @@ pub returns-in-Ok-clause-kept : goal.returns-in-Ok-clause-kept
 returns-in-Ok-clause-kept g c = λ path input.
     c.run_request-run.ensures.elsewhere path
     (subst (λ (a : Asked). IsElsewhere a path) (sym c.in-Ok.ensures.asked)
-    (input_apart (asked_of (map g.S.AsStr.text c.args.words.now)) path c.in-Ok.ensures.taken.1
+    (input_apart (asked_of (map g.S.AsStr.text c.args.words.now)) path c.in-Ok.ensures.taken.1.1
     input))
 
 pub returns-in-Err-clause-none : goal.returns-in-Err-clause-none
@@ -119,4 +119,7 @@ returns-in-Ok-clause-handed g c = λ zero.
     (g.E.Sink.contents c.args.errors.now) (g.E.Sink.contents c.tell_run-status.new.errors)
     (g.E.Sink.failures c.args.errors.now) (g.E.Sink.failures c.tell_run-status.new.errors)
     c.tell_run-status.ensures.told
-    (rw c.in-Ok.ensures.asked at c.run_request-run.ensures.handed) zero
+    (subst
+    (λ (a : Asked). IfOk c.run_request-run.result (λ refuted. refuted ≡ true
+    → IsRefutedAsHanded g.D.Store.hands a (g.I.Source.remaining c.args.input.now)))
+    c.in-Ok.ensures.asked c.run_request-run.ensures.handed) zero

@@ -1,6 +1,6 @@
 use Rattle.std.proofs.Common.{List, ℕ, Bor, inr}
 use Rattle.cube_report.specs.Faults.{IsInputFault}
-use Rattle.cube_command.specs.Program.{IsRefused}
+use Rattle.cube_command.specs.Program.{IsRefusedFrom}
 use Rattle.command_words.specs.Request.{asked_in}
 use Rattle.cube_command.proofs.ProgramMade.{handed_read, made_of}
 use Rattle.cube_command.proofs.ProgramRuns.{some_mapped}
@@ -10,7 +10,7 @@ use Rattle.cube_command.proofs.program.judge_read.Goals as goal
 pub returns-in_err-read-clause-fault : goal.returns-in_err-read-clause-fault
 returns-in_err-read-clause-fault g c =
     handed_on c.from_residual.result
-    (λ fault. IsInputFault fault → IsRefused (g.D.Store.held c.args.store.now)
+    (λ fault. IsInputFault fault → IsRefusedFrom (g.D.Store.held c.args.store.now)
     (asked_in c.args.request.now) (g.I.Source.remaining c.args.input.now) fault)
     c.in_err-read.field-0.0
     (λ input. inr (c.in_err-read.ensures.fault input)) c.from_residual.ensures.1

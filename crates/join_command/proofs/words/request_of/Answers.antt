@@ -1,5 +1,5 @@
 use Rattle.std.proofs.Common.{◌∙◌, ap, refl}
-use Rattle.join_command.specs.Words.{is_given}
+use Rattle.cube_command.specs.Words.{is_given}
 use Rattle.join_command.proofs.WordsRequests.{file_asked, file_or, formula_asked, parsed_taken}
 use Rattle.join_command.proofs.WordsRequests.{records_asked, unbound_asked}
 use Rattle.join_command.proofs.words.request_of.Goals as goal

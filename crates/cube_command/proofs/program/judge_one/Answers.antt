@@ -1,0 +1,43 @@
+use Rattle.std.proofs.Common.{◌≡◌, ◌∙◌, ap, sym, subst, Option, Some, Bor, List, ℕ}
+use Rattle.command_words.specs.Request.{asked_in}
+use Rattle.cube_report.specs.declared.fault.Fault.{Fault}
+use Rattle.cube_command.specs.Program.{IsRefusedFrom}
+use Rattle.cube_command.specs.Sources.{IsSoBy}
+use Rattle.cube_command.specs.Inner.Recorded.{IsRecordedFrom}
+use Rattle.cube_command.specs.declared.program.Recorded.{Recorded}
+use Rattle.cube_command.proofs.InputGiven.{err_given, handed_given, ok_given}
+use Rattle.cube_command.proofs.program.judge_one.Goals as goal
+
+pub returns-clause-made : goal.returns-clause-made
+returns-clause-made g c =
+    let same = ap (λ (text : Bor (List ℕ)). Some text.now) c.new.ensures
+    ∙ ap (λ (text : List ℕ). Some text) c.deref.ensures.value in
+    ok_given c.judge_cubes.result (g.D.Store.held c.args.store.now) c.args.path.now
+    (g.I.Source.remaining c.args.input.now) c.new.result.text.now
+    (λ given (made : Recorded). IsRecordedFrom (g.D.Store.held c.args.store.now)
+    (asked_in c.args.request.now) given made.outcome.text.items made.outcome.map.items
+    made.outcome.refuted made.bytes.items)
+    (subst
+    (λ (text : Option (List ℕ)). IsSoBy (g.D.Store.held c.args.store.now)
+    (Some c.args.path.now) (g.I.Source.remaining c.args.input.now) (λ given. given ≡ text))
+    (sym same) c.in_ok-text.ensures.text)
+    (rw c.in_ok-text.ensures.held at c.judge_cubes.ensures.made)
+
+pub returns-clause-handed : goal.returns-clause-handed
+returns-clause-handed g c =
+    handed_given c.judge_cubes.result g.D.Store.hands (asked_in c.args.request.now)
+    c.new.result.text.now c.judge_cubes.ensures.handed
+
+pub returns-clause-fault : goal.returns-clause-fault
+returns-clause-fault g c =
+    let same = ap (λ (text : Bor (List ℕ)). Some text.now) c.new.ensures
+    ∙ ap (λ (text : List ℕ). Some text) c.deref.ensures.value in
+    err_given c.judge_cubes.result (g.D.Store.held c.args.store.now) c.args.path.now
+    (g.I.Source.remaining c.args.input.now) c.new.result.text.now
+    (λ given (fault : Fault). IsRefusedFrom (g.D.Store.held c.args.store.now)
+    (asked_in c.args.request.now) given fault)
+    (subst
+    (λ (text : Option (List ℕ)). IsSoBy (g.D.Store.held c.args.store.now)
+    (Some c.args.path.now) (g.I.Source.remaining c.args.input.now) (λ given. given ≡ text))
+    (sym same) c.in_ok-text.ensures.text)
+    (rw c.in_ok-text.ensures.held at c.judge_cubes.ensures.fault)
