@@ -61,7 +61,6 @@ FILE is a bundle: p inccnf, clauses and cubes (iCNF), then proofs below label li
   6 0 5 3 4 0   and the k literals of the cube, unit clauses with the ids m+1 to m+k
   l m1          the same for the first branch that no cube covers
   l n 1 -2 0    the same for the inner node with this path
---proofs DIR adds DIR/1.lrat, .., DIR/m1.lrat, .., text or binary, as if below these.
 
 The report, which is the same for every N and D:
   t   the number of cubes, of branches that no cube covers, the weight of the tree
@@ -394,7 +393,7 @@ fn inputs<'a>(alloc: Global) -> Result<Command<'a>, AllocError>
             alloc,
             "proofs",
             "DIR",
-            "Add the proofs DIR/K.lrat and DIR/mJ.lrat",
+            "Add the proofs DIR/K.lrat and DIR/mJ.lrat, text or binary, as if below these of FILE",
         ))
 }
 

@@ -19,7 +19,7 @@ text_at : (has : List ℕ → List ℕ → Type 0) (file : Option (List ℕ)) (t
 text_at has None text rest at = tt
 text_at has (Some path) text rest at = at
 
-bundle_by : (has : List ℕ → List ℕ → Type 0) (formula file : Option (List ℕ))
+pub bundle_by : (has : List ℕ → List ℕ → Type 0) (formula file : Option (List ℕ))
     (text read : List ℕ)
     → IsBundleBy has formula file (Some text) read → IsBundleBy has formula file None read
 bundle_by has None file text read by = text_at has file text read by

@@ -26,9 +26,10 @@ use Rattle.cube_command.specs.Program.{IsMade, IsRefused, IsReported, IsLineWrit
 use Rattle.cube_command.specs.Program.{AllowsFaults, IsBegun, IsBundleFor, IsPictureOn}
 use Rattle.cube_command.specs.Open.{open_names, shown}
 use Rattle.cube_command.specs.Record.{digest_line, record_text}
-use Rattle.cube_command.specs.Sources.{IsSoBy, IsSoOf, of_one_proof, sources_of}
+use Rattle.cube_command.specs.Sources.{IsSoBy, input_handed, of_one_proof, sources_of}
 use Rattle.cube_command.specs.Words.{Asked}
 use Rattle.cube_command.specs.Inner.Telling.{IsFaultWritten, status_of, status_of_answer}
+use Rattle.cube_command.proofs.InputGiven.{bundle_by}
 
 -- ---- the run
 
@@ -68,10 +69,11 @@ given_for held asked (Some path) input read whole bundle =
 read_for : (held : Held) (asked : Asked) (proof input : Option (List ℕ)) (read whole : List ℕ)
     → IsSoBy held proof input
     (λ given. IsBundleOf held (sources_of asked) asked.folder given read whole)
-    → IsSoBy held proof input (λ given. IsReadFrom held (sources_of asked) given read)
+    → IsReadFrom held (sources_of asked) (input_handed proof input) read
 read_for held asked None input read whole bundle = bundle.is_read
 read_for held asked (Some path) input read whole bundle =
-    (bundle.0, bundle.1, bundle.2.is_read)
+    bundle_by (lies_in held) asked.formula asked.file (of_one_proof bundle.0) read
+    bundle.2.is_read
 
 -- what was written, the picture and the record are those of the report on the bundle that was
 -- asked for
@@ -264,7 +266,7 @@ pub sound_run : (held later : Held) (asked : Asked) (input out_old out_new : Opt
     → ToldRun run status Same old new before after
     → IfOk run (IsReported held later asked input out_old out_new) → status ≡ 0
     → (read : List ℕ)
-    × IsSoOf held asked input (λ given. IsReadFrom held (sources_of asked) given read)
+    × IsReadFrom held (sources_of asked) (input_handed asked.proof input) read
     × IsUnsatisfiable read
 sound_run held later asked input out_old out_new (Ok true) status Same old new before after told
     report is = (

@@ -6,16 +6,17 @@ use Rattle.cube_report.specs.Literal.{Literal}
 use Rattle.cube_report.specs.Dimacs.{IsDimacs}
 use Rattle.cube_report.specs.Formula.{HasNoModel}
 use Rattle.cube_report.specs.Correct.{IsUnsatisfiable}
-use Rattle.cube_command.specs.Sources.{IsSoOf, input_handed, sources_of}
+use Rattle.cube_command.specs.Sources.{input_handed, sources_of}
 use Rattle.cube_command.specs.Words.{Asked}
 
 -- Status 0: no assignment makes all clauses true of the bundle that was read, from the files that
--- are asked for, which hold this, as far as that is known, or from what the input had left; or of
--- one proof below the formula.
+-- are asked for, which hold this, as far as that is known, or from what the input had left; with one
+-- proof in the place of that, of the formula's text with whatever stands below it.
 abbrev pub IsSound : ℕ → Held → Asked → Option (List ℕ) → Type 0
 IsSound status held asked input =
     status ≡ 0 →
-    (read : List ℕ) × IsSoOf held asked input (λ given. IsReadFrom held (sources_of asked) given read)
+    (read : List ℕ)
+    × IsReadFrom held (sources_of asked) (input_handed asked.proof input) read
     × IsUnsatisfiable read
 
 -- Status 0 where the formula has a file of its own: its text is the DIMACS text of a formula of

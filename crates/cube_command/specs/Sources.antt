@@ -36,7 +36,7 @@ IsSoBy held (Some path) input so =
 abbrev pub IsSoOf : Held → Asked → Option (List ℕ) → (Option (List ℕ) → Type 0) → Type 0
 IsSoOf held asked input so = IsSoBy held asked.proof input so
 
--- what is known of it where nothing is known of what lies at paths
+-- what is known of it where nobody asks what the proof is
 abbrev pub input_handed : Option (List ℕ) → Option (List ℕ) → Option (List ℕ)
 input_handed None input = input
 input_handed (Some path) input = None

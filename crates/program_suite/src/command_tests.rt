@@ -233,6 +233,15 @@ type Call = (
     &'static [u8],
 );
 
+/// A formula without a model, its proof, the words for that, and the report.
+const ONE_PROOF: &[File<'static>] = &[("CNF", b"p cnf 1 2\n1 0\n-1 0\n"), ("P", b"3 0 1 2 0\n")];
+
+const OF_FILE: Words = &["--formula", "CNF", "--proof", "P"];
+
+const OF_INPUT: Words = &["--formula", "CNF", "--proof", "-"];
+
+const ONE_REPORT: &[u8] = b"t 1 0 1152921504606846976\na 1 refuted\nw 0\ns REFUTED\n";
+
 const CALLS: &[Call] = &[
     // Each leaf's file is asked for once, the cubes' and then those of the missing leaves, whatever
     // is there.
@@ -251,6 +260,16 @@ const CALLS: &[Call] = &[
     // Where a file has the section of another leaf, and the bundle with all proofs has no fault,
     // they are read a third time, for the run on it.
     (SECTION_IN_FILE, ALONE, MIXED, (0, ALL_REPORT, b""), THRICE),
+    // One proof of the whole formula: of a file, of the input, and of a file that isn't there.
+    (ONE_PROOF, OF_FILE, b"", (0, ONE_REPORT, b""), b"P\nCNF\n"),
+    (
+        ONE_PROOF,
+        OF_INPUT,
+        b"3 0 1 2 0\n",
+        (0, ONE_REPORT, b""),
+        b"CNF\n",
+    ),
+    (&[], OF_FILE, b"", (5, b"", DEVICE), b"P\n"),
 ];
 
 #[test]
