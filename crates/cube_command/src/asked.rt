@@ -16,11 +16,19 @@ pub(crate) struct Telling<'a, X> {
 pub(crate) fn asked_in<'a>(request: &Request<'a>) -> Asked<'a> {
     Asked {
         formula: request.formula,
-        file: request.file,
+        file: file_of(request),
         proofs: request.proofs,
         map: request.map,
         out: request.out,
         log: request.log,
+    }
+}
+
+/// The file that is read in the place of the input: that with the bundle, or with one proof.
+pub(crate) fn file_of<'a>(request: &Request<'a>) -> Option<&'a str> {
+    match request.proof {
+        Some(path) if path != "-" => Some(path),
+        _ => request.file,
     }
 }
 

@@ -25,7 +25,7 @@ ghost use Rattle.cube_command.specs.Inner.Recorded.{IsRecordedFor, IsRecordedFro
 ghost use Rattle.cube_command.specs.Inner.Recorded.{IsUnreadBy, IsUnreadOf};
 ghost use Rattle.command_words.specs.Request.{asked_in};
 
-use crate::asked::{Telling, asked_in, fault_in};
+use crate::asked::{Telling, asked_in, fault_in, file_of};
 use crate::one_proof::{Given, text_of_one};
 use crate::open::{names_asked, shown};
 use crate::record::{begin_record, end_record};
@@ -379,14 +379,6 @@ fn inputs_of<'a>(request: &Request<'a>) -> Inputs<'a> {
         formula: request.formula,
         file: file_of(request),
         proofs: request.proofs,
-    }
-}
-
-/// The file that is read in the place of the input: that with the bundle, or with one proof.
-fn file_of<'a>(request: &Request<'a>) -> Option<&'a str> {
-    match request.proof {
-        Some(path) if path != "-" => Some(path),
-        _ => request.file,
     }
 }
 

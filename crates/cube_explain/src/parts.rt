@@ -19,9 +19,9 @@ pub(crate) struct Part<'t> {
     pub(crate) above: u64,
 }
 
-/// The part of a run's bundle that the file with the cubes gave. Where the formula has a file of
-/// its own, that file, or else the other one, is read again to see where it ends. Where neither can
-/// be, that is told, and the part is the whole bundle, by that name.
+/// The part of a run's bundle that the file with the cubes gave, or with one proof of the formula.
+/// Where the formula has a file of its own, the other one, or else that one, is read again to see
+/// where it ends. Where neither can be, that is told, and the part is the whole bundle, by that name.
 pub(crate) fn file_part<'r, R: Eprint + ReadFiles>(run: &Run<'r, R>) -> Part<'r> {
     let Some(path) = run.asked.formula else {
         return part_of(run.file(), run.bundle, run.bundle);
@@ -47,16 +47,15 @@ fn part_of<'t>(from: &'t str, text: &'t [u8], bundle: &[u8]) -> Part<'t> {
 /// What stands in the bundle below the text of the formula's file, which has this path, or why that
 /// file doesn't say where it ends.
 fn text_below<'r, R: ReadFiles>(run: &Run<'r, R>, path: &str) -> Result<&'r [u8], Unread> {
-    let unread = match read_again(run.device, run.alloc, path) {
+    if let Some(text) = text_of_file(run) {
+        return Ok(text);
+    }
+    match read_again(run.device, run.alloc, path) {
         Ok(formula) => match behind_formula(run.bundle, &formula) {
-            Some(text) => return Ok(text),
-            None => Unread::Changed,
+            Some(text) => Ok(text),
+            None => Err(Unread::Changed),
         },
-        Err(unread) => unread,
-    };
-    match text_of_file(run) {
-        Some(text) => Ok(text),
-        None => Err(unread),
+        Err(unread) => Err(unread),
     }
 }
 
