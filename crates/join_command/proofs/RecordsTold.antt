@@ -1,6 +1,6 @@
 -- What is taken for granted of records says that they are reports on the bundle's formula and tree.
 use Rattle.std.proofs.Common.{◌≡◌, ◌∙◌, sym, ap, subst, Bool, true, false, List, [], ◌∷◌, ◌++◌}
-use Rattle.std.proofs.Common.{ℕ, Option, refl}
+use Rattle.std.proofs.Common.{ℕ, Option, Some, None, refl}
 use Rattle.std.specs.List.{All}
 use Rattle.std.proofs.lemmas.List.{map-id}
 use Rattle.std.proofs.lemmas.List.Elements.{All-head, All-tail}
@@ -15,10 +15,12 @@ use Rattle.mark_board.specs.Findings.{AreFindings}
 use Rattle.cube_report.specs.Bundle.{icnf_text}
 use Rattle.cube_report.specs.Mark.{Mark}
 use Rattle.cube_report.specs.Report.{report_text}
-use Rattle.bundle_files.specs.Files.{Held}
+use Rattle.bundle_files.specs.Files.{Held, IsJudgedOf}
+use Rattle.bundle_files.specs.Formula.{IsBundleOf}
 use Rattle.bundle_files.proofs.LawsFormula.{judged_keeps_items}
 use Rattle.cube_command.specs.Program.{IsReported}
 use Rattle.cube_command.specs.Record.{digest_line, record_text}
+use Rattle.cube_command.specs.Sources.{IsSoBy, sources_of}
 use Rattle.cube_command.specs.Words.{Asked}
 use Rattle.cube_command.proofs.RecordLines.{one_line}
 use Rattle.cube_join.specs.Joined.{AreReportsWith, IsReportWith}
@@ -85,6 +87,13 @@ reports_told false bundle texts reports case is parts are =
 
 -- ---- a run that leaves a record
 
+judged_of : (held : Held) (asked : Asked) (proof input : Option (List ℕ)) (read whole : List ℕ)
+    → IsSoBy held proof input
+    (λ given. IsBundleOf held (sources_of asked) asked.folder given read whole)
+    → IsJudgedOf held asked.folder read whole
+judged_of held asked None input read whole bundle = bundle.is_judged
+judged_of held asked (Some path) input read whole bundle = bundle.2.is_judged
+
 pub left_by_run : (held after : Held) (asked : Asked) (input old new : Option (List ℕ))
     (answer : Bool) (run : IsReported held after asked input old new answer) →
     IsLeftBy run.read (record_text run.read run.text)
@@ -93,6 +102,6 @@ left_by_run held after asked input old new answer run =
       held = held;
       folder = asked.folder;
       whole = run.whole;
-      judged = run.bundle.is_judged;
+      judged = judged_of held asked asked.proof input run.read run.whole run.bundle;
       left = (run.text, (correct.case, correct.marks, correct.judged, correct.text), refl);
     }
