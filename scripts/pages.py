@@ -20,6 +20,14 @@ examples   Each piece of code, up to a blank line, in a crate's README and in th
            none, that paragraph begins with "A sketch".
 crates     CONTRIBUTING's table of crates has the lines of crates.txt, in their order, and says of each crate what it
            stands on. What a crate is about is text of the page.
+clauses    What a page calls a clause of a function is one: in `CLAUSE` of `FUNCTION`, also with several names before the
+           "of", a function of this name in crates/*/src has clauses of all these names, `ensures` or `requires`. If it
+           is a type or a definition, or a crate, the names are words of its file, or of its sources. Blocks of code are
+           left out.
+paths      Each path below scripts/, tests/, crates/, bench/, docs/ or examples/ that a page names outside of a block of
+           code is there; for a row of tests/rows its name is enough. A path of an .rt or .antt file below src/, specs/
+           or proofs/ is there in some crate. Left out are paths with a name in capitals, as NAME, those of what is built
+           (LEFT_OUT), and those with a wildcard.
 
 A sentence is long if it has more than 40 words. A code span is one word. Each paragraph, item of a list and cell of a
 table ends its last sentence. The share is printed, and no status follows from it.
@@ -45,6 +53,16 @@ SKETCH = "A sketch"
 README_PARTS = {"What a report means", "As a library"}
 HEADS = ("Crate", "What it is about", "Stands on")
 UNSAID = "(say what it is about)"
+
+# Names in code spans, one after the other, and what they are said to be of.
+NAME = r"`[A-Za-z_]\w*`"
+OF = re.compile(rf"({NAME}(?:,? (?:and )?{NAME})*) of `((?:\w+::)?[A-Za-z_]\w*)`(?!')")
+FUNCTION = re.compile(r"^\s*(?:pub(?:\(\w+\))? )?(?:const )?fn (\w+)")
+CLAUSE = re.compile(r"^\s*(?:ensures|requires) (\w+) \{")
+DEFINED = re.compile(r"^\s*(?:pub(?:\(\w+\))? )?(?:abbrev |record |data |struct |enum |trait |type |union )(?:pub )?(\w+)", re.M)
+# Paths of the repository, and those in a crate.
+PATH = re.compile(r"(?<![\w./*-])(?:scripts|tests|crates|bench|docs|examples)/[\w./*-]*[\w/*]|(?<![\w./*-])((?:src|specs|proofs)/[\w/*-]+\.(?:rt|antt))")
+PLACEHOLDER = re.compile(r"\*|[A-Z]{2,}(?!\w*\.md)")
 
 LINK = re.compile(r"!?\[(?:[^\[\]]|\[[^\]]*\])*\]\(([^()\s]+)\)")
 ITEM = re.compile(r"^\s*(?:[-*]|\d+\.) ")
@@ -261,6 +279,62 @@ def write_crates(root):
     (root / "CONTRIBUTING.md").write_text("\n".join(lines), encoding="utf-8")
 
 
+@lru_cache(maxsize=None)
+def functions(root):
+    """The clauses of all functions: for each name a list with a set of names for each function of that name."""
+    found = {}
+    for path in sorted(root.glob("crates/*/src/**/*.rt")):
+        clauses = set()
+        for line in path.read_text(encoding="utf-8").split("\n"):
+            if name := FUNCTION.match(line):
+                clauses = set()
+                found.setdefault(name[1], []).append(clauses)
+            elif name := CLAUSE.match(line):
+                clauses.add(name[1])
+    return found
+
+
+@lru_cache(maxsize=None)
+def words_of(root):
+    """For each type and each definition the words of the files that define it, and for each crate those of its sources."""
+    found = {}
+    for path in sorted([*root.glob("crates/*/src/**/*.rt"), *root.glob("crates/*/specs/**/*.antt")]):
+        text = path.read_text(encoding="utf-8")
+        words = set(re.findall(r"\w+", text))
+        for name in {*DEFINED.findall(text), path.relative_to(root).parts[1]}:
+            found.setdefault(name, set()).update(words)
+    return found
+
+
+def against_clauses(root):
+    for page in pages(root):
+        for part in parts(root, page):
+            if part.kind != "code":
+                for names, of in OF.findall(" ".join(map(str.strip, part.lines))):
+                    name = of.split("::")[-1]
+                    wanted = set(re.findall(r"\w+", names)) - {"and"}
+                    if name in functions(root):
+                        if not any(wanted <= clauses for clauses in functions(root)[name]):
+                            yield page, part.first, f"no function {of} has the clauses {', '.join(sorted(wanted))}"
+                    elif not wanted <= words_of(root).get(name, set()):
+                        yield page, part.first, f"there is no {', '.join(sorted(wanted))} of {of}"
+
+
+def against_paths(root):
+    for page in pages(root):
+        for part in parts(root, page):
+            if part.kind != "code":
+                # (a link leads from its page on: the claim on links looks at it)
+                text = LINK.sub(lambda link: link[0].split("](")[0], " ".join(map(str.strip, part.lines)))
+                for found in PATH.finditer(text):
+                    path = found[0].rstrip("/")
+                    if PLACEHOLDER.search(path) or set(path.split("/")) & LEFT_OUT or is_below(path, LEFT_OUT):
+                        continue
+                    ways = [f"crates/*/{path}"] if found[1] else [path, f"{path}.in"]
+                    if not any(any(root.glob(way)) for way in ways):
+                        yield page, part.first, f"there is no {path}"
+
+
 def sentences(part):
     """The sentences of a part of a page."""
     for cell in cells(part) if part.kind == "table" else [ITEM.sub("", plain(part), count=1)]:
@@ -286,6 +360,8 @@ CLAIMS = {
     "cells": against_cells,
     "examples": against_examples,
     "crates": against_crates,
+    "clauses": against_clauses,
+    "paths": against_paths,
 }
 
 

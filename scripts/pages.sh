@@ -1,19 +1,22 @@
 #!/bin/sh
 # Looks at the pages by scripts/pages.py, whose head has the claims: links that lead nowhere, also
 # in the archive of scripts/package.sh; lines wider than 100 columns; cells of tables with more
-# than 15 words; examples that are in no source; CONTRIBUTING's table of crates. Then it tries each
-# claim on wrong pages, each of which it has to refuse, and on right ones. It prints how many
-# sentences of each page are long, and no claim follows from that. It runs no program. The last line
-# counts.
+# than 15 words; examples that are in no source; CONTRIBUTING's table of crates; clauses that no
+# function has, and paths that aren't there. Then it tries each claim on wrong pages, each of which
+# it has to refuse, and on right ones. It prints how many sentences of each page are long, and no
+# claim follows from that. It runs no program. The last line counts.
 root=$(CDPATH= cd -- "$(dirname -- "$0")/.." && pwd) || exit 1
 . "$root/scripts/runs.sh"
-claims="links archive width cells examples crates"
+claims="links archive width cells examples crates clauses paths"
 
 # A small repository whose pages are right.
 right=$here/right
-mkdir -p "$right/docs" "$right/scripts" "$right/crates/low/src"
+mkdir -p "$right/docs" "$right/scripts" "$right/tests/rows" "$right/crates/low/src"
+: > "$right/tests/rows/one.in"
 printf 'packed="README.md docs/IN.md"\n' > "$right/scripts/package.sh"
 printf 'fn main() {\n    // a line\n    one();\n\n    two();\n}\n' > "$right/crates/low/src/lib.rt"
+printf '%s\n' 'pub fn joins(it: u8) -> u8' '    requires room { it.now < 2 }' '    ensures sound { result ≡ it.now }' \
+    '{' '    it' '}' '' 'pub struct Pair {' '    left: u8,' '}' > "$right/crates/low/src/two.rt"
 printf '%s\n' 'low: clap' 'high tests_may=Wait: low hex  # above it' > "$right/crates.txt"
 printf '%s\n' '| Crate | What it is about | Stands on |' '|---|---|---|' '| low | one | clap |' \
     '| high | another | low, hex |' '' '- an item whose link [goes' '  on](docs/IN.md#a-heading-of-it)' \
@@ -21,7 +24,10 @@ printf '%s\n' '| Crate | What it is about | Stands on |' '|---|---|---|' '| low 
 printf '%s\n' '# A page' '' 'See [it](docs/IN.md), `no [link](nowhere)` and [out](docs/OUT.md).' '' \
     'A link that is dead in the archive of the programs leads to a file of the repository.' '' '## As a library' '' \
     'From [lib.rt](crates/low/src/lib.rt):' '' '    // a line' '    one();' '' '    two();' > "$right/README.md"
-printf '%s\n' '# In the archive' '' '## A `heading`, of it' '' 'See [above](#a-heading-of-it).' > "$right/docs/IN.md"
+printf '%s\n' '# In the archive' '' '## A `heading`, of it' '' 'See [above](#a-heading-of-it).' '' \
+    'Clauses `sound`,' '`room` of `joins`, a field `left` of `Pair`, `word` of a `Thing`. Tried by scripts/package.sh,' \
+    'tests/rows/one, src/two.rt, crates/NAME/gone, crates/low/out/gone, tests/*.gone.' '' \
+    '    `gone` of `joins`, scripts/gone.sh' > "$right/docs/IN.md"
 cell='[one](../README.md) two `three of a span` four five six seven eight nine ten eleven twelve thirteen fourteen fifteen'
 printf '%s\n' '# Out of it' '' 'See [README](../README.md).' '' '| Fifteen words | None |' '|---|---|' \
     "| $cell | |" > "$right/docs/OUT.md"
@@ -60,6 +66,15 @@ wrong crates "a crate that stands on another one" crates.txt 's/low: clap/low: h
 wrong crates "a crate that isn't in the table" crates.txt '$a top: high'
 wrong crates "a crate that isn't in crates.txt" crates.txt '/^high/d'
 wrong crates "another order" crates.txt '1h; 1d; 2G'
+wrong clauses "a clause that no function has" docs/IN.md 's/`room`/`rooms`/'
+wrong clauses "the first of two clauses that isn't there, on the line before" docs/IN.md 's/`sound`/`bound`/'
+wrong clauses "a function that isn't there" docs/IN.md 's/`joins`/`join`/'
+wrong clauses "a clause that has another name now" crates/low/src/two.rt 's/ensures sound/ensures sounds/'
+wrong clauses "clauses of two functions" crates/low/src/two.rt 's/^    ensures sound/fn other()\n&/'
+wrong clauses "a field that isn't there" docs/IN.md 's/`left`/`right`/'
+wrong paths "a script that isn't there" docs/IN.md 's/by scripts.package/by scripts\/pack/'
+wrong paths "a row that isn't there" docs/IN.md 's/rows.one/rows\/two/'
+wrong paths "a file of a crate that isn't there" docs/IN.md 's/src.two/src\/three/'
 
 # One call looks at all of them. What it prints begins with the claim and the folder.
 python3 "$root/scripts/pages.py" "$root" "$right" "$here"/wrong.* > "$here/found" 2> "$here/err"
