@@ -23,7 +23,9 @@ crates     CONTRIBUTING's table of crates has the lines of crates.txt, in their 
 clauses    What a page calls a clause of a function is one: in `CLAUSE` of `FUNCTION`, also with several names before the
            "of", a function of this name in crates/*/src has clauses of all these names, `ensures` or `requires`. If it
            is a type or a definition, or a crate, the names are words of its file, or of its sources. Blocks of code are
-           left out.
+           left out. So it is in a crate's README with an item that begins with a call, **`CALL`**, also several: each
+           name that stands there before a colon, or in an item below it, is a clause of such a call, or a function of
+           the crate. Of a type it is a clause of any call of the crate.
 paths      Each path below scripts/, tests/, crates/, bench/, docs/ or examples/ that a page names outside of a block of
            code is there; for a row of tests/rows its name is enough. A path of an .rt or .antt file below src/, specs/
            or proofs/ is there in some crate. Left out are paths with a name in capitals, as NAME, those of what is built
@@ -59,6 +61,9 @@ NAME = r"`[A-Za-z_]\w*`"
 OF = re.compile(rf"({NAME}(?:,? (?:and )?{NAME})*) of `((?:\w+::)?[A-Za-z_]\w*)`(?!')")
 FUNCTION = re.compile(r"^\s*(?:pub(?:\(\w+\))? )?(?:const )?fn (\w+)")
 CLAUSE = re.compile(r"^\s*(?:ensures|requires) (\w+) \{")
+# An item of a crate's README that begins with calls, and names before a colon, with rooms in parentheses behind them.
+CALLS = re.compile(r"- ((?:\*\*`[^`]+`\*\*(?:,? (?:and )?)?)+)")
+TOLD = re.compile(rf"(?:^|[.:] |\) )((?:{NAME}(?:, | and )?)+)(?: \([^)]*\))?(?:, [^:.]{{0,20}})?:")
 DEFINED = re.compile(r"^\s*(?:pub(?:\(\w+\))? )?(?:abbrev |record |data |struct |enum |trait |type |union )(?:pub )?(\w+)", re.M)
 # Paths of the repository, and those in a crate.
 PATH = re.compile(r"(?<![\w./*-])(?:scripts|tests|crates|bench|docs|examples)/[\w./*-]*[\w/*]|(?<![\w./*-])((?:src|specs|proofs)/[\w/*-]+\.(?:rt|antt))")
@@ -280,10 +285,10 @@ def write_crates(root):
 
 
 @lru_cache(maxsize=None)
-def functions(root):
-    """The clauses of all functions: for each name a list with a set of names for each function of that name."""
+def functions(root, crate="crates/*"):
+    """The clauses of all functions, or of a crate's: for each name a list with a set of names for each of these."""
     found = {}
-    for path in sorted(root.glob("crates/*/src/**/*.rt")):
+    for path in sorted(root.glob(f"{crate}/src/**/*.rt")):
         clauses = set()
         for line in path.read_text(encoding="utf-8").split("\n"):
             if name := FUNCTION.match(line):
@@ -307,6 +312,7 @@ def words_of(root):
 
 
 def against_clauses(root):
+    yield from against_calls(root)
     for page in pages(root):
         for part in parts(root, page):
             if part.kind != "code":
@@ -318,6 +324,32 @@ def against_clauses(root):
                             yield page, part.first, f"no function {of} has the clauses {', '.join(sorted(wanted))}"
                     elif not wanted <= words_of(root).get(name, set()):
                         yield page, part.first, f"there is no {', '.join(sorted(wanted))} of {of}"
+
+
+def against_calls(root):
+    for page in pages(root):
+        if crate := re.fullmatch(r"(crates/\w+)/README\.md", page):
+            yield from ((page, *it) for it in against_calls_of(root, crate[1], parts(root, page)))
+
+
+def against_calls_of(root, crate, found):
+    """What is against the names that a crate's README has for clauses: the line and the text."""
+    here = functions(root, crate)
+    calls = []
+    for part in found:
+        text = " ".join(map(str.strip, part.lines))
+        if head := CALLS.match(text):
+            calls = [name.split("::")[-1] for name in re.findall(r"`([^`]+)`", head[1])]
+            text = text[head.end():]
+        elif part.kind != "text" or not part.lines[0].startswith("  "):
+            calls = []
+        text = text.removeprefix("- ")
+        # (of a trait these are the clauses of its calls, wherever in the crate)
+        known = set(here).union(*(clauses for name in calls for clauses in here.get(name, itertools.chain(*here.values()))))
+        for names in TOLD.findall(text) if calls else []:
+            for name in re.findall(r"`(\w+)`", names):
+                if name not in known:
+                    yield part.first, f"{name} is no clause of {', '.join(calls)}"
 
 
 def against_paths(root):

@@ -31,7 +31,8 @@ printf '%s\n' '# In the archive' '' '## A `heading`, of it' '' 'See [above](#a-h
 cell='[one](../README.md) two `three of a span` four five six seven eight nine ten eleven twelve thirteen fourteen fifteen'
 printf '%s\n' '# Out of it' '' 'See [README](../README.md).' '' '| Fifteen words | None |' '|---|---|' \
     "| $cell | |" > "$right/docs/OUT.md"
-printf '%s\n' '# low' '' 'A sketch, which is in no source:' '' '    three();' > "$right/crates/low/README.md"
+printf '%s\n' '# low' '' 'A sketch, which is in no source:' '' '    three();' '' '- **`joins`** (Room). `sound` (Room), 0: it is so.' \
+    '  - `room`: it asks for it. As `gone`' '' '`gone`: no item.' > "$right/crates/low/README.md"
 
 # Makes a wrong page: the claim that has to refuse it, what is wrong, the file, and the sed that makes it so.
 wrong() {
@@ -72,6 +73,8 @@ wrong clauses "a function that isn't there" docs/IN.md 's/`joins`/`join`/'
 wrong clauses "a clause that has another name now" crates/low/src/two.rt 's/ensures sound/ensures sounds/'
 wrong clauses "clauses of two functions" crates/low/src/two.rt 's/^    ensures sound/fn other()\n&/'
 wrong clauses "a field that isn't there" docs/IN.md 's/`left`/`right`/'
+wrong clauses "a name in a crate's README that is no clause" crates/low/README.md 's/`sound`/`bound`/'
+wrong clauses "such a name in an item below" crates/low/README.md 's/`room`/`sound`, `rooms`/'
 wrong paths "a script that isn't there" docs/IN.md 's/by scripts.package/by scripts\/pack/'
 wrong paths "a row that isn't there" docs/IN.md 's/rows.one/rows\/two/'
 wrong paths "a file of a crate that isn't there" docs/IN.md 's/src.two/src\/three/'
