@@ -26,6 +26,9 @@ clauses    What a page calls a clause of a function is one: in `CLAUSE` of `FUNC
            left out. So it is in a crate's README with an item that begins with a call, **`CALL`**, also several: each
            name that stands there before a colon, or in an item below it, is a clause of such a call, or a function of
            the crate. Of a type it is a clause of any call of the crate.
+names      Each code span that is one name stands as a word in a source: in crates/, scripts/, bench/ or examples/. A name
+           is a word with a `_`, one whose capitals are as in FormulaText, or one behind `::`. Left out is CHANGELOG, which
+           also says what is gone.
 paths      Each path below scripts/, tests/, crates/, bench/, docs/ or examples/ that a page names outside of a block of
            code is there; for a row of tests/rows its name is enough. A path of an .rt or .antt file below src/, specs/
            or proofs/ is there in some crate. Left out are paths with a name in capitals, as NAME, those of what is built
@@ -65,6 +68,11 @@ CLAUSE = re.compile(r"^\s*(?:ensures|requires) (\w+) \{")
 CALLS = re.compile(r"- ((?:\*\*`[^`]+`\*\*(?:,? (?:and )?)?)+)")
 TOLD = re.compile(rf"(?:^|[.:] |\) )((?:{NAME}(?:, | and )?)+)(?: \([^)]*\))?(?:, [^:.]{{0,20}})?:")
 DEFINED = re.compile(r"^\s*(?:pub(?:\(\w+\))? )?(?:abbrev |record |data |struct |enum |trait |type |union )(?:pub )?(\w+)", re.M)
+# A code span that is one name, if it is of several words.
+SPAN = re.compile(r"`((?:\w+::)?[A-Za-z][\w-]*)`")
+OF_WORDS = re.compile(r"_|::|^[A-Z][a-z]+[A-Z]")
+# Where names stand.
+SOURCES = ("crates/*/src/**/*.rt", "crates/*/specs/**/*.antt", "crates/*/proofs/**/*.antt", "scripts/*", "bench/**/*.py", "bench/**/*.sh", "bench/**/*.rs", "examples/**/*")
 # Paths of the repository, and those in a crate.
 PATH = re.compile(r"(?<![\w./*-])(?:scripts|tests|crates|bench|docs|examples)/[\w./*-]*[\w/*]|(?<![\w./*-])((?:src|specs|proofs)/[\w/*-]+\.(?:rt|antt))")
 PLACEHOLDER = re.compile(r"\*|[A-Z]{2,}(?!\w*\.md)")
@@ -352,6 +360,25 @@ def against_calls_of(root, crate, found):
                     yield part.first, f"{name} is no clause of {', '.join(calls)}"
 
 
+@lru_cache(maxsize=None)
+def names_of(root):
+    """All words of the sources."""
+    found = set()
+    for path in itertools.chain(*(root.glob(ways) for ways in SOURCES)):
+        if path.is_file() and path.suffix in ("", ".rt", ".antt", ".py", ".sh", ".rs", ".awk", ".c"):
+            text = path.read_text(encoding="utf-8")
+            found.update(re.findall(r"\w+", text), re.findall(r"\w[\w-]+", text))
+    return found
+
+
+def against_names(root):
+    for page in pages(root):
+        for part in parts(root, page) if page != "CHANGELOG.md" else []:
+            for name in SPAN.findall(" ".join(part.lines)) if part.kind != "code" else []:
+                if OF_WORDS.search(name) and name.split("::")[-1] not in names_of(root):
+                    yield page, part.first, f"no source has the name {name}"
+
+
 def against_paths(root):
     for page in pages(root):
         for part in parts(root, page):
@@ -393,6 +420,7 @@ CLAIMS = {
     "examples": against_examples,
     "crates": against_crates,
     "clauses": against_clauses,
+    "names": against_names,
     "paths": against_paths,
 }
 

@@ -2,12 +2,12 @@
 # Looks at the pages by scripts/pages.py, whose head has the claims: links that lead nowhere, also
 # in the archive of scripts/package.sh; lines wider than 100 columns; cells of tables with more
 # than 15 words; examples that are in no source; CONTRIBUTING's table of crates; clauses that no
-# function has, and paths that aren't there. Then it tries each claim on wrong pages, each of which
-# it has to refuse, and on right ones. It prints how many sentences of each page are long, and no
-# claim follows from that. It runs no program. The last line counts.
+# function has, names that no source has, and paths that aren't there. Then it tries each claim on
+# wrong pages, each of which it has to refuse, and on right ones. It prints how many sentences of
+# each page are long, and no claim follows from that. It runs no program. The last line counts.
 root=$(CDPATH= cd -- "$(dirname -- "$0")/.." && pwd) || exit 1
 . "$root/scripts/runs.sh"
-claims="links archive width cells examples crates clauses paths"
+claims="links archive width cells examples crates clauses names paths"
 
 # A small repository whose pages are right.
 right=$here/right
@@ -16,7 +16,7 @@ mkdir -p "$right/docs" "$right/scripts" "$right/tests/rows" "$right/crates/low/s
 printf 'packed="README.md docs/IN.md"\n' > "$right/scripts/package.sh"
 printf 'fn main() {\n    // a line\n    one();\n\n    two();\n}\n' > "$right/crates/low/src/lib.rt"
 printf '%s\n' 'pub fn joins(it: u8) -> u8' '    requires room { it.now < 2 }' '    ensures sound { result ≡ it.now }' \
-    '{' '    it' '}' '' 'pub struct Pair {' '    left: u8,' '}' > "$right/crates/low/src/two.rt"
+    '{' '    it' '}' '' 'pub struct Pair {' '    left: u8,' '}' '// some_name and SomeName' > "$right/crates/low/src/two.rt"
 printf '%s\n' 'low: clap' 'high tests_may=Wait: low hex  # above it' > "$right/crates.txt"
 printf '%s\n' '| Crate | What it is about | Stands on |' '|---|---|---|' '| low | one | clap |' \
     '| high | another | low, hex |' '' '- an item whose link [goes' '  on](docs/IN.md#a-heading-of-it)' \
@@ -27,7 +27,8 @@ printf '%s\n' '# A page' '' 'See [it](docs/IN.md), `no [link](nowhere)` and [out
 printf '%s\n' '# In the archive' '' '## A `heading`, of it' '' 'See [above](#a-heading-of-it).' '' \
     'Clauses `sound`,' '`room` of `joins`, a field `left` of `Pair`, `word` of a `Thing`. Tried by scripts/package.sh,' \
     'tests/rows/one, src/two.rt, crates/NAME/gone, crates/low/out/gone, tests/*.gone.' '' \
-    '    `gone` of `joins`, scripts/gone.sh' > "$right/docs/IN.md"
+    '`some_name`, `SomeName` and `Pair::left`, `some gone_word`, `gone`.' '' \
+    '    `gone` of `joins`, `gone_name`, scripts/gone.sh' > "$right/docs/IN.md"
 cell='[one](../README.md) two `three of a span` four five six seven eight nine ten eleven twelve thirteen fourteen fifteen'
 printf '%s\n' '# Out of it' '' 'See [README](../README.md).' '' '| Fifteen words | None |' '|---|---|' \
     "| $cell | |" > "$right/docs/OUT.md"
@@ -75,6 +76,10 @@ wrong clauses "clauses of two functions" crates/low/src/two.rt 's/^    ensures s
 wrong clauses "a field that isn't there" docs/IN.md 's/`left`/`right`/'
 wrong clauses "a name in a crate's README that is no clause" crates/low/README.md 's/`sound`/`bound`/'
 wrong clauses "such a name in an item below" crates/low/README.md 's/`room`/`sound`, `rooms`/'
+wrong names "a name that no source has" docs/IN.md 's/`some_name`/`some_names`/'
+wrong names "a type that no source has" docs/IN.md 's/`SomeName`/`SomeNames`/'
+wrong names "a field of a type that no source has" docs/IN.md 's/Pair::left/Pair::right/'
+wrong names "a name that a source has no more" crates/low/src/two.rt 's/some_name/some_names/'
 wrong paths "a script that isn't there" docs/IN.md 's/by scripts.package/by scripts\/pack/'
 wrong paths "a row that isn't there" docs/IN.md 's/rows.one/rows\/two/'
 wrong paths "a file of a crate that isn't there" docs/IN.md 's/src.two/src\/three/'
