@@ -58,9 +58,10 @@ cube or a label line is, has no part in it.""",
      ["cube_command/program.rt command published"]),
     ("A refusal names the first fault", """
 If a bundle is refused for its own sake, and not for want of memory, a failed device or a refused thread, the fault is
-the bundle's first one. With status 3 the bundle has a fault, and nothing is written to standard output. Standard error
-gets, behind what `--progress` prints, exactly one line: that of the bundle's first fault. If a write to standard error
-fails, it gets a beginning of that line.""",
+the bundle's first one. With status 3 the bundle has a fault, or with `--formula` CNF has one, or FILE has clauses that
+CNF has not. Nothing is written to standard output then (`nothing`, which is in claim 7). Standard error gets, behind
+what `--progress` prints, exactly one line: that of the first fault. If a write to standard error fails, it gets a
+beginning of that line.""",
      ["cube_command/program.rt command fault",
       "cube_report/engine.rt run_one fault",
       "cube_report/engine.rt run fault",
@@ -94,7 +95,7 @@ LRAT is not there, or if LOG could not be made. In this last case nothing was re
 comes with the line of F13 (`device`). Standard output has nothing then or, if a write failed, a beginning of what is
 shown of the report (`beginning`). The store changes no file that is read (`kept`): not CNF, not FILE, not LRAT, and none of DIR that ends in `.lrat`,
 as their paths are written. These clauses speak of the store. Of LOG, which has a device of its own, and of what names
-one file by two paths they say nothing: scripts/files.sh tries both.""",
+one file by two paths they say nothing: scripts/files.sh tries both, and scripts/rows.sh LOG, too.""",
      ["cube_command/program.rt command status quiet elsewhere undrawn kept nothing beginning usage unread taken none memory device failed broken",
       "cube_command/telling.rt own_words ok err",
       "cube_report/engine.rt run_io nothing beginning device"]),
