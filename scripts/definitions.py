@@ -95,7 +95,7 @@ LRAT is not there, or if LOG could not be made. In this last case nothing was re
 comes with the line of F13 (`device`). Standard output has nothing then or, if a write failed, a beginning of what is
 shown of the report (`beginning`). The store changes no file that is read (`kept`): not CNF, not FILE, not LRAT, and none of DIR that ends in `.lrat`,
 as their paths are written. These clauses speak of the store. Of LOG, which has a device of its own, and of what names
-one file by two paths they say nothing: scripts/files.sh tries both, and scripts/rows.sh LOG, too.""",
+one file by two paths they say nothing. scripts/files.sh tries both, and scripts/rows.sh LOG, too.""",
      ["cube_command/program.rt command status quiet elsewhere undrawn kept nothing beginning usage unread taken none memory device failed broken",
       "cube_command/telling.rt own_words ok err",
       "cube_report/engine.rt run_io nothing beginning device"]),
