@@ -26,6 +26,8 @@ clauses    What a page calls a clause of a function is one: in `CLAUSE` of `FUNC
            left out. So it is in a crate's README with an item that begins with a call, **`CALL`**, also several: each
            name that stands there before a colon, or in an item below it, is a clause of such a call, or a function of
            the crate. Of a type it is a clause of any call of the crate.
+tested     Each paragraph and item of a crate's README that says that something is only tested names what tests it: a crate
+           of tests, a script, or the crate's own stdin.
 names      Each code span that is one name stands as a word in a source: in crates/, scripts/, bench/ or examples/. A name
            is a word with a `_`, one whose capitals are as in FormulaText, or one behind `::`. Left out is CHANGELOG, which
            also says what is gone.
@@ -68,6 +70,9 @@ CLAUSE = re.compile(r"^\s*(?:ensures|requires) (\w+) \{")
 CALLS = re.compile(r"- ((?:\*\*`[^`]+`\*\*(?:,? (?:and )?)?)+)")
 TOLD = re.compile(rf"(?:^|[.:] |\) )((?:{NAME}(?:, | and )?)+)(?: \([^)]*\))?(?:, [^:.]{{0,20}})?:")
 DEFINED = re.compile(r"^\s*(?:pub(?:\(\w+\))? )?(?:abbrev |record |data |struct |enum |trait |type |union )(?:pub )?(\w+)", re.M)
+# What is only tested, and what tests.
+ONLY_TESTED = re.compile(r"\b[Oo]nly tested\b")
+TESTS = re.compile(r"crates/\w*suite\b|scripts/\w+\.sh|\bstdin\b")
 # A code span that is one name, if it is of several words.
 SPAN = re.compile(r"`((?:\w+::)?[A-Za-z][\w-]*)`")
 OF_WORDS = re.compile(r"_|::|^[A-Z][a-z]+[A-Z]")
@@ -360,6 +365,14 @@ def against_calls_of(root, crate, found):
                     yield part.first, f"{name} is no clause of {', '.join(calls)}"
 
 
+def against_tested(root):
+    for page in pages(root):
+        for part in parts(root, page) if re.fullmatch(r"crates/\w+/README\.md", page) else []:
+            text = " ".join(map(str.strip, part.lines))
+            if part.kind != "code" and ONLY_TESTED.search(text) and not TESTS.search(text):
+                yield page, part.first, "what is only tested, and by what it is"
+
+
 @lru_cache(maxsize=None)
 def names_of(root):
     """All words of the sources."""
@@ -420,6 +433,7 @@ CLAIMS = {
     "examples": against_examples,
     "crates": against_crates,
     "clauses": against_clauses,
+    "tested": against_tested,
     "names": against_names,
     "paths": against_paths,
 }
