@@ -26,6 +26,8 @@ clauses    What a page calls a clause of a function is one: in `CLAUSE` of `FUNC
            left out. So it is in a crate's README with an item that begins with a call, **`CALL`**, also several: each
            name that stands there before a colon, or in an item below it, is a clause of such a call, or a function of
            the crate. Of a type it is a clause of any call of the crate.
+rooms      In an item of a crate's README the names in parentheses, in capitals as (Files, Formula of bundle_files), are
+           rooms of specs/: of that crate, or of the crate that is named behind the room or a room after it.
 tested     Each paragraph and item of a crate's README that says that something is only tested names what tests it: a crate
            of tests, a script, or the crate's own stdin.
 names      Each code span that is one name stands as a word in a source: in crates/, scripts/, bench/ or examples/. A name
@@ -70,6 +72,9 @@ CLAUSE = re.compile(r"^\s*(?:ensures|requires) (\w+) \{")
 CALLS = re.compile(r"- ((?:\*\*`[^`]+`\*\*(?:,? (?:and )?)?)+)")
 TOLD = re.compile(rf"(?:^|[.:] |\) )((?:{NAME}(?:, | and )?)+)(?: \([^)]*\))?(?:, [^:.]{{0,20}})?:")
 DEFINED = re.compile(r"^\s*(?:pub(?:\(\w+\))? )?(?:abbrev |record |data |struct |enum |trait |type |union )(?:pub )?(\w+)", re.M)
+# Rooms in parentheses, and one of them.
+ROOMS = re.compile(r"\(([A-Z][A-Za-z]*(?: of \w+)?(?:(?:, | and )[A-Z][A-Za-z]*(?: of \w+)?)*)\)")
+ROOM = re.compile(r"([A-Z]\w*)(?: of (\w+))?")
 # What is only tested, and what tests.
 ONLY_TESTED = re.compile(r"\b[Oo]nly tested\b")
 TESTS = re.compile(r"crates/\w*suite\b|scripts/\w+\.sh|\bstdin\b")
@@ -365,6 +370,19 @@ def against_calls_of(root, crate, found):
                     yield part.first, f"{name} is no clause of {', '.join(calls)}"
 
 
+def against_rooms(root):
+    for page in pages(root):
+        crate = re.fullmatch(r"crates/(\w+)/README\.md", page)
+        for part in parts(root, page) if crate else []:
+            text = " ".join(map(str.strip, part.lines))
+            for told in ROOMS.findall(text) if part.kind == "text" and text.startswith("- ") else []:
+                rooms = ROOM.findall(told)
+                for place, (room, _) in enumerate(rooms):
+                    of = next((name for _, name in rooms[place:] if name), crate[1])
+                    if not any([*root.glob(f"crates/{name}/specs/{room}.antt")] for name in (of, crate[1])):
+                        yield page, part.first, f"{room} is no room of {of}"
+
+
 def against_tested(root):
     for page in pages(root):
         for part in parts(root, page) if re.fullmatch(r"crates/\w+/README\.md", page) else []:
@@ -433,6 +451,7 @@ CLAIMS = {
     "examples": against_examples,
     "crates": against_crates,
     "clauses": against_clauses,
+    "rooms": against_rooms,
     "tested": against_tested,
     "names": against_names,
     "paths": against_paths,

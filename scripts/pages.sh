@@ -2,13 +2,13 @@
 # Looks at the pages by scripts/pages.py, whose head has the claims: links that lead nowhere, also
 # in the archive of scripts/package.sh; lines wider than 100 columns; cells of tables with more
 # than 15 words; examples that are in no source; CONTRIBUTING's table of crates; clauses that no
-# function has, names that no source has, and paths that aren't there; what is only tested, and
-# nothing is named that does. Then it tries each claim on wrong pages, each of which it has to
-# refuse, and on right ones. It prints how many sentences of each page are long, and no claim
-# follows from that. It runs no program. The last line counts.
+# function has, rooms that no crate has, names that no source has, and paths that aren't there;
+# what is only tested, if nothing is named that tests it. Then it tries each claim on wrong pages,
+# each of which it has to refuse, and on right ones. It prints how many sentences of each page are
+# long, and no claim follows from that. It runs no program. The last line counts.
 root=$(CDPATH= cd -- "$(dirname -- "$0")/.." && pwd) || exit 1
 . "$root/scripts/runs.sh"
-claims="links archive width cells examples crates clauses tested names paths"
+claims="links archive width cells examples crates clauses rooms tested names paths"
 
 # A small repository whose pages are right.
 right=$here/right
@@ -33,10 +33,12 @@ printf '%s\n' '# In the archive' '' '## A `heading`, of it' '' 'See [above](#a-h
 cell='[one](../README.md) two `three of a span` four five six seven eight nine ten eleven twelve thirteen fourteen fifteen'
 printf '%s\n' '# Out of it' '' 'See [README](../README.md).' '' '| Fifteen words | None |' '|---|---|' \
     "| $cell | |" > "$right/docs/OUT.md"
-printf '%s\n' '# low' '' 'A sketch, which is in no source:' '' '    three();' '' '- **`joins`** (Room). `sound` (Room), 0: it is so.' \
+printf '%s\n' '# low' '' 'A sketch, which is in no source:' '' '    three();' '' '- **`joins`** (Room). `sound` (Room, Other of high), 0: it is so (A Sentence).' \
     '  - `room`: it asks for it. As `gone`' '' '`gone`: no item.' '' 'Only tested, by crates/some_suite: all.' \
     > "$right/crates/low/README.md"
-mkdir "$right/crates/some_suite"
+mkdir -p "$right/crates/some_suite" "$right/crates/low/specs" "$right/crates/high/specs"
+: > "$right/crates/low/specs/Room.antt"
+: > "$right/crates/high/specs/Other.antt"
 
 # Makes a wrong page: the claim that has to refuse it, what is wrong, the file, and the sed that makes it so.
 wrong() {
@@ -79,6 +81,9 @@ wrong clauses "clauses of two functions" crates/low/src/two.rt 's/^    ensures s
 wrong clauses "a field that isn't there" docs/IN.md 's/`left`/`right`/'
 wrong clauses "a name in a crate's README that is no clause" crates/low/README.md 's/`sound`/`bound`/'
 wrong clauses "such a name in an item below" crates/low/README.md 's/`room`/`sound`, `rooms`/'
+wrong rooms "a room that the crate hasn't" crates/low/README.md 's/(Room)/(Rooms)/'
+wrong rooms "a room that another crate hasn't" crates/low/README.md 's/Other of high/Others of high/'
+wrong rooms "a room of another crate without its name" crates/low/README.md 's/Other of high/Other/'
 wrong tested "no crate that tests it" crates/low/README.md 's/, by crates.some_suite//'
 wrong names "a name that no source has" docs/IN.md 's/`some_name`/`some_names`/'
 wrong names "a type that no source has" docs/IN.md 's/`SomeName`/`SomeNames`/'
