@@ -22,8 +22,8 @@ crates     CONTRIBUTING's table of crates has the lines of crates.txt, in their 
            stands on. What a crate is about is text of the page.
 clauses    What a page calls a clause of a function is one: in `CLAUSE` of `FUNCTION`, also with several names before the
            "of", a function of this name in crates/*/src has clauses of all these names, `ensures` or `requires`. If it
-           is a type or a definition, or a crate, the names are words of its file, or of its sources. Blocks of code are
-           left out. So it is in a crate's README with an item that begins with a call, **`CALL`**, also several: each
+           is a type or a definition, or a crate, the names are words of its file, or of its sources. Types that no crate
+           defines are the kit's, and left out; so are blocks of code. So it is in a crate's README with an item that begins with a call, **`CALL`**, also several: each
            name that stands there before a colon, or in an item below it, is a clause of such a call, or a function of
            the crate. Of a type it is a clause of any call of the crate.
 rooms      In an item of a crate's README the names in parentheses, in capitals as (Files, Formula of bundle_files), are
@@ -31,8 +31,8 @@ rooms      In an item of a crate's README the names in parentheses, in capitals 
 tested     Each paragraph and item of a crate's README that says that something is only tested names what tests it: a crate
            of tests, a script, or the crate's own stdin.
 names      Each code span that is one name stands as a word in a source: in crates/, scripts/, bench/ or examples/. A name
-           is a word with a `_`, one whose capitals are as in FormulaText, or one behind `::`. Left out is CHANGELOG, which
-           also says what is gone.
+           is a word with a `_`, one whose capitals are as in FormulaText, or one behind `::`. One from elsewhere stands
+           without a code span. Left out is CHANGELOG, which also says what is gone.
 paths      Each path below scripts/, tests/, crates/, bench/, docs/ or examples/ that a page names outside of a block of
            code is there; for a row of tests/rows its name is enough. A path of an .rt or .antt file below src/, specs/
            or proofs/ is there in some crate. Left out are paths with a name in capitals, as NAME, those of what is built
@@ -340,7 +340,7 @@ def against_clauses(root):
                     if name in functions(root):
                         if not any(wanted <= clauses for clauses in functions(root)[name]):
                             yield page, part.first, f"no function {of} has the clauses {', '.join(sorted(wanted))}"
-                    elif not wanted <= words_of(root).get(name, set()):
+                    elif not wanted <= words_of(root).get(name, wanted if name[0].isupper() else set()):
                         yield page, part.first, f"there is no {', '.join(sorted(wanted))} of {of}"
 
 

@@ -26,7 +26,7 @@ printf '%s\n' '# A page' '' 'See [it](docs/IN.md), `no [link](nowhere)` and [out
     'A link that is dead in the archive of the programs leads to a file of the repository.' '' '## As a library' '' \
     'From [lib.rt](crates/low/src/lib.rt):' '' '    // a line' '    one();' '' '    two();' > "$right/README.md"
 printf '%s\n' '# In the archive' '' '## A `heading`, of it' '' 'See [above](#a-heading-of-it).' '' \
-    'Clauses `sound`,' '`room` of `joins`, a field `left` of `Pair`, `word` of a `Thing`. Tried by scripts/package.sh,' \
+    'Clauses `sound`,' '`room` of `joins`, a field `left` of `Pair`, `word` of `Thing`. Tried by scripts/package.sh,' \
     'tests/rows/one, src/two.rt, crates/NAME/gone, crates/low/out/gone, tests/*.gone.' '' \
     '`some_name`, `SomeName` and `Pair::left`, `some gone_word`, `gone`.' '' \
     '    `gone` of `joins`, `gone_name`, scripts/gone.sh' > "$right/docs/IN.md"
