@@ -23,9 +23,11 @@ crates     CONTRIBUTING's table of crates has the lines of crates.txt, in their 
 clauses    What a page calls a clause of a function is one: in `CLAUSE` of `FUNCTION`, also with several names before the
            "of", a function of this name in crates/*/src has clauses of all these names, `ensures` or `requires`. If it
            is a type or a definition, or a crate, the names are words of its file, or of its sources. Types that no crate
-           defines are the kit's, and left out; so are blocks of code. So it is in a crate's README with an item that begins with a call, **`CALL`**, also several: each
-           name that stands there before a colon, or in an item below it, is a clause of such a call, or a function of
-           the crate. Of a type it is a clause of any call of the crate.
+           defines are the kit's, and left out; so are blocks of code.
+           In a crate's README, below an item that begins with a call, **`CALL`**, also several, each name before a colon
+           is a clause of such a call, or a function of the crate. Of a type it is a clause of any call of the crate.
+           On a page that says "Clauses without a function are those of `FUNCTION`", of several names in parentheses or
+           in a cell all are clauses of that function if one is.
 rooms      In an item of a crate's README the names in parentheses, in capitals as (Files, Formula of bundle_files), are
            rooms of specs/: of that crate, or of the crate that is named behind the room or a room after it.
 tested     Each paragraph and item of a crate's README that says that something is only tested names what tests it: a crate
@@ -68,6 +70,9 @@ NAME = r"`[A-Za-z_]\w*`"
 OF = re.compile(rf"({NAME}(?:,? (?:and )?{NAME})*) of `((?:\w+::)?[A-Za-z_]\w*)`(?!')")
 FUNCTION = re.compile(r"^\s*(?:pub(?:\(\w+\))? )?(?:const )?fn (\w+)")
 CLAUSE = re.compile(r"^\s*(?:ensures|requires) (\w+) \{")
+# What a page says of clauses without a function, and names in parentheses that may be such.
+DEFAULT = re.compile(r"Clauses without a function are those of `(\w+)`")
+BARE = re.compile(rf"(?:\((?:clauses )?|\| )((?:{NAME}, )+{NAME})(?:[;)]| \|)")
 # An item of a crate's README that begins with calls, and names before a colon, with rooms in parentheses behind them.
 CALLS = re.compile(r"- ((?:\*\*`[^`]+`\*\*(?:,? (?:and )?)?)+)")
 TOLD = re.compile(rf"(?:^|[.:] |\) )((?:{NAME}(?:, | and )?)+)(?: \([^)]*\))?(?:, [^:.]{{0,20}})?:")
@@ -329,8 +334,19 @@ def words_of(root):
     return found
 
 
+def against_bare(root):
+    for page in pages(root):
+        texts = [(part.first, " ".join(map(str.strip, part.lines))) for part in parts(root, page) if part.kind != "code"]
+        told = [name for _, text in texts for name in DEFAULT.findall(text)]
+        for clauses in functions(root).get(told[0], []) if told else []:
+            for first, names in ((first, set(re.findall(r"\w+", it))) for first, text in texts for it in BARE.findall(text)):
+                if names & clauses and not names <= clauses:
+                    yield page, first, f"{told[0]} has no clause {', '.join(sorted(names - clauses))}"
+
+
 def against_clauses(root):
     yield from against_calls(root)
+    yield from against_bare(root)
     for page in pages(root):
         for part in parts(root, page):
             if part.kind != "code":

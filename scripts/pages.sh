@@ -29,6 +29,7 @@ printf '%s\n' '# In the archive' '' '## A `heading`, of it' '' 'See [above](#a-h
     'Clauses `sound`,' '`room` of `joins`, a field `left` of `Pair`, `word` of `Thing`. Tried by scripts/package.sh,' \
     'tests/rows/one, src/two.rt, crates/NAME/gone, crates/low/out/gone, tests/*.gone.' '' \
     '`some_name`, `SomeName` and `Pair::left`, `some gone_word`, `gone`.' '' \
+    'Clauses without a function are those of `joins`. So it is (`room`, `sound`; so), (`no`, `one`).' '' \
     '    `gone` of `joins`, `gone_name`, scripts/gone.sh' > "$right/docs/IN.md"
 cell='[one](../README.md) two `three of a span` four five six seven eight nine ten eleven twelve thirteen fourteen fifteen'
 printf '%s\n' '# Out of it' '' 'See [README](../README.md).' '' '| Fifteen words | None |' '|---|---|' \
@@ -79,6 +80,7 @@ wrong clauses "a function that isn't there" docs/IN.md 's/`joins`/`join`/'
 wrong clauses "a clause that has another name now" crates/low/src/two.rt 's/ensures sound/ensures sounds/'
 wrong clauses "clauses of two functions" crates/low/src/two.rt 's/^    ensures sound/fn other()\n&/'
 wrong clauses "a field that isn't there" docs/IN.md 's/`left`/`right`/'
+wrong clauses "one of two clauses without a function" docs/IN.md 's/`sound`; so/`sounds`; so/'
 wrong clauses "a name in a crate's README that is no clause" crates/low/README.md 's/`sound`/`bound`/'
 wrong clauses "such a name in an item below" crates/low/README.md 's/`room`/`sound`, `rooms`/'
 wrong rooms "a room that the crate hasn't" crates/low/README.md 's/(Room)/(Rooms)/'
