@@ -90,8 +90,8 @@ there.""",
 This claim says what the program and `run_io` have written if something fails, and which files they leave as they are.
 It also says which lines go to standard error, and which status comes when. Of `command`: the status is 2 if and only if
 the arguments cannot be taken, unless memory is refused (`usage`, `taken`). With 4, standard error gets the line of F6
-or of F14 (`memory`). The status is 5 if a call that reads or writes failed. Otherwise it is 5 only if CNF, FILE or
-LRAT is not there, or if LOG could not be made. In this last case nothing was read or written (`failed`, `broken`). Status 5
+or of F14 (`memory`). The status is 5 if a call that reads or writes failed. To ask for a file that is not there is
+such a call. Otherwise it is 5 only if LOG could not be made. Then nothing was read or written (`failed`, `broken`). Status 5
 comes with the line of F13 (`device`). Standard output has nothing then or, if a write failed, a beginning of what is
 shown of the report (`beginning`). The store changes no file that is read (`kept`): not CNF, not FILE, not LRAT, and none of DIR that ends in `.lrat`,
 as their paths are written. These clauses speak of the store. Of LOG, which has a device of its own, and of what names
@@ -155,7 +155,7 @@ run on this bundle promises.""",
       "bundle_files/by_section.rt judge_by_section held outcome handed fault ok err",
       "bundle_files/judge.rt judge_given held outcome fault ok err",
       "file_store/folder.rt add_proofs held whole ok err",
-      "file_store/store.rt Store::read held found ok err",
+      "file_store/store.rt Store::read held read ok err",
       "file_store/store.rt Store::write written elsewhere nothing ok err",
       "file_store/store.rt Store::write_counted written elsewhere ok err failed",
       "file_store/store.rt Store::reader held none",

@@ -1,6 +1,7 @@
 /* Preloaded by scripts/threads.sh: each write on the descriptor WRITE_FILE takes no more bytes than WRITE_SHORT says, and the Nth of
    them, N from WRITE_FAILS, takes none and fails with the error WRITE_ERROR: ENOSPC or EINTR. Where one has failed, the file that
-   WRITE_MARK names is made. Other descriptors are written as they are. */
+   WRITE_MARK names is made. Other descriptors are written as they are. So it is with reads of the standard input by READ_SHORT and
+   READ_FAILS: the Nth fails with the error EIO. */
 #define _GNU_SOURCE
 #include <dlfcn.h>
 #include <errno.h>
@@ -39,4 +40,22 @@ ssize_t write(int file, const void *bytes, size_t count) {
 
 ssize_t __write(int file, const void *bytes, size_t count) {
     return write(file, bytes, count);
+}
+
+ssize_t read(int file, void *bytes, size_t count) {
+    static _Atomic long reads;
+    static ssize_t (*real)(int, void *, size_t);
+    if (!real) real = (ssize_t (*)(int, void *, size_t))dlsym(RTLD_NEXT, "read");
+    if (file != 0) return real(file, bytes, count);
+    if (atomic_fetch_add(&reads, 1) + 1 == number("READ_FAILS")) {
+        leave_mark();
+        errno = EIO;
+        return -1;
+    }
+    size_t most = (size_t)number("READ_SHORT");
+    return real(file, bytes, most && count > most ? most : count);
+}
+
+ssize_t __read(int file, void *bytes, size_t count) {
+    return read(file, bytes, count);
 }

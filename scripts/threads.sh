@@ -7,11 +7,11 @@
 #   long proof among empty ones;
 # - on folders of proofs: thousands of leaves of which each third has a file, one that can't be read among them, a label line in the last
 #   of them, and files that come or change while the program runs;
-# - with standard streams that fail: a full device, one that fails at its Nth write or takes one byte at a time, a closed descriptor,
-#   a pipe that nobody reads. There the status is 5 where the report, or the input, met a failure, and what was written is a
+# - with standard streams that fail: a full device, one that fails at its Nth write or takes one byte at a time, a pipe that fails at
+#   its Nth read or gives one byte at a time, a closed descriptor, a pipe that nobody reads. There the status is 5 where the report, or the input, met a failure, and what was written is a
 #   beginning of the report; whether the error could be written changes no status. How a system treats the writer of a pipe that
 #   nobody reads makes no difference: the program takes no signal for it, the write fails, and that is F13.
-# A run that hasn't ended after a minute is ended, and fails. The writes that fail need a C compiler; where there is none, they are
+# A run that hasn't ended after a minute is ended, and fails. The reads and writes that fail need a C compiler; where there is none, they are
 # skipped, or fail where CI is set. The last line counts.
 root=$(CDPATH= cd -- "$(dirname -- "$0")/.." && pwd) || exit 1
 . "$root/scripts/runs.sh"
@@ -361,7 +361,35 @@ each_write_of_the_error_fails() {
     count "the whole line by $((n - 1)) writes of $1 bytes" $?
 }
 
-if preload device "the writes that fail"; then
+# Runs by a pipe of which each read gives at most $1 bytes, and the read $2 fails; $3 is what the pipe gives.
+read_with() {
+    rm -f "$here/mark"
+    cat "$3" | timeout 60 env READ_SHORT="$1" READ_FAILS="$2" WRITE_FILE=-1 WRITE_MARK="$here/mark" \
+        LD_PRELOAD="$here/device.so" "$program" $words > "$here/out" 2> "$here/err"
+    echo $? > "$here/status"
+}
+
+# Each read of a pipe fails in turn, until there are no more: how many bytes a read gives. The last one says that the pipe has ended.
+each_read_fails() {
+    n=1
+    while [ "$n" -le 1000 ]; do
+        read_with "$1" "$n" "$small.in"
+        [ -f "$here/mark" ] || break
+        has_left "$here/five" "$here/device" 0 "$here/none"
+        count "a failed read $n of $1 bytes" $?
+        n=$((n + 1))
+    done
+    [ $((n - 1)) -eq $((($(length "$small.in") + $1 - 1) / $1 + 1)) ] \
+        && has_left "$small.status" "$here/none" "$(length "$small.out")" "$small.out"
+    count "the whole bundle by $((n - 1)) reads of $1 bytes" $?
+}
+
+if preload device "the reads and writes that fail"; then
+    each_read_fails 1
+    each_read_fails 7
+    read_with 1 0 "$great.in"
+    has_left "$here/one" "$here/none" "$(length "$great.out")" "$great.out"
+    count "a long bundle, byte by byte" $?
     for error in ENOSPC EINTR; do
         each_write_fails 1 "$error"
         each_write_fails 7 "$error"

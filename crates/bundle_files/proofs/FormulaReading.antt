@@ -1,8 +1,7 @@
 -- A formula's file that was read, and the bundle that it makes.
-use Rattle.std.proofs.Common.{◌≡◌, ◌≢◌, ◌∙◌, sym, ap, subst, ℕ, Bool, true, false}
+use Rattle.std.proofs.Common.{◌≡◌, ◌≢◌, ◌∙◌, sym, ap, subst, ℕ}
 use Rattle.std.proofs.Common.{List, [], ◌∷◌, ◌++◌, length, take, append_assoc, inl, inr, arith}
 use Rattle.std.proofs.Common.{Option, None, Some, Result, Ok, Err, OnOk, IfErr, IsErrAnd}
-use Rattle.std.specs.Prelude.{is_some, unwrap_or}
 use Rattle.std.proofs.Math.Seq.{take-append_seam}
 use Rattle.case_core.specs.Literal.{Literal}
 use Rattle.case_core.specs.Icnf.{Item, StandsFor, clauses_of}
@@ -17,7 +16,7 @@ use Rattle.case_core.proofs.IcnfUnique.{one_text}
 use Rattle.cube_report.specs.declared.fault.Fault.{Fault}
 use Rattle.cube_report.specs.declared.fault.Fault.TheVariants.{Counts}
 use Rattle.cube_report.specs.Faults.{IsInputFault}
-use Rattle.file_store.specs.Files.{Held, Gives, IsAppended, IsFound, IsHanded, IsRead, lies_in}
+use Rattle.file_store.specs.Files.{Held, GrewBy, IsAppended, IsRead, lies_in}
 use Rattle.bundle_files.specs.Formula.{IsOverwritten, IsUnder}
 use Rattle.bundle_files.specs.Formula.{IsFormulaFault, IsFormulaRead}
 use Rattle.bundle_files.specs.Inner.Formula.{IsOtherCount}
@@ -60,38 +59,17 @@ formula_has has path text read seen taken over written said known same seen_is d
           (subst (λ (t : List ℕ). IsOverwritten t over) (taken_is ∙ same) made);
     }
 
-pub formula_read : (held : Held) (path none read seen taken over written : List ℕ) (there : Bool)
-    (said : code.Problem)
-    → IsFound (held path) none read there → none ≡ [] → there ≡ true → seen ≡ read
+pub formula_read : (has : List ℕ → List ℕ → Type 0)
+    (path none read seen taken over written : List ℕ) (said : code.Problem)
+    → GrewBy (has path) none read → none ≡ [] → seen ≡ read
     → (formula : List (List Literal)) × KeepsLimits formula
     × ((is : IsDimacs seen formula) × (said ≡ told_problem is.problem))
     → taken ≡ read → IsOverwritten taken over → written ≡ over
-    → IsFormulaRead (lies_in held) path written said
-formula_read held path none read seen taken over written there said found empty is_there seen_is
-    dimacs
-    taken_is made is = given found.0 found.1 (sym found.2 ∙ is_there) found.3
-  where
-    given : (proof : Option (List ℕ)) → Gives held path proof → is_some proof ≡ true
-        → read ≡ none ++ unwrap_or proof [] → IsFormulaRead (lies_in held) path written said
-    given None known some text = absurd (cc)
-    given (Some text) known some text_is =
-        formula_has (lies_in held) path text read seen taken over written said known
-        (text_is ∙ ap (λ (t : List ℕ). t ++ text) empty) seen_is dimacs taken_is made is
-
--- the same of the text that the reading handed over
-pub formula_handed : (hands : List ℕ → List ℕ → Type 0)
-    (path none read seen taken over written : List ℕ) (there : Bool) (said : code.Problem)
-    → IsHanded (hands path) none read there → none ≡ [] → there ≡ true → seen ≡ read
-    → (formula : List (List Literal)) × KeepsLimits formula
-    × ((is : IsDimacs seen formula) × (said ≡ told_problem is.problem))
-    → taken ≡ read → IsOverwritten taken over → written ≡ over
-    → IsFormulaRead hands path written said
-formula_handed hands path none read seen taken over written false said handed empty is_there seen_is
-    dimacs taken_is made is = absurd (cc)
-formula_handed hands path none read seen taken over written true said handed empty is_there seen_is
-    dimacs taken_is made is =
-    formula_has hands path handed.0 read seen taken over written said handed.1
-    (handed.2 ∙ ap (λ (t : List ℕ). t ++ handed.0) empty) seen_is dimacs taken_is made is
+    → IsFormulaRead has path written said
+formula_read has path none read seen taken over written said grew empty seen_is dimacs taken_is made
+    is =
+    formula_has has path grew.0 read seen taken over written said grew.1
+    (grew.2 ∙ ap (λ (t : List ℕ). t ++ grew.0) empty) seen_is dimacs taken_is made is
 
 -- a bundle with a fault in its text has no clauses that could be counted
 pub not_counted : {T E : Type 0} (result : Result T E) (fault : TextFault) (part bundle : List ℕ)

@@ -1,6 +1,6 @@
 -- A formula in a DIMACS file of its own: the bundle that it makes with a text of cubes and proofs.
 -- (DIMACS: the satisfiability suggested format of 1993; iCNF: HVC 2011.)
-use Rattle.std.specs.Prelude.{◌≡◌, ◌≢◌, ◌⊎◌, ◌+◌, ◌-◌, ℕ, List, [], ◌∷◌, ◌++◌, length, replicate}
+use Rattle.std.specs.Prelude.{◌≡◌, ◌≢◌, ◌⊎◌, ◌-◌, ℕ, List, [], ◌∷◌, ◌++◌, length, replicate}
 use Rattle.std.specs.Prelude.{codes, Option, None, Some}
 use Rattle.std.specs.List.{AllByRecursion}
 use Rattle.case_core.specs.Literal.{Literal}
@@ -11,9 +11,9 @@ use Rattle.case_core.specs.DimacsFault.{DimacsFault}
 use Rattle.case_core.specs.Problem as code
 use Rattle.case_core.specs.Bundle.{lines_of, icnf_text}
 use Rattle.cube_report.specs.declared.fault.Fault.{Fault}
-use Rattle.cube_report.specs.declared.fault.Fault.TheVariants.{Counts, Device}
+use Rattle.cube_report.specs.declared.fault.Fault.TheVariants.{Counts}
 use Rattle.cube_report.specs.Faults.{fault_of_dimacs}
-use Rattle.file_store.specs.Files.{Held, Gives, lies_in, IsTextAt, IsRead, IsJudgedOf, IsAbsent}
+use Rattle.file_store.specs.Files.{Held, Gives, lies_in, IsTextAt, IsRead, IsJudgedOf}
 
 -- the header of an iCNF text, and blanks: as long as this line, where that has 8 bytes at least
 abbrev pub header_over : List ℕ → List ℕ
@@ -124,15 +124,3 @@ IsFormulaFault held None file input fault = ⊥
 IsFormulaFault held (Some path) file input fault =
     (text : List ℕ) × Gives held path (Some text)
     × (HasDimacsFault text fault ⊎ AddsClauses held text file input fault)
-
--- no file lies at a path that is asked for, as far as is known
-abbrev pub IsOneAbsent : Held → Sources → Type 0
-IsOneAbsent held sources = IsAbsent held sources.formula ⊎ IsAbsent held sources.file
-
--- Why a bundle wasn't read, where so many calls had failed and have: a fault of the input or want
--- of memory, without a failed call; or a fault of the device, where a call failed or a file isn't
--- there.
-abbrev pub IsUnreadFrom : Held → Sources → ℕ → ℕ → Fault → Type 0
-IsUnreadFrom held sources before after fault =
-    ((fault ≢ Device) × (after ≡ before))
-    ⊎ ((fault ≡ Device) × ((after ≡ before + 1) ⊎ ((after ≡ before) × IsOneAbsent held sources)))

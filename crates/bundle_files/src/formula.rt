@@ -12,13 +12,13 @@ ghost use Rattle.case_core.specs.Dimacs.{greatest_of, IsDimacs};
 ghost use Rattle.case_core.specs.Bundle.{icnf_text};
 ghost use Rattle.case_core.specs.Sections.{IsCaseOf};
 ghost use Rattle.cube_report.specs.Faults.{IsInputFault};
-ghost use Rattle.file_store.specs.Files.{IsUnread, StaysAllowed, lies_in};
+ghost use Rattle.file_store.specs.Files.{StaysAllowed, lies_in};
 ghost use Rattle.bundle_files.specs.Formula.{header_over, IsFormulaFault, IsOverwritten, IsReadBy};
-ghost use Rattle.bundle_files.specs.Formula.{IsBundleBy, IsUnder, IsUnderFormula, IsUnreadFrom};
+ghost use Rattle.bundle_files.specs.Formula.{IsBundleBy, IsUnder, IsUnderFormula};
 ghost use Rattle.bundle_files.specs.Formula.{IsFormulaRead};
 ghost use Rattle.bundle_files.specs.Inner.Formula.{HasProblem, IsFirstLine};
 ghost use Rattle.bundle_files.specs.Inner.Formula.{IsFaultyFormula, IsOtherCount};
-ghost use Rattle.bundle_files.specs.Inner.Formula.{IsUnreadFormula};
+ghost use Rattle.bundle_files.specs.Judging.{IsJudgingFault};
 
 use case_core::{
     Case, Formula, Problem, TextFault, first_word, icnf_part, is_comment, read_bundle, read_icnf,
@@ -107,13 +107,10 @@ pub(crate) fn read_formula<D: Store>(
     ensures fault { IfErr result (λ fault. IsInputFault fault
         → IsFaultyFormula (D.held store.old) path.now fault) }
     ensures ok { OnOk result (D.failures store.new ≡ D.failures store.old) }
-    ensures err { IfErr result (IsUnreadFormula (D.held store.old) path.now
-        (D.failures store.old) (D.failures store.new)) }
+    ensures err { IfErr result (IsJudgingFault (D.failures store.old) (D.failures store.new)) }
 {
     let mut text = Vec::new(alloc);
-    if !store.read(path, &mut text)? {
-        return Err(Fault::Device);
-    }
+    store.read(path, &mut text)?;
     let problem = read_problem(&text)?;
     overwrite_header(&mut text);
     Ok((text, problem))
@@ -225,10 +222,7 @@ fn read_under<D: Store, I: Source>(
     ensures ok { OnOk result
         ((D.failures store.new ≡ D.failures store.old) ×
         (I.failures input.new ≡ I.failures input.old)) }
-    ensures err { IfErr result (IsUnreadFrom (D.held store.old) (record {
-      formula = Some path.now;
-      file = option_map (λ path. path.now) file.entry;
-    }) (D.failures store.old + I.failures input.old)
+    ensures err { IfErr result (IsJudgingFault (D.failures store.old + I.failures input.old)
         (D.failures store.new + I.failures input.new)) }
     ensures kept { IfSome file.entry (λ _. input.new ≡ input.old) }
 {
@@ -276,14 +270,11 @@ pub fn read_from<D: Store, I: Source>(
     ensures fault { IfErr result (λ fault. IsInputFault fault → IsFormulaFault (D.held store.old)
         (option_map (λ path. path.now) formula.entry) (option_map (λ path. path.now) file.entry)
         (I.remaining input.old) fault) }
-    // The device is at fault where a call failed or a file isn't there.
+    // The device is at fault exactly where a call failed; a file that isn't there fails its call.
     ensures ok { OnOk result
         ((D.failures store.new ≡ D.failures store.old) ×
         (I.failures input.new ≡ I.failures input.old)) }
-    ensures err { IfErr result (IsUnreadFrom (D.held store.old) (record {
-      formula = option_map (λ path. path.now) formula.entry;
-      file = option_map (λ path. path.now) file.entry;
-    }) (D.failures store.old + I.failures input.old)
+    ensures err { IfErr result (IsJudgingFault (D.failures store.old + I.failures input.old)
         (D.failures store.new + I.failures input.new)) }
     // Where a file is asked for, the input isn't touched.
     ensures kept { IfSome file.entry (λ _. input.new ≡ input.old) }

@@ -8,10 +8,8 @@ ghost use Rattle.case_core.specs.Bundle.{icnf_text};
 ghost use Rattle.case_core.specs.Outline.{IsOutlineOf};
 ghost use Rattle.cube_report.specs.Faults.{IsInputFault};
 ghost use Rattle.file_store.specs.Files.{StaysAllowed, lies_in};
-ghost use Rattle.bundle_files.specs.Formula.{IsUnreadFrom};
 ghost use Rattle.bundle_files.specs.Judging.{IsJudgingFault};
 ghost use Rattle.bundle_files.specs.Outlined.{IsOutlinedBy};
-ghost use Rattle.bundle_files.specs.Inner.Formula.{IsUnreadFormula};
 ghost use Rattle.bundle_files.specs.Inner.Outlined.{IsBegunBy, IsCounted};
 
 use crate::formula::{check_formula, read_formula};
@@ -60,12 +58,9 @@ pub fn outline_bundle<D: Store>(
         (option_map (λ path. path.now) formula.entry) path.now)) }
     // No fault of the input is told.
     ensures fault { IfErr result (λ fault. ¬ IsInputFault fault) }
-    // The device is at fault where a read failed, or the formula's file isn't there.
+    // The device is at fault exactly where a read failed, also since the formula's file isn't there.
     ensures ok { OnOk result (D.failures store.new ≡ D.failures store.old) }
-    ensures err { IfErr result (IsUnreadFrom (D.held store.old) (record {
-      formula = option_map (λ path. path.now) formula.entry;
-      file = Some path.now;
-    }) (D.failures store.old) (D.failures store.new)) }
+    ensures err { IfErr result (IsJudgingFault (D.failures store.old) (D.failures store.new)) }
 {
     if store.length(path).unwrap_or(0) == 0 {
         return Ok(None);
@@ -118,8 +113,7 @@ fn begin_below<D: Store>(
     ensures handed { IfOk result (λ some. IfSome some (IsBegunBy D.hands (Some path.now))) }
     ensures fault { IfErr result (λ fault. ¬ IsInputFault fault) }
     ensures ok { OnOk result (D.failures store.new ≡ D.failures store.old) }
-    ensures err { IfErr result (IsUnreadFormula (D.held store.old) path.now
-        (D.failures store.old) (D.failures store.new)) }
+    ensures err { IfErr result (IsJudgingFault (D.failures store.old) (D.failures store.new)) }
 {
     if store.length(path).unwrap_or(0) == 0 {
         return Ok(None);

@@ -3,4 +3,4 @@
 
 mod words;
 
-pub use words::{Request, request_of};
+pub use words::{Request, is_given, request_of};

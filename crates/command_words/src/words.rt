@@ -130,8 +130,9 @@ fn request_in<'a>(matches: &ArgMatches<'a>) -> Request<'a>
     }
 }
 
-/// Whether a flag is given, by the text that was matched for it.
-fn is_given(text: Option<&str>) -> bool
+/// Whether a flag is given, by the text that the parser matched for it: `true` where it is, and
+/// another or none where it isn't.
+pub fn is_given(text: Option<&str>) -> bool
     ensures { result ≡ is_given (option_map (λ text. text.now) text.entry) }
 {
     match text {

@@ -4,7 +4,7 @@ use Rattle.std.proofs.Common.{List, Option, None, Some, Result, Ok, Err, IfOk, I
 use Rattle.std.specs.Prelude.{IfSome, is_some}
 use Rattle.bundle_files.specs.Outline.{IsOutlineOf}
 use Rattle.bundle_files.specs.Files.{Held, IsJudgedOf, lies_in}
-use Rattle.bundle_files.specs.Formula.{IsBundleBy, IsReadBy, IsReadFrom, IsUnreadFrom, Sources}
+use Rattle.bundle_files.specs.Formula.{IsBundleBy, IsReadBy, IsReadFrom}
 use Rattle.bundle_files.specs.Outlined.{IsOutlinedBy, IsRefutedBy, IsRunBy}
 use Rattle.bundle_files.specs.declared.outlined.BundleOutline.{BundleOutline}
 use Rattle.bundle_files.proofs.LawsFormula.{judged_unsatisfiable}

@@ -29,7 +29,7 @@ use Rattle.cube_command.specs.Record.{digest_line, record_text}
 use Rattle.cube_command.specs.Sources.{IsSoBy, input_handed, of_one_proof, sources_of}
 use Rattle.cube_command.specs.Words.{Asked}
 use Rattle.cube_command.specs.Inner.Telling.{IsFaultWritten, status_of, status_of_answer}
-use Rattle.cube_command.proofs.InputGiven.{bundle_by}
+use Rattle.cube_command.proofs.OneProofGiven.{bundle_by}
 
 -- ---- the run
 

@@ -1,9 +1,8 @@
 -- The files that the bundle is read from, by what words ask for.
-use Rattle.std.specs.Prelude.{◌≡◌, List, ℕ, Bool, true, false, ◌++◌, codes, Option, None, Some}
-use Rattle.std.specs.Prelude.{IfSome}
+use Rattle.std.specs.Prelude.{◌≡◌, List, ℕ, ◌++◌, codes, Option, None, Some, if◌then◌else◌}
 use Rattle.std.specs.Str.{bytes_eq}
 use Rattle.case_core.specs.Binary.{proof_text}
-use Rattle.bundle_files.specs.Files.{Held, Gives, as_proofs}
+use Rattle.bundle_files.specs.Files.{Held, IsTextAt, lies_in}
 use Rattle.bundle_files.specs.Formula.{Sources, sources_by}
 use Rattle.cube_command.specs.Words.{Asked}
 
@@ -16,15 +15,16 @@ sources_of asked = sources_by asked.formula asked.file
 abbrev pub of_one_proof : List ℕ → List ℕ
 of_one_proof proof = codes "a 0\nl 1\n" ++ proof
 
--- the text of a proof, as far as it is known: that of the input, or that at a path; in the place of
--- a binary proof the text that it stands for
-abbrev pub IsProofFrom : Bool → Held → List ℕ → Option (List ℕ) → List ℕ → Type 0
-IsProofFrom true held path input proof = IfSome input (λ known. proof ≡ proof_text known)
-IsProofFrom false held path input proof = Gives (as_proofs held) path (Some proof)
+-- the file of the one proof that is asked for: none where its path is `-`, which is the input
+abbrev pub file_at : List ℕ → Option (List ℕ)
+file_at path = if bytes_eq path (codes "-") then None else Some path
 
--- the text of the one proof that is asked for: the input's where its path is `-`
+-- the text of that proof, as far as it is known; in the place of a binary one the text that it
+-- stands for
 abbrev pub IsProofAt : Held → List ℕ → Option (List ℕ) → List ℕ → Type 0
-IsProofAt held path input proof = IsProofFrom (bytes_eq path (codes "-")) held path input proof
+IsProofAt held path input proof =
+    (bytes : List ℕ) × IsTextAt (lies_in held) (file_at path) input bytes
+    × (proof ≡ proof_text bytes)
 
 -- this is so of what is read where no file has the cubes and proofs: of the input, or of one proof
 -- where that is asked for

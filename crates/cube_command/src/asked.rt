@@ -1,5 +1,6 @@
 //! What is told beside a run where that is asked for.
 
+use crate::one_proof::file_at;
 use command_words::Request;
 use cube_report::{Asked, Explain, Fault};
 use std::alloc::{AllocError, Global};
@@ -27,8 +28,8 @@ pub(crate) fn asked_in<'a>(request: &Request<'a>) -> Asked<'a> {
 /// The file that is read in the place of the input: that with the bundle, or with one proof.
 pub(crate) fn file_of<'a>(request: &Request<'a>) -> Option<&'a str> {
     match request.proof {
-        Some(path) if path != "-" => Some(path),
-        _ => request.file,
+        Some(path) => file_at(path),
+        None => request.file,
     }
 }
 

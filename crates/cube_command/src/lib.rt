@@ -11,6 +11,7 @@ mod record;
 mod telling;
 
 pub use bundle_files::{FileId, FileStore, Inputs, Opener, Spared, Store, SystemFiles};
+pub use command_words::is_given;
 pub use cube_report::{Asked, Counted, Explain, Found, Gate, NoExplain, NoGate, Sink, Source};
 pub use laws::a_list_names_the_open_leaves;
 pub use program::command;

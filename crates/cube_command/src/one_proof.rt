@@ -1,15 +1,14 @@
 //! One proof of the whole formula, in the place of a text of cubes and proofs.
 
 ghost use Rattle.std.specs.Prelude.{◌≡◌, ◌<◌, ◌+◌, ◌++◌, ◌^◌, ◌-◌, ℕ, List, Some, IfOk, IfErr};
-ghost use Rattle.std.specs.Prelude.{IfSome, OnOk};
-ghost use Rattle.case_core.specs.Binary.{proof_text};
+ghost use Rattle.std.specs.Prelude.{OnOk, option_map};
 ghost use Rattle.cube_report.specs.Device.{IsDeviceFault};
-ghost use Rattle.bundle_files.specs.Files.{IsUnread, StaysAllowed};
-ghost use Rattle.cube_command.specs.Sources.{IsProofAt, IsSoBy};
+ghost use Rattle.bundle_files.specs.Files.{StaysAllowed};
+ghost use Rattle.cube_command.specs.Sources.{IsProofAt, IsSoBy, file_at};
 
-use bundle_files::Store;
+use bundle_files::{Store, append_given};
 use case_core::turn_from;
-use cube_report::{DeviceFault, Source, read_to_end};
+use cube_report::{DeviceFault, Source};
 use std::alloc::Global;
 use std::io;
 use std::io::Read;
@@ -60,8 +59,7 @@ pub(crate) fn text_of_one<D: Store, I: Source>(
         (I.remaining input.old) (λ given. given ≡ Some text.items)) }
     ensures ok { OnOk result ((D.failures store.new ≡ D.failures store.old)
         × (I.failures input.new ≡ I.failures input.old)) }
-    ensures err { IfErr result (IsUnread (D.held store.old) (Some path.now)
-        (D.failures store.old + I.failures input.old)
+    ensures err { IfErr result (IsDeviceFault (D.failures store.old + I.failures input.old)
         (D.failures store.new + I.failures input.new)) }
 {
     let mut text = Vec::new(alloc);
@@ -87,35 +85,18 @@ fn append_proof<D: Store, I: Source>(
         × (text.new.items ≡ text.old.items ++ proof)) }
     ensures ok { OnOk result ((D.failures store.new ≡ D.failures store.old)
         × (I.failures input.new ≡ I.failures input.old)) }
-    ensures err { IfErr result (IsUnread (D.held store.old) (Some path.now)
-        (D.failures store.old + I.failures input.old)
+    ensures err { IfErr result (IsDeviceFault (D.failures store.old + I.failures input.old)
         (D.failures store.new + I.failures input.new)) }
 {
-    if path == "-" {
-        return append_input(alloc, input, text);
-    }
-    if !store.read_proof(alloc, path, text)? {
-        return Err(DeviceFault::Device);
-    }
+    let begin = text.len();
+    append_given(store, input, file_at(path), text)?;
+    turn_from(alloc, text, begin)?;
     Ok(())
 }
 
-/// Appends the text of the proof that the input has.
-fn append_input<I: Source>(
-    alloc: Global,
-    input: &mut I,
-    text: &mut Vec<u8>,
-) -> Result<(), DeviceFault>
-    requires { I.failures input.old < 2 ^ 64 - 1 }
-    ensures read { OnOk result ((proof : List ℕ)
-        × IfSome (I.remaining input.old) (λ known. proof ≡ proof_text known)
-        × (text.new.items ≡ text.old.items ++ proof)) }
-    ensures ok { OnOk result (I.failures input.new ≡ I.failures input.old) }
-    ensures err { IfErr result
-        (λ fault. IsDeviceFault (I.failures input.old) (I.failures input.new) fault) }
+/// The file of the proof at this path: none where it is `-`, which is the input.
+pub(crate) fn file_at(path: &str) -> Option<&str>
+    ensures { option_map (λ path. path.now) result ≡ file_at path.now }
 {
-    let begin = text.len();
-    read_to_end(input, text)?;
-    turn_from(alloc, text, begin)?;
-    Ok(())
+    if path == "-" { None } else { Some(path) }
 }

@@ -5,8 +5,7 @@ ghost use Rattle.std.specs.Prelude.{option_map, true, false, None, Some, IfOk, I
 ghost use Rattle.std.specs.Prelude.{IsErrOf, IfSome, [], Option};
 ghost use Rattle.std.specs.Io.KnownBytes.{Appends, Keeps};
 ghost use Rattle.cube_report.specs.Device.{AppendsBeginning, IsDeviceFault};
-ghost use Rattle.bundle_files.specs.Files.{IsAbsent, StaysAllowed, lies_in};
-ghost use Rattle.bundle_files.specs.Formula.{IsOneAbsent, IsUnreadFrom};
+ghost use Rattle.bundle_files.specs.Files.{StaysAllowed, lies_in};
 ghost use Rattle.bundle_files.specs.Judging.{IsOutcomeOf, IsRefusedOf, IsJudgingFault};
 ghost use Rattle.bundle_files.specs.Outlined.{IsOutlinedBy, IsRefutedBy};
 ghost use Rattle.bundle_files.specs.Sections.{IsCaseOf};
@@ -14,7 +13,7 @@ ghost use Rattle.cube_report.specs.Faults.{IsInputFault};
 ghost use Rattle.cube_command.specs.Headline.{IsPublished, IsRefutedAsHanded, IsSound};
 ghost use Rattle.cube_command.specs.Headline.{IsRefutedFrom, IsSoundAsHanded};
 ghost use Rattle.cube_command.specs.Words.{AreApart, AreTaken, asked_of, IsElsewhere, IsInput};
-ghost use Rattle.cube_command.specs.Sources.{IsSoBy, sources_of};
+ghost use Rattle.cube_command.specs.Sources.{IsSoBy};
 ghost use Rattle.cube_command.specs.Words.{nothing_asked};
 ghost use Rattle.cube_command.specs.Record.{record_text};
 ghost use Rattle.cube_command.specs.Program.{IsStatus, IsMade, IsReported, IsRefused, IsBegun};
@@ -22,7 +21,6 @@ ghost use Rattle.cube_command.specs.Program.{IsLineWritten, fault_line, AllowsFa
 ghost use Rattle.cube_command.specs.Program.{AllowsPicturesFor, AllowsRecordsFor};
 ghost use Rattle.cube_command.specs.Program.{AllowsReportsFor, IsRefusedFrom};
 ghost use Rattle.cube_command.specs.Inner.Recorded.{IsRecordedFor, IsRecordedFrom, IsRunRecorded};
-ghost use Rattle.cube_command.specs.Inner.Recorded.{IsUnreadBy, IsUnreadOf};
 ghost use Rattle.command_words.specs.Request.{asked_in};
 
 use crate::asked::{Telling, asked_in, fault_in, file_of};
@@ -43,14 +41,18 @@ use std::sync::Wait;
 use std::thread::Threads;
 
 /// The program on these words, which are those after its name: `[--workers N] [--cut D] [--formula
-/// CNF] [--proofs DIR] [--progress] [--explain] [--list-open] [--map SVG] [--record OUT] [--log
-/// LOG] [FILE]`. It reads a bundle from FILE, or from `input` where there is none, and writes the
-/// report to `output` or, where there is no report, one line to `errors`. Files are found by
-/// `store`. Both writers have to write at once, without a buffer of their own.
+/// CNF] [--proof LRAT] [--proofs DIR] [--progress] [--explain] [--list-open] [--map SVG] [--record
+/// OUT] [--log LOG] [FILE]`. It reads a bundle from FILE, or from `input` where there is none, and
+/// writes the report to `output` or, where there is no report, one line to `errors`. Files are
+/// found by `store`. Both writers have to write at once, without a buffer of their own.
 ///
 /// With `--formula CNF` the clauses come from that file, a DIMACS text, and FILE adds cubes and
 /// sections, and no clause: the bundle is that text with its problem line overwritten by `p inccnf`
 /// and blanks, a line end, and FILE's text.
+///
+/// With `--proof LRAT` and without FILE there is one proof of CNF's whole formula, a text or
+/// binary: that file, or `input` where LRAT is `-`. It is judged as the only section of the text `a
+/// 0`, `l 1` and the proof, in the place of FILE's.
 ///
 /// With `--proofs DIR` the proofs of that folder are added to the bundle: for each cube K and after
 /// that for each missing leaf J, in order, the file `DIR/K.lrat` or `DIR/mJ.lrat`, where it is
@@ -59,16 +61,14 @@ use std::thread::Threads;
 /// leaf with a section of its own. N workers check the proofs, with boards cut at the depth D;
 /// `gate` is called beside each section, and with `--progress` also `watch`, from the first read
 /// on, which may tell a person how far the run is, on a device that it is lent: what it does there
-/// is not `errors`. With
-/// `--explain` so may `explain` tell what was read, and where rejections and a fault come from;
-/// then the text that was read is kept twice. With
-/// `--map SVG` a picture of the tree is written to that file, made anew, before the report; with
-/// `--record OUT` then a record to that one: the line `i ` with the SHA-256 of the iCNF text of the
-/// bundle that was read, and the report. With `--log LOG` that file is made anew by `log` before
-/// anything is read, and gets the report's line of each proof when it is judged; a run that is made
-/// anew, with all proofs read beforehand, logs them once more. What `log` does is not `store`'s. No
-/// two of the three can be one file, nor one that is read: CNF, FILE or `DIR/NAME.lrat`, as their
-/// paths are written.
+/// is not `errors`. With `--explain` so may `explain` tell what was read, and where rejections and
+/// a fault come from; then the text that was read is kept twice. With `--map SVG` a picture of the
+/// tree is written to that file, made anew, before the report; with `--record OUT` then a record to
+/// that one: the line `i ` with the SHA-256 of the iCNF text of the bundle that was read, and the
+/// report. With `--log LOG` that file is made anew by `log` before anything is read, and gets the
+/// report's line of each proof when it is judged; a run that is made anew, with all proofs read
+/// beforehand, logs them once more. What `log` does is not `store`'s. No two of the three can be
+/// one file, nor one that is read: CNF, FILE or `DIR/NAME.lrat`, as their paths are written.
 ///
 /// With `--list-open` `output` gets, in the report's place and in its order, the leaves that it
 /// doesn't call refuted: a line K for cube K, mJ for missing leaf J. The record has the report.
@@ -76,8 +76,8 @@ use std::thread::Threads;
 /// Answers the status: 0 for a report that says refuted, 1 for one that says open, 2 where the
 /// words can't be taken or ask for help or the version, after the parser's text on `errors`, 3
 /// where the input is refused, 4 where memory or the start of a thread is refused, 5 where a device
-/// failed: also where FILE can't be opened, and where a file of DIR is there and can't be read. A
-/// failed write to `errors` doesn't change it.
+/// failed: also where CNF, FILE or LRAT can't be opened, and where a file of DIR is there and can't
+/// be read. A failed write to `errors` doesn't change it.
 pub fn command<R, D, S, I, O, E, G, W, X, L>(
     rt: &R,
     store: &mut D,
@@ -185,8 +185,8 @@ where
         ⊎ IsLineWritten (E.contents errors.old) (E.contents errors.new) (E.failures errors.old)
         (E.failures errors.new) (fault_line Fault.Thread) }
     // Status 5: a device failed, and this is told. It stands where a call failed that reads or
-    // writes the report, and only there, where a file that is asked for isn't there, or where the
-    // file for a log that is asked for wasn't made: then nothing was read or written.
+    // writes the report, and only there, or where the file for a log that is asked for wasn't made:
+    // then nothing was read or written. A file that is asked for and isn't there fails its call.
     ensures device { result ≡ 5 →
         IsLineWritten (E.contents errors.old) (E.contents errors.new) (E.failures errors.old)
         (E.failures errors.new) (fault_line Fault.Device) }
@@ -195,8 +195,6 @@ where
     ensures broken { result ≡ 5 →
         (D.failures store.old + I.failures input.old + O.failures output.old
         < D.failures store.new + I.failures input.new + O.failures output.new)
-        ⊎ IsOneAbsent (D.held store.old) (sources_of (asked_of (map S.text words.now)))
-        ⊎ IsAbsent (D.held store.old) (asked_of (map S.text words.now)).proof
         ⊎ (((asked_of (map S.text words.now)).log ≢ None)
         × (store.new ≡ store.old) × (input.new ≡ input.old)) }
 {
@@ -291,8 +289,6 @@ where
     ensures broken { IsErrOf result Fault.Device →
         (D.failures store.old + I.failures input.old + O.failures output.old
         < D.failures store.new + I.failures input.new + O.failures output.new)
-        ⊎ IsOneAbsent (D.held store.old) (sources_of (asked_in request.now))
-        ⊎ IsAbsent (D.held store.old) (asked_in request.now).proof
         ⊎ (((asked_in request.now).log ≢ None)
         × (store.new ≡ store.old) × (input.new ≡ input.old)) }
 {
@@ -360,10 +356,8 @@ where
         < D.failures store.new + I.failures input.new + O.failures output.new
         → IsErrOf result Fault.Device }
     ensures broken { IsErrOf result Fault.Device →
-        (D.failures store.old + I.failures input.old + O.failures output.old
-        < D.failures store.new + I.failures input.new + O.failures output.new)
-        ⊎ IsOneAbsent (D.held store.old) (sources_of (asked_in request.now))
-        ⊎ IsAbsent (D.held store.old) (asked_in request.now).proof }
+        D.failures store.old + I.failures input.old + O.failures output.old
+        < D.failures store.new + I.failures input.new + O.failures output.new }
 {
     let made = judge_request(rt, store, request, input, gate, telling, bundle)?;
     let names = names_asked(rt.alloc(), request.list_open, &made.outcome.text)?;
@@ -419,8 +413,7 @@ where
         (asked_in request.now) (I.remaining input.old) fault) }
     ensures ok { OnOk result ((D.failures store.new ≡ D.failures store.old)
         × (I.failures input.new ≡ I.failures input.old)) }
-    ensures err { IfErr result (IsUnreadOf (D.held store.old) (asked_in request.now)
-        (D.failures store.old + I.failures input.old)
+    ensures err { IfErr result (IsJudgingFault (D.failures store.old + I.failures input.old)
         (D.failures store.new + I.failures input.new)) }
 {
     match request.proof {
@@ -461,8 +454,7 @@ where
         (λ given. IsRefusedFrom (D.held store.old) (asked_in request.now) given fault)) }
     ensures ok { OnOk result ((D.failures store.new ≡ D.failures store.old)
         × (I.failures input.new ≡ I.failures input.old)) }
-    ensures err { IfErr result (IsUnreadBy (D.held store.old) (sources_of (asked_in request.now))
-        (Some path.now) (D.failures store.old + I.failures input.old)
+    ensures err { IfErr result (IsJudgingFault (D.failures store.old + I.failures input.old)
         (D.failures store.new + I.failures input.new)) }
 {
     let text = text_of_one(rt.alloc(), store, input, path)?;
@@ -508,8 +500,7 @@ where
         (asked_in request.now) (I.remaining input.old) fault) }
     ensures ok { OnOk result ((D.failures store.new ≡ D.failures store.old)
         × (I.failures input.new ≡ I.failures input.old)) }
-    ensures err { IfErr result (IsUnreadFrom (D.held store.old) (sources_of (asked_in request.now))
-        (D.failures store.old + I.failures input.old)
+    ensures err { IfErr result (IsJudgingFault (D.failures store.old + I.failures input.old)
         (D.failures store.new + I.failures input.new)) }
 {
     if let Some(made) = judge_file(rt, store, request, gate)? {
@@ -540,8 +531,7 @@ where
         → (input : Option (List ℕ)) → IsRefutedFrom D.hands (asked_in request.now) input)) }
     ensures fault { IfErr result (λ fault. ¬ IsInputFault fault) }
     ensures ok { OnOk result (D.failures store.new ≡ D.failures store.old) }
-    ensures err { IfErr result (IsUnreadFrom (D.held store.old) (sources_of (asked_in request.now))
-        (D.failures store.old) (D.failures store.new)) }
+    ensures err { IfErr result (IsJudgingFault (D.failures store.old) (D.failures store.new)) }
 {
     let Some(path) = file_alone(request) else {
         return Ok(None);
@@ -633,8 +623,7 @@ where
         (asked_in request.now) (I.remaining input.old) fault) }
     ensures ok { OnOk result ((D.failures store.new ≡ D.failures store.old)
         × (I.failures input.new ≡ I.failures input.old)) }
-    ensures err { IfErr result (IsUnreadFrom (D.held store.old) (sources_of (asked_in request.now))
-        (D.failures store.old + I.failures input.old)
+    ensures err { IfErr result (IsJudgingFault (D.failures store.old + I.failures input.old)
         (D.failures store.new + I.failures input.new)) }
 {
     let wants_case = request.proofs.is_some();

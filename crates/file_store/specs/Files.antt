@@ -15,9 +15,6 @@ use Rattle.case_core.specs.Sections.{IsCaseOf, IsFaultOf}
 use Rattle.case_core.specs.declared.fault.CaseFault.{CaseFault}
 use Rattle.proof_folder.specs.Added.{proof_path, section_text}
 use Rattle.proof_folder.specs.Given.{name_of}
-use Rattle.byte_flow.specs.Device.{IsDeviceFault}
-use Rattle.byte_flow.specs.declared.fault.DeviceFault.{DeviceFault}
-use Rattle.byte_flow.specs.declared.fault.DeviceFault.TheVariants.{Device}
 
 -- what lies at each path, where that is known: no file, or a file with these bytes
 abbrev pub Held : Type 0
@@ -104,11 +101,14 @@ held_for held folder (Node node) = Some None
 
 -- ---- what single calls do
 
+-- bytes grew by one of these texts
+abbrev pub GrewBy : (List ℕ → Type 0) → List ℕ → List ℕ → Type 0
+GrewBy texts old new = (text : List ℕ) × texts text × (new ≡ old ++ text)
+
 -- bytes grew by the text of the file, or of the input where no file is asked for
 abbrev pub IsAppended : (List ℕ → List ℕ → Type 0) → Option (List ℕ) → Option (List ℕ) →
     List ℕ → List ℕ → Type 0
-IsAppended has file input old new =
-    (rest : List ℕ) × IsTextAt has file input rest × (new ≡ old ++ rest)
+IsAppended has file input old new = GrewBy (IsTextAt has file input) old new
 
 -- what lies at a path, where it is known what lies there
 abbrev pub held_if : Bool → Option (List ℕ) → Option (Option (List ℕ))
@@ -130,20 +130,3 @@ abbrev pub IsFound : Option (Option (List ℕ)) → List ℕ → List ℕ → Bo
 IsFound known old new there =
     (given : Option (List ℕ)) × IfSome known (λ held. given ≡ held)
     × (there ≡ is_some given) × (new ≡ old ++ unwrap_or given [])
-
--- reading a path appended a text of those that it hands over, or nothing where there is no file
-abbrev pub IsHanded : (List ℕ → Type 0) → List ℕ → List ℕ → Bool → Type 0
-IsHanded hands old new false = new ≡ old
-IsHanded hands old new true = (text : List ℕ) × hands text × (new ≡ old ++ text)
-
--- no file lies at the path that is asked for, as far as is known
-abbrev pub IsAbsent : Held → Option (List ℕ) → Type 0
-IsAbsent held None = ⊥
-IsAbsent held (Some path) = Gives held path None
-
--- Why a bundle wasn't read, where so many calls had failed and have: want of memory or a failed
--- call; or a fault of the device without one, where no file is there.
-abbrev pub IsUnread : Held → Option (List ℕ) → ℕ → ℕ → DeviceFault → Type 0
-IsUnread held file before after fault =
-    IsDeviceFault before after fault
-    ⊎ ((fault ≡ Device) × (after ≡ before) × IsAbsent held file)

@@ -1,7 +1,8 @@
 //! The bundle that is read: that of a file or of the program's input.
 ghost use Rattle.std.specs.Prelude.{◌≡◌, ◌<◌, ◌^◌, ◌-◌, ◌+◌, option_map, IfSome, IfOk};
 ghost use Rattle.std.specs.Prelude.{IfErr, OnOk};
-ghost use Rattle.file_store.specs.Files.{IsRead, IsTextAt, IsUnread, StaysAllowed, lies_in};
+ghost use Rattle.byte_flow.specs.Device.{IsDeviceFault};
+ghost use Rattle.file_store.specs.Files.{IsRead, IsTextAt, StaysAllowed, lies_in};
 ghost use Rattle.file_store.specs.Files.{IsAppended};
 
 use crate::store::Store;
@@ -31,9 +32,7 @@ pub fn read_given<D: Store, I: Source>(
     ensures ok { OnOk result
         ((D.failures store.new ≡ D.failures store.old) ×
         (I.failures input.new ≡ I.failures input.old)) }
-    ensures err { IfErr result
-        (IsUnread (D.held store.old) (option_map (λ path. path.now) file.entry)
-        (D.failures store.old + I.failures input.old)
+    ensures err { IfErr result (IsDeviceFault (D.failures store.old + I.failures input.old)
         (D.failures store.new + I.failures input.new)) }
     // Where a file is asked for, the input isn't touched.
     ensures kept { IfSome file.entry (λ _. input.new ≡ input.old) }
@@ -63,19 +62,12 @@ pub fn append_given<D: Store, I: Source>(
     ensures ok { OnOk result
         ((D.failures store.new ≡ D.failures store.old) ×
         (I.failures input.new ≡ I.failures input.old)) }
-    ensures err { IfErr result
-        (IsUnread (D.held store.old) (option_map (λ path. path.now) file.entry)
-        (D.failures store.old + I.failures input.old)
+    ensures err { IfErr result (IsDeviceFault (D.failures store.old + I.failures input.old)
         (D.failures store.new + I.failures input.new)) }
     ensures kept { IfSome file.entry (λ _. input.new ≡ input.old) }
 {
     match file {
         None => read_to_end(input, bytes),
-        Some(path) => {
-            if !store.read(path, bytes)? {
-                return Err(DeviceFault::Device);
-            }
-            Ok(())
-        }
+        Some(path) => store.read(path, bytes),
     }
 }

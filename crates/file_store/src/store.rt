@@ -4,7 +4,7 @@ ghost use Rattle.std.specs.Prelude.{IfOk, IfErr, IfSome, OnOk, OnErr, true, opti
 ghost use Rattle.case_core.specs.Target.{Target};
 ghost use Rattle.byte_flow.specs.Device.{IsDeviceFault};
 ghost use Rattle.check_crew.specs.LeafProofs.{IsOpenedOf};
-ghost use Rattle.file_store.specs.Files.{Gives, IsFound, IsHanded, IsOpenedAt, StaysAllowed, lies_in};
+ghost use Rattle.file_store.specs.Files.{Gives, GrewBy, IsFound, IsOpenedAt, StaysAllowed, lies_in};
 ghost use Rattle.file_store.specs.Files.{StaysAllowedBeside};
 ghost use Rattle.file_store.specs.Files.{as_proofs, held_if};
 ghost use Rattle.case_core.specs.Binary.{proof_text};
@@ -43,26 +43,29 @@ pub trait Store {
     /// What a worker reads a folder's proofs by.
     type Reader: LeafProofs + Send + Drop;
 
-    /// Appends the bytes of the file at this path, and answers whether there is one; where there is
-    /// none, nothing changes.
+    /// Appends the bytes of the file at this path, which has to be there.
     ///
-    /// `Device` where a file is there and can't be opened or read, `Memory` where a growth was
+    /// `Device` where no file is there, or it can't be opened or read; `Memory` where a growth was
     /// refused. The count of failed calls, which has to be below its greatest value, rises by one
     /// exactly with `Device`.
-    fn read(&mut self, path: &str, bytes: &mut Vec<u8>) -> Result<bool, DeviceFault>
+    fn read(&mut self, path: &str, bytes: &mut Vec<u8>) -> Result<(), DeviceFault>
         requires { failures self.old < 2 ^ 64 - 1 }
         ensures held { held self.new ≡ held self.old }
         ensures allowed { StaysAllowed (allows self.old) (allows self.new) }
-        ensures found { IfOk result
-            (λ there. IsFound (held self.old path.now) bytes.old.items bytes.new.items there) }
-        ensures handed { IfOk result
-            (λ there. IsHanded (hands path.now) bytes.old.items bytes.new.items there) }
+        ensures read { OnOk result
+            (GrewBy (lies_in (held self.old) path.now) bytes.old.items bytes.new.items) }
+        ensures handed { OnOk result (GrewBy (hands path.now) bytes.old.items bytes.new.items) }
         ensures ok { OnOk result (failures self.new ≡ failures self.old) }
         ensures err { IfErr result
             (λ fault. IsDeviceFault (failures self.old) (failures self.new) fault) };
 
-    /// The same of a proof: if its first byte says that it is binary, the text that it stands for is
-    /// appended.
+    /// Appends the text of the proof at this path, and answers whether a file is there; where there
+    /// is none, nothing changes. If its first byte says that a proof is binary, its text is the one
+    /// that it stands for.
+    ///
+    /// `Device` where a file is there and can't be opened or read, `Memory` where a growth was
+    /// refused. The count of failed calls, which has to be below its greatest value, rises by one
+    /// exactly with `Device`.
     fn read_proof(
         &mut self,
         alloc: Global,
@@ -312,8 +315,9 @@ impl<F: Opener> FileStore<F> {
         }
     }
 
-    /// Appends the bytes of the file at this path, and answers whether there is one, as
-    /// `Store::read` owes it.
+    /// Appends the bytes of the file at this path, and answers whether there is one.
+    ///
+    /// `Device` where it is there and can't be opened or read, `Memory` where a growth was refused.
     pub(crate) fn read_file(&mut self, path: &str, bytes: &mut Vec<u8>) -> Result<bool, DeviceFault>
         requires { self.old.failed < 2 ^ 64 - 1 }
         ensures knows { F.knows self.new.opener ≡ F.knows self.old.opener }
@@ -408,8 +412,11 @@ where
 
     ghost hands = { λ _ _. Unit {0} };
 
-    fn read(&mut self, path: &str, bytes: &mut Vec<u8>) -> Result<bool, DeviceFault> {
-        self.read_file(path, bytes)
+    fn read(&mut self, path: &str, bytes: &mut Vec<u8>) -> Result<(), DeviceFault> {
+        if self.read_file(path, bytes)? {
+            return Ok(());
+        }
+        Err(self.broken())
     }
 
     fn read_proof(

@@ -10,7 +10,8 @@ use Rattle.cube_report.specs.declared.fault.Fault.TheVariants.{NoProblem, Counts
 use Rattle.cube_report.specs.Faults.{IsInputFault}
 use Rattle.bundle_files.specs.Files.{Held}
 use Rattle.bundle_files.specs.Formula.{AddsClauses, HasDimacsFault, IsBundleBy, IsFormulaFault}
-use Rattle.bundle_files.specs.Formula.{IsUnreadFrom, sources_by}
+use Rattle.bundle_files.specs.Formula.{sources_by}
+use Rattle.bundle_files.specs.Judging.{IsJudgingFault}
 use Rattle.join_command.specs.Inner.Files.{IsUnreadBundle}
 
 -- where FILE is there, what is read doesn't depend on an input
@@ -102,8 +103,7 @@ without_call held formula file input before after fault told (inr (inr (inr thre
 pub unread_bundle : (held : Held) (formula : Option (List ℕ)) (file : List ℕ)
     (input : Option (List ℕ)) (before after in_before in_after : ℕ) (fault told : Fault) →
     (IsInputFault fault → IsFormulaFault held formula (Some file) input fault) →
-    IsUnreadFrom held (sources_by formula (Some file)) (before + in_before) (after + in_after)
-    fault → in_after ≡ in_before →
+    IsJudgingFault (before + in_before) (after + in_after) fault → in_after ≡ in_before →
     (fault ≡ Thread → told ≡ Memory) → (fault ≢ Thread → told ≡ fault) →
     IsUnreadBundle held (sources_by formula (Some file)) before after told
 unread_bundle held formula file input before after in_before in_after fault told is (inl calls) kept
@@ -112,11 +112,6 @@ unread_bundle held formula file input before after in_before in_after fault told
     without_call held formula file input before after fault told (kind_of fault) is calls.0
     (omega arith) from same
 unread_bundle held formula file input before after in_before in_after fault told is
-    (inr (device, inl grew)) kept from same =
+    (inr (device, grew)) kept from same =
     let other : fault ≢ Thread = λ e. cc in
-    inr (inr (same other ∙ device, inl (omega (arith, grew, kept))))
-unread_bundle held formula file input before after in_before in_after fault told is
-    (inr (device, inr absent)) kept from same =
-    let other : fault ≢ Thread = λ e. cc in
-    let all : after + in_after ≡ before + in_before = absent.0 in
-    inr (inr (same other ∙ device, inr (omega arith, absent.1)))
+    inr (inr (same other ∙ device, omega (arith, grew, kept)))

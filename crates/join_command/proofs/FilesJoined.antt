@@ -1,16 +1,16 @@
 -- Files that are read and joined one after the other.
 use Rattle.std.proofs.Common.{◌≡◌, ◌+◌, ◌<◌, ℕ, zero, suc, List, [], ◌∷◌, ◌++◌, length, take}
 use Rattle.std.proofs.Common.{get_or}
-use Rattle.std.proofs.Common.{refl, sym, subst, ap, ◌∙◌, arith, inl, inr, None, map, Bor}
+use Rattle.std.proofs.Common.{refl, sym, subst, ap, ◌∙◌, arith, map, Bor}
 use Rattle.std.proofs.lemmas.List.{append_cancel_left, map-append}
 use Rattle.case_core.specs.SplitTree.{SplitTree}
 use Rattle.cube_report.specs.Mark.{Mark}
-use Rattle.bundle_files.specs.Files.{Held, Gives}
+use Rattle.bundle_files.specs.Files.{Held}
 use Rattle.cube_join.specs.Joined.{IsJoinedSoFar, IsStranger, IsToldBy, joined}
 use Rattle.cube_join.proofs.JoinedAll.{so_far_more}
 use Rattle.join_command.specs.declared.fault.JoinFault.{JoinFault}
 use Rattle.join_command.specs.declared.fault.JoinFault.TheVariants.{Run, Stranger}
-use Rattle.join_command.specs.Program.{AreFiles, AreTextsAt, IsAbsentAmong, behind_each}
+use Rattle.join_command.specs.Program.{AreFiles, AreTextsAt, behind_each}
 use Rattle.join_command.specs.Inner.Files.{AreNotAdded, IsNotAdded, lies_handed}
 
 take_last : (texts : List (List ℕ)) (i : ℕ) → i < length texts →
@@ -49,13 +49,6 @@ texts_handed held hands (p ∷ paths) [] h = absurd h
 texts_handed held hands (p ∷ paths) (t ∷ texts) h =
     (h.0.1, texts_handed held hands paths texts h.1)
 
--- a file that isn't there is one of these
-absent_among : (held : Held) (paths : List (List ℕ)) (i : ℕ) → i < length paths →
-    Gives held (get_or paths i []) None → IsAbsentAmong held paths
-absent_among held [] i l g = absurd (omega (arith, l))
-absent_among held (p ∷ paths) zero l g = inl g
-absent_among held (p ∷ paths) (suc i) l g = inr (absent_among held paths i (omega (arith, l)) g)
-
 -- the reports that were joined before, behind the line in the first of these files, so many
 abbrev pub AreJoined : (List ℕ → List ℕ → Type 0) → List ℕ → SplitTree → List (List ℕ) → ℕ →
     List Mark → Type 0
@@ -85,13 +78,7 @@ pub one_not_added : (held : Held) (hands : List ℕ → List ℕ → Type 0) (li
     AreJoined (lies_handed held hands) line tree paths index marks →
     IsNotAdded held line tree (get_or paths index []) (index + 1) before after fault →
     AreNotAdded held line tree paths before after fault
-one_not_added held hands line tree paths index before after marks (Run fault) l h (inl memory) =
-    inl memory
-one_not_added held hands line tree paths index before after marks (Run fault) l h
-    (inr (device, inl grew)) = inr (device, inl grew)
-one_not_added held hands line tree paths index before after marks (Run fault) l h
-    (inr (device, inr absent)) =
-    inr (device, inr (absent.0, absent_among held paths index l absent.1))
+one_not_added held hands line tree paths index before after marks (Run fault) l h why = why
 one_not_added held hands line tree paths index before after marks (Stranger number) l h why = (
   why.1,
   record {

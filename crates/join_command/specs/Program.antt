@@ -12,7 +12,7 @@ use Rattle.cube_report.specs.Device.{AppendsBeginning}
 use Rattle.cube_report.specs.Bundle.{icnf_text}
 use Rattle.cube_report.specs.Correct.{IsFaultOn, IsUnsatisfiable}
 use Rattle.bundle_files.specs.Files.{Held, Gives, IsJudgedOf, lies_in}
-use Rattle.bundle_files.specs.Formula.{IsFormulaFault, IsOneAbsent, IsReadFrom}
+use Rattle.bundle_files.specs.Formula.{IsFormulaFault, IsReadFrom}
 use Rattle.cube_join.specs.Joined.{AreReportsWith, IsJoined, IsJoinedSoFar, IsStranger}
 use Rattle.cube_command.specs.Record.{IsRecordOn, digest_line}
 use Rattle.join_command.specs.Words.{Asked, sources_of}
@@ -37,15 +37,6 @@ pub record AreRead (held : Held) (asked : Asked) (bundle : List ℕ) (texts : Li
     : Type 0 where
   pub of_file : IsReadFrom held (sources_of asked) None bundle
   pub of_records : AreFiles held asked.records texts
-
--- no file lies at one of these paths, as far as is known
-abbrev pub IsAbsentAmong : Held → List (List ℕ) → Type 0
-IsAbsentAmong held [] = ⊥
-IsAbsentAmong held (path ∷ paths) = Gives held path None ⊎ IsAbsentAmong held paths
-
--- the formula's file, FILE or a RECORD isn't there, as far as is known
-abbrev pub IsAskedAbsent : Held → Asked → Type 0
-IsAskedAbsent held asked = IsOneAbsent held (sources_of asked) ⊎ IsAbsentAmong held asked.records
 
 -- ---- what is taken for granted
 

@@ -3,7 +3,8 @@
 ghost use Rattle.std.specs.Prelude.{◌≡◌, ◌≢◌, ◌<◌, ◌^◌, ◌-◌, ◌++◌, ℕ, List, Some, None, map};
 ghost use Rattle.std.specs.Prelude.{IfOk, IfErr, MatchOption, OnOk, option_map};
 ghost use Rattle.cube_report.specs.Mark.{Mark};
-ghost use Rattle.bundle_files.specs.Files.{Gives, IsUnread};
+ghost use Rattle.bundle_files.specs.Files.{Gives};
+ghost use Rattle.cube_report.specs.Device.{IsDeviceFault};
 ghost use Rattle.bundle_files.specs.Formula.{IsHandedFrom, IsReadFrom, sources_by};
 ghost use Rattle.cube_join.specs.Joined.{IsJoinedSoFar, IsLegible, IsToldBy, joined};
 ghost use Rattle.cube_join.specs.Joined.{none_marked};
@@ -60,8 +61,8 @@ fn fault_of_reading(fault: Fault) -> Fault
     }
 }
 
-/// The bytes of the file at this path. `Device` where a call failed or no file is there, `Memory`
-/// where a growth was refused.
+/// The bytes of the file at this path. `Device` where a call failed, as it does where no file is
+/// there; `Memory` where a growth was refused.
 pub(crate) fn read_whole<D: Store>(
     alloc: Global,
     store: &mut D,
@@ -72,13 +73,10 @@ pub(crate) fn read_whole<D: Store>(
     ensures text { IfOk result (λ text. Gives (D.held store.old) path.now (Some text.items)) }
     ensures handed { IfOk result (λ text. D.hands path.now text.items) }
     ensures ok { OnOk result (D.failures store.new ≡ D.failures store.old) }
-    ensures err { IfErr result (IsUnread (D.held store.old) (Some path.now)
-        (D.failures store.old) (D.failures store.new)) }
+    ensures err { IfErr result (IsDeviceFault (D.failures store.old) (D.failures store.new)) }
 {
     let mut text = Vec::new(alloc);
-    if !store.read(path, &mut text)? {
-        return Err(DeviceFault::Device);
-    }
+    store.read(path, &mut text)?;
     Ok(text)
 }
 

@@ -10,7 +10,7 @@ ghost use Rattle.join_command.specs.Words.{AreTaken, asked_of};
 ghost use Rattle.join_command.specs.Headline.{IsJoinedAsHanded, IsPublishedJoin, IsSoundJoin};
 ghost use Rattle.join_command.specs.Headline.{IsSoundJoinAsHanded};
 ghost use Rattle.join_command.specs.Program.{AllowsJoinFaults, AreRead, AreTextsAt};
-ghost use Rattle.join_command.specs.Program.{IsAskedAbsent, IsJoinBegun, IsJoinOn, IsJoinWritten};
+ghost use Rattle.join_command.specs.Program.{IsJoinBegun, IsJoinOn, IsJoinWritten};
 ghost use Rattle.join_command.specs.Program.{IsReadingFault, IsRefused, behind_each};
 ghost use Rattle.join_command.specs.Program.{join_fault_line};
 ghost use Rattle.join_command.specs.Inner.Files.{IsUnjoined, IsUnwritten, lies_handed};
@@ -122,16 +122,14 @@ where
         IsLineWritten (E.contents errors.old) (E.contents errors.new) (E.failures errors.old)
         (E.failures errors.new) (join_fault_line (JoinFault.Run Memory)) }
     // Status 5: a device failed, and this is told. It stands where a call failed that reads or
-    // writes the report, and only there or where a file isn't there.
+    // writes the report, and only there. A file that is asked for and isn't there fails its call.
     ensures device { result ≡ 5 →
         IsLineWritten (E.contents errors.old) (E.contents errors.new) (E.failures errors.old)
         (E.failures errors.new) (join_fault_line (JoinFault.Run Device)) }
     ensures failed { D.failures store.old + O.failures output.old
         < D.failures store.new + O.failures output.new → result ≡ 5 }
-    ensures broken { result ≡ 5 →
-        (D.failures store.old + O.failures output.old
-        < D.failures store.new + O.failures output.new)
-        ⊎ IsAskedAbsent (D.held store.old) (asked_of (map S.text words.now)) }
+    ensures broken { result ≡ 5 → D.failures store.old + O.failures output.old
+        < D.failures store.new + O.failures output.new }
 {
     match request_of(rt.alloc(), words) {
         Ok(request) => {

@@ -2,7 +2,7 @@
 
 ghost use Rattle.std.specs.Prelude.{◌≡◌, false, map, option_map, codes, IfOk, IfErr};
 ghost use Rattle.clap.specs.Words.{app_of, found_of, kind_of, new_app, rule_of};
-ghost use Rattle.cube_command.specs.Words.{flag_word, is_given, path_word, with_version};
+ghost use Rattle.cube_command.specs.Words.{flag_word, path_word, with_version};
 ghost use Rattle.join_command.specs.Words.{AreTaken, asked_of, file_word, records_word};
 ghost use Rattle.join_command.specs.Words.{words_taken};
 ghost use Rattle.join_command.specs.Inner.Words.{asked_in, records_found};
@@ -10,6 +10,7 @@ ghost use Rattle.join_command.specs.Inner.Words.{asked_in, records_found};
 use clap::builder::ValueParser;
 use clap::error::ErrorKind;
 use clap::{Arg, ArgAction, ArgMatches, Command, Error};
+use cube_command::is_given;
 use std::alloc::{AllocError, Global};
 use std::convert::AsStr;
 
@@ -74,16 +75,6 @@ fn records_in<'a>(alloc: Global, matches: &ArgMatches<'a>) -> Result<Vec<&'a str
         records.extend_from_slice(paths)?;
     }
     Ok(records)
-}
-
-/// Whether a flag is given, by the text that was matched for it.
-fn is_given(text: Option<&str>) -> bool
-    ensures { result ≡ is_given (option_map (λ text. text.now) text.entry) }
-{
-    match text {
-        Some(text) => text == "true",
-        None => false,
-    }
 }
 
 /// The parser of the program's words.

@@ -1,5 +1,5 @@
 -- Where in a text its first line with a token stands, and what reading a formula's file gives.
-use Rattle.std.specs.Prelude.{◌≡◌, ◌≢◌, ◌⊎◌, ℕ, ◌+◌, ◌≤◌, List, [], ◌∷◌, ◌++◌, length, None, Some}
+use Rattle.std.specs.Prelude.{◌≡◌, ◌≢◌, ◌⊎◌, ℕ, ◌≤◌, List, [], ◌∷◌, ◌++◌, length, Some}
 use Rattle.std.specs.List.{AllByRecursion}
 use Rattle.case_core.specs.Tokens.{Token, line_tokens, token_lines}
 use Rattle.case_core.specs.Dimacs.{Problem, after_problem, greatest_of}
@@ -7,7 +7,7 @@ use Rattle.case_core.specs.Problem as code
 use Rattle.case_core.specs.Icnf.{Item, StandsFor, clauses_of}
 use Rattle.case_core.specs.Bundle.{lines_of, icnf_text}
 use Rattle.cube_report.specs.declared.fault.Fault.{Fault}
-use Rattle.cube_report.specs.declared.fault.Fault.TheVariants.{Counts, Device, Memory}
+use Rattle.cube_report.specs.declared.fault.Fault.TheVariants.{Counts, Memory}
 use Rattle.file_store.specs.Files.{Held, Gives}
 use Rattle.bundle_files.specs.Formula.{HasDimacsFault}
 
@@ -38,13 +38,6 @@ pub record IsFirstLine (text : List ℕ) (start count : ℕ) : Type 0 where
 abbrev pub IsFaultyFormula : Held → List ℕ → Fault → Type 0
 IsFaultyFormula held path fault =
     (text : List ℕ) × Gives held path (Some text) × HasDimacsFault text fault
-
--- why a formula's file wasn't read
-abbrev pub IsUnreadFormula : Held → List ℕ → ℕ → ℕ → Fault → Type 0
-IsUnreadFormula held path before after fault =
-    ((fault ≢ Device) × (after ≡ before))
-    ⊎ ((fault ≡ Device)
-    × ((after ≡ before + 1) ⊎ ((after ≡ before) × Gives held path None)))
 
 -- the bundle has another number of clauses than a problem line says, or memory ran out
 abbrev pub IsOtherCount : List ℕ → code.Problem → Fault → Type 0

@@ -10,9 +10,9 @@ abbrev pub with_numbers : App
 with_numbers =
     with_rule (with_rule (with_version (new_app (codes "cubeboard"))) workers_word) cut_word
 
--- those with the formula's file, one proof and the folder of proofs, then with what is told beside the report,
--- then with what is written in its place, then with the files for the picture and the record, then
--- with that for the log
+-- those with the formula's file, one proof and the folder of proofs, then with what is told beside
+-- the report, then with what is written in its place, then with the files for the picture and the
+-- record, then with that for the log
 abbrev pub with_inputs : App
 with_inputs =
     with_rule (with_rule (with_rule with_numbers (path_word (codes "formula")))

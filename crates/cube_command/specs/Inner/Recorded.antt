@@ -1,9 +1,7 @@
 -- What is said of the bundle that is asked for, before it is written.
-use Rattle.std.specs.Prelude.{◌≡◌, ◌⊎◌, ℕ, Bool, List, Option, Some, is_some}
-use Rattle.bundle_files.specs.Files.{Held, IsAbsent}
-use Rattle.bundle_files.specs.Formula.{IsBundleOf, IsReadBy, IsUnreadFrom, Sources}
-use Rattle.cube_report.specs.declared.fault.Fault.{Fault}
-use Rattle.cube_report.specs.declared.fault.Fault.TheVariants.{Device}
+use Rattle.std.specs.Prelude.{◌≡◌, ℕ, Bool, List, Option, Some, is_some}
+use Rattle.bundle_files.specs.Files.{Held}
+use Rattle.bundle_files.specs.Formula.{IsBundleOf, IsReadBy}
 use Rattle.cube_report.specs.Correct.{IsOutcome}
 use Rattle.cube_command.specs.Program.{IsBundleFor}
 use Rattle.cube_command.specs.Record.{record_text}
@@ -37,14 +35,3 @@ pub record IsRunRecorded (held : Held) (formula : Option (List ℕ)) (path : Lis
   pub read : (input : Option (List ℕ)) → IsReadBy held formula (Some path) input bundle
   pub outcome : IsOutcome bundle (is_some asked.picture) report map answer
   pub recorded : (out : List ℕ) → asked.out ≡ Some out → made ≡ record_text bundle report
-
--- Why what is asked for wasn't read, where so many calls had failed and have: as without one proof,
--- or since no file lies at the path of that.
-abbrev pub IsUnreadBy : Held → Sources → Option (List ℕ) → ℕ → ℕ → Fault → Type 0
-IsUnreadBy held sources proof before after fault =
-    IsUnreadFrom held sources before after fault
-    ⊎ ((fault ≡ Device) × (after ≡ before) × IsAbsent held proof)
-
-abbrev pub IsUnreadOf : Held → Asked → ℕ → ℕ → Fault → Type 0
-IsUnreadOf held asked before after fault =
-    IsUnreadBy held (sources_of asked) asked.proof before after fault

@@ -7,24 +7,23 @@ use Rattle.cube_report.specs.declared.fault.Fault.{Fault}
 use Rattle.cube_report.specs.declared.fault.Fault.TheVariants.{Memory, Device}
 use Rattle.cube_report.specs.Faults.{IsInputFault}
 use Rattle.cube_report.specs.Correct.{IsFaultOn}
-use Rattle.bundle_files.specs.Files.{Held, Gives, IsAbsent}
-use Rattle.bundle_files.specs.Formula.{Sources, IsFormulaFault, IsOneAbsent}
+use Rattle.bundle_files.specs.Files.{Held, Gives}
+use Rattle.bundle_files.specs.Formula.{Sources, IsFormulaFault}
 use Rattle.cube_join.specs.Joined.{IsStranger}
 use Rattle.join_command.specs.declared.fault.JoinFault.{JoinFault}
 use Rattle.join_command.specs.declared.fault.JoinFault.TheVariants.{Run, Stranger}
-use Rattle.join_command.specs.Program.{IsAbsentAmong, IsAskedAbsent, IsRefused, IsStrangerAt}
+use Rattle.join_command.specs.Program.{IsRefused, IsStrangerAt}
 use Rattle.join_command.specs.Words.{Asked}
 
 -- a text that lies at a path, as far as is known, and that one reading of it handed over
 abbrev pub lies_handed : Held → (List ℕ → List ℕ → Type 0) → List ℕ → List ℕ → Type 0
 lies_handed held hands path text = Gives held path (Some text) × hands path text
 
--- Why a file wasn't read, where so many calls had failed and have: want of memory, without a failed
--- call; or a fault of the device, where a call failed or a file is absent.
-abbrev pub IsUnreadWhere : Type 0 → ℕ → ℕ → Fault → Type 0
-IsUnreadWhere absent before after fault =
-    ((fault ≡ Memory) × (after ≡ before))
-    ⊎ ((fault ≡ Device) × ((after ≡ before + 1) ⊎ ((after ≡ before) × absent)))
+-- why a file wasn't read, where so many calls had failed and have: want of memory, without a failed
+-- call, or a fault of the device with one
+abbrev pub IsUnread : ℕ → ℕ → Fault → Type 0
+IsUnread before after fault =
+    ((fault ≡ Memory) × (after ≡ before)) ⊎ ((fault ≡ Device) × (after ≡ before + 1))
 
 -- why the bundle of these files wasn't read: a fault of the formula's own, or of clauses beside it,
 -- or that one of them wasn't read
@@ -32,12 +31,11 @@ abbrev pub IsUnreadBundle : Held → Sources → ℕ → ℕ → Fault → Type 
 IsUnreadBundle held sources before after fault =
     (IsInputFault fault × (after ≡ before)
     × IsFormulaFault held sources.formula sources.file None fault)
-    ⊎ IsUnreadWhere (IsOneAbsent held sources) before after fault
+    ⊎ IsUnread before after fault
 
 -- why one record, of this number, wasn't joined
 abbrev pub IsNotAdded : Held → List ℕ → SplitTree → List ℕ → ℕ → ℕ → ℕ → JoinFault → Type 0
-IsNotAdded held line tree path number before after (Run fault) =
-    IsUnreadWhere (IsAbsent held (Some path)) before after fault
+IsNotAdded held line tree path number before after (Run fault) = IsUnread before after fault
 IsNotAdded held line tree path number before after (Stranger other) =
     (other ≡ number) × (after ≡ before)
     × ((text : List ℕ) × Gives held path (Some text)
@@ -45,8 +43,7 @@ IsNotAdded held line tree path number before after (Stranger other) =
 
 -- why one of these records wasn't joined
 abbrev pub AreNotAdded : Held → List ℕ → SplitTree → List (List ℕ) → ℕ → ℕ → JoinFault → Type 0
-AreNotAdded held line tree paths before after (Run fault) =
-    IsUnreadWhere (IsAbsentAmong held paths) before after fault
+AreNotAdded held line tree paths before after (Run fault) = IsUnread before after fault
 AreNotAdded held line tree paths before after (Stranger number) =
     (after ≡ before) × IsStrangerAt held line tree paths number
 
@@ -54,7 +51,7 @@ AreNotAdded held line tree paths before after (Stranger number) =
 abbrev pub IsUnjoined : Held → List ℕ → List ℕ → List (List ℕ) → ℕ → ℕ → JoinFault → Type 0
 IsUnjoined held bundle line paths before after (Run fault) =
     (IsInputFault fault × (after ≡ before) × IsFaultOn bundle fault)
-    ⊎ IsUnreadWhere (IsAbsentAmong held paths) before after fault
+    ⊎ IsUnread before after fault
 IsUnjoined held bundle line paths before after (Stranger number) =
     (after ≡ before)
     × ((case : CaseOf) × IsCaseOf bundle case × IsStrangerAt held line case.tree paths number)
@@ -63,6 +60,6 @@ IsUnjoined held bundle line paths before after (Stranger number) =
 abbrev pub IsUnwritten : Held → Asked → ℕ → ℕ → JoinFault → Type 0
 IsUnwritten held asked before after (Run fault) =
     (IsInputFault fault × (after ≡ before) × IsRefused held asked (Run fault))
-    ⊎ IsUnreadWhere (IsAskedAbsent held asked) before after fault
+    ⊎ IsUnread before after fault
 IsUnwritten held asked before after (Stranger number) =
     (after ≡ before) × IsRefused held asked (Stranger number)

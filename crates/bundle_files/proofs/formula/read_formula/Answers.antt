@@ -1,24 +1,24 @@
 use Rattle.std.proofs.Common.{◌∙◌}
-use Rattle.bundle_files.proofs.FormulaReading.{formula_handed, formula_read, in_place}
+use Rattle.file_store.specs.Files.{lies_in}
+use Rattle.bundle_files.proofs.FormulaReading.{formula_read, in_place}
 use Rattle.bundle_files.proofs.formula.read_formula.Goals as goal
 
 pub returns-clause-read : goal.returns-clause-read
 returns-clause-read g c =
-    formula_read (g.D.Store.held c.args.store.now) c.args.path.now c.new-text.result.items
-    c.read.new.bytes.items c.deref.result.now c.deref_mut.result.now c.overwrite_header.new.text _
-    c.in_ok-read.field-0 c.in_ok-problem.problem c.in_ok-read.ensures.found c.new-text.ensures.items
-    c.if-not-branch.false c.deref.ensures.value c.in_ok-problem.ensures.ok c.deref_mut.ensures.value
-    c.overwrite_header.ensures
+    formula_read (lies_in (g.D.Store.held c.args.store.now)) c.args.path.now
+    c.new-text.result.items c.read.new.bytes.items c.deref.result.now c.deref_mut.result.now
+    c.overwrite_header.new.text _ c.in_ok-problem.problem c.in_ok-read.ensures.read
+    c.new-text.ensures.items c.deref.ensures.value c.in_ok-problem.ensures.ok
+    c.deref_mut.ensures.value c.overwrite_header.ensures
     (in_place c.overwrite_header.new.text _ _
     (c.overwrite_header.auto.text ∙ c.deref_mut.ensures.len))
 
 pub returns-clause-handed : goal.returns-clause-handed
 returns-clause-handed g c =
-    formula_handed g.D.Store.hands c.args.path.now c.new-text.result.items
-    c.read.new.bytes.items c.deref.result.now c.deref_mut.result.now c.overwrite_header.new.text _
-    c.in_ok-read.field-0 c.in_ok-problem.problem c.in_ok-read.ensures.handed
-    c.new-text.ensures.items c.if-not-branch.false c.deref.ensures.value
-    c.in_ok-problem.ensures.ok c.deref_mut.ensures.value
+    formula_read g.D.Store.hands c.args.path.now c.new-text.result.items c.read.new.bytes.items
+    c.deref.result.now c.deref_mut.result.now c.overwrite_header.new.text _
+    c.in_ok-problem.problem c.in_ok-read.ensures.handed c.new-text.ensures.items
+    c.deref.ensures.value c.in_ok-problem.ensures.ok c.deref_mut.ensures.value
     c.overwrite_header.ensures
     (in_place c.overwrite_header.new.text _ _
     (c.overwrite_header.auto.text ∙ c.deref_mut.ensures.len))

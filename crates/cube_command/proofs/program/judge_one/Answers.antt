@@ -5,7 +5,7 @@ use Rattle.cube_command.specs.Program.{IsRefusedFrom}
 use Rattle.cube_command.specs.Sources.{IsSoBy}
 use Rattle.cube_command.specs.Inner.Recorded.{IsRecordedFrom}
 use Rattle.cube_command.specs.declared.program.Recorded.{Recorded}
-use Rattle.cube_command.proofs.InputGiven.{err_given, handed_given, ok_given}
+use Rattle.cube_command.proofs.OneProofGiven.{err_given, handed_given, ok_given}
 use Rattle.cube_command.proofs.program.judge_one.Goals as goal
 
 pub returns-clause-made : goal.returns-clause-made

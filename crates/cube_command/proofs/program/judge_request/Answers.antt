@@ -1,12 +1,12 @@
-use Rattle.std.proofs.Common.{◌≡◌, ◌+◌, Option, List, ℕ, Bor, IfOk, IfErr, sym, subst, true}
+use Rattle.std.proofs.Common.{◌≡◌, Option, List, ℕ, Bor, IfOk, IfErr, sym, subst, true}
 use Rattle.std.specs.Prelude.{option_map}
 use Rattle.command_words.specs.Request.{asked_in}
 use Rattle.cube_report.specs.Faults.{IsInputFault}
 use Rattle.cube_command.specs.Headline.{IsRefutedFrom}
 use Rattle.cube_command.specs.Program.{IsRefusedFrom}
-use Rattle.cube_command.specs.Sources.{IsSoBy, input_handed, sources_of}
-use Rattle.cube_command.specs.Inner.Recorded.{IsRecordedFrom, IsUnreadBy}
-use Rattle.cube_command.proofs.InputGiven.{recorded_for}
+use Rattle.cube_command.specs.Sources.{IsSoBy, input_handed}
+use Rattle.cube_command.specs.Inner.Recorded.{IsRecordedFrom}
+use Rattle.cube_command.proofs.OneProofGiven.{recorded_for}
 use Rattle.cube_command.proofs.program.judge_request.Goals as goal
 
 pub returns-in-Some-clause-made : goal.returns-in-Some-clause-made
@@ -37,16 +37,6 @@ returns-in-Some-clause-fault g c =
     (option_map (λ path. path.now) proof) (g.I.Source.remaining c.args.input.now)
     (λ given. IsRefusedFrom (g.D.Store.held c.args.store.now) (asked_in c.args.request.now) given
     fault))) (sym c.in-Some.is) c.judge_one.ensures.fault
-
-pub returns-in-Some-clause-err : goal.returns-in-Some-clause-err
-returns-in-Some-clause-err g c =
-    subst
-    (λ (proof : Option (Bor (List ℕ))). IfErr c.judge_one.result
-    (IsUnreadBy (g.D.Store.held c.args.store.now) (sources_of (asked_in c.args.request.now))
-    (option_map (λ path. path.now) proof)
-    (g.D.Store.failures c.args.store.now + g.I.Source.failures c.args.input.now)
-    (g.D.Store.failures c.judge_one.new.store + g.I.Source.failures c.judge_one.new.input)))
-    (sym c.in-Some.is) c.judge_one.ensures.err
 
 pub returns-in-None-clause-made : goal.returns-in-None-clause-made
 returns-in-None-clause-made g c =

@@ -1,16 +1,38 @@
 -- What is said of a run on one proof, in the place of cubes and proofs.
-use Rattle.std.proofs.Common.{◌≡◌, refl, subst, sym, ℕ, Bool, List, Option, None, Some, Result, Ok, Err}
-use Rattle.std.proofs.Common.{IfOk, IfErr, true}
+use Rattle.std.proofs.Common.{◌≡◌, ◌∙◌, ◌++◌, ap₂, refl, subst, sym, ℕ, Bool, List, length, take, drop}
+use Rattle.std.proofs.Common.{Option, None, Some, Result, Ok, Err, IfOk, IfErr, true}
+use Rattle.std.proofs.Math.Seq.{take-append_seam, drop-append_seam}
+use Rattle.case_core.specs.Binary.{proof_text}
 use Rattle.cube_report.specs.declared.fault.Fault.{Fault}
 use Rattle.cube_report.specs.Faults.{IsInputFault}
-use Rattle.bundle_files.specs.Files.{Held, IsTextAt}
+use Rattle.bundle_files.specs.Files.{Held, IsAppended, IsTextAt, lies_in}
 use Rattle.bundle_files.specs.Formula.{IsBundleBy, IsBundleOf, IsUnder}
 use Rattle.cube_command.specs.Headline.{IsRefutedFrom}
 use Rattle.cube_command.specs.Program.{IsRefusedFrom}
-use Rattle.cube_command.specs.Sources.{IsSoBy, sources_of}
+use Rattle.cube_command.specs.Sources.{IsProofAt, IsSoBy, file_at, sources_of}
 use Rattle.cube_command.specs.Words.{Asked}
 use Rattle.cube_command.specs.Inner.Recorded.{IsRecordedFor, IsRecordedFrom}
 use Rattle.cube_command.specs.declared.program.Recorded.{Recorded}
+
+-- ---- the text of a proof
+
+-- the bytes of a proof were appended, and then its text stood in their place
+pub proof_appended : (held : Held) (path : List ℕ) (file input : Option (List ℕ))
+    (old read new : List ℕ) (begin : ℕ) → file ≡ file_at path → begin ≡ length old
+    → IsAppended (lies_in held) file input old read
+    → new ≡ take begin read ++ proof_text (drop begin read)
+    → (proof : List ℕ) × IsProofAt held path input proof × (new ≡ old ++ proof)
+proof_appended held path file input old read new begin same at grew turned = (
+  proof_text grew.0,
+  (
+    grew.0,
+    subst (λ (f : Option (List ℕ)). IsTextAt (lies_in held) f input grew.0) same grew.1,
+    refl,
+  ),
+  turned ∙ ap₂ (λ (n : ℕ) (t : List ℕ). take n t ++ proof_text (drop n t)) at grew.2
+      ∙ ap₂ (λ (a b : List ℕ). a ++ proof_text b) (take-append_seam old grew.0)
+      (drop-append_seam old grew.0),
+)
 
 -- ---- where nothing is known of what lies at a path
 
