@@ -20,7 +20,7 @@ use Rattle.mark_board.proofs.TopPlacesNodes.{split_at_top}
 use Rattle.board_hall.specs.declared.view.CutCase.{CutCase}
 use Rattle.board_hall.specs.declared.view.Post.{Post}
 use Rattle.board_hall.specs.declared.view.Proofs.{Proofs}
-use Rattle.board_hall.specs.declared.view.Proofs.TheVariants.{InCase, OfLeavesElsewhere, Elsewhere}
+use Rattle.board_hall.specs.declared.view.Proofs.TheVariants.{InCase, Elsewhere}
 use Rattle.board_hall.specs.Posts.{parts_in, board_count, tree_at, node_of, posts_of, AreReal}
 use Rattle.board_hall.specs.Hall.{HallState, Reached, lock_word}
 use Rattle.board_hall.specs.Posts.{NeedsSection, MayBePosted}
@@ -203,10 +203,9 @@ whole_of_leaves k passes s none g b within free =
       };
     }
 
--- an inner node's proof stands elsewhere in a hall for any proofs alone
+-- an inner node's proof stands elsewhere only in a hall for such proofs
 node_needs : (proofs : Proofs) (node : ℕ) → proofs ≢ Elsewhere → NeedsSection proofs (Node node)
 node_needs InCase node apart = tt
-node_needs OfLeavesElsewhere node apart = tt
 node_needs Elsewhere node apart = absurd (apart refl)
 
 -- where sections name leaves alone, no inner node has a finding

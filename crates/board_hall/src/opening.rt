@@ -8,7 +8,7 @@ ghost use Rattle.board_hall.specs.Hall.{newcomer};
 ghost use Rattle.board_hall.specs.Terms.{cut_case, cut_case_as};
 ghost use Rattle.board_hall.specs.Halls.{core_of, shared_of, hall_of, IsNewPass};
 ghost use Rattle.board_hall.specs.Inner.Opening.{IsOpened};
-ghost use Rattle.board_hall.specs.declared.view.Proofs.TheVariants.{OfLeavesElsewhere, Elsewhere};
+ghost use Rattle.board_hall.specs.declared.view.Proofs.TheVariants.{Elsewhere};
 
 use crate::hall::Hall;
 use crate::pass::Pass;
@@ -125,33 +125,11 @@ impl<'c> Hall<'c> {
         Hall::open_as(alloc, case, cut, passes, Proofs::InCase)
     }
 
-    /// Opens a hall that also takes findings of leaves without a section, by proofs that the case
-    /// doesn't hold. Such a finding is sound, and nothing else is said of it. As `open` it asks for
-    /// a cut from 0 to 6, and for 1 to 64 passes. `AllocError` where a growth was refused.
-    pub fn open_for_proofs_elsewhere(
-        alloc: Global,
-        case: &'c Case,
-        cut: u32,
-        passes: usize,
-    ) -> Result<(Hall<'c>, Vec<Pass>), AllocError>
-        // A cut, and a number of passes.
-        requires cut { cut ≤ 6 }
-        requires passes { (0 < passes) × (passes ≤ 64) }
-        // A hall of this case and cut, with as many passes, each of them new.
-        ensures hall { IfOk result
-            (λ r. ((hall_of r.0).of ≡ cut_case_as OfLeavesElsewhere case.now cut)
-            × ((hall_of r.0).passes ≡ passes)) }
-        ensures count { IfOk result (λ r. vec_len r.1 ≡ passes) }
-        ensures passes { IfOk result (λ r. All (IsNewPass (hall_of r.0)) r.1.items) }
-    {
-        Hall::open_as(alloc, case, cut, passes, Proofs::OfLeavesElsewhere)
-    }
-
     /// Opens a hall that also takes findings of leaves and of inner nodes without a section, by
     /// proofs that the case doesn't hold. Such a finding is sound, and nothing else is said of it.
     /// As `open` it asks for a cut from 0 to 6, and for 1 to 64 passes. `AllocError` where a growth
     /// was refused.
-    pub fn open_for_any_proofs_elsewhere(
+    pub fn open_for_proofs_elsewhere(
         alloc: Global,
         case: &'c Case,
         cut: u32,

@@ -83,7 +83,7 @@ fn run_apart<'c, R: Threads + Wait + Sync, G: Gate + Sync, P: LeafProofs + Send 
     ensures failed { IfErr result (IsRunFault P.failures) }
 {
     let workers = settings.workers() as usize;
-    let (hall, passes) = Hall::open_for_any_proofs_elsewhere(alloc, case, settings.cut(), workers)?;
+    let (hall, passes) = Hall::open_for_proofs_elsewhere(alloc, case, settings.cut(), workers)?;
     let TargetOrder {
         targets,
         elsewhere,

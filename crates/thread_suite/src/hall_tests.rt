@@ -339,7 +339,7 @@ fn two_passes_owe(rt: HostRuntime) {
 /// Whether a hall that takes any proofs, with the finding of the root alone, is closed with the
 /// root marked.
 fn takes_any_proofs<R: Wait + Abort>(rt: &R, alloc: Global, case: &Case) -> bool {
-    let opened = Hall::open_for_any_proofs_elsewhere(alloc, case, 1, 1);
+    let opened = Hall::open_for_proofs_elsewhere(alloc, case, 1, 1);
     let (hall, mut passes) = opened.expect(rt, "memory");
     let mut pass = next_pass(rt, &hall, &mut passes);
     let top = post(rt, alloc, &hall, &mut pass, inner(0)) == Became::TopMarked;
