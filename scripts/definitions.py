@@ -235,15 +235,15 @@ for every number of workers, every cut, every gate and every schedule. `command`
 bundle_files, over `conquer` of check_crew, and writes it by `write_all` of byte_flow.
 
 With DIR, or from FILE, each proof is judged while a worker reads it, when the worker comes to its target. That goes
-over `conquer_leaves`, in a hall for FILE's case whose proofs lie elsewhere. There the laws of board_hall hold word for
+over `conquer_elsewhere`, in a hall for FILE's case whose proofs lie elsewhere. There the laws of board_hall hold word for
 word, and what a board marks refuted has no model. That a target is marked by the judgement of its own proof is no law
-of that hall. It is compared, for each node, when all workers are joined, and `conquer_leaves` gives boards only if it
+of that hall. It is compared, for each node, when all workers are joined, and `conquer_elsewhere` gives boards only if it
 is so.""",
      ["cube_jobs/jobs.rt Jobs::fill sections count passes",
       "cube_jobs/jobs.rt Jobs::claim same place later claimed none",
       "cube_jobs/jobs.rt Jobs::finish exactly once",
       "check_crew/crew.rt conquer case findings",
-      "check_crew/elsewhere.rt conquer_leaves apart failed"]),
+      "check_crew/elsewhere.rt conquer_elsewhere apart failed"]),
     ("tree_map: the picture of a tree", """
 The bytes are one picture, fixed by the case and by the mark of each node.""",
      ["tree_map/picture.rt map_of -"]),

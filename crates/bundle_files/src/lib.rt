@@ -11,9 +11,9 @@ mod outlined;
 
 pub use by_section::judge_by_section;
 pub use file_store::{
-    DeviceFault, FileId, FileStore, FolderReader, Inputs, LeafProofs, Opener, Outline,
-    OutlinedCase, Part, SectionReader, Spared, Store, Stretch, SystemFiles, add_proofs,
-    append_given, make_anew, read_given,
+    DeviceFault, FileId, FileStore, FolderReader, Inputs, Opener, Outline, OutlinedCase, Part,
+    SectionReader, Spared, Store, Stretch, SystemFiles, TargetProofs, add_proofs, append_given,
+    make_anew, read_given,
 };
 pub use formula::{ReadBundle, read_from};
 pub use judge::judge_given;

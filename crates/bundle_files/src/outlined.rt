@@ -58,7 +58,7 @@ pub fn outline_bundle<D: Store>(
         (option_map (λ path. path.now) formula.entry) path.now)) }
     // No fault of the input is told.
     ensures fault { IfErr result (λ fault. ¬ IsInputFault fault) }
-    // The device is at fault exactly where a read failed, also since the formula's file isn't there.
+    // The device is at fault exactly where a call failed; a file that isn't there fails its call.
     ensures ok { OnOk result (D.failures store.new ≡ D.failures store.old) }
     ensures err { IfErr result (IsJudgingFault (D.failures store.old) (D.failures store.new)) }
 {

@@ -10,7 +10,7 @@ use Rattle.board_hall.specs.declared.view.CutCase.{CutCase}
 use Rattle.board_hall.specs.declared.view.View.{View}
 use Rattle.board_hall.specs.Clauses.{Stays}
 use Rattle.board_hall.specs.Halls.{HallOf, IsPassOf, view_of}
-use Rattle.check_crew.specs.LeafProofs.{Known, IsExamined}
+use Rattle.check_crew.specs.TargetProofs.{Known, IsExamined}
 use Rattle.byte_flow.specs.declared.fault.DeviceFault.{DeviceFault}
 use Rattle.check_crew.specs.declared.targets.ExaminedTarget.{ExaminedTarget}
 use Rattle.check_crew.specs.Inner.Apart.{IsListOf}

@@ -20,8 +20,8 @@ use Rattle.byte_flow.specs.declared.fault.DeviceFault.{DeviceFault}
 use Rattle.case_core.specs.declared.examiner.ReadFinding.{ReadFinding}
 use Rattle.case_core.specs.Form.{proof_left}
 use Rattle.case_core.specs.ProofForm.{ProofForm}
-use Rattle.check_crew.specs.LeafProofs.{IsGiven, IsLeftOf, IsOpenedOf, HasSeenAs, IsFoundAt}
-use Rattle.check_crew.specs.LeafProofs.{IsExamined, Known, left_text, text_by}
+use Rattle.check_crew.specs.TargetProofs.{IsGiven, IsLeftOf, IsOpenedOf, HasSeenAs, IsFoundAt}
+use Rattle.check_crew.specs.TargetProofs.{IsExamined, Known, left_text, text_by}
 use Rattle.check_crew.specs.Inner.Apart.{IsFoundOf}
 use Rattle.check_crew.specs.declared.targets.ExaminedTarget.{ExaminedTarget}
 use Rattle.check_crew.specs.declared.targets.Examined.{Examined}

@@ -9,7 +9,7 @@ ghost use Rattle.cube_jobs.specs.Jobs.{new_pass};
 ghost use Rattle.board_hall.specs.Halls.{core_of, hall_of, shared_of, view_of, IsPassOf, IsNewPass};
 ghost use Rattle.board_hall.specs.declared.view.Proofs.TheVariants.{Elsewhere as AnyElsewhere};
 ghost use Rattle.mark_board.specs.Findings.{AreFindings};
-ghost use Rattle.check_crew.specs.LeafProofs.{Known};
+ghost use Rattle.check_crew.specs.TargetProofs.{Known};
 ghost use Rattle.check_crew.specs.Seen.{HaveSeenSections};
 ghost use Rattle.check_crew.specs.Inner.Apart.{IsListOf};
 ghost use Rattle.check_crew.specs.Inner.Crew.{IsReady, IsJobOf, IsDealtBy, IsShiftOf, IsHandedBy};
@@ -17,9 +17,9 @@ ghost use Rattle.check_crew.specs.Inner.Crew.{HaveSeenClaims, IsRunFault, AreClo
 
 use crate::fault::{CrewFault, RunFault};
 use crate::gate::{Elsewhere, Gate};
-use crate::leaf_proofs::{LeafProofs, NoProofs};
 use crate::order::long_proofs_first;
 use crate::settings::Settings;
+use crate::target_proofs::{NoProofs, TargetProofs};
 use crate::targets::{ExaminedTarget, end_targets};
 use crate::worker::{Job, Shift, Site, work};
 use board_hall::{Core, Hall, Pass};
@@ -50,7 +50,7 @@ impl<'a, R, G, P> Clone for Crew<'a, R, G, P> {
 
 impl<'a, R, G, P> Copy for Crew<'a, R, G, P> {}
 
-impl<'a, R, G, P: LeafProofs> Promise<Shift<P>> for Crew<'a, R, G, P> {
+impl<'a, R, G, P: TargetProofs> Promise<Shift<P>> for Crew<'a, R, G, P> {
     ghost use Rattle.check_crew.specs.Inner.Crew.{IsHandedBy};
 
     ghost kept_by = { λ crew shift. IsHandedBy crew P.held P.failures shift };
@@ -109,7 +109,7 @@ pub(crate) struct Opened<'c> {
 /// Has a worker for each of `proofs`, which examine the sections of the case and then the targets in
 /// their order, between the gate's start and its end, and closes the hall. Answers its boards, and a
 /// list of targets of each worker.
-pub(crate) fn run<'c, R: Threads + Wait + Sync, G: Gate + Sync, P: LeafProofs + Send + Drop>(
+pub(crate) fn run<'c, R: Threads + Wait + Sync, G: Gate + Sync, P: TargetProofs + Send + Drop>(
     rt: &R,
     alloc: Global,
     case: &'c Case,
@@ -153,7 +153,7 @@ pub(crate) fn run<'c, R: Threads + Wait + Sync, G: Gate + Sync, P: LeafProofs + 
 /// what they find, and then take the targets in turn. The passes that come back owe nothing, and
 /// what was found of each section is among what one of them has seen; beside them there is a list
 /// of targets of each worker.
-fn examine_all<R: Threads + Wait + Sync, G: Gate + Sync, P: LeafProofs + Send + Drop>(
+fn examine_all<R: Threads + Wait + Sync, G: Gate + Sync, P: TargetProofs + Send + Drop>(
     rt: &R,
     alloc: Global,
     case: &Case,
@@ -211,7 +211,7 @@ struct Handed {
 
 /// Has a worker for each of `proofs`, and puts together what they hand back. A failed read stands
 /// before a refused start, and that before want of memory.
-fn run_crew<R: Threads + Wait + Sync, G: Gate + Sync, P: LeafProofs + Send + Drop>(
+fn run_crew<R: Threads + Wait + Sync, G: Gate + Sync, P: TargetProofs + Send + Drop>(
     site: Site<'_, R, G>,
     passes: Vec<Pass>,
     job_passes: Vec<JobPass>,
@@ -257,7 +257,7 @@ fn run_crew<R: Threads + Wait + Sync, G: Gate + Sync, P: LeafProofs + Send + Dro
 
 /// Gives each worker a pass of the hall, one of the queue, and what it reads proofs by. The last
 /// one is worker 0.
-fn deal<R, G, P: LeafProofs + Drop>(
+fn deal<R, G, P: TargetProofs + Drop>(
     crew: Crew<'_, R, G, P>,
     mut passes: Vec<Pass>,
     mut job_passes: Vec<JobPass>,
@@ -294,7 +294,7 @@ fn deal<R, G, P: LeafProofs + Drop>(
 
 /// Runs a worker for each job, the last job's in the calling thread. Answers fewer shifts than
 /// there are jobs where the start of one was refused.
-fn run_all<R: Threads + Wait + Sync, G: Gate + Sync, P: LeafProofs + Send + Drop>(
+fn run_all<R: Threads + Wait + Sync, G: Gate + Sync, P: TargetProofs + Send + Drop>(
     crew: Crew<'_, R, G, P>,
     jobs: Vec<Job<P>>,
 ) -> Result<Vec<Shift<P>>, AllocError>
@@ -326,7 +326,7 @@ fn start_and_join<
     'e: 's,
     R: Threads + Wait + Sync,
     G: Gate + Sync,
-    P: LeafProofs + Send + Drop + 'e,
+    P: TargetProofs + Send + Drop + 'e,
 >(
     scope: &'s Scope<'s, &'e ()>,
     crew: Crew<'e, R, G, P>,
@@ -356,7 +356,7 @@ fn start_and_join<
 
 /// Starts a worker for each job, until the start of one is refused. It asks for room for their
 /// handles.
-fn start<'s, 'e: 's, R: Threads + Wait + Sync, G: Gate + Sync, P: LeafProofs + Send + Drop + 'e>(
+fn start<'s, 'e: 's, R: Threads + Wait + Sync, G: Gate + Sync, P: TargetProofs + Send + Drop + 'e>(
     scope: &'s Scope<'s, &'e ()>,
     crew: Crew<'e, R, G, P>,
     jobs: Vec<Job<P>>,
@@ -386,7 +386,7 @@ fn start<'s, 'e: 's, R: Threads + Wait + Sync, G: Gate + Sync, P: LeafProofs + S
 }
 
 /// Joins all threads, and puts what they hand back to `shifts`. It asks for room for it.
-fn join_all<'a, R: Threads, G, P: LeafProofs + Drop>(
+fn join_all<'a, R: Threads, G, P: TargetProofs + Drop>(
     crew: Crew<'a, R, G, P>,
     handles: Vec<Handle<'a, R, G, P>>,
     mut shifts: Vec<Shift<P>>,
@@ -404,7 +404,7 @@ fn join_all<'a, R: Threads, G, P: LeafProofs + Drop>(
 }
 
 /// The first of what workers read by that has met a failed read, or else all that they hand back.
-fn failed_first<P: LeafProofs + Drop>(
+fn failed_first<P: TargetProofs + Drop>(
     mut shifts: Vec<Shift<P>>,
 ) -> Result<Vec<Shift<P>>, RunFault<P>>
     requires { All (λ shift. MatchOption shift.fault (P.failures shift.proofs ≡ 0)
@@ -425,7 +425,7 @@ fn failed_first<P: LeafProofs + Drop>(
 
 /// Puts together what workers hand back. `AllocError` where a fault stopped one of them, or a
 /// growth is refused now.
-fn hand_in<R, G, P: LeafProofs + Drop>(
+fn hand_in<R, G, P: TargetProofs + Drop>(
     crew: Crew<'_, R, G, P>,
     shifts: Vec<Shift<P>>,
 ) -> Result<Handed, AllocError>

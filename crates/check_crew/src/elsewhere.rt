@@ -4,7 +4,7 @@ ghost use Rattle.std.specs.Prelude.{◌≡◌, ◌<◌, ℕ, All, IfOk, IfErr, I
 ghost use Rattle.case_core.specs.SplitTree.{size};
 ghost use Rattle.case_core.specs.Target.{Target};
 ghost use Rattle.proof_folder.specs.Given.{AreFoundApart};
-ghost use Rattle.check_crew.specs.LeafProofs.{Known};
+ghost use Rattle.check_crew.specs.TargetProofs.{Known};
 ghost use Rattle.check_crew.specs.Inner.Apart.{AreAbsent, IsListOf, IsRightAt};
 ghost use Rattle.check_crew.specs.Inner.Crew.{IsRunFault};
 
@@ -12,9 +12,9 @@ use crate::compare::has_right_marks;
 use crate::crew::{Opened, run};
 use crate::fault::{CrewFault, RunFault};
 use crate::gate::Gate;
-use crate::leaf_proofs::LeafProofs;
 use crate::settings::Settings;
 use crate::target_order::{TargetOrder, targets_in_order};
+use crate::target_proofs::TargetProofs;
 use crate::targets::ExaminedTarget;
 use board_hall::Hall;
 use case_core::Case;
@@ -36,7 +36,12 @@ use std::thread::Threads;
 /// An outer fault says that a read failed, and gives what met that; it stands before each other
 /// answer. All workers that were started are joined before it answers. Where the start of one was
 /// refused, or memory over sections, nobody takes another target.
-pub fn conquer_leaves<'c, R: Threads + Wait + Sync, G: Gate + Sync, P: LeafProofs + Send + Drop>(
+pub fn conquer_elsewhere<
+    'c,
+    R: Threads + Wait + Sync,
+    G: Gate + Sync,
+    P: TargetProofs + Send + Drop,
+>(
     rt: &R,
     alloc: Global,
     case: &'c Case,
@@ -64,8 +69,8 @@ pub fn conquer_leaves<'c, R: Threads + Wait + Sync, G: Gate + Sync, P: LeafProof
     }
 }
 
-/// What `conquer_leaves` answers, with its two faults in one.
-fn run_apart<'c, R: Threads + Wait + Sync, G: Gate + Sync, P: LeafProofs + Send + Drop>(
+/// What `conquer_elsewhere` answers, with its two faults in one.
+fn run_apart<'c, R: Threads + Wait + Sync, G: Gate + Sync, P: TargetProofs + Send + Drop>(
     rt: &R,
     alloc: Global,
     case: &'c Case,

@@ -2,11 +2,11 @@
 
 ghost use Rattle.std.specs.Prelude.{◌≡◌, ◌<◌, All, IfOk, OnOk, vec_len};
 ghost use Rattle.case_core.specs.SplitTree.{size};
-ghost use Rattle.check_crew.specs.LeafProofs.{Known};
+ghost use Rattle.check_crew.specs.TargetProofs.{Known};
 ghost use Rattle.check_crew.specs.Inner.Apart.{AreAbsent};
 
 use crate::gate::Elsewhere;
-use crate::leaf_proofs::LeafProofs;
+use crate::target_proofs::TargetProofs;
 use case_core::{Case, Leaf, NodeId, Target};
 use std::alloc::{AllocError, Global};
 use std::cmp::Reverse;
@@ -50,7 +50,7 @@ fn leaf_of(cubes: u32, number: u32) -> Leaf {
 }
 
 /// Adds the leaves of a case, by the first of the readers.
-fn add_leaves<P: LeafProofs>(
+fn add_leaves<P: TargetProofs>(
     case: &Case,
     first: &P,
     measured: &mut Measured,
@@ -65,7 +65,7 @@ fn add_leaves<P: LeafProofs>(
 }
 
 /// Adds an inner node for which something may lie there; the others are noted.
-fn add_node<P: LeafProofs>(
+fn add_node<P: TargetProofs>(
     first: &P,
     node: NodeId,
     measured: &mut Measured,
@@ -86,7 +86,7 @@ fn add_node<P: LeafProofs>(
 
 /// Adds the inner nodes of a case for which something may lie there, and answers for which nodes
 /// nothing does.
-fn add_nodes<P: LeafProofs>(
+fn add_nodes<P: TargetProofs>(
     alloc: Global,
     case: &Case,
     first: &P,
@@ -113,7 +113,7 @@ fn add_nodes<P: LeafProofs>(
 ///
 /// No contract speaks of the order: that each target was read is compared when the workers have
 /// ended, by what is noted of inner nodes.
-pub(crate) fn targets_in_order<P: LeafProofs>(
+pub(crate) fn targets_in_order<P: TargetProofs>(
     alloc: Global,
     case: &Case,
     first: &P,

@@ -11,12 +11,12 @@ ghost use Rattle.board_hall.specs.Halls.{core_of, shared_of, view_of, IsPassOf};
 ghost use Rattle.board_hall.specs.Clauses.{Stays};
 ghost use Rattle.board_hall.specs.declared.view.View.{View};
 ghost use Rattle.board_hall.specs.declared.view.Proofs.TheVariants.{Elsewhere as AnyElsewhere};
-ghost use Rattle.check_crew.specs.LeafProofs.{IsExamined, IsLeftOf, left_text};
+ghost use Rattle.check_crew.specs.TargetProofs.{IsExamined, IsLeftOf, left_text};
 ghost use Rattle.check_crew.specs.Inner.Apart.{IsFoundOf};
 ghost use Rattle.check_crew.specs.Inner.Crew.{IsReady};
 
 use crate::gate::Gate;
-use crate::leaf_proofs::LeafProofs;
+use crate::target_proofs::TargetProofs;
 use crate::worker::{JudgedProof, Site, post, tell};
 use board_hall::Pass;
 use byte_flow::DeviceFault;
@@ -61,7 +61,7 @@ fn has_section(case: &Case, target: Target) -> bool
 
 /// What is found by the proof of a target, which is read to its end and given back; `None` where it
 /// has a label line.
-fn read_target<'c, P: LeafProofs>(
+fn read_target<'c, P: TargetProofs>(
     alloc: Global,
     examiner: &mut Examiner<'c>,
     proofs: &mut P,
@@ -135,7 +135,7 @@ fn post_target<'c, R: Wait, G: Gate>(
 
 /// Judges the proof of a target while it is read, and posts what is found; the gate is called
 /// beside it.
-fn examine_target<'c, R: Wait, G: Gate, P: LeafProofs>(
+fn examine_target<'c, R: Wait, G: Gate, P: TargetProofs>(
     site: Site<'c, R, G>,
     worker: u32,
     examiner: &mut Examiner<'c>,
@@ -218,7 +218,7 @@ fn end_at_other<R, G>(site: Site<'_, R, G>, found: Examined) {
 
 /// Examines a target whose turn was taken, by its proof. Where the run has to be made with all
 /// proofs in one bundle, nobody takes another one.
-fn take_target<'c, R: Wait, G: Gate, P: LeafProofs>(
+fn take_target<'c, R: Wait, G: Gate, P: TargetProofs>(
     site: Site<'c, R, G>,
     worker: u32,
     examiner: &mut Examiner<'c>,
@@ -255,7 +255,7 @@ fn take_target<'c, R: Wait, G: Gate, P: LeafProofs>(
 
 /// Takes turns until a target has a proof, which is opened then, and answers it; those without one
 /// are noted. `None` where no turn is left.
-fn next_proof<R: Wait, G, P: LeafProofs>(
+fn next_proof<R: Wait, G, P: TargetProofs>(
     site: Site<'_, R, G>,
     proofs: &mut P,
     examined: &mut Vec<ExaminedTarget>,
@@ -297,7 +297,7 @@ fn next_proof<R: Wait, G, P: LeafProofs>(
 
 /// Examines a target whose proof was opened, and then those of further turns, until none is left or
 /// a fault comes, by an examiner that is lent. One proof is open at a time.
-fn take_targets<'c, R: Wait, G: Gate, P: LeafProofs>(
+fn take_targets<'c, R: Wait, G: Gate, P: TargetProofs>(
     site: Site<'c, R, G>,
     worker: u32,
     proofs: &mut P,
@@ -343,7 +343,7 @@ fn take_targets<'c, R: Wait, G: Gate, P: LeafProofs>(
 /// Takes turns until none is left or a fault comes, by an examiner of its own. That holds the
 /// formula once more, so it is made when a first proof was opened: a worker that meets none costs
 /// nothing.
-pub(crate) fn examine_targets<R: Wait, G: Gate, P: LeafProofs>(
+pub(crate) fn examine_targets<R: Wait, G: Gate, P: TargetProofs>(
     site: Site<'_, R, G>,
     worker: u32,
     proofs: &mut P,

@@ -10,12 +10,12 @@ ghost use Rattle.cube_jobs.specs.Jobs as queue;
 ghost use Rattle.cube_jobs.specs.Jobs.{new_pass};
 ghost use Rattle.board_hall.specs.Halls.{core_of, shared_of, view_of, IsPassOf, IsNewPass};
 ghost use Rattle.board_hall.specs.Clauses.{Stays, PostsNothing, IsOfSection};
-ghost use Rattle.check_crew.specs.LeafProofs.{IsExamined};
+ghost use Rattle.check_crew.specs.TargetProofs.{IsExamined};
 ghost use Rattle.check_crew.specs.Seen.{HasSeenMark, HasSeenSection};
 ghost use Rattle.check_crew.specs.Inner.Crew.{IsReady, IsJobOf, IsShiftOf, HasTaken, HasSeenTurn};
 
 use crate::gate::{Found, Gate};
-use crate::leaf_proofs::LeafProofs;
+use crate::target_proofs::TargetProofs;
 use crate::targets::{ExaminedTarget, end_targets, examine_targets};
 use board_hall::{Core, Pass};
 use byte_flow::DeviceFault;
@@ -193,7 +193,7 @@ pub(crate) fn tell<G: Gate>(
 }
 
 /// Does a worker's part of the sections, and then its part of the targets.
-pub(crate) fn work<R: Wait, G: Gate, P: LeafProofs>(site: Site<'_, R, G>, job: Job<P>) -> Shift<P>
+pub(crate) fn work<R: Wait, G: Gate, P: TargetProofs>(site: Site<'_, R, G>, job: Job<P>) -> Shift<P>
     requires ready { IsReady site }
     requires job { IsJobOf site P.failures job }
     ensures { IsShiftOf site.entry (P.held job.proofs) P.failures result }
@@ -227,7 +227,7 @@ pub(crate) fn work<R: Wait, G: Gate, P: LeafProofs>(site: Site<'_, R, G>, job: J
 
 /// Takes turns of sections until none is left, and then turns of targets. Where memory is refused
 /// over sections, nobody takes another target.
-fn take_both<R: Wait, G: Gate, P: LeafProofs>(
+fn take_both<R: Wait, G: Gate, P: TargetProofs>(
     site: Site<'_, R, G>,
     worker: u32,
     pass: &mut Pass,

@@ -1,5 +1,6 @@
 -- What is said of a run on one proof, in the place of cubes and proofs.
-use Rattle.std.proofs.Common.{◌≡◌, ◌∙◌, ◌++◌, ap₂, refl, subst, sym, ℕ, Bool, List, length, take, drop}
+use Rattle.std.proofs.Common.{◌≡◌, ◌∙◌, ◌++◌, ap₂, refl, subst, sym, ℕ, Bool, List, length}
+use Rattle.std.proofs.Common.{take, drop}
 use Rattle.std.proofs.Common.{Option, None, Some, Result, Ok, Err, IfOk, IfErr, true}
 use Rattle.std.proofs.Math.Seq.{take-append_seam, drop-append_seam}
 use Rattle.case_core.specs.Binary.{proof_text}

@@ -12,7 +12,7 @@ ghost use Rattle.cube_report.specs.Stated.{IsStated, IsWrittenBy};
 ghost use Rattle.case_core.specs.Target.{Target};
 ghost use Rattle.mark_board.specs.declared.mark.Mark.{Mark};
 ghost use Rattle.proof_folder.specs.Given.{AreFoundApart};
-ghost use Rattle.check_crew.specs.LeafProofs.{Known};
+ghost use Rattle.check_crew.specs.TargetProofs.{Known};
 ghost use Rattle.mark_board.specs.Findings.{AreFindings};
 ghost use Rattle.cube_report.specs.Correct.{IsReportOn, IsAnswerOn, IsCorrect, IsOutcome};
 ghost use Rattle.cube_report.specs.Correct.{IsFaultOn, IsUnsatisfiable, SaysRefuted, map_if};
@@ -22,7 +22,7 @@ use crate::fault::Fault;
 use crate::report::report_of;
 use byte_flow::{Sink, Source, read_all, write_all};
 use case_core::{Case, Examiner, read_bundle, take_bundle};
-use check_crew::{CrewFault, Gate, LeafProofs, Settings, conquer, conquer_leaves};
+use check_crew::{CrewFault, Gate, Settings, TargetProofs, conquer, conquer_elsewhere};
 use mark_board::Boards;
 use std::alloc::{AllocError, Global};
 use std::sync::Wait;
@@ -126,10 +126,10 @@ pub fn judge_bundle<T: Threads + Wait + Sync, G: Gate + Sync>(
 }
 
 /// What is written of a case by the marks that a run with proofs elsewhere gives it, as
-/// `conquer_leaves` says, which has one of `proofs` for each worker; or `None` where the run has to
-/// be made with all proofs in one bundle. `Memory` or `Thread` may stand in the place of any other
-/// answer but the outer fault, which says that a read failed and gives what met that.
-pub fn judge_apart<T: Threads + Wait + Sync, G: Gate + Sync, P: LeafProofs + Send + Drop>(
+/// `conquer_elsewhere` says, which has one of `proofs` for each worker; or `None` where the run has
+/// to be made with all proofs in one bundle. `Memory` or `Thread` may stand in the place of any
+/// other answer but the outer fault, which says that a read failed and gives what met that.
+pub fn judge_apart<T: Threads + Wait + Sync, G: Gate + Sync, P: TargetProofs + Send + Drop>(
     rt: &T,
     alloc: Global,
     case: &Case,
@@ -152,7 +152,7 @@ pub fn judge_apart<T: Threads + Wait + Sync, G: Gate + Sync, P: LeafProofs + Sen
         (λ fault. (fault ≡ Fault.Memory) ⊎ (fault ≡ Fault.Thread))) }
     ensures failed { IfErr result (λ one. P.failures one ≡ 1) }
 {
-    match conquer_leaves(rt, alloc, case, settings, gate, proofs)? {
+    match conquer_elsewhere(rt, alloc, case, settings, gate, proofs)? {
         Ok(Some(boards)) => match written_by(alloc, &boards, draws) {
             Ok(outcome) => Ok(Ok(Some(outcome))),
             Err(_) => Ok(Err(Fault::Memory)),

@@ -8,7 +8,7 @@ use Rattle.std.proofs.KnownBytes.{Consumes-nil, Consumes-trans}
 use Rattle.std.specs.Io.KnownBytes.{Consumes, IsAtEnd}
 use Rattle.memchr.specs.Find.{IsLastByte, is_byte}
 use Rattle.case_core.specs.Outline.{OutlineOf, IsOutlineOf, AreWholeLines}
-use Rattle.check_crew.specs.LeafProofs.{IsLeftOf}
+use Rattle.check_crew.specs.TargetProofs.{IsLeftOf}
 use Rattle.file_store.specs.Inner.Blocks.{IsHandedOver}
 use Rattle.file_store.specs.Parts.{GoesOnWith}
 

@@ -2,7 +2,7 @@
 use Rattle.std.proofs.Common.{◌≡◌, ◌∙◌, ap, List, ℕ, true, Option, None, Some, refl, sym}
 use Rattle.std.specs.Prelude.{option_map}
 use Rattle.case_core.specs.Binary.{proof_text}
-use Rattle.check_crew.specs.LeafProofs.{IsLeftOf, IsOpenedOf, left_text}
+use Rattle.check_crew.specs.TargetProofs.{IsLeftOf, IsOpenedOf, left_text}
 use Rattle.byte_flow.specs.Device.{IsReadOf}
 use Rattle.file_store.specs.Files.{IsFound}
 

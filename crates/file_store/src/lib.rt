@@ -15,7 +15,7 @@ mod system;
 
 pub use byte_flow::DeviceFault;
 pub use case_core::{Outline, OutlinedCase, Stretch};
-pub use check_crew::LeafProofs;
+pub use check_crew::TargetProofs;
 pub use folder::{add_proofs, proof_path, write_label};
 pub use inputs::{FileId, Inputs, Spared};
 pub use opener::{Opener, SystemFiles};

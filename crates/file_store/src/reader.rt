@@ -8,7 +8,7 @@ use crate::opener::Opener;
 use crate::store::FileStore;
 use byte_flow::{Counted, DeviceFault};
 use case_core::{Leaf, ProofForm, Target};
-use check_crew::LeafProofs;
+use check_crew::TargetProofs;
 use std::alloc::{AllocError, Global};
 
 /// A reader of the proofs of a folder, over an opener of its own: what it opens for a leaf is the
@@ -42,7 +42,7 @@ impl<F> FolderReader<F> {
     }
 }
 
-impl<F: Opener + Drop> LeafProofs for FolderReader<F>
+impl<F: Opener + Drop> TargetProofs for FolderReader<F>
 where
     F::Opened: Send,
 {

@@ -3,7 +3,7 @@ ghost use Rattle.std.specs.Prelude.{◌≡◌, ◌≢◌, ℕ, List, Some, ◌<�
 ghost use Rattle.std.specs.Prelude.{IfOk, IfErr, IfSome, OnOk, OnErr, true, option_map};
 ghost use Rattle.case_core.specs.Target.{Target};
 ghost use Rattle.byte_flow.specs.Device.{IsDeviceFault};
-ghost use Rattle.check_crew.specs.LeafProofs.{IsOpenedOf};
+ghost use Rattle.check_crew.specs.TargetProofs.{IsOpenedOf};
 ghost use Rattle.file_store.specs.Files.{Gives, GrewBy, IsFound, IsOpenedAt, StaysAllowed, lies_in};
 ghost use Rattle.file_store.specs.Files.{StaysAllowedBeside};
 ghost use Rattle.file_store.specs.Files.{as_proofs, held_if};
@@ -18,7 +18,7 @@ use crate::reader::FolderReader;
 use crate::sections::SectionReader;
 use byte_flow::{Counted, DeviceFault, read_to_end, write_all};
 use case_core::{Outline, OutlinedCase, turn_from};
-use check_crew::LeafProofs;
+use check_crew::TargetProofs;
 use std::alloc::{AllocError, Global};
 use std::io::ErrorKind;
 use std::sync::Arc;
@@ -41,7 +41,7 @@ pub trait Store {
     ghost hands: { List ℕ → List ℕ → Type 0 };
 
     /// What a worker reads a folder's proofs by.
-    type Reader: LeafProofs + Send + Drop;
+    type Reader: TargetProofs + Send + Drop;
 
     /// Appends the bytes of the file at this path, which has to be there.
     ///
@@ -155,7 +155,7 @@ pub trait Store {
     fn length(&self, path: &str) -> Option<u64>;
 
     /// What a worker reads the proofs of a case by that are parts of one file.
-    type Sections: LeafProofs + Send + Drop;
+    type Sections: TargetProofs + Send + Drop;
 
     /// The outline goes on with the file at this path; `None` where there is none. The file is read
     /// once, a block at a time.

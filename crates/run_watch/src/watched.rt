@@ -38,7 +38,11 @@ impl<'a, G, W: Watch, L> Beside<'a, G, W, L> {
 
 impl<'a, G, W, L: Log> Beside<'a, G, W, L> {
     /// The gates, with the log that was begun.
-    pub fn with_lines<'l>(&self, lines: Option<&'l L::Lines>) -> Watched<'a, 'l, G, W, L::Lines> {
+    pub fn with_lines<'l>(&self, lines: Option<&'l L::Lines>) -> Watched<'a, 'l, G, W, L::Lines>
+        ensures gates { (result.gate ≡ self.now.gate) × (result.watch ≡ self.now.watch) }
+        ensures asked { result.is_asked ≡ self.now.is_asked }
+        ensures lines { result.lines ≡ lines.entry }
+    {
         Watched {
             alloc: self.alloc,
             gate: self.gate,

@@ -6,7 +6,7 @@ use crate::cases::{case, need_count};
 use crate::crew_tests::Crossing;
 use crate::gates::{Told, cube_number, cube_of, need_each_once, one_of};
 use case_core::{Case, ProofForm, Target};
-use check_crew::{Gate, LeafProofs, NoGate, Settings};
+use check_crew::{Gate, NoGate, Settings, TargetProofs};
 use cube_report::{DeviceFault, Fault, Outcome, Source, judge_apart};
 use fixtures::bundles::FOUR_CUBES_REPORT;
 use fixtures::four;
@@ -161,7 +161,7 @@ struct Lent<'t> {
     failed: u64,
 }
 
-impl<'t> LeafProofs for Lent<'t> {
+impl<'t> TargetProofs for Lent<'t> {
     type Proof = LentProof<'t>;
 
     ghost use Rattle.std.specs.Prelude.{None, true};

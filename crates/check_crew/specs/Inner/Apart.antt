@@ -11,7 +11,7 @@ use Rattle.mark_board.specs.declared.mark.Mark.{Mark}
 use Rattle.mark_board.specs.Marking.{mark_at}
 use Rattle.proof_folder.specs.Given.{IsGivenFor}
 use Rattle.board_hall.specs.declared.view.View.{View}
-use Rattle.check_crew.specs.LeafProofs.{Known, IsExamined, IsGiven}
+use Rattle.check_crew.specs.TargetProofs.{Known, IsExamined, IsGiven}
 use Rattle.check_crew.specs.declared.targets.ExaminedTarget.{ExaminedTarget}
 
 -- what was found by the text of the proof that is known to lie there for the target, in which no

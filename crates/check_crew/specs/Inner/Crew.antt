@@ -18,7 +18,7 @@ use Rattle.check_crew.specs.declared.worker.Job.{Job}
 use Rattle.check_crew.specs.declared.worker.Shift.{Shift}
 use Rattle.check_crew.specs.declared.worker.Site.{Site}
 use Rattle.check_crew.specs.Inner.Order.{IsOrder}
-use Rattle.check_crew.specs.LeafProofs.{Known, IsExamined}
+use Rattle.check_crew.specs.TargetProofs.{Known, IsExamined}
 use Rattle.check_crew.specs.Seen.{HasSeenSection, HaveSeenSections}
 
 -- that of the section whose turn it is in this order

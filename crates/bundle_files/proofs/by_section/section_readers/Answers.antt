@@ -10,12 +10,12 @@ loop-preserved g c =
       count = omega (arith, c.in_ok-push.ensures.len, was.count);
       held =
           rw c.in_ok-push.ensures.items
-          (All-push (λ reader. (target : Target) → g.D.Sections.LeafProofs.held reader target
+          (All-push (λ reader. (target : Target) → g.D.Sections.TargetProofs.held reader target
           ≡ held_in c.args.before (g.D.Store.held c.args.store.now c.args.path.now)
           c.args.outlined.now.value.sections target) _ _ was.held
           c.in_ok-sections.ensures.held);
       fresh =
           rw c.in_ok-push.ensures.items
-          (All-push (λ reader. g.D.Sections.LeafProofs.failures reader ≡ 0) _ _ was.fresh
+          (All-push (λ reader. g.D.Sections.TargetProofs.failures reader ≡ 0) _ _ was.fresh
           c.in_ok-sections.ensures.none);
     }

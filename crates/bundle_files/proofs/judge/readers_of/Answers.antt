@@ -10,11 +10,11 @@ loop-preserved g c =
       count = omega (arith, c.in_ok-push.ensures.len, was.count);
       held =
           rw c.in_ok-push.ensures.items
-          (All-push (λ reader. (target : Target) → g.D.Reader.LeafProofs.held reader target
+          (All-push (λ reader. (target : Target) → g.D.Reader.TargetProofs.held reader target
           ≡ held_for (g.D.Store.held c.args.store.now) c.args.folder.now target) _ _ was.held
           c.in_ok-reader.ensures.held);
       fresh =
           rw c.in_ok-push.ensures.items
-          (All-push (λ reader. g.D.Reader.LeafProofs.failures reader ≡ 0) _ _ was.fresh
+          (All-push (λ reader. g.D.Reader.TargetProofs.failures reader ≡ 0) _ _ was.fresh
           c.in_ok-reader.ensures.none);
     }

@@ -39,11 +39,11 @@ loop-one-preserved g c =
       worker = omega (arith, next.1, was.worker);
       passes = pass.0;
       job_passes = job_pass.0;
-      fresh = All-rest (λ one. g.P.LeafProofs.failures one ≡ 0) _ _ _ next.0 was.fresh;
+      fresh = All-rest (λ one. g.P.TargetProofs.failures one ≡ 0) _ _ _ next.0 was.fresh;
       among = All-rest (Contains crew.readers.now.value.items) _ _ _ next.0 was.among;
       jobs =
           rw c.push_reserved.ensures.items
-          (All-push (IsDealtBy crew g.P.LeafProofs.failures) _ _ was.jobs (record {
+          (All-push (IsDealtBy crew g.P.TargetProofs.failures) _ _ was.jobs (record {
             is = record {
               pass = pass.1;
               job_pass = job_pass.1;

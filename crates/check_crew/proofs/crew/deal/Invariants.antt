@@ -14,7 +14,7 @@ invariant-loop-one g l = record {
   worker : l.worker ≡ into_iter_len l.one-iterator;
   passes : All (IsNewPass (shared_of l.crew.site.core.now)) l.passes.items;
   job_passes : All (λ pass. pass ≡ new_pass l.crew.site.jobs.now) l.job_passes.items;
-  fresh : All (λ one. g.P.LeafProofs.failures one ≡ 0) (into_iter_items l.one-iterator);
+  fresh : All (λ one. g.P.TargetProofs.failures one ≡ 0) (into_iter_items l.one-iterator);
   among : All (Contains l.crew.readers.now.value.items) (into_iter_items l.one-iterator);
-  jobs : All (IsDealtBy l.crew g.P.LeafProofs.failures) l.jobs.items;
+  jobs : All (IsDealtBy l.crew g.P.TargetProofs.failures) l.jobs.items;
 }

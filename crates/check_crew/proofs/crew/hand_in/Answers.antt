@@ -15,14 +15,14 @@ pub loop-shift-preserved : goal.loop-shift-preserved
 loop-shift-preserved g c =
     let was = c.loop-shift.invariant in let next = c.in-Some.ensures.steps in
     let crew = c.args.crew in let site = crew.site in let shift = c.in-Some.shift in
-    let mine : IsHandedBy crew g.P.LeafProofs.held g.P.LeafProofs.failures shift =
+    let mine : IsHandedBy crew g.P.TargetProofs.held g.P.TargetProofs.failures shift =
     (rw next.0 at was.rest) 0 shift (omega arith) in
     let none : shift.fault ≡ None =
     no_fault shift.fault (sym c.is_some.ensures ∙ c.if-is_some.false) in record {
       passes_count = omega (arith, c.in_ok-push.ensures.len, next.1, was.passes_count);
       job_passes_count = omega (arith, c.in_ok-push-2.ensures.len, next.1, was.job_passes_count);
       rest =
-          All-rest (IsHandedBy crew g.P.LeafProofs.held g.P.LeafProofs.failures) _ _ _ next.0
+          All-rest (IsHandedBy crew g.P.TargetProofs.held g.P.TargetProofs.failures) _ _ _ next.0
           was.rest;
       own =
           rw c.in_ok-push.ensures.items
@@ -43,8 +43,8 @@ loop-shift-preserved g c =
       lists = λ known all.
           rw c.in_ok-push-3.ensures.items
           (All-push (λ list. IsListOf known site.case.now list.items) _ _ (was.lists known all)
-          (list_of (shared_of site.core.now) site.case.now (g.P.LeafProofs.held mine.reader) known
+          (list_of (shared_of site.core.now) site.case.now (g.P.TargetProofs.held mine.reader) known
           shift.pass shift.examined.items c.requires.ready.case_is mine.is.own (mine.is.each none)
-          (All-contains (λ one. (target : Target) → g.P.LeafProofs.held one target ≡ known target) _
+          (All-contains (λ one. (target : Target) → g.P.TargetProofs.held one target ≡ known target) _
           mine.reader all mine.among)));
     }

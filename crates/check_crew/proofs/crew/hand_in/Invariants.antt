@@ -5,7 +5,7 @@ use Rattle.cube_jobs.specs.Jobs as queue
 use Rattle.cube_jobs.specs.Jobs.{JobPassOf}
 use Rattle.board_hall.specs.declared.pass.Pass.{Pass}
 use Rattle.board_hall.specs.Halls.{shared_of, view_of, IsPassOf}
-use Rattle.check_crew.specs.LeafProofs.{Known}
+use Rattle.check_crew.specs.TargetProofs.{Known}
 use Rattle.check_crew.specs.Inner.Apart.{IsListOf}
 use Rattle.check_crew.specs.Inner.Crew.{IsHandedBy, HaveSeenClaims}
 use Rattle.check_crew.proofs.crew.hand_in.Given as goal
@@ -14,7 +14,7 @@ abbrev pub invariant-loop-shift : goal.invariant-loop-shift
 invariant-loop-shift g l = record {
   passes_count : vec_len l.passes + into_iter_len l.shift-iterator ≡ vec_len l.fn.shifts;
   job_passes_count : vec_len l.job_passes + into_iter_len l.shift-iterator ≡ vec_len l.fn.shifts;
-  rest : All (IsHandedBy l.crew g.P.LeafProofs.held g.P.LeafProofs.failures)
+  rest : All (IsHandedBy l.crew g.P.TargetProofs.held g.P.TargetProofs.failures)
       (into_iter_items l.shift-iterator);
   own : All (IsPassOf (shared_of l.crew.site.core.now)) l.passes.items;
   free : All (λ (pass : Pass). (view_of pass).owes ≡ None) l.passes.items;
@@ -22,7 +22,7 @@ invariant-loop-shift g l = record {
   empty : All (λ (pass : JobPassOf). pass.found_empty ≡ true) l.job_passes.items;
   seen : HaveSeenClaims l.crew.site.order.now l.passes.items l.job_passes.items;
   lists : (known : Known)
-      → All (λ one. (target : Target) → g.P.LeafProofs.held one target ≡ known target)
+      → All (λ one. (target : Target) → g.P.TargetProofs.held one target ≡ known target)
       l.crew.readers.now.value.items
       → All (λ list. IsListOf known l.crew.site.case.now list.items) l.lists.items;
 }

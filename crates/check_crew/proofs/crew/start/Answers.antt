@@ -44,5 +44,5 @@ loop-job-preserved g c =
       promised =
           rw c.push_reserved.ensures.items
           (All-push (λ h. h.promise ≡ c.args.crew) _ _ was.promised c.in-Ok.ensures.ok);
-      jobs = All-rest (IsDealtBy c.args.crew g.P.LeafProofs.failures) _ _ _ next.0 was.jobs;
+      jobs = All-rest (IsDealtBy c.args.crew g.P.TargetProofs.failures) _ _ _ next.0 was.jobs;
     }

@@ -8,5 +8,5 @@ invariant-loop-job g l = record {
   started : vec_len l.handles + into_iter_len l.job-iterator ≡ vec_len l.fn.jobs;
   room : vec_len l.fn.jobs ≤ vec_capacity l.handles;
   promised : All (λ h. h.promise ≡ l.crew) l.handles.items;
-  jobs : All (IsDealtBy l.crew g.P.LeafProofs.failures) (into_iter_items l.job-iterator);
+  jobs : All (IsDealtBy l.crew g.P.TargetProofs.failures) (into_iter_items l.job-iterator);
 }

@@ -29,8 +29,8 @@ returns-clause-apart g c = λ known all.
     let closed = c.in_ok-boards.ensures.closed in
     let some : 0 < length c.args.proofs.items = search rules in
     let first : (target : Target) →
-    g.P.LeafProofs.held c.index.result.now target ≡ known target =
-    subst (λ one. (target : Target) → g.P.LeafProofs.held one target ≡ known target)
+    g.P.TargetProofs.held c.index.result.now target ≡ known target =
+    subst (λ one. (target : Target) → g.P.TargetProofs.held one target ≡ known target)
     (sym c.index.ensures) (all 0 c.index.result.now some) in
     subst
     (λ (k : CutCase). IfSome c.in_ok-right_alone.field-0 (λ boards.
@@ -43,6 +43,6 @@ returns-clause-apart g c = λ known all.
     (rw (c.deref.ensures.value, closed.gathered.hold.case, ap (λ (k : CutCase). k.case) is)
     (c.in_ok-boards.ensures.lists known all))
     (rw c.deref-2.ensures.value
-    (absent_known (g.P.LeafProofs.held c.index.result.now) known
+    (absent_known (g.P.TargetProofs.held c.index.result.now) known
     c.in_ok-targets.field-0.absent.items first
     c.in_ok-targets.ensures.absent))))

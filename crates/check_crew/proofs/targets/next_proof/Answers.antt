@@ -11,7 +11,7 @@ loop-preserved g c =
       count = step.ok ∙ was.count;
       absent = λ view were.
           rw c.in_ok-push.ensures.items
-          (examined_more (g.P.LeafProofs.held c.args.proofs.now) view view c.loop.examined.items _
+          (examined_more (g.P.TargetProofs.held c.args.proofs.now) view view c.loop.examined.items _
           (stays_same view) (was.absent view were)
           (rw was.held at (none_opened _ _ c.in_ok-proof.field-0 step.opened none)));
     }

@@ -5,7 +5,7 @@ use Rattle.check_crew.proofs.targets.read_target.Goals as goal
 pub close-requires : goal.close-requires
 close-requires g c =
     let few =
-    failed_reads c.examine_read-found.result (g.P.LeafProofs.failures c.args.proofs.now)
+    failed_reads c.examine_read-found.result (g.P.TargetProofs.failures c.args.proofs.now)
     (g.P.Proof.Source.failures c.examine_read-found.new.source)
     (rw c.requires.fresh at c.examine_read-found.ensures.ok)
     (rw c.requires.fresh at c.examine_read-found.ensures.err) in
@@ -14,15 +14,15 @@ close-requires g c =
 pub returns-clause-found : goal.returns-clause-found
 returns-clause-found g c =
     found_given c.examine_read-found.result
-    (g.P.LeafProofs.held c.args.proofs.now c.args.opened.target)
+    (g.P.TargetProofs.held c.args.proofs.now c.args.opened.target)
     (g.P.Proof.Source.remaining c.args.opened.proof) c.args.examiner.now c.args.opened.target
-    g.P.LeafProofs.takes_binary c.form-form.result c.form-form.ensures c.requires.left
+    g.P.TargetProofs.takes_binary c.form-form.result c.form-form.ensures c.requires.left
     c.examine_read-found.ensures.found
 
 pub returns-clause-ok : goal.returns-clause-ok
 returns-clause-ok g c =
     rw c.close.ensures.failures
-    (failed_reads c.examine_read-found.result (g.P.LeafProofs.failures c.args.proofs.now)
+    (failed_reads c.examine_read-found.result (g.P.TargetProofs.failures c.args.proofs.now)
     (g.P.Proof.Source.failures c.examine_read-found.new.source)
     (rw c.requires.fresh at c.examine_read-found.ensures.ok)
     (rw c.requires.fresh at c.examine_read-found.ensures.err)).1
@@ -30,7 +30,7 @@ returns-clause-ok g c =
 pub returns-clause-err : goal.returns-clause-err
 returns-clause-err g c =
     rw c.close.ensures.failures
-    (failed_reads c.examine_read-found.result (g.P.LeafProofs.failures c.args.proofs.now)
+    (failed_reads c.examine_read-found.result (g.P.TargetProofs.failures c.args.proofs.now)
     (g.P.Proof.Source.failures c.examine_read-found.new.source)
     (rw c.requires.fresh at c.examine_read-found.ensures.ok)
     (rw c.requires.fresh at c.examine_read-found.ensures.err)).2

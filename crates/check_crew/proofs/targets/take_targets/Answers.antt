@@ -33,7 +33,7 @@ loop-preserved g c =
       stays = stays_on _ _ _ was.stays step.stays;
       examined = (rw (step.held, was.held) at next.absent) (view_of c.take_target.new.pass)
           (rw c.in_ok-push.ensures.items
-          (examined_more (g.P.LeafProofs.held c.args.proofs.now) _ _ c.loop.examined.items _
+          (examined_more (g.P.TargetProofs.held c.args.proofs.now) _ _ c.loop.examined.items _
           step.stays was.examined (rw was.held at step.examined)));
     }
 
@@ -42,7 +42,7 @@ returns-in_default-clause-examined g c =
     let was = c.loop.invariant in let step = c.in_ok-one.ensures in
     (rw (step.held, was.held) at c.in_ok-following.ensures.absent) (view_of c.take_target.new.pass)
     (rw c.in_ok-push.ensures.items
-    (examined_more (g.P.LeafProofs.held c.args.proofs.now) _ _ c.loop.examined.items _
+    (examined_more (g.P.TargetProofs.held c.args.proofs.now) _ _ c.loop.examined.items _
     step.stays was.examined (rw was.held at step.examined)))
 
 pub returns-in_default-clause-stays : goal.returns-in_default-clause-stays

@@ -3,21 +3,21 @@ use Rattle.case_core.specs.Leaves.{HasTarget}
 use Rattle.case_core.specs.Target.TheVariants.{Leaf as Named}
 use Rattle.board_hall.specs.Halls.{shared_of, view_of, IsPassOf}
 use Rattle.board_hall.specs.Clauses.{Stays}
-use Rattle.check_crew.specs.LeafProofs.{IsExamined, IsLeftOf, left_text}
+use Rattle.check_crew.specs.TargetProofs.{IsExamined, IsLeftOf, left_text}
 use Rattle.check_crew.proofs.targets.take_targets.Given as goal
 
 abbrev pub invariant-loop : goal.invariant-loop
 invariant-loop g l = record {
   examiner : l.examiner ≡ l.site.case.now;
   target : HasTarget l.site.case.now.tree l.opened.target;
-  left : IsLeftOf (g.P.LeafProofs.held l.initial.proofs l.opened.target)
-      (left_text g.P.LeafProofs.takes_binary (g.P.Proof.Source.remaining l.opened.proof));
+  left : IsLeftOf (g.P.TargetProofs.held l.initial.proofs l.opened.target)
+      (left_text g.P.TargetProofs.takes_binary (g.P.Proof.Source.remaining l.opened.proof));
   fresh : g.P.Proof.Source.failures l.opened.proof ≡ 0;
-  held : g.P.LeafProofs.held l.proofs ≡ g.P.LeafProofs.held l.initial.proofs;
-  count : g.P.LeafProofs.failures l.proofs ≡ g.P.LeafProofs.failures l.initial.proofs;
+  held : g.P.TargetProofs.held l.proofs ≡ g.P.TargetProofs.held l.initial.proofs;
+  count : g.P.TargetProofs.failures l.proofs ≡ g.P.TargetProofs.failures l.initial.proofs;
   pass : IsPassOf (shared_of l.site.core.now) l.pass;
   owes : (view_of l.pass).owes ≡ None;
   stays : Stays (view_of l.initial.pass) (view_of l.pass);
-  examined : All (λ one. IsExamined (g.P.LeafProofs.held l.initial.proofs one.target)
+  examined : All (λ one. IsExamined (g.P.TargetProofs.held l.initial.proofs one.target)
       (view_of l.pass) one.target one.examined) l.examined.items;
 }

@@ -1,7 +1,7 @@
 use Rattle.std.proofs.Common.{◌∙◌}
 use Rattle.std.proofs.lemmas.Result.{IfOk-weaker}
 use Rattle.file_store.proofs.FilesOpened.{opened_as_proof}
-use Rattle.file_store.proofs.reader.FolderReaderLeafProofs.open.Goals as goal
+use Rattle.file_store.proofs.reader.FolderReaderTargetProofs.open.Goals as goal
 
 pub returns-clause-opened : goal.returns-clause-opened
 returns-clause-opened g c =

@@ -1,7 +1,7 @@
 use Rattle.std.proofs.Common.{◌≡◌, ◌+◌, arith}
 use Rattle.std.specs.String.{string_bytes}
 use Rattle.file_store.proofs.PartsOpened.{read_part}
-use Rattle.file_store.proofs.sections.SectionReaderLeafProofs.open.Goals as goal
+use Rattle.file_store.proofs.sections.SectionReaderTargetProofs.open.Goals as goal
 
 pub returns-clause-opened : goal.returns-clause-opened
 returns-clause-opened g c =

@@ -5,7 +5,7 @@ ghost use Rattle.std.specs.Prelude.{OnOk, Bool, None, false};
 ghost use Rattle.byte_flow.specs.Device.{IsDeviceFault};
 ghost use Rattle.case_core.specs.Form.{proof_left};
 ghost use Rattle.case_core.specs.Target.{Target};
-ghost use Rattle.check_crew.specs.LeafProofs.{IsGiven, IsOpenedOf, left_text, text_by};
+ghost use Rattle.check_crew.specs.TargetProofs.{IsGiven, IsOpenedOf, left_text, text_by};
 
 use byte_flow::{DeviceFault, Source};
 use case_core::{ProofForm, Target};
@@ -13,7 +13,7 @@ use std::io;
 
 /// What a worker opens proofs by. Each worker of a run has one of its own, and all of a run tell of
 /// the same proofs.
-pub trait LeafProofs {
+pub trait TargetProofs {
     /// A proof that was opened, which is read to its end.
     type Proof: Source + Drop + Send;
 
@@ -68,7 +68,7 @@ pub trait LeafProofs {
 #[derive(Clone, Copy)]
 pub(crate) struct NoProofs;
 
-impl LeafProofs for NoProofs {
+impl TargetProofs for NoProofs {
     type Proof = NoProofs;
 
     ghost use Rattle.std.specs.Prelude.{None, false};
