@@ -2,3 +2,5 @@
 pub mod Icnf
 pub mod Formula
 pub mod Dimacs
+pub mod Digits
+pub mod Words
