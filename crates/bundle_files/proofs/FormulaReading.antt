@@ -1,7 +1,7 @@
 -- A formula's file that was read, and the bundle that it makes.
 use Rattle.std.proofs.Common.{◌≡◌, ◌≢◌, ◌∙◌, sym, ap, subst, ℕ}
 use Rattle.std.proofs.Common.{List, [], ◌∷◌, ◌++◌, length, take, append_assoc, inl, inr, arith}
-use Rattle.std.proofs.Common.{Option, None, Some, Result, Ok, Err, OnOk, IfErr, IsErrAnd}
+use Rattle.std.proofs.Common.{Option, Some, Result, Ok, Err, OnOk, IfErr, IsErrAnd}
 use Rattle.std.proofs.Math.Seq.{take-append_seam}
 use Rattle.case_core.specs.Literal.{Literal}
 use Rattle.case_core.specs.Icnf.{Item, StandsFor, clauses_of}

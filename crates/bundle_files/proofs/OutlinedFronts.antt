@@ -1,9 +1,9 @@
 -- What stands in a bundle before the file's text, and the bundle that it makes with the text.
-use Rattle.std.proofs.Common.{◌≡◌, ◌∙◌, ap, sym, subst, refl, inl, inr, arith, ℕ, ◌+◌, List, []}
+use Rattle.std.proofs.Common.{◌≡◌, ◌∙◌, ap, sym, subst, refl, inl, inr, ℕ, ◌+◌, List, []}
 use Rattle.std.proofs.Common.{◌∷◌, ◌++◌, append_assoc, length, length-append, Option, None, Some}
 use Rattle.case_core.specs.Bundle.{icnf_text}
 use Rattle.case_core.specs.Case.{CaseOf}
-use Rattle.case_core.specs.Outline.{OutlineOf, IsOutlineOf, AreWholeLines}
+use Rattle.case_core.specs.Outline.{IsOutlineOf}
 use Rattle.case_core.specs.Problem as code
 use Rattle.case_core.specs.Sections.{IsCaseOf}
 use Rattle.file_store.specs.Parts.{GoesOnWith}

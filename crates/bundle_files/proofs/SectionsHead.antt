@@ -1,13 +1,13 @@
 -- A bundle whose iCNF text is known, and of whose proofs is only known which targets have none.
 use Rattle.std.proofs.Common.{◌≡◌, ◌∙◌, ◌⊎◌, ap, sym, subst, refl, inl, inr, arith, ℕ, ◌+◌, List, []}
 use Rattle.std.proofs.Common.{◌∷◌, ◌++◌, map, append_assoc, append-nil, true, false, Option, None}
-use Rattle.std.proofs.Common.{Some, codes}
+use Rattle.std.proofs.Common.{Some}
 use Rattle.std.specs.List.{AllByRecursion, onto_first}
 use Rattle.std.proofs.lemmas.Bool.{cases_Bool}
 use Rattle.std.proofs.lemmas.List.Splits.{slice_split-cons_yes, slice_split-cons_no}
 use Rattle.case_core.specs.Tokens.{is_blank, is_comment, is_line_end, line_tokens, token_lines}
 use Rattle.case_core.specs.Tokens.{words}
-use Rattle.case_core.specs.Icnf.{Item, StandsFor, after_header, clauses_of, cubes_of}
+use Rattle.case_core.specs.Icnf.{Item, StandsFor, clauses_of, cubes_of}
 use Rattle.case_core.specs.Bundle.{icnf_text, is_label, labelled, labels_of, lines_of, text_before}
 use Rattle.case_core.specs.Bundle.{Labelled, line_onto}
 use Rattle.case_core.specs.Case.{CaseOf, SectionOf, part_in, section_in, proof_for, same_target}
@@ -16,10 +16,9 @@ use Rattle.case_core.specs.Outline.{OutlinedOf, IsOutlinedCase}
 use Rattle.case_core.specs.Sections.{AreLabelled, AreSectionsOf, IsCaseOf}
 use Rattle.case_core.specs.SplitTree.{SplitTree, IsTreeOf, numbered}
 use Rattle.case_core.specs.declared.case.Section.{Section}
-use Rattle.case_core.proofs.BundleMore.{header_end, lines_more, no_lines}
+use Rattle.case_core.proofs.BundleMore.{header_end, lines_more}
 use Rattle.case_core.proofs.OutlineLines.{lines_no_ends}
 use Rattle.cube_report.specs.Mark.{Mark}
-use Rattle.mark_board.specs.Marking.{mark_at}
 use Rattle.proof_folder.specs.Given.{AreFoundApart, IsJudgedAs}
 use Rattle.proof_folder.proofs.AddedLines.{text_is_lines, with_ends}
 use Rattle.proof_folder.proofs.GivenBelow.{AreNamedBy, judged_below, named_by, placed, texts_below}

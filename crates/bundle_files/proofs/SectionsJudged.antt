@@ -1,8 +1,8 @@
 -- A bundle in a file whose proofs were read at their places: what was judged is what its bytes
 -- stand for.
 use Rattle.std.proofs.Common.{◌≡◌, ◌∙◌, ap, sym, subst, refl, ℕ, List, [], ◌++◌, map, Bool, Option}
-use Rattle.std.proofs.Common.{None, Some, Result, Ok, Err, IfOk, is_some, true, length}
-use Rattle.std.proofs.Common.{append_assoc, arith, ◌+◌, ◌-◌, ◌<◌, ◌≤◌}
+use Rattle.std.proofs.Common.{None, Some, Result, Ok, Err, IfOk, true, length}
+use Rattle.std.proofs.Common.{append_assoc}
 use Rattle.std.specs.Prelude.{IfSome, replicate, unwrap_or}
 use Rattle.std.proofs.lemmas.List.{length-replicate}
 use Rattle.case_core.specs.Leaves.{IsTargetAt}
@@ -12,7 +12,6 @@ use Rattle.case_core.specs.Sections.{IsCaseOf}
 use Rattle.case_core.specs.Bundle.{icnf_text}
 use Rattle.case_core.specs.Formula.{HasNoModel}
 use Rattle.case_core.specs.Icnf.{clauses_of}
-use Rattle.case_core.specs.Literal.{Literal}
 use Rattle.case_core.specs.Outline.{OutlineOf, OutlinedOf, IsOutlineOf, IsOutlinedCase}
 use Rattle.case_core.proofs.IcnfUnique.{one_text_of, text_of}
 use Rattle.cube_report.specs.Correct.{IsOutcome, IsUnsatisfiable}
@@ -27,7 +26,7 @@ use Rattle.mark_board.specs.Findings.{IsMarkOf}
 use Rattle.proof_folder.specs.Given.{AreFoundApart, IsJudgedAs, IsMarkBy}
 use Rattle.file_store.specs.Files.{Held, lies_in}
 use Rattle.file_store.specs.Parts.{held_in}
-use Rattle.bundle_files.specs.Outlined.{HasIcnfOf, IsOutlinedBy, IsRefutedBy, IsRunBy}
+use Rattle.bundle_files.specs.Outlined.{IsOutlinedBy, IsRefutedBy, IsRunBy}
 use Rattle.bundle_files.specs.Inner.Outlined.{AreBehind, IsCounted}
 use Rattle.bundle_files.specs.declared.outlined.BundleOutline.{BundleOutline}
 use Rattle.bundle_files.proofs.OutlinedBehind.{sections_behind}

@@ -7,9 +7,8 @@ use Rattle.case_core.specs.Binary.{proof_text}
 use Rattle.cube_report.specs.declared.fault.Fault.{Fault}
 use Rattle.cube_report.specs.Faults.{IsInputFault}
 use Rattle.bundle_files.specs.Files.{Held, IsAppended, IsTextAt, lies_in}
-use Rattle.bundle_files.specs.Formula.{IsBundleBy, IsBundleOf, IsUnder}
+use Rattle.bundle_files.specs.Formula.{IsBundleBy, IsBundleOf}
 use Rattle.cube_command.specs.Headline.{IsRefutedFrom}
-use Rattle.cube_command.specs.Program.{IsRefusedFrom}
 use Rattle.cube_command.specs.Sources.{IsProofAt, IsSoBy, file_at, sources_of}
 use Rattle.cube_command.specs.Words.{Asked}
 use Rattle.cube_command.specs.Inner.Recorded.{IsRecordedFor, IsRecordedFrom}

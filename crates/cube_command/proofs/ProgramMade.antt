@@ -1,6 +1,6 @@
 -- What a run says of the bundle that is asked for.
-use Rattle.std.proofs.Common.{◌≡◌, ◌∙◌, ◌+◌, ◌++◌, ap, sym, refl, subst, inl, inr, arith, ℕ, Bool}
-use Rattle.std.proofs.Common.{List, Option, None, Some, Result, Ok, Err, IfOk, IfErr, true}
+use Rattle.std.proofs.Common.{◌≡◌, ◌∙◌, ◌++◌, sym, refl, subst, ℕ, Bool}
+use Rattle.std.proofs.Common.{List, Option, None, Some, Result, Ok, Err, IfOk, true}
 use Rattle.std.specs.Prelude.{IfSome, is_some}
 use Rattle.bundle_files.specs.Outline.{IsOutlineOf}
 use Rattle.bundle_files.specs.Files.{Held, IsJudgedOf, lies_in}
@@ -9,7 +9,7 @@ use Rattle.bundle_files.specs.Outlined.{IsOutlinedBy, IsRefutedBy, IsRunBy}
 use Rattle.bundle_files.specs.declared.outlined.BundleOutline.{BundleOutline}
 use Rattle.bundle_files.proofs.LawsFormula.{judged_unsatisfiable}
 use Rattle.bundle_files.proofs.FormulaText.{published}
-use Rattle.bundle_files.specs.Judging.{IsJudgingFault, IsOutcomeOf}
+use Rattle.bundle_files.specs.Judging.{IsOutcomeOf}
 use Rattle.cube_report.specs.Bundle.{icnf_text}
 use Rattle.cube_report.specs.Case.{CaseOf}
 use Rattle.cube_report.specs.Correct.{IsOutcome, IsUnsatisfiable}

@@ -1,6 +1,5 @@
-use Rattle.std.proofs.Common.{◌≡◌, ◌∙◌, ap, subst, List, ℕ}
+use Rattle.std.proofs.Common.{◌≡◌, ◌∙◌, ap, subst}
 use Rattle.case_core.specs.Case.{CaseOf}
-use Rattle.case_core.specs.Literal.{Literal}
 use Rattle.bundle_files.specs.Inner.Outlined.{IsCounted}
 use Rattle.bundle_files.proofs.SectionsJudged.{handed_by_section, run_by_section}
 use Rattle.bundle_files.proofs.by_section.judge_by_section.Goals as goal

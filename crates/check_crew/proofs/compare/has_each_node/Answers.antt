@@ -1,7 +1,7 @@
-use Rattle.std.proofs.Common.{◌≡◌, ◌≢◌, ◌<◌, ◌∙◌, true, rules, sym, subst, ℕ, arith}
+use Rattle.std.proofs.Common.{◌≡◌, ◌≢◌, ◌∙◌, true, rules, sym, subst, arith}
 use mathlib.Core.Logic.{dite}
 use native.Mathlib.Decide.{ℕ_discrete}
-use Rattle.case_core.specs.SplitTree.{SplitTree, size}
+use Rattle.case_core.specs.SplitTree.{size}
 use Rattle.check_crew.specs.Inner.Apart.{IsRightAt}
 use Rattle.check_crew.proofs.compare.has_each_node.Goals as goal
 

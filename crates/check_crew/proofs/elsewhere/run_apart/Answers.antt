@@ -1,6 +1,5 @@
 use Rattle.std.proofs.Common.{◌≡◌, ◌<◌, ℕ, ap, arith, length, rules, subst, sym, ◌∙◌}
 use Rattle.std.specs.Prelude.{IfSome}
-use Rattle.case_core.specs.Case.{CaseOf}
 use Rattle.case_core.specs.SplitTree.{size}
 use Rattle.case_core.specs.Target.{Target}
 use Rattle.proof_folder.specs.Given.{AreFoundApart}

@@ -1,6 +1,5 @@
 use Rattle.std.proofs.Common.{◌≡◌, None, All}
 use Rattle.case_core.specs.Leaves.{HasTarget}
-use Rattle.case_core.specs.Target.TheVariants.{Leaf as Named}
 use Rattle.board_hall.specs.Halls.{shared_of, view_of, IsPassOf}
 use Rattle.board_hall.specs.Clauses.{Stays}
 use Rattle.check_crew.specs.TargetProofs.{IsExamined, IsLeftOf, left_text}
