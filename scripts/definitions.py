@@ -2,7 +2,8 @@
 """Writes docs/DEFINITIONS.md: for each claim, the definitions of specs/ that its clauses stand on.
 
     python3 scripts/definitions.py            writes the document
-    python3 scripts/definitions.py --check    writes nothing; exits 1 where the document isn't what would be written
+    python3 scripts/definitions.py --check    writes nothing; exits 1 where the document isn't what would be written, or
+                                              README.md has other numbers of the first three claims
     python3 scripts/definitions.py --count    prints how many definitions and lines each claim stands on
     --root DIR                                the repository, by default the folder above this script's
 
@@ -248,6 +249,9 @@ is so.""",
 The bytes are one picture, fixed by the case and by the mark of each node.""",
      ["tree_map/picture.rt map_of -"]),
 ]
+
+# Where README.md has how many definitions and lines the claims of `sound`, `handed` and `published` stand on.
+README_COUNTS = r"\[(\d+) definitions in (\d+) lines\].*For `handed` it is (\d+) in (\d+)\. .* it is (\d+) in (\d+), for `published`"
 
 HEAD = """<!-- written by scripts/definitions.py: change the script, not this file -->
 # What a skeptic has to read
@@ -713,6 +717,15 @@ def rest_of(repository, seen):
     return ["", "## What no claim stands on", REST] + lines + ([UNUSED] + unused if unused else [])
 
 
+def check_readme(root, counts):
+    """README.md has the numbers of the first three claims."""
+    found = re.search(README_COUNTS, " ".join(read(root / "README.md").split()))
+    told = tuple(map(int, found.groups())) if found else ()
+    wanted = tuple(number for sizes in counts[:3] for number in sizes)
+    if told != wanted:
+        raise Problem("README.md: the first three claims stand on %s definitions and lines, and it says %s" % (wanted, told))
+
+
 def difference(old, new):
     """The first line in which the document isn't what would be written."""
     pairs = zip(old + [""] * len(new), new + [""] * len(old))
@@ -731,6 +744,8 @@ def run(options):
         path.write_text(text, encoding="utf-8")
     elif read(path) != text:
         raise Problem("docs/DEFINITIONS.md: " + difference(read(path).split("\n"), text.split("\n")))
+    else:
+        check_readme(options.root, counts)
 
 
 def main():
