@@ -55,7 +55,9 @@ in it: they may be read at any time, and are trusted for nothing.""",
     ("With `--formula` the formula of a published file has no model", """
 Let the program end with status 0, and let `--formula CNF` be asked for. Then the text of that file is a DIMACS text of
 a formula of which no assignment makes all clauses true. What a bundle is, how the file and FILE become one, and what a
-cube or a label line is, has no part in it.""",
+cube or a label line is, has no part in it. As with `sound`, of the system's own files no contract says what they hold:
+there any DIMACS text of a formula without a model meets `published`. `handed` says it of the text that a reading of CNF
+gave.""",
      ["cube_command/program.rt command published"]),
     ("A refusal names the first fault", """
 If a bundle is refused for its own sake, and not for want of memory, a failed device or a refused thread, the fault is
