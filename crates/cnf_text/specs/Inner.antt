@@ -2,5 +2,3 @@
 pub mod Icnf
 pub mod Formula
 pub mod Dimacs
-pub mod Digits
-pub mod Words

@@ -1,10 +1,8 @@
 -- The words of a text that are left, from a place within a line on, and what each is told as.
-use Rattle.std.specs.Prelude.{◌≡◌, ℕ, if◌then◌else◌, List, [], ◌∷◌, ◌++◌, Some, None, map, Bool}
-use Rattle.std.specs.Prelude.{true, false, not}
+use Rattle.std.specs.Prelude.{◌≡◌, ℕ, if◌then◌else◌, List, [], ◌∷◌, ◌++◌, Some, None}
 use Rattle.std.specs.List.{slice_split, flat_map}
 use Rattle.std.specs.Option.{option_map}
-use Rattle.cnf_text.specs.Literal.{Literal}
-use Rattle.cnf_text.specs.Numbers.{Number, number_of, capped}
+use Rattle.cnf_text.specs.Numbers.{number_of, capped}
 use Rattle.cnf_text.specs.Tokens.{is_line_end, is_comment, words}
 use Rattle.cnf_text.specs.declared.words.Word.{Word}
 use Rattle.cnf_text.specs.declared.words.Word.TheVariants as told
@@ -32,21 +30,3 @@ IsToldAs bytes (told.Other other) = (number_of bytes ≡ None) × (other.now ≡
 -- the first word is told as this, and the others are left
 abbrev pub IsNextWord : List (List ℕ) → Word → List (List ℕ) → Type 0
 IsNextWord found word left = (bytes : List ℕ) × (found ≡ bytes ∷ left) × IsToldAs bytes word
-
--- a number without a sign
-abbrev pub plain : ℕ → Number
-plain magnitude = record { negative = false; magnitude = magnitude }
-
--- the number that stands for a literal
-abbrev pub of_literal : Literal → Number
-of_literal literal = record { negative = not literal.positive; magnitude = literal.variable }
-
--- an end mark, if there is one
-abbrev pub end_if : Bool → List Number
-end_if true = plain 0 ∷ []
-end_if false = []
-
--- the first words spell these numbers, and the others are left
-abbrev pub BeginsWithNumbers : List (List ℕ) → List Number → List (List ℕ) → Type 0
-BeginsWithNumbers found numbers left =
-    (front : List (List ℕ)) × (found ≡ front ++ left) × (map number_of front ≡ map Some numbers)

@@ -1,24 +1,15 @@
 //! The words of a text that are left, one at a time and without their lines.
 
-ghost use Rattle.std.specs.Prelude.{◌≡◌, ◌∷◌, ◌++◌, [], ◌≤◌, ◌<◌, ◌^◌, ◌+◌, ℕ, List, length, map};
-ghost use Rattle.std.specs.Prelude.{true, false, Some, IsSome, IfSome, IfOk, MatchOption, take};
-ghost use Rattle.std.specs.Prelude.{slice_index};
-ghost use Rattle.std.specs.List.{slice_split, list_all, AllByRecursion};
-ghost use Rattle.std.specs.Char.{is_ascii_digit};
+ghost use Rattle.std.specs.Prelude.{◌≡◌, ◌∷◌, [], ◌≤◌, ◌<◌, ◌^◌, ℕ, List, length, map, slice_index};
+ghost use Rattle.std.specs.Prelude.{true, false, Some, IsSome, IfSome, MatchOption};
+ghost use Rattle.std.specs.List.{slice_split};
 ghost use Rattle.cnf_text.specs.Tokens.{tokens_of, is_line_end, is_blank};
-ghost use Rattle.cnf_text.specs.Literal.{Literal, IsVariable};
-ghost use Rattle.cnf_text.specs.Numbers.{decimal, number_of};
+ghost use Rattle.cnf_text.specs.Numbers.{decimal};
 ghost use Rattle.cnf_text.specs.Words.{words_of_lines, words_left, IsToldAs, IsNextWord};
-ghost use Rattle.cnf_text.specs.Words.{plain, of_literal, end_if, BeginsWithNumbers};
-ghost use Rattle.cnf_text.specs.Inner.Words.{as_spelled};
 
-use crate::digits::few_digits;
-use crate::literal::Lit;
 use crate::numbers::{Number, digits_at_front, read_number};
 use crate::tokens::{is_blank, is_comment, split_line, word_len};
-use std::alloc::AllocError;
 use std::marker::Model;
-use std::simd::prelude::*;
 
 /// A word as the number that it spells, or as one that spells none.
 #[derive(Clone, Copy)]
@@ -57,9 +48,6 @@ impl<'t> Model for Words<'t> {
 
 /// So many bytes are looked at with no loop.
 const FRONT: usize = 9;
-
-/// So many bytes are looked at together for what ends numbers.
-const BLOCK: usize = 32;
 
 impl<'t> Words<'t> {
     /// The words of a text outside comments, whose first byte begins a line.
@@ -114,151 +102,12 @@ impl<'t> Words<'t> {
             None => next_elsewhere(self.text),
         }
     }
-
-    /// Appends numbers without a sign, from 1 to 99,999,999, with which the words begin, and answers
-    /// whether an end mark follows them, which is the number 0, and the words behind all these. It
-    /// may stop before any number: where it stops says nothing of the words that are left.
-    #[inline(always)]
-    pub fn ids_ahead(self, ids: &mut Vec<u64>) -> Result<(bool, Words<'t>), AllocError>
-        ensures { IfOk result (λ ahead. (run : List ℕ) × (ids.new.items ≡ ids.old.items ++ run)
-            × AllByRecursion (λ id. (1 ≤ id) × (id ≤ 99999999)) run
-            × BeginsWithNumbers self.entry (map plain run ++ end_if ahead.0) ahead.1) }
-    {
-        let mut left = self.text;
-        let mut gaps: u64 = 0;
-        while left.len() >= BLOCK {
-            if gaps == 0 {
-                gaps = gaps_of(left);
-            }
-            let count = gaps.trailing_zeros() as usize;
-            let Some((id, rest)) = counted_number(left, count) else {
-                return Ok((false, Words { text: left }));
-            };
-            if id == 0 {
-                return Ok((true, Words { text: rest }));
-            }
-            ids.push(id)?;
-            gaps >>= count + 1;
-            left = rest;
-        }
-        Ok((false, Words { text: left }))
-    }
-
-    /// Appends literals of variables up to 99,999,999 with which the words begin, and answers
-    /// whether an end mark follows them, and the words behind all these. It may stop before any
-    /// word: where it stops says nothing of the words that are left.
-    #[inline(always)]
-    pub fn literals_ahead(self, lits: &mut Vec<Lit>) -> Result<(bool, Words<'t>), AllocError>
-        ensures { IfOk result (λ ahead. (run : List Literal)
-            × (lits.new.items ≡ lits.old.items ++ run)
-            × AllByRecursion (λ literal. IsVariable literal.variable) run
-            × BeginsWithNumbers self.entry (map of_literal run ++ end_if ahead.0) ahead.1) }
-    {
-        let mut left = self.text;
-        let mut gaps: u64 = 0;
-        while left.len() >= BLOCK {
-            if gaps == 0 {
-                gaps = gaps_of(left);
-            }
-            let count = gaps.trailing_zeros() as usize;
-            let Some((number, rest)) = counted_signed(left, count) else {
-                return Ok((false, Words { text: left }));
-            };
-            if number.magnitude == 0 {
-                return Ok((true, Words { text: rest }));
-            }
-            lits.push(Lit::from_parts(number.magnitude as u32, !number.negative))?;
-            gaps >>= count + 1;
-            left = rest;
-        }
-        Ok((false, Words { text: left }))
-    }
-}
-
-/// Bit i says whether byte i of a block is a blank or below one. It is a hint: whoever uses it looks
-/// at the bytes again.
-#[inline(always)]
-fn gaps_of(text: &[u8]) -> u64
-    requires { 32 ≤ length text.now }
-{
-    u8x32::from_slice(text)
-        .simd_le(u8x32::splat(b' '))
-        .to_bitmask()
 }
 
 /// The number with which a text begins at once, and the text behind it. It is without a sign and
-/// has so many digits, from 1 to 8. `None` says nothing of the text.
-#[inline(always)]
-fn counted_number(text: &[u8], count: usize) -> Option<(u64, &[u8])>
-    requires long { 9 < length text.now }
-    ensures found { IfSome result (λ found. (word : List ℕ)
-        × (words_left text.now ≡ word ∷ words_left found.1.now)
-        × (decimal word ≡ Some found.0) × (found.0 ≤ 99999999) × (count ≤ 8)) }
-    ensures at_once { IsSome result → is_blank (slice_index text.now 0) ≡ false }
-{
-    if count == 0 || count > 8 {
-        return None;
-    }
-    let value = few_digits(text, count)?;
-    let rest = behind_number(text, count)?;
-    Some((value, rest))
-}
-
-/// The number with which a text begins at once, in so many bytes, and the text behind it. It has at
-/// most 8 digits, which a minus sign may stand before. `None` says nothing of the text.
-#[inline(always)]
-fn counted_signed(text: &[u8], count: usize) -> Option<(Number, &[u8])>
-    requires long { 10 < length text.now }
-    ensures { IfSome result (λ found. (word : List ℕ)
-        × (words_left text.now ≡ word ∷ words_left found.1.now)
-        × (number_of word ≡ Some (as_spelled found.0)) × (found.0.magnitude ≤ 99999999)
-        × (found.0.magnitude ≡ 0 → found.0.negative ≡ false) × (count ≤ 9)) }
-{
-    let negative = text[0] == b'-';
-    let sign = usize::from(negative);
-    if count < sign {
-        return None;
-    }
-    let (magnitude, rest) = counted_number(&text[sign..], count - sign)?;
-    if negative && magnitude == 0 {
-        return None;
-    }
-    Some((
-        Number {
-            negative,
-            magnitude,
-        },
-        rest,
-    ))
-}
-
-/// The text behind the digits with which a text begins, without the space that follows them.
-/// Where a line ends behind them and the next one is surely no comment, that one begins there.
-/// `None` says nothing of the text.
-#[inline(always)]
-fn behind_number(text: &[u8], count: usize) -> Option<&[u8]>
-    requires some { 1 ≤ count }
-    requires within { count + 1 < length text.now }
-    requires digits { list_all is_ascii_digit (take count text.now) ≡ true }
-    ensures { IfSome result (λ rest. words_left text.now
-        ≡ take count text.now ∷ words_left rest.now) }
-{
-    let behind = text[count];
-    if behind == b' ' {
-        return Some(&text[count + 1..]);
-    }
-    if behind == b'\n' {
-        let begin = text[count + 1];
-        if begin > b' ' && begin != b'c' {
-            return Some(&text[count + 1..]);
-        }
-        return Some(&text[count..]);
-    }
-    None
-}
-
-/// The number with which a text begins at once, and the text behind it. It is without a sign and
-/// has at most `FRONT` digits. `None` says nothing of the text.
+/// has at most `FRONT` digits, and a space or a line's end follows them. Where a line begins behind
+/// that end which is surely no comment, the text behind the number begins there. `None` says
+/// nothing of the text.
 #[inline(always)]
 fn short_number(text: &[u8]) -> Option<(u64, &[u8])>
     ensures found { IfSome result (λ found. (word : List ℕ)
@@ -273,8 +122,18 @@ fn short_number(text: &[u8]) -> Option<(u64, &[u8])>
     if digits.count == 0 {
         return None;
     }
-    let rest = behind_number(text, digits.count)?;
-    Some((digits.value, rest))
+    let behind = text[digits.count];
+    if behind == b' ' {
+        return Some((digits.value, &text[digits.count + 1..]));
+    }
+    if behind == b'\n' {
+        let begin = text[digits.count + 1];
+        if begin > b' ' && begin != b'c' {
+            return Some((digits.value, &text[digits.count + 1..]));
+        }
+        return Some((digits.value, &text[digits.count..]));
+    }
+    None
 }
 
 /// The next word where it is no short number without a sign.

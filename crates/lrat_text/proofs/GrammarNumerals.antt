@@ -22,7 +22,7 @@ no_letter : number_of (100 ∷ []) ≡ None
 unfolding number_of decimal
 no_letter = refl
 
-pub no_mark : (bytes : List ℕ) (n : Number) → number_of bytes ≡ Some n →
+no_mark : (bytes : List ℕ) (n : Number) → number_of bytes ≡ Some n →
     bytes_eq bytes (codes "d") ≡ false
 no_mark bytes n h = elim (cases_Bool (bytes_eq bytes (codes "d"))) [
   | inl same ↦ absurd

@@ -20,6 +20,7 @@ use Rattle.lrat_text.specs.Proof.{Proof, IsProofOf}
 use Rattle.lrat_text.specs.Open.{proof_left, MayBegin}
 use Rattle.lrat_text.proofs.GrammarDecoding.{stuck_run, stuck_literals, no_hints_after}
 use Rattle.lrat_text.proofs.GrammarDecoding.{hints_nil, addition_begins, deletion_begins}
+use Rattle.lrat_text.proofs.BufferGroups.{all_push}
 use Rattle.lrat_text.proofs.ProofFronts.{none-no_step}
 use Rattle.lrat_text.proofs.ProofSteps.{proof_in-step, proof_in-none}
 use Rattle.lrat_text.proofs.ProofUnique.{proof_is}
@@ -86,6 +87,22 @@ pub hints_of_run : (t : List StepSymbol) → ((run : List ℕ) × IsRun t run st
     (hints : List ℕ) × (groups : List HintGroup) × IsHints t hints groups []
 hints_of_run t run =
     (run.0, [], (run.1.0, tt, run.1.2 ∙ sym (hints_nil run.0 (end_mark ∷ []))))
+
+-- literals, of which this is the last
+pub literals_end : (t left : List StepSymbol) (ls : List Literal) (l : Literal)
+    (symbol : StepSymbol) → t ≡ map signed ls ++ symbol ∷ left → symbol ≡ signed l → left ≡ [] →
+    AllByRecursion (λ literal. IsVariable literal.variable) ls → IsVariable l.variable →
+    (literals : List Literal) × IsLiterals (t ++ end_mark ∷ []) literals []
+literals_end t left ls l symbol is last none all is_variable = (
+  ls ++ l ∷ [],
+  (
+    all_push (λ literal. IsVariable literal.variable) ls l all is_variable,
+    ap (λ s. s ++ end_mark ∷ [])
+        (is ∙ ap (λ s. map signed ls ++ s ∷ left) last
+        ∙ ap (λ s. map signed ls ++ signed l ∷ s) none
+        ∙ sym (map-append signed ls (l ∷ []))),
+  ),
+)
 
 -- an addition of literals without hints
 pub literals_then : (id : ℕ) (first : StepSymbol) (t : List StepSymbol) → IsId id →

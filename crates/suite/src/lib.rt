@@ -2,8 +2,6 @@
 #![tactic(auto)]
 
 #[cfg(test)]
-mod ahead_tests;
-#[cfg(test)]
 mod binary_tests;
 #[cfg(test)]
 mod boards_tests;
