@@ -1,6 +1,7 @@
 -- Sections that are added to a bundle leave its formula as it is.
 use Rattle.std.proofs.Common.{◌≡◌, ◌∙◌, ◌↔◌, sym, ap, refl, ℕ, true, List, [], ◌∷◌, ◌++◌, codes}
-use Rattle.std.proofs.Common.{append-nil, Option, Some, None, subst}
+use Rattle.std.proofs.Common.{append-nil, Option, Some, None, subst, inl, inr}
+use Rattle.std.proofs.lemmas.Bool.{cases_Bool}
 use Rattle.std.specs.List.{flat_map, onto_first}
 use Rattle.std.specs.Option.{option_map}
 use Rattle.case_core.specs.Literal.{Literal}
@@ -52,6 +53,47 @@ formula_by_words one other formula same = (
   λ is. (is.0, sym (ap (option_map symbols_of) same) ∙ is.1, is.2),
   λ is. (is.0, ap (option_map symbols_of) same ∙ is.1, is.2),
 )
+
+-- a section behind a bundle leaves its clauses and its cubes as they are
+pub section_keeps_items : (bundle rest : List ℕ) (items : List Item)
+    → StandsFor (icnf_text (bundle ++ 10 ∷ 108 ∷ 32 ∷ rest)) items
+    → StandsFor (icnf_text bundle) items
+section_keeps_items bundle rest items stands =
+    (stands.0, sym (same_tokens bundle rest) ∙ stands.1, stands.2)
+
+-- a bundle whose formula has no model with a section behind it has a formula with no model
+pub unsatisfiable_before : (bundle rest : List ℕ)
+    → IsUnsatisfiable (bundle ++ 10 ∷ 108 ∷ 32 ∷ rest) → IsUnsatisfiable bundle
+unsatisfiable_before bundle rest none = (
+  none.0,
+  (formula_by_words (bundle ++ 10 ∷ 108 ∷ 32 ∷ rest) bundle none.0 (same_tokens bundle rest)).0
+      none.1,
+  none.2,
+)
+
+-- what stands before a label line doesn't depend on what stands below it
+text_before_label : (lines : List (List ℕ)) (label : List ℕ) (more other : List (List ℕ))
+    → is_label label ≡ true
+    → text_before (lines ++ label ∷ more) ≡ text_before (lines ++ label ∷ other)
+text_before_label [] label more other is = rw is refl
+text_before_label (line ∷ []) label more other is = elim (cases_Bool (is_label line)) [
+  | inl one ↦ rw one refl
+  | inr plain ↦ rw (plain, is) refl
+]
+text_before_label (line ∷ next ∷ lines) label more other is = elim (cases_Bool (is_label line)) [
+  | inl one ↦ rw one refl
+  | inr plain ↦ rw plain
+      (ap (λ (t : List ℕ). line ++ 10 ∷ t) (text_before_label (next ∷ lines) label more other is))
+]
+
+pub icnf_before_label : (bundle rest other : List ℕ)
+    → icnf_text (bundle ++ 10 ∷ 108 ∷ 32 ∷ 49 ∷ 10 ∷ rest)
+    ≡ icnf_text (bundle ++ 10 ∷ 108 ∷ 32 ∷ 49 ∷ 10 ∷ other)
+icnf_before_label bundle rest other =
+    ap text_before (lines_more bundle (108 ∷ 32 ∷ 49 ∷ 10 ∷ rest))
+    ∙ text_before_label (lines_of bundle) (108 ∷ 32 ∷ 49 ∷ []) (lines_of rest) (lines_of other)
+    (label_begun (49 ∷ []))
+    ∙ sym (ap text_before (lines_more bundle (108 ∷ 32 ∷ 49 ∷ 10 ∷ other)))
 
 abbrev Leaf : Type 0
 Leaf = List ℕ × Option (List ℕ)

@@ -6,6 +6,7 @@ mod FormulaReading
 mod LawsApart
 mod JudgingRuns
 mod FaultsSearch
+mod OneProof
 mod OutlinedBehind
 mod OutlinedFronts
 mod SectionsHead

@@ -7,15 +7,17 @@ mod faults;
 mod formula;
 mod judge;
 mod laws;
+mod one_proof;
 mod outlined;
 
 pub use by_section::judge_by_section;
 pub use file_store::{
-    DeviceFault, FileId, FileStore, FolderReader, Inputs, Opener, Outline, OutlinedCase, Part,
+    DeviceFault, FileId, FileStore, Inputs, Opener, Outline, OutlinedCase, Part, ProofReader,
     SectionReader, Spared, Store, Stretch, SystemFiles, TargetProofs, add_proofs, append_given,
     make_anew, read_given,
 };
 pub use formula::{ReadBundle, read_from};
 pub use judge::judge_given;
 pub use laws::{proofs_judged_apart, proofs_keep_formula};
-pub use outlined::{BundleOutline, outline_bundle};
+pub use one_proof::judge_with_proof;
+pub use outlined::{BundleOutline, outline_bundle, told_whole};

@@ -147,8 +147,10 @@ fn begin_with(alloc: Global, text: Vec<u8>, said: Problem) -> Result<BundleOutli
 
 /// Nothing for a fault of the input, which is told where the bundle is read whole; any other fault
 /// is told.
-fn told_whole(fault: Fault) -> Result<Option<BundleOutline>, Fault>
+pub fn told_whole<T>(fault: Fault) -> Result<Option<T>, Fault>
+    // Nothing comes of a fault of the input, and of no other.
     ensures none { IfOk result (λ some. (some ≡ None) × IsInputFault fault) }
+    // Any other fault is the one that is told.
     ensures err { IfErr result (λ told. (told ≡ fault) × (¬ IsInputFault told)) }
 {
     match fault {

@@ -46,7 +46,7 @@ made_of (Ok made) held asked input read draws is_read drawn outcome recorded = r
 
 -- ---- of a bundle whose proofs were read one by one
 
-file_judged : (held : Held) (folder : Option (List ℕ)) (bundle : List ℕ) → folder ≡ None →
+pub file_judged : (held : Held) (folder : Option (List ℕ)) (bundle : List ℕ) → folder ≡ None →
     IsJudgedOf held folder bundle bundle
 file_judged held folder bundle none =
     subst (λ (f : Option (List ℕ)). IsJudgedOf held f bundle bundle) (sym none) refl
@@ -98,7 +98,7 @@ made_by_section (Ok (Some recorded)) held asked path file folder made = λ input
 -- ---- what readings handed over
 
 -- the formula's own file, where there is one
-handed_formula : (hands : List ℕ → List ℕ → Type 0) (held : Held)
+pub handed_formula : (hands : List ℕ → List ℕ → Type 0) (held : Held)
     (formula file input folder : Option (List ℕ)) (read whole : List ℕ) (case : CaseOf)
     → IsBundleBy hands formula file input read → IsJudgedOf held folder read whole
     → IsCaseOf whole case → IsUnsatisfiable read → IfSome formula (IsFormulaRefuted hands)

@@ -24,7 +24,7 @@ ghost use Rattle.cube_command.specs.Inner.Recorded.{IsRecordedFor, IsRecordedFro
 ghost use Rattle.command_words.specs.Request.{asked_in};
 
 use crate::asked::{Telling, asked_in, fault_in, file_of};
-use crate::one_proof::{Given, text_of_one};
+use crate::one_proof::{Given, judge_proof_file, text_of_one};
 use crate::open::{names_asked, shown};
 use crate::record::{begin_record, end_record};
 use crate::telling::{tell_refused, tell_run};
@@ -51,8 +51,9 @@ use std::thread::Threads;
 /// and blanks, a line end, and FILE's text.
 ///
 /// With `--proof LRAT` and without FILE there is one proof of CNF's whole formula, a text or
-/// binary: that file, or `input` where LRAT is `-`. It is judged as the only section of the text `a
-/// 0`, `l 1` and the proof, in the place of FILE's.
+/// binary: that file, or `input` where LRAT is `-`. It is judged as the only section of the text
+/// `a 0`, `l 1` and the proof, in the place of FILE's. A file is judged while it is read, unless it
+/// has a label line, or `explain` may tell of it.
 ///
 /// With `--proofs DIR` the proofs of that folder are added to the bundle: for each cube K and after
 /// that for each missing leaf J, in order, the file `DIR/K.lrat` or `DIR/mJ.lrat`, where it is
@@ -68,7 +69,7 @@ use std::thread::Threads;
 /// report. With `--log LOG` that file is made anew by `log` before anything is read, and gets the
 /// report's line of each proof when it is judged; a run that is made anew, with all proofs read
 /// beforehand, logs them once more. What `log` does is not `store`'s. No two of the three can be
-/// one file, nor one that is read: CNF, FILE or `DIR/NAME.lrat`, as their paths are written.
+/// one file, nor one that is read: CNF, FILE, LRAT or `DIR/NAME.lrat`, as their paths are written.
 ///
 /// With `--list-open` `output` gets, in the report's place and in its order, the leaves that it
 /// doesn't call refuted: a line K for cube K, mJ for missing leaf J. The record has the report.
@@ -378,9 +379,9 @@ fn inputs_of<'a>(request: &Request<'a>) -> Inputs<'a> {
 
 /// What is said of a bundle, and the record of it where a file for that is asked for.
 #[derive(Drop)]
-struct Recorded {
-    outcome: Outcome,
-    bytes: Vec<u8>,
+pub(crate) struct Recorded {
+    pub(crate) outcome: Outcome,
+    pub(crate) bytes: Vec<u8>,
 }
 
 /// What the request's bundle is said to be, and the record of it where a file for that is asked
@@ -457,6 +458,9 @@ where
     ensures err { IfErr result (IsJudgingFault (D.failures store.old + I.failures input.old)
         (D.failures store.new + I.failures input.new)) }
 {
+    if let Some(made) = judge_proof_file(rt, store, request, path, gate)? {
+        return Ok(made);
+    }
     let text = text_of_one(rt.alloc(), store, input, path)?;
     judge_cubes(
         rt,

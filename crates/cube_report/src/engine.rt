@@ -74,9 +74,10 @@ fn picture_by(alloc: Global, boards: &Boards<'_>, draws: bool) -> Result<Vec<u8>
     Ok(Vec::new(alloc))
 }
 
-/// The report by the boards' own marks, whether it says refuted, and the picture where one is
-/// drawn.
-fn written_by(alloc: Global, boards: &Boards<'_>, draws: bool) -> Result<Outcome, AllocError>
+/// The report by the boards' own marks, whether it says refuted, and the picture where `draws` asks
+/// for one. `AllocError` where a growth was refused.
+pub fn written_by(alloc: Global, boards: &Boards<'_>, draws: bool) -> Result<Outcome, AllocError>
+    // All three are by the boards' marks.
     ensures { IfOk result (λ outcome. IsWrittenBy boards.now.case boards.now.marks draws
         outcome.text.items outcome.map.items outcome.refuted) }
 {

@@ -1,8 +1,10 @@
-//! What a worker reads the proofs of a folder by.
-ghost use Rattle.std.specs.Prelude.{◌≡◌, IfOk};
+//! What a worker reads proofs by that lie in files of their own.
+ghost use Rattle.std.specs.Prelude.{◌≡◌, false, IfOk, IfSome, IfNone, None, Some};
 ghost use Rattle.std.specs.String.{string_bytes};
 ghost use Rattle.proof_folder.specs.Given.{name_of};
 ghost use Rattle.proof_folder.specs.Added.{proof_path};
+ghost use Rattle.file_store.specs.Files.{Held, as_proofs};
+ghost use Rattle.file_store.specs.Files.{held_at};
 
 use crate::opener::Opener;
 use crate::store::FileStore;
@@ -11,26 +13,66 @@ use case_core::{Leaf, ProofForm, Target};
 use check_crew::TargetProofs;
 use std::alloc::{AllocError, Global};
 
-/// A reader of the proofs of a folder, over an opener of its own: what it opens for a leaf is the
-/// file at `FOLDER/K.lrat` or `FOLDER/mJ.lrat`. For an inner node it opens none.
+/// Where proofs lie.
 #[derive(Drop)]
-pub struct FolderReader<F> {
-    alloc: Global,
-    files: FileStore<F>,
-    folder: String,
+pub(crate) enum Place {
+    /// In a folder: that of a leaf at `FOLDER/K.lrat` or `FOLDER/mJ.lrat`, and none of an inner
+    /// node.
+    Folder(String),
+    /// In one file: that of cube 1, and none of another target.
+    File(String),
 }
 
-impl<F> FolderReader<F> {
-    /// A reader of this folder's proofs by this opener, with no failed read yet.
-    pub(crate) fn new(alloc: Global, opener: F, folder: String) -> FolderReader<F>
+impl Place {
+    /// Whether a proof may lie there for a target.
+    fn may_have(&self, target: Target) -> bool
+        ensures { result ≡ false → (held : Held) → held_at held self.now target ≡ Some None }
+    {
+        match self {
+            Place::Folder(_) => matches!(target, Target::Leaf(_)),
+            Place::File(_) => matches!(target, Target::Leaf(Leaf::Cube(1))),
+        }
+    }
+
+    /// The path of the proof of a target; `None` where none lies there for it.
+    fn path_of(&self, alloc: Global, target: Target) -> Result<Option<String>, AllocError>
+        ensures some { IfOk result (λ some. IfSome some (λ path. (held : Held)
+            → held_at held self.now target ≡ as_proofs held (string_bytes path))) }
+        ensures none { IfOk result (λ some. IfNone some ((held : Held)
+            → held_at held self.now target ≡ Some None)) }
+    {
+        match (self, target) {
+            (Place::Folder(folder), Target::Leaf(leaf)) => {
+                Ok(Some(leaf_path(alloc, folder.as_str(), leaf)?))
+            }
+            (Place::File(path), Target::Leaf(Leaf::Cube(1))) => {
+                Ok(Some(String::from_str(alloc, path.as_str())?))
+            }
+            _ => Ok(None),
+        }
+    }
+}
+
+/// A reader of proofs that lie in files of their own, over an opener of its own: of those of a
+/// folder, or of one that is cube 1's.
+#[derive(Drop)]
+pub struct ProofReader<F> {
+    alloc: Global,
+    files: FileStore<F>,
+    place: Place,
+}
+
+impl<F> ProofReader<F> {
+    /// A reader of the proofs that lie there by this opener, with no failed read yet.
+    pub(crate) fn new(alloc: Global, opener: F, place: Place) -> ProofReader<F>
         ensures opener { result.files.opener ≡ opener }
         ensures none { result.files.failed ≡ 0 }
-        ensures folder { result.folder ≡ folder }
+        ensures place { result.place ≡ place }
     {
-        FolderReader {
+        ProofReader {
             alloc,
             files: FileStore::new(opener),
-            folder,
+            place,
         }
     }
 
@@ -42,20 +84,18 @@ impl<F> FolderReader<F> {
     }
 }
 
-impl<F: Opener + Drop> TargetProofs for FolderReader<F>
+impl<F: Opener + Drop> TargetProofs for ProofReader<F>
 where
     F::Opened: Send,
 {
     type Proof = Counted<F::Opened>;
 
     ghost use Rattle.std.specs.Prelude.{true};
-    ghost use Rattle.std.specs.String.{string_bytes};
     ghost use Rattle.file_store.specs.Files.{held_if};
-    ghost use Rattle.file_store.specs.Files.{held_for};
+    ghost use Rattle.file_store.specs.Files.{held_at};
 
-    ghost held = { λ s. held_for
-        (λ path. held_if (F.knows s.files.opener) (F.files s.files.opener path))
-        (string_bytes s.folder) };
+    ghost held = { λ s. held_at
+        (λ path. held_if (F.knows s.files.opener) (F.files s.files.opener path)) s.place };
 
     ghost failures = { λ s. s.files.failed };
 
@@ -66,14 +106,13 @@ where
     }
 
     fn may_have(&self, target: Target) -> bool {
-        matches!(target, Target::Leaf(_))
+        self.place.may_have(target)
     }
 
     fn open(&mut self, target: Target) -> Result<Option<Counted<F::Opened>>, DeviceFault> {
-        let Target::Leaf(leaf) = target else {
+        let Some(path) = self.place.path_of(self.alloc, target)? else {
             return Ok(None);
         };
-        let path = leaf_path(self.alloc, self.folder.as_str(), leaf)?;
         self.files.open_file(path.as_str())
     }
 
@@ -82,10 +121,7 @@ where
     }
 
     fn length(&self, target: Target) -> Option<u64> {
-        let Target::Leaf(leaf) = target else {
-            return None;
-        };
-        let path = leaf_path(self.alloc, self.folder.as_str(), leaf).ok()?;
+        let path = self.place.path_of(self.alloc, target).ok()??;
         self.files.file_length(path.as_str())
     }
 }

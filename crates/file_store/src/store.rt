@@ -8,13 +8,13 @@ ghost use Rattle.file_store.specs.Files.{Gives, GrewBy, IsFound, IsOpenedAt, Sta
 ghost use Rattle.file_store.specs.Files.{StaysAllowedBeside};
 ghost use Rattle.file_store.specs.Files.{as_proofs, held_if};
 ghost use Rattle.case_core.specs.Binary.{proof_text};
-ghost use Rattle.file_store.specs.Files.{held_for};
+ghost use Rattle.file_store.specs.Files.{held_for, held_for_one};
 ghost use Rattle.file_store.specs.Parts.{GoesOnWith, held_in};
 
 use crate::blocks::outline_of;
 use crate::inputs::{Inputs, Spared, is_clash, is_none_written};
 use crate::opener::Opener;
-use crate::reader::FolderReader;
+use crate::reader::{Place, ProofReader};
 use crate::sections::SectionReader;
 use byte_flow::{Counted, DeviceFault, read_to_end, write_all};
 use case_core::{Outline, OutlinedCase, turn_from};
@@ -40,7 +40,7 @@ pub trait Store {
     // and of a path at which another text lies with each reading.
     ghost hands: { List ℕ → List ℕ → Type 0 };
 
-    /// What a worker reads a folder's proofs by.
+    /// What a worker reads proofs by that lie in files of their own.
     type Reader: TargetProofs + Send + Drop;
 
     /// Appends the bytes of the file at this path, which has to be there.
@@ -148,6 +148,13 @@ pub trait Store {
     fn reader(&self, alloc: Global, folder: &str) -> Result<Self::Reader, AllocError>
         ensures held { IfOk result (λ reader. (target : Target) →
             Self.Reader.held reader target ≡ held_for (held self.now) folder.now target) }
+        ensures none { IfOk result (λ reader. Self.Reader.failures reader ≡ 0) };
+
+    /// A reader of one proof, for one worker, with no failed read yet: what it reads for cube 1 is
+    /// what lies at this path, and for no other target it reads anything.
+    fn reader_of_one(&self, alloc: Global, path: &str) -> Result<Self::Reader, AllocError>
+        ensures held { IfOk result (λ reader. (target : Target) →
+            Self.Reader.held reader target ≡ held_for_one (held self.now) path.now target) }
         ensures none { IfOk result (λ reader. Self.Reader.failures reader ≡ 0) };
 
     /// How long the file at this path is, where that can be told without reading it. No clause ties
@@ -400,7 +407,7 @@ impl<F: Opener + Send + Drop> Store for FileStore<F>
 where
     F::Opened: Send,
 {
-    type Reader = FolderReader<F>;
+    type Reader = ProofReader<F>;
 
     type Sections = SectionReader<F>;
 
@@ -475,10 +482,16 @@ where
         }
     }
 
-    fn reader(&self, alloc: Global, folder: &str) -> Result<FolderReader<F>, AllocError> {
+    fn reader(&self, alloc: Global, folder: &str) -> Result<ProofReader<F>, AllocError> {
         let opener = self.opener.another(alloc)?;
         let folder = String::from_str(alloc, folder)?;
-        Ok(FolderReader::new(alloc, opener, folder))
+        Ok(ProofReader::new(alloc, opener, Place::Folder(folder)))
+    }
+
+    fn reader_of_one(&self, alloc: Global, path: &str) -> Result<ProofReader<F>, AllocError> {
+        let opener = self.opener.another(alloc)?;
+        let path = String::from_str(alloc, path)?;
+        Ok(ProofReader::new(alloc, opener, Place::File(path)))
     }
 
     fn length(&self, path: &str) -> Option<u64> {
@@ -511,7 +524,7 @@ where
         self.failed += sections.failed();
     }
 
-    fn settle(&mut self, reader: FolderReader<F>) {
+    fn settle(&mut self, reader: ProofReader<F>) {
         self.failed += reader.failed();
     }
 }

@@ -279,6 +279,46 @@ fn proofs_of_a_folder(rt: HostRuntime) {
     }
 }
 
+/// Files whose lengths are told, words and an input for one proof; how the program ends, and the
+/// paths that it has asked for.
+const ONE_PROOF_CALLS: &[Call] = &[
+    // The formula is read once, and then the proof.
+    (ONE_PROOF, OF_FILE, b"", (0, ONE_REPORT, b""), b"CNF\nP\n"),
+    // What is told of a text is told when all of it has been read.
+    (
+        ONE_PROOF,
+        &["--explain", "--formula", "CNF", "--proof", "P"],
+        b"",
+        (0, ONE_REPORT, b""),
+        b"P\nCNF\n",
+    ),
+    // A label line has its line in the text of both, which is read then.
+    (
+        &[("CNF", b"p cnf 1 2\n1 0\n-1 0\n"), ("P", b"3 0 1 2 0\nl 1\n")],
+        OF_FILE,
+        b"",
+        (3, b"", b"cubeboard: F12 second proof, line 8\n"),
+        b"CNF\nP\nP\nCNF\n",
+    ),
+    // A formula's file with a fault is read again, for that.
+    (
+        &[("CNF", b"p cnf 1 1\n1 0\n-1 0\n"), ("P", b"3 0 1 2 0\n")],
+        OF_FILE,
+        b"",
+        (3, b"", b"cubeboard: F17 the header says 1 variables and 1 clauses, there are 1 and 2\n"),
+        b"CNF\nP\nCNF\n",
+    ),
+];
+
+// One proof of a formula is judged while it is read, once.
+#[test]
+fn one_proof_of_a_file(rt: HostRuntime) {
+    for (files, words, input, ending, paths) in ONE_PROOF_CALLS {
+        let shelf = Shelf::new(rt.alloc(), files).expect(&rt, "memory").with_lengths();
+        ends_so(&rt, shelf, &unfailing(words, input), *ending, paths);
+    }
+}
+
 /// The same words, and that for the open leaves.
 const LISTED: &[&str] = &["--list-open", "--workers", "1", "--proofs", "D"];
 

@@ -1,8 +1,10 @@
 -- What is said of the bundle that is asked for, before it is written.
-use Rattle.std.specs.Prelude.{◌≡◌, ℕ, Bool, List, Option, Some, is_some}
-use Rattle.bundle_files.specs.Files.{Held}
+use Rattle.std.specs.Prelude.{◌≡◌, ℕ, Bool, List, ◌++◌, codes, Option, Some, is_some}
+use Rattle.case_core.specs.Binary.{proof_text}
+use Rattle.bundle_files.specs.Files.{Held, lies_in}
 use Rattle.bundle_files.specs.Formula.{IsBundleOf, IsReadBy}
 use Rattle.cube_report.specs.Correct.{IsOutcome}
+use Rattle.proof_folder.specs.Added.{section_text}
 use Rattle.cube_command.specs.Program.{IsBundleFor}
 use Rattle.cube_command.specs.Record.{record_text}
 use Rattle.cube_command.specs.Sources.{sources_of}
@@ -26,6 +28,17 @@ pub record IsRecordedFrom (held : Held) (asked : Asked) (input : Option (List �
   pub bundle : IsBundleOf held (sources_of asked) asked.folder input read whole
   pub outcome : IsOutcome whole (is_some asked.picture) report map answer
   pub recorded : (path : List ℕ) → asked.out ≡ Some path → made ≡ record_text read report
+
+-- the same of a bundle with one proof more, below the label line of cube 1, which is the text that
+-- the bytes at this path stand for
+pub record IsRecordedWith (held : Held) (asked : Asked) (path bundle report map : List ℕ)
+    (answer : Bool) (made : List ℕ) : Type 0 where
+  pub bytes : List ℕ
+  pub lie : lies_in held path bytes
+  pub outcome : IsOutcome (bundle ++ section_text (codes "1") (Some (proof_text bytes)))
+      (is_some asked.picture) report map answer
+  pub recorded : (out : List ℕ) → asked.out ≡ Some out
+      → made ≡ record_text (bundle ++ section_text (codes "1") (Some (proof_text bytes))) report
 
 -- of the bundle of a file and of a formula's: report, picture and answer are what a run on it
 -- promises, and so is the record where one is asked for

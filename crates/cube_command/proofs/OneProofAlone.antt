@@ -1,0 +1,171 @@
+-- What is said of a run on one proof that was judged while it was read.
+use Rattle.std.proofs.Common.{◌≡◌, ◌∙◌, ◌++◌, ◌∷◌, [], append_assoc, ap, refl, rw, subst, sym, ℕ}
+use Rattle.std.proofs.Common.{Bool, List, codes, length, Option, None, Some, Result, Ok, Err, IfOk}
+use Rattle.std.proofs.Common.{true}
+use Rattle.std.specs.Prelude.{IfSome, is_some}
+use Rattle.case_core.specs.Binary.{proof_text}
+use Rattle.case_core.specs.Case.{CaseOf}
+use Rattle.case_core.specs.Sections.{IsCaseOf}
+use Rattle.cube_report.specs.Bundle.{icnf_text}
+use Rattle.cube_report.specs.Correct.{IsOutcome, IsUnsatisfiable}
+use Rattle.cube_report.specs.declared.engine.Outcome.{Outcome}
+use Rattle.cube_report.specs.declared.fault.Fault.{Fault}
+use Rattle.proof_folder.specs.Added.{section_text}
+use Rattle.bundle_files.specs.Files.{Held, IsTextAt, lies_in}
+use Rattle.bundle_files.specs.Formula.{IsBundleBy, IsReadBy}
+use Rattle.bundle_files.specs.Judging.{IsOutcomeWith}
+use Rattle.bundle_files.proofs.LawsFormula.{icnf_before_label, section_keeps_items}
+use Rattle.bundle_files.proofs.LawsFormula.{unsatisfiable_before}
+use Rattle.cube_command.specs.Headline.{IsRefutedFrom}
+use Rattle.cube_command.specs.Record.{digest_line, record_text}
+use Rattle.cube_command.specs.Sources.{IsSoBy, file_at, of_one_proof}
+use Rattle.cube_command.specs.Words.{Asked}
+use Rattle.cube_command.specs.Inner.Recorded.{IsRecordedFrom, IsRecordedWith}
+use Rattle.cube_command.specs.declared.program.Recorded.{Recorded}
+use Rattle.cube_command.proofs.OneProofGiven.{bundle_by}
+use Rattle.cube_command.proofs.ProgramMade.{file_judged, handed_formula}
+use Rattle.cube_command.proofs.ProgramRuns.{bundle_of}
+
+-- the bundle with a proof below the label line of cube 1
+abbrev pub with_proof : List ℕ → List ℕ → List ℕ
+with_proof bundle proof = bundle ++ section_text (codes "1") (Some proof)
+
+-- ---- the record
+
+-- what names the text of the formula doesn't depend on the proof
+pub recorded_with : (out : Option (List ℕ)) (bundle proof report made : List ℕ)
+    → ((at : List ℕ) → out ≡ Some at
+    → made ≡ digest_line (icnf_text (bundle ++ codes "\nl 1\n")) ++ report)
+    → (at : List ℕ) → out ≡ Some at → made ≡ record_text (with_proof bundle proof) report
+recorded_with out bundle proof report made is at asked =
+    is at asked
+    ∙ ap (λ (t : List ℕ). digest_line t ++ report) (icnf_before_label bundle [] proof)
+
+-- what is written is of the bundle with the proof, and so is the record
+pub made_below : (held : Held) (asked : Asked) (path bundle : List ℕ) (draws : Bool)
+    (report map made text : List ℕ) (answer : Bool)
+    → IsOutcomeWith held path bundle draws report map answer → draws ≡ is_some asked.picture
+    → text ≡ report
+    → ((at : List ℕ) → asked.out ≡ Some at
+    → made ≡ digest_line (icnf_text (bundle ++ codes "\nl 1\n")) ++ text)
+    → IsRecordedWith held asked path bundle report map answer made
+made_below held asked path bundle draws report map made text answer of drawn same is = record {
+  bytes = of.bytes;
+  lie = of.lie;
+  outcome =
+      subst (λ (d : Bool). IsOutcome (with_proof bundle (proof_text of.bytes)) d report map answer)
+      drawn of.outcome;
+  recorded =
+      recorded_with asked.out bundle (proof_text of.bytes) report made
+      (subst (λ (t : List ℕ). (at : List ℕ) → asked.out ≡ Some at
+      → made ≡ digest_line (icnf_text (bundle ++ codes "\nl 1\n")) ++ t) same is);
+}
+
+-- ---- the bundle
+
+-- the cube without a literal below a formula, with a proof behind it, is one proof's text below that
+-- formula
+under_proof : (has : List ℕ → List ℕ → Type 0) (formula : Option (List ℕ)) (bundle proof : List ℕ)
+    → IsBundleBy has formula None (Some (codes "a 0")) bundle
+    → IsBundleBy has formula None (Some (of_one_proof proof)) (with_proof bundle proof)
+under_proof has None bundle proof is = rw is refl
+under_proof has (Some path) bundle proof by = record {
+  text = by.text;
+  given = by.given;
+  formula = by.formula;
+  dimacs = by.dimacs;
+  over = by.over;
+  overwritten = by.overwritten;
+  rest = of_one_proof proof;
+  is_rest = refl;
+  whole =
+      ap (λ (t : List ℕ). with_proof t proof)
+      (by.whole ∙ ap (λ (t : List ℕ). by.over ++ 10 ∷ t) by.is_rest)
+      ∙ append_assoc by.over (10 ∷ codes "a 0") (section_text (codes "1") (Some proof));
+  no_clause_more = λ items stands.
+      by.no_clause_more items
+      (section_keeps_items bundle (49 ∷ 10 ∷ proof) items stands);
+}
+
+-- what is so of a proof that lies there
+so_by : (held : Held) (path file : List ℕ) (input : Option (List ℕ)) (bytes : List ℕ)
+    (So : Option (List ℕ) → Type 0) → file_at path ≡ Some file → lies_in held file bytes
+    → So (Some (of_one_proof (proof_text bytes))) → IsSoBy held (Some path) input So
+so_by held path file input bytes So at lie so = (
+  proof_text bytes,
+  (
+    bytes,
+    subst (λ (f : Option (List ℕ)). IsTextAt (lies_in held) f input bytes) (sym at) lie,
+    refl,
+  ),
+  so,
+)
+
+recorded_from : (held : Held) (asked : Asked) (file bundle report map : List ℕ) (answer : Bool)
+    (made : List ℕ) (of : IsRecordedWith held asked file bundle report map answer made)
+    → asked.file ≡ None → asked.folder ≡ None
+    → IsReadBy held asked.formula None (Some (codes "a 0")) bundle
+    → IsRecordedFrom held asked (Some (of_one_proof (proof_text of.bytes))) report map answer made
+recorded_from held asked file bundle report map answer made of none folder read =
+    let whole = with_proof bundle (proof_text of.bytes) in
+    let input = Some (of_one_proof (proof_text of.bytes)) in record {
+      read = whole;
+      whole = whole;
+      bundle =
+          bundle_of held asked input whole whole
+          (subst (λ (f : Option (List ℕ)). IsReadBy held asked.formula f input whole) (sym none)
+          (under_proof (lies_in held) asked.formula bundle (proof_text of.bytes) read))
+          (file_judged held asked.folder whole folder);
+      outcome = of.outcome;
+      recorded = of.recorded;
+    }
+
+pub made_alone : (run : Result (Option Recorded) Fault) (held : Held) (asked : Asked)
+    (path file bundle : List ℕ) → file_at path ≡ Some file → asked.file ≡ None
+    → asked.folder ≡ None → IsReadBy held asked.formula None (Some (codes "a 0")) bundle
+    → IfOk run (λ some. IfSome some (λ made. IsRecordedWith held asked file bundle
+    made.outcome.text.items made.outcome.map.items made.outcome.refuted made.bytes.items))
+    → IfOk run (λ some. IfSome some (λ made. (input : Option (List ℕ))
+    → IsSoBy held (Some path) input (λ given. IsRecordedFrom held asked given
+    made.outcome.text.items made.outcome.map.items made.outcome.refuted made.bytes.items)))
+made_alone (Err fault) held asked path file bundle at none folder read made = tt
+made_alone (Ok None) held asked path file bundle at none folder read made = tt
+made_alone (Ok (Some recorded)) held asked path file bundle at none folder read made = λ input.
+    so_by held path file input made.bytes
+    (λ given. IsRecordedFrom held asked given recorded.outcome.text.items
+    recorded.outcome.map.items recorded.outcome.refuted recorded.bytes.items) at made.lie
+    (recorded_from held asked file bundle recorded.outcome.text.items recorded.outcome.map.items
+    recorded.outcome.refuted recorded.bytes.items made none folder read)
+
+-- ---- what readings handed over
+
+pub handed_alone : (run : Result (Option Recorded) Fault) (hands : List ℕ → List ℕ → Type 0)
+    (held : Held) (asked : Asked) (file bundle : List ℕ) → asked.file ≡ None
+    → IsBundleBy hands asked.formula None (Some (codes "a 0")) bundle
+    → IfOk run (λ some. IfSome some (λ _. (case : CaseOf) × IsCaseOf bundle case))
+    → IfOk run (λ some. IfSome some (λ made. IsRecordedWith held asked file bundle
+    made.outcome.text.items made.outcome.map.items made.outcome.refuted made.bytes.items))
+    → IfOk run (λ some. IfSome some (λ made. made.outcome.refuted ≡ true
+    → IsRefutedFrom hands asked None))
+handed_alone (Err fault) hands held asked file bundle none by case made = tt
+handed_alone (Ok None) hands held asked file bundle none by case made = tt
+handed_alone (Ok (Some recorded)) hands held asked file bundle none by case made = λ says.
+    let unsatisfiable : IsUnsatisfiable bundle =
+    unsatisfiable_before bundle (49 ∷ 10 ∷ proof_text made.bytes)
+    (made.outcome.correct.sound says) in record {
+      read = bundle;
+      handed =
+          bundle_by hands asked.formula asked.file (codes "a 0") bundle
+          (subst (λ (f : Option (List ℕ)). IsBundleBy hands asked.formula f (Some (codes "a 0"))
+          bundle) (sym none) by);
+      none = unsatisfiable;
+      formula =
+          handed_formula hands (λ _. None) asked.formula None (Some (codes "a 0")) None bundle
+          bundle case.0 by refl case.1 unsatisfiable;
+    }
+
+-- ---- a run that may be made anew
+
+pub some_is : {X : Type 0} (run : Result (Option X) Fault) (made : X) (P : X → Type 0)
+    → run ≡ Ok (Some made) → IfOk run (λ some. IfSome some P) → P made
+some_is run made P is all = subst (λ (r : Result (Option _) Fault). IfOk r (λ some. IfSome some P)) is all
