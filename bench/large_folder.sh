@@ -2,7 +2,7 @@
 # large_folder.sh PROGRAM [GIGABYTES=2] [PROOFS=4096] [rising]
 # Runs PROGRAM with four workers on a folder of so many proofs, a power of two, that are so many
 # gigabytes in all, and then on one bundle of the same proofs in a file, and says how much memory each
-# took. With `rising` the ids of a proof rise, beside old clauses that stay. The status is 1 if a
+# took; on one proof also by `--formula` and `--proof`. With `rising` the ids of a proof rise, beside old clauses that stay. The status is 1 if a
 # run took more than 16 MB and a thousand bytes for each leaf, or if a report isn't that all leaves
 # are refuted.
 # What is made is in TMPDIR (/tmp), where there has to be room for twice the proofs, and removed.
@@ -62,4 +62,10 @@ measure "a folder" --proofs "$folder/proofs" "$folder/case.icnf"
     done
 } > "$folder/bundle.icnf"
 measure "a file" "$folder/bundle.icnf"
+if [ "$proofs" -eq 1 ]; then
+    awk '/^[ap]/ {next}
+        {text = text $0 "\n"; ++clauses; for (i = 1; i < NF; ++i) {v = $i < 0 ? -$i : $i; if (v > most) most = v}}
+        END {printf "p cnf %d %d\n%s", most, clauses, text}' "$folder/case.icnf" > "$folder/formula.cnf"
+    measure "--proof" --formula "$folder/formula.cnf" --proof "$folder/proofs/1.lrat"
+fi
 exit "$failed"

@@ -17,8 +17,7 @@ use Rattle.case_core.specs.Proof.{Proof, IsProofOf}
 use Rattle.case_core.specs.SplitTree.{SplitTree, IsSplit, cube, missing, size, split, subtree_at}
 use Rattle.case_core.specs.Leaf.{Leaf}
 use Rattle.case_core.specs.Leaf.TheVariants.{Cube, Missing}
-use Rattle.case_core.specs.Leaves.{HasLeaf, IsLeafAt, IsPathOf, IsTargetAt}
-use Rattle.case_core.specs.Target.{Target}
+use Rattle.case_core.specs.Leaves.{IsLeafAt, IsTargetAt}
 use Rattle.case_core.specs.Target.TheVariants.{Leaf as Named, Node}
 use Rattle.case_core.specs.Bundle.{Labelled, is_label, labelled, labels_of, lines_of}
 use Rattle.case_core.specs.Case.{CaseOf, SectionOf, proof_for}
@@ -28,7 +27,7 @@ use Rattle.mark_board.specs.declared.mark.Mark.TheVariants.{Open}
 use Rattle.mark_board.specs.Marking.{mark_at}
 use Rattle.cube_report.specs.Stated.{IsWrittenBy}
 use Rattle.cube_report.proofs.CorrectReports.{outcome}
-use Rattle.cube_report.proofs.ReportSame.{same_report, written_is_stated}
+use Rattle.cube_report.proofs.ReportSame.{written_is_stated}
 use Rattle.cube_report.specs.declared.engine.Outcome.{Outcome}
 use Rattle.cube_report.specs.declared.fault.Fault.{Fault}
 use Rattle.proof_folder.specs.Added.{section_text}

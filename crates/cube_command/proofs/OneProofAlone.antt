@@ -1,6 +1,6 @@
 -- What is said of a run on one proof that was judged while it was read.
-use Rattle.std.proofs.Common.{◌≡◌, ◌∙◌, ◌++◌, ◌∷◌, [], append_assoc, ap, refl, rw, subst, sym, ℕ}
-use Rattle.std.proofs.Common.{Bool, List, codes, length, Option, None, Some, Result, Ok, Err, IfOk}
+use Rattle.std.proofs.Common.{◌≡◌, ◌∙◌, ◌++◌, ◌∷◌, [], append_assoc, ap, refl, subst, sym, ℕ}
+use Rattle.std.proofs.Common.{Bool, List, codes, Option, None, Some, Result, Ok, Err, IfOk}
 use Rattle.std.proofs.Common.{true}
 use Rattle.std.specs.Prelude.{IfSome, is_some}
 use Rattle.case_core.specs.Binary.{proof_text}
@@ -8,9 +8,7 @@ use Rattle.case_core.specs.Case.{CaseOf}
 use Rattle.case_core.specs.Sections.{IsCaseOf}
 use Rattle.cube_report.specs.Bundle.{icnf_text}
 use Rattle.cube_report.specs.Correct.{IsOutcome, IsUnsatisfiable}
-use Rattle.cube_report.specs.declared.engine.Outcome.{Outcome}
 use Rattle.cube_report.specs.declared.fault.Fault.{Fault}
-use Rattle.proof_folder.specs.Added.{section_text}
 use Rattle.bundle_files.specs.Files.{Held, IsTextAt, lies_in}
 use Rattle.bundle_files.specs.Formula.{IsBundleBy, IsReadBy}
 use Rattle.bundle_files.specs.Judging.{IsOutcomeWith}
@@ -28,7 +26,7 @@ use Rattle.cube_command.proofs.ProgramRuns.{bundle_of}
 
 -- the bundle with a proof below the label line of cube 1
 abbrev pub with_proof : List ℕ → List ℕ → List ℕ
-with_proof bundle proof = bundle ++ section_text (codes "1") (Some proof)
+with_proof bundle proof = bundle ++ (codes "\nl 1\n" ++ proof)
 
 -- ---- the record
 
@@ -81,7 +79,7 @@ under_proof has (Some path) bundle proof by = record {
   whole =
       ap (λ (t : List ℕ). with_proof t proof)
       (by.whole ∙ ap (λ (t : List ℕ). by.over ++ 10 ∷ t) by.is_rest)
-      ∙ append_assoc by.over (10 ∷ codes "a 0") (section_text (codes "1") (Some proof));
+      ∙ append_assoc by.over (10 ∷ codes "a 0") ((codes "\nl 1\n" ++ proof));
   no_clause_more = λ items stands.
       by.no_clause_more items
       (section_keeps_items bundle (49 ∷ 10 ∷ proof) items stands);

@@ -4,7 +4,6 @@ use Rattle.case_core.specs.Binary.{proof_text}
 use Rattle.bundle_files.specs.Files.{Held, lies_in}
 use Rattle.bundle_files.specs.Formula.{IsBundleOf, IsReadBy}
 use Rattle.cube_report.specs.Correct.{IsOutcome}
-use Rattle.proof_folder.specs.Added.{section_text}
 use Rattle.cube_command.specs.Program.{IsBundleFor}
 use Rattle.cube_command.specs.Record.{record_text}
 use Rattle.cube_command.specs.Sources.{sources_of}
@@ -35,10 +34,10 @@ pub record IsRecordedWith (held : Held) (asked : Asked) (path bundle report map 
     (answer : Bool) (made : List ℕ) : Type 0 where
   pub bytes : List ℕ
   pub lie : lies_in held path bytes
-  pub outcome : IsOutcome (bundle ++ section_text (codes "1") (Some (proof_text bytes)))
+  pub outcome : IsOutcome (bundle ++ (codes "\nl 1\n" ++ proof_text bytes))
       (is_some asked.picture) report map answer
   pub recorded : (out : List ℕ) → asked.out ≡ Some out
-      → made ≡ record_text (bundle ++ section_text (codes "1") (Some (proof_text bytes))) report
+      → made ≡ record_text (bundle ++ (codes "\nl 1\n" ++ proof_text bytes)) report
 
 -- of the bundle of a file and of a formula's: report, picture and answer are what a run on it
 -- promises, and so is the record where one is asked for

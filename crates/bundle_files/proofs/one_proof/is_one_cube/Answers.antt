@@ -1,5 +1,5 @@
 use Rattle.std.proofs.Common.{◌∙◌, ap, refl, sym, subst}
-use Rattle.case_core.specs.SplitTree.{SplitTree, cube, size}
+use Rattle.case_core.specs.SplitTree.{SplitTree, size}
 use Rattle.case_core.specs.Leaf.TheVariants.{Cube}
 use Rattle.case_core.specs.Leaves.{HasTarget}
 use Rattle.case_core.specs.Target.TheVariants.{Leaf as Named}

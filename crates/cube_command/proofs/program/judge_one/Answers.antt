@@ -8,6 +8,10 @@ use Rattle.cube_command.specs.declared.program.Recorded.{Recorded}
 use Rattle.cube_command.proofs.OneProofGiven.{err_given, handed_given, ok_given}
 use Rattle.cube_command.proofs.program.judge_one.Goals as goal
 
+pub returns-in-Some-clause-made : goal.returns-in-Some-clause-made
+returns-in-Some-clause-made g c =
+    (rw c.in-Some.is at c.in_ok-made.ensures.made) (g.I.Source.remaining c.args.input.now)
+
 pub returns-clause-made : goal.returns-clause-made
 returns-clause-made g c =
     let same = ap (λ (text : Bor (List ℕ)). Some text.now) c.new.ensures
@@ -20,8 +24,8 @@ returns-clause-made g c =
     (subst
     (λ (text : Option (List ℕ)). IsSoBy (g.D.Store.held c.args.store.now)
     (Some c.args.path.now) (g.I.Source.remaining c.args.input.now) (λ given. given ≡ text))
-    (sym same) c.in_ok-text.ensures.text)
-    (rw c.in_ok-text.ensures.held at c.judge_cubes.ensures.made)
+    (sym same) (rw c.in_ok-made.ensures.held at c.in_ok-text.ensures.text))
+    (rw (c.in_ok-text.ensures.held, c.in_ok-made.ensures.held) at c.judge_cubes.ensures.made)
 
 pub returns-clause-handed : goal.returns-clause-handed
 returns-clause-handed g c =
@@ -39,5 +43,5 @@ returns-clause-fault g c =
     (subst
     (λ (text : Option (List ℕ)). IsSoBy (g.D.Store.held c.args.store.now)
     (Some c.args.path.now) (g.I.Source.remaining c.args.input.now) (λ given. given ≡ text))
-    (sym same) c.in_ok-text.ensures.text)
-    (rw c.in_ok-text.ensures.held at c.judge_cubes.ensures.fault)
+    (sym same) (rw c.in_ok-made.ensures.held at c.in_ok-text.ensures.text))
+    (rw (c.in_ok-text.ensures.held, c.in_ok-made.ensures.held) at c.judge_cubes.ensures.fault)
