@@ -17,6 +17,7 @@ use Rattle.lrat_text.specs.Grammar.{StepSymbol, Numeral, DeleteMark, positive, n
 use Rattle.lrat_text.specs.Grammar.{end_mark, IsId, HintGroup, IsGroup, hint_symbols, Add, Delete}
 use Rattle.lrat_text.specs.Grammar.{BeginsWith}
 use Rattle.lrat_text.specs.StepWords.{NoStep, IsReadAs, HasId, IsFront, ends_behind}
+use Rattle.lrat_text.specs.StepWords.{no_cut, IsCutBehind}
 use Rattle.lrat_text.specs.declared.words.Front.{Front}
 use Rattle.lrat_text.specs.declared.words.Front.TheVariants as fronts
 use Rattle.lrat_text.specs.Inner.Steps.{stop_symbol, IsRun, NoRun, HasIds}
@@ -414,3 +415,10 @@ no_step_alone symbol (Add a) left found =
     ∙ addition_parts a.literals a.hints a.groups left)
 no_step_alone symbol (Delete ids) left found =
     nil_cons _ _ (tails _ _ _ _ (found.2 ∙ ap (λ x. x ++ left) found.1.1.2))
+
+-- the words of a text are cut off at the end of a line
+pub never_cut : (front : Front) → IsCutBehind front no_cut (λ ends. no_cut)
+never_cut (fronts.Addition id word) = refl
+never_cut fronts.Deletion = refl
+never_cut fronts.Unreadable = tt
+never_cut fronts.Unfinished = tt

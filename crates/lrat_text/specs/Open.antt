@@ -11,9 +11,6 @@ use Rattle.lrat_text.specs.declared.step.OpenFault.TheVariants.{Unreadable, Unfi
 abbrev pub proof_left : List ℕ → Proof
 proof_left text = proof_in (symbols (words_left text))
 
--- the proof that symbols begin which are left, where these follow them
-abbrev pub proof_with : List StepSymbol → List StepSymbol → Proof
-proof_with left more = proof_in (left ++ more)
 
 -- what may follow where this fault is told: anything, or nothing
 abbrev pub Allows : OpenFault → List StepSymbol → Type 0

@@ -8,6 +8,7 @@ ghost use Rattle.cnf_text.specs.Numbers.{number_of, capped};
 ghost use Rattle.cnf_text.specs.Words.{IsToldAs};
 ghost use Rattle.lrat_text.specs.Grammar.{StepSymbol, step_symbol_of, positive, greatest_id, IsId};
 ghost use Rattle.lrat_text.specs.StepWords.{IsReadAs, HasId, IsNext, IsFront, ends_behind};
+ghost use Rattle.lrat_text.specs.StepWords.{Cut, no_cut, IsCutBehind};
 ghost use Rattle.lrat_text.specs.Decoding.{symbols};
 
 use crate::step::MAX_ID;
@@ -43,10 +44,13 @@ pub enum Front {
     Unfinished,
 }
 
-/// The words of a proof that are left. To a contract they are symbols. Which ones may depend on how
-/// many end marks are still to come in the step that is begun; between steps none is.
+/// The words of a proof that are left, and which may go on. To a contract they are symbols, and
+/// where they are cut off. Both may depend on how many end marks are still to come in the step that
+/// is begun; between steps none is.
 pub trait StepWords: Drop {
     ghost ahead: { ℕ → Self → List StepSymbol };
+
+    ghost cut: { ℕ → Self → Cut };
 
     /// The same words, to go back to.
     fn saved(&self) -> Self
@@ -57,14 +61,16 @@ pub trait StepWords: Drop {
         ensures { (ends : ℕ) → MatchOption result
             (ahead (suc ends) self ≡ [])
             (λ found. IsNext found.0 (ahead (suc ends) self)
-            (ahead (ends_behind found.0 ends) found.1)) };
+            (ahead (ends_behind found.0 ends) found.1)
+            × (cut (suc ends) self ≡ cut (ends_behind found.0 ends) found.1)) };
 
     /// What stands at the front of the next step, and the words behind it; `None` where no word is
     /// left.
     fn next_front(self) -> Option<(Front, Self)>
         ensures { MatchOption result
             (ahead 0 self ≡ [])
-            (λ found. IsFront found.0 (ahead 0 self) (λ ends. ahead ends found.1)) };
+            (λ found. IsFront found.0 (ahead 0 self) (λ ends. ahead ends found.1)
+            × IsCutBehind found.0 (cut 0 self) (λ ends. cut ends found.1)) };
 }
 
 /// What a token is to the reader that was told as a number or as another word.
@@ -142,6 +148,8 @@ fn addition_front(id: u64, word: Word) -> Front
 
 impl<'t> StepWords for Words<'t> {
     ghost ahead = { λ ends words. symbols words };
+
+    ghost cut = { λ ends words. no_cut };
 
     #[inline(always)]
     fn saved(&self) -> Self {
