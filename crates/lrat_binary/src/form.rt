@@ -29,6 +29,7 @@ impl ProofForm {
         ensures left { (more : List ℕ)
             → proof_left result (bytes.now ++ more) ≡ proof_left self (bytes.now ++ more) }
         ensures none { result ≡ Unread → bytes.now ≡ [] }
+        ensures kept { self ≢ Unread → result ≡ self }
     {
         match (self, bytes.first()) {
             (ProofForm::Unread, Some(first)) => form_by(*first),
