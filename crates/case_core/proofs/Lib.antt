@@ -32,4 +32,3 @@ pub use Rattle.hint_check.proofs.LiveEmpty
 pub use Rattle.hint_check.proofs.ProofUnique
 pub use Rattle.hint_check.proofs.PropagationSteps
 pub use Rattle.split_tree.proofs.LeavesPaths
-pub use Rattle.lrat_binary.proofs.FormParts

@@ -1,6 +1,6 @@
 //! Judges the proof of a target while it is read.
 
-ghost use Rattle.std.specs.Prelude.{◌≡◌, ◌<◌, ◌^◌, ◌-◌, ℕ, List, [], length, IfOk, IfErr, IfSome};
+ghost use Rattle.std.specs.Prelude.{◌≡◌, ◌≢◌, ◌<◌, ◌^◌, ◌-◌, ℕ, List, [], length, IfOk, IfErr, IfSome};
 ghost use Rattle.std.specs.Prelude.{OnOk, None};
 ghost use Rattle.byte_flow.specs.Device.{IsDeviceFault, IsLeft};
 ghost use Rattle.hint_check.specs.Judging.{says};
@@ -8,7 +8,7 @@ ghost use Rattle.lrat_binary.specs.Form.{proof_left};
 ghost use Rattle.split_tree.specs.Leaves.{HasTarget};
 ghost use Rattle.case_core.specs.Bundle.{labels_of};
 ghost use Rattle.case_core.specs.Watch.{HasGivenLabel};
-ghost use Rattle.case_core.specs.Inner.Reading.{IsBegun, IsHanded};
+ghost use Rattle.case_core.specs.Inner.Reading.{IsBegun, SaysByText, says_by, IsHanded};
 
 use crate::case::Case;
 use crate::watch::LabelWatch;
@@ -36,41 +36,54 @@ pub(crate) fn begin_proof(
     requires target { HasTarget case.now.tree target }
     requires formula { judging.old.formula ≡ case.now.formula }
     ensures begun { OnOk result (IsBegun case.now target judging.new) }
+    ensures binary { OnOk result (SaysByText judging.new) }
     ensures same { judging.new.formula ≡ judging.old.formula }
 {
     let path = case.tree().path_of(alloc, target)?;
     judging.begin(&path)
 }
 
-/// Hands the next bytes of a proof over to a judging and to a watch, as text. Those of a text go as
-/// they are; what those of a binary proof stand for is made in `text`, of which nothing is kept.
+/// Hands the next bytes of a proof over, by its form: those of a text to a judging and to a watch,
+/// and those of a binary proof, whose text has no label line, to the judging alone.
 fn hand_over(
     alloc: Global,
     judging: &mut Judging<'_>,
     watch: LabelWatch,
-    form: &mut ProofForm,
+    form: ProofForm,
     bytes: &[u8],
-    text: &mut Vec<u8>,
 ) -> Result<LabelWatch, AllocError>
+    requires { bytes.now ≢ [] → form ≢ ProofForm.Unread }
     ensures handed { IfOk result (λ after.
-        IsHanded judging.old judging.new form.old form.new watch after bytes.now) }
+        IsHanded judging.old judging.new form watch after bytes.now) }
     ensures same { judging.new.formula ≡ judging.old.formula }
 {
-    text.clear();
-    let appended = form.turn(bytes, text)?;
-    if appended {
-        judging.more(alloc, text.as_slice())?;
-        Ok(watch.more(text.as_slice()))
-    } else {
-        judging.more(alloc, bytes)?;
-        Ok(watch.more(bytes))
+    if let ProofForm::Binary = form {
+        judging.more_binary(alloc, bytes)?;
+        return Ok(watch);
+    }
+    judging.more(alloc, bytes)?;
+    Ok(watch.more(bytes))
+}
+
+/// What is said of a proof of this form, which ends here.
+fn judged_at_end(
+    alloc: Global,
+    judging: &mut Judging<'_>,
+    form: ProofForm,
+) -> Result<Judged, AllocError>
+    ensures judged { IfOk result (λ judged. judged ≡ says_by form judging.old []) }
+    ensures same { judging.new.formula ≡ judging.old.formula }
+{
+    match form {
+        ProofForm::Binary => judging.end_binary(alloc),
+        ProofForm::Unread | ProofForm::Text => judging.end(alloc),
     }
 }
 
 /// Judges the proof that a source gives up to its end, with which the text of a judging goes on and
 /// ends. It is opened in this form: before its first byte, which decides whether it is binary, or
-/// as a text. A block of the source, and the text of a binary one, are in memory at a time. `None`
-/// where a line of the text is a label line; it is read no further then.
+/// as a text. A block of the source is in memory at a time. `None` where a line of the text is a
+/// label line; it is read no further then.
 ///
 /// `Device` where a read failed, `Memory` where a growth was refused.
 pub(crate) fn read_proof<S: Source>(
@@ -79,7 +92,8 @@ pub(crate) fn read_proof<S: Source>(
     opened: ProofForm,
     source: &mut S,
 ) -> Result<Option<JudgedText>, DeviceFault>
-    requires { S.failures source.old < 2 ^ 64 - 1 }
+    requires count { S.failures source.old < 2 ^ 64 - 1 }
+    requires begun { SaysByText judging.old }
     ensures judged { IfOk result (λ some. IfSome some (λ read. (bytes : List ℕ)
         × IsLeft (S.remaining source.old) bytes × (labels_of (proof_left opened bytes) ≡ [])
         × (length bytes ≡ read.length)
@@ -93,7 +107,6 @@ pub(crate) fn read_proof<S: Source>(
 {
     let mut form = opened;
     let mut watch = LabelWatch::new();
-    let mut text = Vec::new(alloc);
     let mut length = 0usize;
     let mut buffer = [0u8; 65536];
     loop {
@@ -104,21 +117,16 @@ pub(crate) fn read_proof<S: Source>(
             if watch.has_label() {
                 return Ok(None);
             }
-            let judged = judging.end(alloc)?;
+            let judged = judged_at_end(alloc, judging, form)?;
             return Ok(Some(JudgedText { judged, length }));
         }
         let Some(longer) = length.checked_add(count) else {
             return Err(DeviceFault::Memory);
         };
         length = longer;
-        watch = hand_over(
-            alloc,
-            judging,
-            watch,
-            &mut form,
-            &buffer[..count],
-            &mut text,
-        )?;
+        let bytes = &buffer[..count];
+        form = form.begin(bytes);
+        watch = hand_over(alloc, judging, watch, form, bytes)?;
         if let LabelWatch::Found = watch {
             return Ok(None);
         }

@@ -3,7 +3,7 @@ use Rattle.std.proofs.Common.{◌≡◌, ◌∙◌, sym, ap, ℕ, true, false, L
 use Rattle.std.specs.List.{list_any}
 use Rattle.cnf_text.specs.Literal.{Literal}
 use Rattle.lrat_text.specs.Proof.{Proof, IsProofOf}
-use Rattle.lrat_text.specs.Open.{proof_with}
+use Rattle.lrat_text.specs.StepWords.{proof_with}
 use Rattle.lrat_text.proofs.ProofUnique.{has_proof}
 use Rattle.lrat_text.proofs.OpenMore.{left-begun}
 use Rattle.hint_check.specs.Live.{Live, start, is_empty, holds_empty_clause}

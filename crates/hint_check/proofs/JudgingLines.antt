@@ -7,7 +7,8 @@ use Rattle.std.proofs.lemmas.Bool.{eqb-true}
 use Rattle.memchr.specs.Find.{IsLastByte, is_byte}
 use Rattle.cnf_text.specs.Tokens.{tokens_of}
 use Rattle.lrat_text.specs.Grammar.{step_symbols_of}
-use Rattle.lrat_text.specs.Open.{proof_left, proof_with}
+use Rattle.lrat_text.specs.Open.{proof_left}
+use Rattle.lrat_text.specs.StepWords.{proof_with}
 use Rattle.hint_check.specs.Live.{Live, holds_empty_clause}
 use Rattle.hint_check.specs.Inner.Steps.{Open, judged_in, GoesOn, IsHalt}
 use Rattle.hint_check.specs.Judging.{judged_left}

@@ -2,7 +2,7 @@
 use Rattle.std.proofs.Common.{◌≡◌, ◌∙◌, sym, ap, refl, subst, ℕ, Bool, true, false, List, []}
 use Rattle.std.proofs.Common.{◌∷◌}
 use Rattle.lrat_text.specs.Grammar.{StepSymbol, ProofStep}
-use Rattle.lrat_text.specs.Open.{proof_with}
+use Rattle.lrat_text.specs.StepWords.{proof_with}
 use Rattle.lrat_text.specs.Buffer.{StepParts}
 use Rattle.lrat_text.specs.Step.{told_step}
 use Rattle.lrat_text.specs.declared.step.StepKind.{StepKind}

@@ -3,6 +3,7 @@ use Rattle.std.specs.Prelude.{◌≡◌, ◌++◌, ℕ, zero, suc, refl, List, O
 use Rattle.std.specs.Coded.{Coded, code_by, coded×, coded_ℕ, coded_list, coded_option}
 use Rattle.cnf_text.specs.Literal.{Literal, literal_code}
 use Rattle.lrat_text.specs.Open.{proof_left}
+use Rattle.lrat_binary_words.specs.Binary.{text_of}
 use Rattle.hint_check.specs.Live.{Live}
 use Rattle.hint_check.specs.Inner.Table.{live_code}
 use Rattle.hint_check.specs.Judgement.{judged_from}
@@ -11,13 +12,15 @@ use Rattle.hint_check.specs.declared.Judged.TheVariants.{Refuted, Rejected}
 use Rattle.hint_check.specs.declared.Reason.{Reason}
 use Rattle.hint_check.specs.declared.Reason.TheVariants as reasons
 
--- a formula, and how far a judgement is
+-- a formula, and how far a judgement is: what is decided, the live clauses, the number of the step
+-- that comes next, and what isn't judged yet, of a text and of the bytes of a binary proof
 pub record JudgingOf : Type 0 where
   pub formula : List (List Literal)
   pub decided : Option Judged
   pub live : Live
   pub number : ℕ
   pub unread : List ℕ
+  pub begun : List ℕ
 
 -- what is said of a text from step `number` on
 abbrev pub judged_left : Live → ℕ → List ℕ → Judged
@@ -32,6 +35,12 @@ decided_or (Some judged) other = judged
 -- what is said of the text where this follows what was handed over
 abbrev pub says : JudgingOf → List ℕ → Judged
 says j rest = decided_or j.decided (judged_left j.live j.number (j.unread ++ rest))
+
+-- what is said of a binary proof where these bytes follow those that were handed over, by the text
+-- that it stands for
+abbrev pub says_binary : JudgingOf → List ℕ → Judged
+says_binary j rest =
+    decided_or j.decided (judged_left j.live j.number (text_of (j.begun ++ rest)))
 
 abbrev reason_number : Reason → ℕ
 reason_number reasons.Unreadable = 0
@@ -85,14 +94,16 @@ judged_code =
 
 abbrev pub judging_code : Coded JudgingOf
 judging_code =
-    code_by (List (List Literal) × (Option Judged × (Live × (ℕ × List ℕ))))
+    code_by
+    (List (List Literal) × (Option Judged × (Live × (ℕ × (List ℕ × List ℕ)))))
     (coded× (coded_list (coded_list literal_code)) (coded× (coded_option judged_code)
-    (coded× live_code (coded× coded_ℕ (coded_list coded_ℕ)))))
-    (λ j. (j.formula, (j.decided, (j.live, (j.number, j.unread)))))
+    (coded× live_code (coded× coded_ℕ (coded× (coded_list coded_ℕ) (coded_list coded_ℕ))))))
+    (λ j. (j.formula, (j.decided, (j.live, (j.number, (j.unread, j.begun))))))
     (λ p. record {
       formula = p.0;
       decided = p.1.0;
       live = p.1.1.0;
       number = p.1.1.1.0;
-      unread = p.1.1.1.1;
+      unread = p.1.1.1.1.0;
+      begun = p.1.1.1.1.1;
     }) (λ _. refl)

@@ -1,6 +1,6 @@
 //! The loop over the steps of a proof.
 ghost use Rattle.std.specs.Prelude.{◌≡◌, [], false, IfOk};
-ghost use Rattle.lrat_text.specs.Open.{proof_with};
+ghost use Rattle.lrat_text.specs.StepWords.{proof_with};
 ghost use Rattle.hint_check.specs.Live.{holds_empty_clause};
 ghost use Rattle.hint_check.specs.Inner.Steps.{NextIs, IsHalt, judged_in};
 
@@ -8,10 +8,10 @@ use crate::apply::{Applied, apply_step};
 use crate::live::LiveClauses;
 use crate::scratch::Scratch;
 use crate::{Judged, Reason};
-use lrat_text::{OpenFault, OpenSteps, StepBuffer, StepKind};
+use lrat_text::{OpenFault, OpenSteps, StepBuffer, StepKind, StepWords};
 use std::alloc::{AllocError, Global};
 
-/// What comes next in a text that may go on.
+/// What comes next in a proof that may go on.
 #[derive(Clone, Copy)]
 enum Next {
     /// A step of this kind.
@@ -25,8 +25,12 @@ enum Next {
 }
 
 /// Reads the next step into the buffer.
-fn next_step(steps: &mut OpenSteps, buffer: &mut StepBuffer) -> Result<Next, AllocError>
-    ensures { IfOk result (λ next. NextIs next buffer.new steps.old steps.new) }
+fn next_step<W: StepWords>(
+    steps: &mut OpenSteps<W>,
+    buffer: &mut StepBuffer,
+) -> Result<Next, AllocError>
+    ensures next { IfOk result (λ next. NextIs next buffer.new steps.old steps.new) }
+    ensures cut { steps.new.cut ≡ steps.old.cut }
 {
     match steps.next_into(buffer) {
         Ok(Some(kind)) => Ok(Next::Step(kind)),
@@ -37,7 +41,7 @@ fn next_step(steps: &mut OpenSteps, buffer: &mut StepBuffer) -> Result<Next, All
     }
 }
 
-/// Why a judgement stops at the end of a text that may go on.
+/// Why a judgement stops at the end of a proof that may go on.
 #[derive(Clone, Copy)]
 pub(crate) enum Halt {
     /// This is said, whatever follows.
@@ -50,11 +54,11 @@ pub(crate) enum Halt {
 
 /// The judgement of the steps that are left, where no more follow, from these live clauses; the
 /// first of them has this number.
-pub(crate) fn judge_to_end(
+pub(crate) fn judge_to_end<W: StepWords>(
     alloc: Global,
     live: &mut LiveClauses,
     scratch: &mut Scratch,
-    steps: &mut OpenSteps,
+    steps: &mut OpenSteps<W>,
     first: u64,
 ) -> Result<Judged, AllocError>
     requires { holds_empty_clause live.old.0 ≡ false }
@@ -78,17 +82,18 @@ pub(crate) fn judge_to_end(
 
 /// Applies the steps that are left, the first of which has this number, to these live clauses,
 /// until something is decided; answers why it stops, and the number of the step that comes next.
-pub(crate) fn judge_steps(
+pub(crate) fn judge_steps<W: StepWords>(
     alloc: Global,
     live: &mut LiveClauses,
     scratch: &mut Scratch,
-    steps: &mut OpenSteps,
+    steps: &mut OpenSteps<W>,
     first: u64,
 ) -> Result<(Halt, u64), AllocError>
     requires { holds_empty_clause live.old.0 ≡ false }
     ensures halt { IfOk result (λ found.
         IsHalt found.0 live.old.0 first steps.old live.new.0 found.1 steps.new) }
     ensures base { live.new.1 ≡ live.old.1 }
+    ensures cut { steps.new.cut ≡ steps.old.cut }
 {
     let Scratch {
         step,

@@ -39,7 +39,7 @@ capped_sum : (v s b n : ℕ) →
 capped_sum v s b n =
     ap (λ m. capped (v + m)) (spread s b n) ∙ capped_product v (s * b) (s * 128) n
 
-more_bits : (v s bits : ℕ) (numbers : List ℕ)
+pub more_bits : (v s bits : ℕ) (numbers : List ℕ)
     → numbers_left s v (onto_first bits numbers)
     ≡ numbers_left (capped (s * 128)) (capped (v + s * bits)) numbers
 more_bits v s bits [] = refl
@@ -49,7 +49,7 @@ one_time : (n : ℕ) → 0 + 1 * n ≡ n
 one_time n = omega arith
 
 -- behind a whole number
-next_numbers : (numbers : List ℕ) → numbers_left 1 0 numbers ≡ map capped numbers
+pub next_numbers : (numbers : List ℕ) → numbers_left 1 0 numbers ≡ map capped numbers
 next_numbers [] = refl
 next_numbers (n ∷ numbers) = ap (λ m. capped m ∷ map capped numbers) (one_time n)
 

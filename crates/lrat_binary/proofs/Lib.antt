@@ -1,3 +1,4 @@
 pub mod DecoderBytes
 pub mod FormParts
+mod NumberBytes
 mod PageDigits

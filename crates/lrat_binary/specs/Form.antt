@@ -1,20 +1,11 @@
--- A proof whose first byte says whether it is a text or binary: what is left of its text.
-use Rattle.std.specs.Prelude.{◌≡◌, ℕ, Bool, List, ◌++◌, MatchBool}
-use Rattle.lrat_binary.specs.Binary.{proof_text}
-use Rattle.lrat_binary.specs.Decoder.{text_left}
+-- Which text the bytes of a proof stand for, by its form.
+use Rattle.std.specs.Prelude.{ℕ, List}
+use Rattle.lrat_binary.specs.Binary.{proof_text, text_of}
 use Rattle.lrat_binary.specs.declared.form.ProofForm.{ProofForm}
 use Rattle.lrat_binary.specs.declared.form.ProofForm.TheVariants.{Unread, Text, Binary}
 
--- what these further bytes add to the text
+-- the text that the bytes of a proof of this form stand for
 abbrev pub proof_left : ProofForm → List ℕ → List ℕ
 proof_left Unread bytes = proof_text bytes
 proof_left Text bytes = bytes
-proof_left (Binary decoder) bytes = text_left decoder bytes
-
--- With what is left for bytes behind these, what was appended to some text, or else these bytes
--- themselves, is all that was left.
-abbrev pub IsTurned : Bool → ProofForm → ProofForm → List ℕ → List ℕ → List ℕ → Type 0
-IsTurned appended old new before after bytes =
-    MatchBool appended
-    ((more : List ℕ) → after ++ proof_left new more ≡ before ++ proof_left old (bytes ++ more))
-    ((more : List ℕ) → bytes ++ proof_left new more ≡ proof_left old (bytes ++ more))
+proof_left Binary bytes = text_of bytes

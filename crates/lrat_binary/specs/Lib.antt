@@ -1,3 +1,4 @@
 pub mod Binary
+pub mod Numbers
 pub mod Decoder
 pub mod Form

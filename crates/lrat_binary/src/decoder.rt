@@ -6,6 +6,7 @@ ghost use Rattle.std.specs.Prelude.{length};
 ghost use Rattle.lrat_binary.specs.Binary.{capped, ends_behind, text_for, text_of};
 ghost use Rattle.lrat_binary.specs.Decoder.{text_left};
 
+use crate::number::{scale_behind, value_with};
 use crate::page::{make_room, put, put_deletion, put_stray, put_word};
 use std::alloc::AllocError;
 use std::marker::Model;
@@ -34,35 +35,6 @@ impl Model for Decoder {
     ghost Value = { Begun };
 
     ghost view = { λ d. record { ends = d.ends; scale = d.scale; value = d.value } };
-}
-
-/// Below this no product with seven bits, and no sum with one, has more than 64.
-const SMALL: u64 = 1 << 56;
-
-/// The value of a number whose bits so far have this value, with these seven more; past 64 bits it
-/// stays at the greatest.
-#[inline(always)]
-fn value_with(value: u64, scale: u64, bits: u64) -> u64
-    requires { bits < 128 }
-    ensures { result ≡ capped (value + scale * bits) }
-{
-    if scale < SMALL && value < SMALL {
-        let more = scale * bits;
-        return value + more;
-    }
-    value.saturating_add(scale.saturating_mul(bits))
-}
-
-/// What the bits behind these seven count.
-#[inline(always)]
-fn scale_behind(scale: u64) -> u64
-    ensures { result ≡ capped (scale * 128) }
-{
-    if scale < SMALL {
-        scale * 128
-    } else {
-        scale.saturating_mul(128)
-    }
 }
 
 /// How many end marks are to come, and how many bytes of a page are used.

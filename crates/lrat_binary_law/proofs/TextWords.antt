@@ -126,7 +126,7 @@ deletion_words rest =
     ∙ ap (λ more. (48 ∷ []) ∷ more) (word_and_space 100 [] rest (letter_visible, tt))
 
 -- the words of a text are those of its numbers
-symbols_are : (ends : ℕ) (ns : List ℕ) →
+pub symbols_are : (ends : ℕ) (ns : List ℕ) →
     map step_symbol_of (words_left (text_at ends (map capped ns))) ≡ symbols_at ends (map capped ns)
 symbols_are ends [] = ap (map step_symbol_of) nothing_left
 symbols_are zero (n ∷ ns) = elim (cases_Bool (capped n == 97)) [

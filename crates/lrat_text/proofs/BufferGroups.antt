@@ -12,7 +12,7 @@ use Rattle.lrat_text.specs.declared.steps.Stop.TheVariants as stops
 use Rattle.lrat_text.specs.Buffer.{ids_between, group_in, groups_in}
 use Rattle.lrat_text.specs.Grammar.{StepSymbol, HintGroup, IsId, IsGroup, hint_symbols, positive}
 use Rattle.lrat_text.specs.Grammar.{DeleteMark, Delete, BeginsWith, negative, end_mark}
-use Rattle.lrat_text.specs.Inner.Steps.{stop_symbol, IsStop, IsRun, IsIds, IsHints}
+use Rattle.lrat_text.specs.Inner.Steps.{stop_symbol, ends_after, IsStop, IsRun, IsIds, IsHints}
 use Rattle.lrat_text.proofs.GrammarDecoding.{hints_push, hints_nil, deletion_begins}
 
 abbrev pub EndsWithin : List ℕ → GroupRun → Type 0
@@ -149,16 +149,18 @@ hints_begin cleared ids run leading runs stop whole left none more counted no_ru
 
 -- one group more, as it is pushed
 pub hints_more : (ids more grown : List ℕ) (leading candidate start end : ℕ)
-    (runs pushed : List GroupRun) (seen stop : Stop) (whole between left : List StepSymbol)
-    → HintsRead ids leading runs seen whole between → seen ≡ stops.Group candidate →
-    grown ≡ ids ++ more → IsRun between more stop left → start ≡ length ids
+    (runs pushed : List GroupRun) (seen stop : Stop) (whole left : List StepSymbol)
+    (between : ℕ → List StepSymbol)
+    → HintsRead ids leading runs seen whole (between (ends_after seen)) →
+    seen ≡ stops.Group candidate →
+    grown ≡ ids ++ more → IsRun (between 1) more stop left → start ≡ length ids
     → end ≡ length grown →
     pushed ≡ runs ++ record { candidate = candidate; start = start; end = end } ∷ [] →
     HintsRead grown leading pushed stop whole left
-hints_more ids more grown leading candidate start end runs pushed seen stop whole between left h
+hints_more ids more grown leading candidate start end runs pushed seen stop whole left between h
     group grows run starts ends pushes =
     rw (pushes, ends, starts, grows)
-    (group_read ids more leading candidate runs stop whole between left (rw group at h) run)
+    (group_read ids more leading candidate runs stop whole (between 1) left (rw group at h) run)
 
 -- a deletion of all ids that a buffer has
 pub deletion_read : (n count : ℕ) (t left : List StepSymbol) (ids : List ℕ) →
@@ -169,9 +171,10 @@ deletion_read n count t left ids bound counted read =
 
 -- hints whose last run would end at an end mark
 pub hints_then : (ids : List ℕ) (leading candidate : ℕ) (runs : List GroupRun) (stop : Stop)
-    (whole between : List StepSymbol) → HintsRead ids leading runs stop whole between →
+    (whole : List StepSymbol) (between : ℕ → List StepSymbol) →
+    HintsRead ids leading runs stop whole (between (ends_after stop)) →
     stop ≡ stops.Group candidate →
-    ((run : List ℕ) × IsRun (between ++ end_mark ∷ []) run stops.End []) →
+    ((run : List ℕ) × IsRun (between 1 ++ end_mark ∷ []) run stops.End []) →
     (hints : List ℕ) × (groups : List HintGroup)
     × IsHints (whole ++ end_mark ∷ []) hints groups []
 hints_then ids leading candidate runs stop whole between read group run =
@@ -185,7 +188,7 @@ hints_then ids leading candidate runs stop whole between read group run =
         h.leading_ids,
         all_push IsGroup groups last h.each (h.is_stop, run.1.0),
         ap (λ s. s ++ end_mark ∷ []) h.read
-            ∙ append_assoc (hint_symbols first groups) (negative candidate ∷ between)
+            ∙ append_assoc (hint_symbols first groups) (negative candidate ∷ between 1)
             (end_mark ∷ [])
             ∙ ap (λ s. hint_symbols first groups ++ negative candidate ∷ s) run.1.2
             ∙ sym (hints_push first groups last (end_mark ∷ [])),

@@ -1,5 +1,5 @@
 -- Steps are read in one way.
-use Rattle.std.proofs.Common.{◌≡◌, ℕ, ◌≤◌, List, [], ◌∷◌, ◌++◌, map, refl, sym, ◌∙◌, ap, arith}
+use Rattle.std.proofs.Common.{◌≡◌, ℕ, suc, ◌≤◌, List, [], ◌∷◌, ◌++◌, map, refl, sym, ◌∙◌, ap, arith}
 use Rattle.std.proofs.Common.{append_assoc, Bool, true, false, not, Result, Ok, Err}
 use Rattle.std.proofs.lemmas.Bool.{false≢true}
 use Rattle.std.specs.List.{AllByRecursion}
@@ -8,15 +8,19 @@ use Rattle.std.proofs.lemmas.List.{append-nil}
 use Rattle.std.proofs.lemmas.List.Concat.{flat_map-append}
 use Rattle.cnf_text.specs.Literal.{Literal, IsVariable}
 use Rattle.cnf_text.specs.Numbers.{Number}
-use Rattle.lrat_text.specs.declared.steps.Word.{Word}
-use Rattle.lrat_text.specs.declared.steps.Word.TheVariants as words
+use Rattle.lrat_text.specs.declared.words.Word.{Word}
+use Rattle.lrat_text.specs.declared.words.Word.TheVariants as words
 use Rattle.lrat_text.specs.declared.steps.Stop.{Stop}
 use Rattle.lrat_text.specs.declared.steps.Stop.TheVariants as stops
 use Rattle.lrat_text.specs.declared.step.OpenFault.{OpenFault}
 use Rattle.lrat_text.specs.Grammar.{StepSymbol, Numeral, DeleteMark, positive, negative, signed}
 use Rattle.lrat_text.specs.Grammar.{end_mark, IsId, HintGroup, IsGroup, hint_symbols, Add, Delete}
 use Rattle.lrat_text.specs.Grammar.{BeginsWith}
-use Rattle.lrat_text.specs.Inner.Steps.{NoStep, IsReadAs, HasId, stop_symbol, IsRun, NoRun}
+use Rattle.lrat_text.specs.StepWords.{NoStep, IsReadAs, HasId, IsFront, ends_behind}
+use Rattle.lrat_text.specs.StepWords.{no_cut, IsCutBehind}
+use Rattle.lrat_text.specs.declared.words.Front.{Front}
+use Rattle.lrat_text.specs.declared.words.Front.TheVariants as fronts
+use Rattle.lrat_text.specs.Inner.Steps.{stop_symbol, IsRun, NoRun, HasIds}
 use Rattle.lrat_text.specs.Inner.Steps.{IsLiterals, NoLiterals, IsIds, NoIds, IsHints, NoHints}
 
 same_number : (a b : Number) → Numeral a ≡ Numeral b → a ≡ b
@@ -347,9 +351,10 @@ not_mark words.Stray other symbol means t r e = means.1 (heads _ _ _ _ e)
 
 -- what holds of an answer
 pub ok_each : {A : Type 0} (result : Result A OpenFault) (P : A → Type 0)
-    (Q : StepSymbol → A → Type 0) → ((symbol : StepSymbol) (kind : A) → P kind → Q symbol kind) →
-    IfOk result P → IfOk result (λ kind. (symbol : StepSymbol) → Q symbol kind)
-ok_each (Ok kind) P Q more h = λ symbol. more symbol kind h
+    (Q : List StepSymbol → A → Type 0) →
+    ((symbols : List StepSymbol) (kind : A) → P kind → Q symbols kind) →
+    IfOk result P → IfOk result (λ kind. (symbols : List StepSymbol) → Q symbols kind)
+ok_each (Ok kind) P Q more h = λ symbols. more symbols kind h
 ok_each (Err fault) P Q more h = tt
 
 -- what follows from each fault is said of a result's fault
@@ -357,3 +362,63 @@ pub err_each : {A : Type 0} (result : Result A OpenFault) (P Q : OpenFault → T
     ((fault : OpenFault) → P fault → Q fault) → IfErr result P → IfErr result Q
 err_each (Ok kind) P Q more h = tt
 err_each (Err fault) P Q more h = more fault h
+
+-- nothing but a deletion has the number 0 at its front
+pub no_step_zero : (t : List StepSymbol) → ((r : List StepSymbol) → t ≡ DeleteMark ∷ r → ⊥) →
+    NoStep (positive 0 ∷ t)
+no_step_zero t no_mark =
+    no_step_addition 0 t no_mark (λ literals hints groups left id all each every e.
+    let some = id.0 in omega arith)
+
+-- what stands at a front is within the limits
+pub fits : (front : Front) (symbols : List StepSymbol) (left : ℕ → List StepSymbol) →
+    IsFront front symbols left → HasIds front
+fits (fronts.Addition id word) symbols left is = (is.0, is.1, is.2)
+fits fronts.Deletion symbols left is = tt
+fits fronts.Unreadable symbols left is = tt
+fits fronts.Unfinished symbols left is = tt
+
+-- a word that is no end mark leaves as many of them
+pub none_ended : (word : Word) (ends : ℕ) → (word ≡ words.End → ⊥) → ends_behind word ends ≡ suc ends
+none_ended words.End ends other = absurd (other refl)
+none_ended (words.Positive n) ends other = refl
+none_ended (words.Negative n) ends other = refl
+none_ended words.DeleteMark ends other = refl
+none_ended words.Stray ends other = refl
+
+-- where something stands at the front, some symbols are left
+pub some_front : (front : Front) (symbols : List StepSymbol) (left : ℕ → List StepSymbol) →
+    IsFront front symbols left → symbols ≡ [] → ⊥
+some_front (fronts.Addition id word) symbols left is none = nil_cons _ _ (sym none ∙ is.3.2)
+some_front fronts.Deletion symbols left is none = nil_cons _ _ (sym none ∙ is.2)
+some_front fronts.Unreadable symbols left is none = is.0 none
+some_front fronts.Unfinished symbols left is none = is.0 none
+
+-- what is no number at the front of a step begins none
+pub no_step_front : (symbol : StepSymbol) (t : List StepSymbol) →
+    ((front : ℕ) → front ≤ 4611686018427387904 → symbol ≡ positive front → ⊥) →
+    NoStep (symbol ∷ t)
+no_step_front symbol t none (Add a) left found =
+    none a.id found.1.0.1 (heads _ _ _ _ (found.2 ∙ ap (λ x. x ++ left) found.1.4))
+no_step_front symbol t none (Delete ids) left found =
+    none found.1.1.0 found.1.1.1 (heads _ _ _ _ (found.2 ∙ ap (λ x. x ++ left) found.1.1.2))
+
+some_literals : (ls : List Literal) (x : List StepSymbol) →
+    [] ≡ map signed ls ++ end_mark ∷ x → ⊥
+some_literals [] x e = nil_cons _ _ e
+some_literals (l ∷ ls) x e = nil_cons _ _ e
+
+-- a symbol alone is no step
+pub no_step_alone : (symbol : StepSymbol) → NoStep (symbol ∷ [])
+no_step_alone symbol (Add a) left found =
+    some_literals _ _ (tails _ _ _ _ (found.2 ∙ ap (λ x. x ++ left) found.1.4)
+    ∙ addition_parts a.literals a.hints a.groups left)
+no_step_alone symbol (Delete ids) left found =
+    nil_cons _ _ (tails _ _ _ _ (found.2 ∙ ap (λ x. x ++ left) found.1.1.2))
+
+-- the words of a text are cut off at the end of a line
+pub never_cut : (front : Front) → IsCutBehind front no_cut (λ ends. no_cut)
+never_cut (fronts.Addition id word) = refl
+never_cut fronts.Deletion = refl
+never_cut fronts.Unreadable = tt
+never_cut fronts.Unfinished = tt

@@ -8,9 +8,9 @@ use Rattle.std.proofs.lemmas.Slice.Eq.{bytes_eq-Decides}
 use Rattle.std.proofs.lemmas.Bool.{cases_Bool, false≢true, eqb-false}
 use Rattle.cnf_text.specs.declared.numbers.Number as code
 use Rattle.cnf_text.specs.Numbers.{Number, number_of, negative_of, unsigned_of, decimal, capped}
-use Rattle.lrat_text.specs.declared.steps.Word.TheVariants as words
+use Rattle.lrat_text.specs.declared.words.Word.TheVariants as words
 use Rattle.lrat_text.specs.Grammar.{step_symbol_of, Numeral, DeleteMark}
-use Rattle.lrat_text.specs.Inner.Steps.{IsReadAs}
+use Rattle.lrat_text.specs.StepWords.{IsReadAs}
 
 some_none : {A : Type 0} (a : A) → None ≡ Some a → ⊥
 some_none a e = cc

@@ -6,7 +6,7 @@ use Rattle.lrat_text.specs.declared.steps.Stop.TheVariants as stops
 use Rattle.lrat_text.specs.Grammar.{StepSymbol, positive, end_mark, IsId, HintGroup, IsGroup}
 use Rattle.lrat_text.specs.Grammar.{hint_symbols, ProofStep, Add, Delete, BeginsWith, BeginsWithAll}
 use Rattle.lrat_text.specs.Grammar.{Longest}
-use Rattle.lrat_text.specs.Inner.Steps.{NoStep}
+use Rattle.lrat_text.specs.StepWords.{NoStep}
 use Rattle.lrat_text.proofs.GrammarDecoding.{same_run, same_literals, same_magnitude, heads, tails}
 use Rattle.lrat_text.proofs.GrammarDecoding.{signs_differ, hints_nil, hints_cons, addition_parts}
 use Rattle.lrat_text.proofs.GrammarDecoding.{no_mark_in_literals}

@@ -13,13 +13,17 @@ use Rattle.lrat_text.specs.declared.steps.Stop.TheVariants as stops
 use Rattle.lrat_text.specs.Grammar.{StepSymbol, step_symbol_of, step_symbols_of, positive, negative}
 use Rattle.lrat_text.specs.Grammar.{signed, end_mark, IsId, HintGroup, IsGroup, hint_symbols}
 use Rattle.lrat_text.specs.Grammar.{ProofStep, Add, Delete, DeleteMark, BeginsWith}
-use Rattle.lrat_text.specs.Inner.Steps.{NoStep, stop_symbol, IsRun, NoRun, IsLiterals, NoLiterals}
+use Rattle.lrat_text.specs.declared.words.Word.{Word}
+use Rattle.lrat_text.specs.declared.words.Word.TheVariants as words
+use Rattle.lrat_text.specs.StepWords.{NoStep, ends_behind}
+use Rattle.lrat_text.specs.Inner.Steps.{stop_symbol, IsRun, NoRun, IsLiterals, NoLiterals}
 use Rattle.lrat_text.specs.Inner.Steps.{NoHints, IsIds, IsHints}
 use Rattle.lrat_text.specs.Decoding.{is_none_left, proof_in, symbols}
 use Rattle.lrat_text.specs.Proof.{Proof, IsProofOf}
 use Rattle.lrat_text.specs.Open.{proof_left, MayBegin}
 use Rattle.lrat_text.proofs.GrammarDecoding.{stuck_run, stuck_literals, no_hints_after}
 use Rattle.lrat_text.proofs.GrammarDecoding.{hints_nil, addition_begins, deletion_begins}
+use Rattle.lrat_text.proofs.GrammarDecoding.{none_ended}
 use Rattle.lrat_text.proofs.BufferGroups.{all_push}
 use Rattle.lrat_text.proofs.ProofFronts.{none-no_step}
 use Rattle.lrat_text.proofs.ProofSteps.{proof_in-step, proof_in-none}
@@ -103,6 +107,20 @@ literals_end t left ls l symbol is last none all is_variable = (
         ∙ sym (map-append signed ls (l ∷ []))),
   ),
 )
+
+-- one literal more, and the word behind it
+pub literals_on : (whole left : List StepSymbol) (ls : List Literal) (l : Literal)
+    (symbol next : StepSymbol) (between : ℕ → List StepSymbol) (word : Word) →
+    whole ≡ map signed ls ++ symbol ∷ between (ends_behind word 1) → symbol ≡ signed l →
+    (word ≡ words.End → ⊥) → between 2 ≡ next ∷ left →
+    whole ≡ map signed (ls ++ l ∷ []) ++ next ∷ left
+literals_on whole left ls l symbol next between word is last other more =
+    is
+    ∙ ap (λ s. map signed ls ++ s ∷ between (ends_behind word 1)) last
+    ∙ ap (λ s. map signed ls ++ signed l ∷ s)
+    (ap between (none_ended word 1 other) ∙ more)
+    ∙ sym (append_assoc (map signed ls) (signed l ∷ []) (next ∷ left))
+    ∙ ap (λ s. s ++ next ∷ left) (sym (map-append signed ls (l ∷ [])))
 
 -- an addition of literals without hints
 pub literals_then : (id : ℕ) (first : StepSymbol) (t : List StepSymbol) → IsId id →

@@ -11,7 +11,7 @@ use Rattle.cnf_text.specs.Literal.{Literal, IsVariable}
 use Rattle.lrat_text.specs.Grammar.{StepSymbol, Numeral, DeleteMark, Stray, positive, negative}
 use Rattle.lrat_text.specs.Grammar.{signed, end_mark, IsId, HintGroup, IsGroup, hint_symbols}
 use Rattle.lrat_text.specs.Grammar.{ProofStep, Add, Delete, BeginsWith}
-use Rattle.lrat_text.specs.Inner.Steps.{NoStep}
+use Rattle.lrat_text.specs.StepWords.{NoStep}
 use Rattle.lrat_text.specs.Decoding.{if_so, is_id, is_variable, id_of, candidate_of}
 use Rattle.lrat_text.specs.Decoding.{literal_in, front_of, is_end, Front, run_onto, run, Hints}
 use Rattle.lrat_text.specs.Decoding.{hints_onto, hints_in, after_end, addition_of, addition_in}

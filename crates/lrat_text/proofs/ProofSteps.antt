@@ -6,7 +6,7 @@ use Rattle.std.proofs.lemmas.Simd.{map-map}
 use Rattle.cnf_text.specs.Tokens.{Token, tokens_of}
 use Rattle.lrat_text.specs.Grammar.{StepSymbol, step_symbol_of, step_symbols_of, ProofStep, Add}
 use Rattle.lrat_text.specs.Grammar.{Delete, BeginsWith, BeginsWithAll, Longest}
-use Rattle.lrat_text.specs.Inner.Steps.{NoStep}
+use Rattle.lrat_text.specs.StepWords.{NoStep}
 use Rattle.lrat_text.specs.Decoding.{first_step, is_none_left, step_onto, steps_in}
 use Rattle.lrat_text.specs.Decoding.{proof_in, symbols}
 use Rattle.lrat_text.specs.Proof.{Proof}

@@ -11,9 +11,6 @@ use Rattle.lrat_text.specs.declared.step.OpenFault.TheVariants.{Unreadable, Unfi
 abbrev pub proof_left : List ℕ → Proof
 proof_left text = proof_in (symbols (words_left text))
 
--- the proof that words begin which are left, where these symbols follow them
-abbrev pub proof_with : List (List ℕ) → List StepSymbol → Proof
-proof_with words more = proof_in (symbols words ++ more)
 
 -- what may follow where this fault is told: anything, or nothing
 abbrev pub Allows : OpenFault → List StepSymbol → Type 0
@@ -26,7 +23,3 @@ abbrev pub MayBegin : List StepSymbol → Type 0
 MayBegin front =
     (more : List StepSymbol) × (step : ProofStep) × (left : List StepSymbol)
     × (BeginsWith (front ++ more) step left)
-
--- with some behind them the words that are left begin with a step
-abbrev pub MayGoOn : List (List ℕ) → Type 0
-MayGoOn words = MayBegin (symbols words)

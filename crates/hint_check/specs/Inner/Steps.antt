@@ -1,9 +1,9 @@
--- What comes next in a text that may go on, and how far its judgement goes, for the contracts of
+-- What comes next in a proof that may go on, and how far its judgement goes, for the contracts of
 -- private functions.
 use Rattle.std.specs.Prelude.{◌≡◌, ◌∷◌, [], ℕ, true, false, List}
 use Rattle.lrat_text.specs.Grammar.{StepSymbol}
 use Rattle.lrat_text.specs.Proof.{Proof}
-use Rattle.lrat_text.specs.Open.{proof_with}
+use Rattle.lrat_text.specs.StepWords.{Left, proof_with}
 use Rattle.lrat_text.specs.Buffer.{StepParts}
 use Rattle.lrat_text.specs.Step.{told_step}
 use Rattle.hint_check.specs.Live.{Live, holds_empty_clause}
@@ -14,9 +14,9 @@ use Rattle.hint_check.specs.declared.steps.Next.TheVariants as nexts
 use Rattle.hint_check.specs.declared.steps.Halt.{Halt}
 use Rattle.hint_check.specs.declared.steps.Halt.TheVariants as halts
 
--- the words that are left of a text that may go on
+-- what is left of the words of a proof that may go on
 abbrev pub Open : Type 0
-Open = List (List ℕ)
+Open = Left
 
 -- a step, and the proof after it is left; or none
 abbrev pub NextIs : Next → StepParts → Open → Open → Type 0

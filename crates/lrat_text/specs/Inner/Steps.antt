@@ -1,36 +1,26 @@
--- Runs of words in a step, and the decoding of all words that a reader has left.
-use Rattle.std.specs.Prelude.{◌≡◌, ℕ, ◌≤◌}
+-- Runs of words in a step.
+use Rattle.std.specs.Prelude.{◌≡◌, ℕ}
 use Rattle.std.specs.Prelude.{List, ◌∷◌, ◌++◌, map}
 use Rattle.std.specs.List.{AllByRecursion}
 use Rattle.cnf_text.specs.Literal.{Literal, IsVariable}
-use Rattle.cnf_text.specs.Numbers.{Number}
-use Rattle.lrat_text.specs.declared.steps.Word.{Word}
-use Rattle.lrat_text.specs.declared.steps.Word.TheVariants as words
+use Rattle.lrat_text.specs.declared.words.Front.{Front}
+use Rattle.lrat_text.specs.declared.words.Front.TheVariants as fronts
+use Rattle.lrat_text.specs.declared.words.Word.TheVariants as words
+use Rattle.lrat_text.specs.StepWords.{HasId}
 use Rattle.lrat_text.specs.declared.steps.Stop.{Stop}
 use Rattle.lrat_text.specs.declared.steps.Stop.TheVariants as stops
-use Rattle.lrat_text.specs.Grammar.{StepSymbol, Numeral, DeleteMark}
-use Rattle.lrat_text.specs.Grammar.{positive, negative, signed, end_mark, greatest_id, IsId}
-use Rattle.lrat_text.specs.Grammar.{HintGroup, IsGroup, hint_symbols, ProofStep}
-use Rattle.lrat_text.specs.Grammar.{BeginsWith}
-
--- no whole step stands at the front
-abbrev pub NoStep : List StepSymbol → Type 0
-NoStep symbols = (step : ProofStep) (left : List StepSymbol) → BeginsWith symbols step left → ⊥
-
--- what a word stands for
-abbrev pub IsReadAs : Word → StepSymbol → Type 0
-IsReadAs words.End symbol = symbol ≡ end_mark
-IsReadAs (words.Positive n) symbol = IsId n × (symbol ≡ positive n)
-IsReadAs (words.Negative n) symbol = IsId n × (symbol ≡ negative n)
-IsReadAs words.DeleteMark symbol = symbol ≡ DeleteMark
-IsReadAs words.Stray symbol =
-    ((number : Number) → number.magnitude ≤ greatest_id → symbol ≡ Numeral number → ⊥)
-    × (symbol ≡ DeleteMark → ⊥)
+use Rattle.lrat_text.specs.Grammar.{StepSymbol, positive, negative, signed, end_mark, IsId}
+use Rattle.lrat_text.specs.Grammar.{HintGroup, IsGroup, hint_symbols}
 
 -- what a run of ids stops at
 abbrev pub stop_symbol : Stop → StepSymbol
 stop_symbol stops.End = end_mark
 stop_symbol (stops.Group candidate) = negative candidate
+
+-- how many end marks are still to come behind it, where it was one
+abbrev pub ends_after : Stop → ℕ
+ends_after stops.End = 0
+ends_after (stops.Group candidate) = 1
 
 abbrev pub IsStop : Stop → Type 0
 IsStop stops.End = Unit {0}
@@ -73,15 +63,9 @@ NoHints symbols =
     (hints : List ℕ) (groups : List HintGroup) (left : List StepSymbol)
     → IsHints symbols hints groups left → ⊥
 
--- the number of a word that has one is that of an id
-abbrev pub HasId : Word → Type 0
-HasId words.End = Unit {0}
-HasId (words.Positive n) = IsId n
-HasId (words.Negative n) = IsId n
-HasId words.DeleteMark = Unit {0}
-HasId words.Stray = Unit {0}
-
--- the word is that of the first symbol, and the others are left
-abbrev pub IsNext : Word → List StepSymbol → List StepSymbol → Type 0
-IsNext word symbols left =
-    HasId word × ((symbol : StepSymbol) × IsReadAs word symbol × (symbols ≡ symbol ∷ left))
+-- what stands at the front of an addition is within the limits
+abbrev pub HasIds : Front → Type 0
+HasIds (fronts.Addition id word) = IsId id × HasId word × (word ≡ words.DeleteMark → ⊥)
+HasIds fronts.Deletion = Unit {0}
+HasIds fronts.Unreadable = Unit {0}
+HasIds fronts.Unfinished = Unit {0}

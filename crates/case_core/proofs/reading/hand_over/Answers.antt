@@ -1,10 +1,11 @@
+use Rattle.case_core.proofs.ReadingParts.{text_handed}
 use Rattle.case_core.proofs.reading.hand_over.Goals as goal
 
--- the bytes of a text are its text
-pub returns-in_ok-more-2-clause-handed : goal.returns-in_ok-more-2-clause-handed
-returns-in_ok-more-2-clause-handed c = record {
-  text = c.args.bytes.now;
-  turned = rw c.if-appended.false at c.in_ok-appended.ensures;
-  judged = c.in_ok-more-2.ensures.told;
-  seen = c.more-else-appended-2.ensures;
+pub returns : goal.returns
+returns c = record {
+  handed =
+      text_handed c.args.judging.now c.more.new.self c.args.form c.args.watch c.more-2.result
+      c.args.bytes.now c.in_default.not-Binary c.requires c.in_ok-more.ensures.told
+      c.more-2.ensures;
+  same = c.in_ok-more.ensures.same;
 }

@@ -1,19 +1,18 @@
-use Rattle.std.proofs.Common.{rules, ◌≡◌, ◌∙◌, ◌++◌, ap, true, false, take}
-use Rattle.lrat_binary.proofs.FormParts.{made_whole, text_stays}
+use Rattle.std.proofs.Common.{◌++◌, ◌∙◌, ap, take}
+use Rattle.lrat_binary.specs.Binary.{proof_text}
+use Rattle.lrat_binary.proofs.FormParts.{rest_from, text_stays}
 use Rattle.lrat_binary.proofs.form.turn_from.Goals as goal
 
-pub returns-then-not-branch : goal.returns-then-not-branch
-returns-then-not-branch c =
-    let is_text : c.in_ok-turn.field-0 ≡ false = search rules in
-    text_stays c.turn.new.self c.turn.new.text.items c.args.text.now.items c.args.begin
-    (rw (is_text, c.deref.ensures.value) at c.in_ok-turn.ensures)
+pub returns-in_default : goal.returns-in_default
+returns-in_default c =
+    text_stays c.args.text.now.items c.args.begin
+    (rw (c.in_default.is, c.deref.ensures.value) at c.in_ok-made.ensures)
 
-pub returns : goal.returns
-returns c =
-    let is_binary : c.in_ok-turn.field-0 ≡ true = search rules in
+pub returns-in_ok-extend_from_slice : goal.returns-in_ok-extend_from_slice
+returns-in_ok-extend_from_slice c =
     c.in_ok-extend_from_slice.ensures.items
-    ∙ ap (λ text. text ++ c.deref-2.result.now) c.truncate.ensures.items
+    ∙ ap (λ text. text ++ c.deref-in-Some.result.now) c.truncate.ensures.items
     ∙ ap (λ made. take c.args.begin c.args.text.now.items ++ made)
-    (c.deref-2.ensures.value
-    ∙ made_whole c.turn.new.self c.turn.new.text.items c.args.text.now.items c.args.begin
-    (rw (is_binary, c.new-made.ensures.items, c.deref.ensures.value) at c.in_ok-turn.ensures))
+    (c.deref-in-Some.ensures.value
+    ∙ (rw (c.in-Some.is, c.deref.ensures.value) at c.in_ok-made.ensures)
+    ∙ ap proof_text (rest_from c.args.begin c.args.text.now.items))

@@ -1,6 +1,6 @@
 use Rattle.std.proofs.Common.{◌≡◌, ◌++◌, [], sym, ap, ◌∙◌}
 use Rattle.std.proofs.lemmas.Result.{IfOk-weaker}
-use Rattle.lrat_text.specs.Open.{proof_with}
+use Rattle.lrat_text.specs.StepWords.{proof_with}
 use Rattle.hint_check.specs.Inner.Steps.{judged_in}
 use Rattle.hint_check.specs.Judging.{JudgingOf, judged_left, decided_or, says}
 use Rattle.hint_check.proofs.JudgingBegin.{lasts_whole}

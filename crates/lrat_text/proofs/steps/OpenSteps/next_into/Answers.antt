@@ -1,40 +1,39 @@
-use Rattle.std.proofs.Common.{refl, sym, ◌∙◌, ap, subst, []}
-use Rattle.lrat_text.specs.Decoding.{symbols}
-use Rattle.lrat_text.specs.Open.{proof_with, MayBegin}
+use Rattle.std.proofs.Common.{refl, ◌∙◌, ap, subst}
+use Rattle.lrat_text.specs.Open.{MayBegin}
 use Rattle.lrat_text.specs.Step.{told_step}
-use Rattle.lrat_text.proofs.GrammarDecoding.{nil_cons}
+use Rattle.lrat_text.specs.StepWords.{Left}
+use Rattle.lrat_text.proofs.GrammarDecoding.{fits, some_front}
 use Rattle.lrat_text.proofs.OpenMore.{open-step, open-blank, open-nothing}
 use Rattle.lrat_text.proofs.steps.OpenSteps.next_into.Goals as goal
 
+pub read_step-requires : goal.read_step-requires
+read_step-requires g c = fits _ _ _ c.in-Some.ensures.0
+
 pub returns-in_default-clause-end : goal.returns-in_default-clause-end
-returns-in_default-clause-end c = (
-  ap (λ words. proof_with words []) (sym c.self.view_is)
-      ∙ open-blank (symbols c.saved.result) (symbols c.self.inside.words)
-      (ap symbols c.saved.ensures) c.in_default.ensures,
+returns-in_default-clause-end g c = (
+  open-blank (g.W.StepWords.ahead 0 c.saved.result) c.args.self.now.symbols (ap (g.W.StepWords.ahead 0) c.saved.ensures ∙ ap (λ (left : Left). left.symbols) c.self.view_is)
+      c.in_default.ensures,
   refl,
 )
 
 pub returns-in-Ok-clause-step : goal.returns-in-Ok-clause-step
-returns-in-Ok-clause-step c = λ more.
-    ap (λ words. proof_with words more) (sym c.self.view_is)
-    ∙ open-step (symbols c.saved.result) (symbols c.self.inside.words) (symbols c.in-Ok.behind)
-    more (told_step c.in-Ok.kind c.read_step.new.buffer) (ap symbols c.saved.ensures)
-    (rw c.in-Some.ensures.1.2 (c.in-Ok.ensures.ok c.in-Some.ensures.1.0 c.in-Some.ensures.1.1))
+returns-in-Ok-clause-step g c = λ more.
+    open-step (g.W.StepWords.ahead 0 c.saved.result) c.args.self.now.symbols
+    (g.W.StepWords.ahead 0 c.in-Ok.behind)
+    more (told_step c.in-Ok.kind c.read_step.new.buffer) (ap (g.W.StepWords.ahead 0) c.saved.ensures ∙ ap (λ (left : Left). left.symbols) c.self.view_is)
+    (c.in-Ok.ensures.ok (g.W.StepWords.ahead 0 c.saved.result) c.in-Some.ensures.0)
 
 pub returns-in-Err-clause-err : goal.returns-in-Err-clause-err
-returns-in-Err-clause-err c = (
+returns-in-Err-clause-err g c = (
   refl,
   λ more allowed.
-      ap (λ words. proof_with words more) (sym c.self.view_is)
-      ∙ open-nothing (symbols c.saved.result) (symbols c.self.inside.words) more
-      (ap symbols c.saved.ensures)
-      (rw c.in-Some.ensures.1.2
-      (c.in-Err.ensures.err more allowed c.in-Some.ensures.1.0 c.in-Some.ensures.1.1))
-      (λ none. nil_cons _ _ (sym none ∙ c.in-Some.ensures.1.2)),
+      open-nothing (g.W.StepWords.ahead 0 c.saved.result) c.args.self.now.symbols more
+      (ap (g.W.StepWords.ahead 0) c.saved.ensures ∙ ap (λ (left : Left). left.symbols) c.self.view_is)
+      (c.in-Err.ensures.err more allowed _ c.in-Some.ensures.0)
+      (some_front _ _ _ c.in-Some.ensures.0),
 )
 
 pub returns-in-Err-clause-unfinished : goal.returns-in-Err-clause-unfinished
-returns-in-Err-clause-unfinished c = λ unfinished.
-    subst (λ front. MayBegin front)
-    (sym c.in-Some.ensures.1.2 ∙ ap symbols (c.saved.ensures ∙ c.self.view_is))
-    (c.in-Err.ensures.unfinished unfinished c.in-Some.ensures.1.0 c.in-Some.ensures.1.1)
+returns-in-Err-clause-unfinished g c = λ unfinished.
+    subst (λ front. MayBegin front) (ap (g.W.StepWords.ahead 0) c.saved.ensures ∙ ap (λ (left : Left). left.symbols) c.self.view_is)
+    (c.in-Err.ensures.unfinished unfinished _ c.in-Some.ensures.0)

@@ -2,7 +2,7 @@ use Rattle.std.proofs.Common.{ap, ◌∙◌, append-nil}
 use Rattle.lrat_text.specs.Decoding.{proof_in}
 use Rattle.lrat_text.proofs.ProofSteps.{bounded, symbols-new}
 use Rattle.lrat_text.proofs.ProofUnique.{proof_is}
-use Rattle.lrat_text.proofs.steps.OpenSteps.new.Goals as goal
+use Rattle.lrat_text.proofs.steps.OpenSteps+Words.new.Goals as goal
 
 pub returns-clause-value : goal.returns-clause-value
 returns-clause-value c = λ proof is.

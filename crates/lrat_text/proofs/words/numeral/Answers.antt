@@ -1,6 +1,6 @@
 use Rattle.std.proofs.Common.{◌∙◌, arith, refl}
 use Rattle.lrat_text.proofs.GrammarNumerals.{too_large, within, some_below_zero}
-use Rattle.lrat_text.proofs.steps.numeral.Goals as goal
+use Rattle.lrat_text.proofs.words.numeral.Goals as goal
 
 pub returns-then-number-gt-MAX_ID : goal.returns-then-number-gt-MAX_ID
 returns-then-number-gt-MAX_ID c =

@@ -1,0 +1,3 @@
+mod Numerals
+mod Fronts
+pub mod WordsMore

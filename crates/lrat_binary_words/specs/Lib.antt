@@ -1,0 +1,3 @@
+pub mod Words
+pub mod Inner
+pub use Rattle.lrat_binary.specs.Binary
