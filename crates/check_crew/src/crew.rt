@@ -1,7 +1,7 @@
 //! A run: the calling thread is a worker, and each other worker has a thread of its own.
 
 ghost use Rattle.std.specs.Prelude.{◌≡◌, ◌+◌, ◌<◌, ◌≤◌, ◌≢◌, true, None, Some, All, IfOk, IfErr};
-ghost use Rattle.std.specs.Prelude.{vec_len, vec_capacity, MatchOption, length};
+ghost use Rattle.std.specs.Prelude.{vec_len, vec_capacity, MatchOption, OnOk, length, ◌++◌, ◌∷◌, []};
 ghost use Rattle.byte_flow.specs.Device.{IsDeviceFault};
 ghost use Rattle.case_core.specs.Target.{Target};
 ghost use Rattle.cube_jobs.specs.Jobs as queue;
@@ -207,6 +207,37 @@ struct Handed {
     passes: Vec<Pass>,
     job_passes: Vec<JobPass>,
     lists: Vec<Vec<ExaminedTarget>>,
+}
+
+impl Handed {
+    /// Adds what one more worker hands back. `AllocError` where a fault stopped it, or a growth is
+    /// refused now.
+    fn add<P: Drop>(&mut self, shift: Shift<P>) -> Result<(), AllocError>
+        ensures fault { OnOk result (shift.fault ≡ None) }
+        ensures passes { OnOk result
+            (self.new.passes.items ≡ self.old.passes.items ++ (shift.pass ∷ [])) }
+        ensures job_passes { OnOk result
+            (self.new.job_passes.items ≡ self.old.job_passes.items ++ (shift.job_pass ∷ [])) }
+        ensures lists { OnOk result
+            (self.new.lists.items ≡ self.old.lists.items ++ (shift.examined ∷ [])) }
+        ensures count { OnOk result ((vec_len self.new.passes ≡ vec_len self.old.passes + 1)
+            × (vec_len self.new.job_passes ≡ vec_len self.old.job_passes + 1)) }
+    {
+        let Shift {
+            pass,
+            job_pass,
+            proofs: _,
+            examined,
+            fault,
+        } = shift;
+        if fault.is_some() {
+            return Err(AllocError);
+        }
+        self.passes.push(pass)?;
+        self.job_passes.push(job_pass)?;
+        self.lists.push(examined)?;
+        Ok(())
+    }
 }
 
 /// Has a worker for each of `proofs`, and puts together what they hand back. A failed read stands
@@ -448,20 +479,13 @@ fn hand_in<R, G, P: TargetProofs + Drop>(
         → IfOk result (λ handed. All (λ list. IsListOf known crew.entry.site.case.now list.items)
         handed.lists.items) }
 {
-    let mut passes = Vec::new(crew.site.alloc);
-    let mut job_passes = Vec::new(crew.site.alloc);
-    let mut lists = Vec::new(crew.site.alloc);
+    let mut handed = Handed {
+        passes: Vec::new(crew.site.alloc),
+        job_passes: Vec::new(crew.site.alloc),
+        lists: Vec::new(crew.site.alloc),
+    };
     for shift in shifts {
-        if shift.fault.is_some() {
-            return Err(AllocError);
-        }
-        passes.push(shift.pass)?;
-        job_passes.push(shift.job_pass)?;
-        lists.push(shift.examined)?;
+        handed.add(shift)?;
     }
-    Ok(Handed {
-        passes,
-        job_passes,
-        lists,
-    })
+    Ok(handed)
 }
