@@ -1,4 +1,4 @@
-use Rattle.std.proofs.Common.{◌≡◌, None, arith, true, sym, ◌∙◌}
+use Rattle.std.proofs.Common.{◌≡◌, None, arith, rules, true}
 use Rattle.std.proofs.lemmas.List.Elements.{All-contains, All-push, All-rest}
 use Rattle.case_core.specs.Target.{Target}
 use Rattle.cube_jobs.specs.Jobs as queue
@@ -7,7 +7,7 @@ use Rattle.board_hall.specs.declared.pass.Pass.{Pass}
 use Rattle.board_hall.specs.Halls.{shared_of, view_of, IsPassOf}
 use Rattle.check_crew.specs.Inner.Apart.{IsListOf}
 use Rattle.check_crew.specs.Inner.Crew.{IsHandedBy}
-use Rattle.check_crew.proofs.ApartHanded.{no_fault, list_of}
+use Rattle.check_crew.proofs.ApartHanded.{list_of}
 use Rattle.check_crew.proofs.SeenFindings.{claims_more}
 use Rattle.check_crew.proofs.crew.hand_in.Goals as goal
 
@@ -47,4 +47,17 @@ loop-shift-preserved g c =
           (mine.is.each step.fault)
           (All-contains (λ one. (target : Target) → g.P.TargetProofs.held one target ≡ known target) _
           mine.reader all mine.among)));
+    }
+
+pub returns : goal.returns
+returns g c =
+    let was = c.loop-shift.invariant in record {
+      passes_count = search rules;
+      job_passes_count = search rules;
+      own = was.own;
+      free = was.free;
+      jobs = was.jobs;
+      empty = was.empty;
+      seen = was.seen;
+      lists = was.lists;
     }
