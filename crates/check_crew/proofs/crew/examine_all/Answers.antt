@@ -28,3 +28,6 @@ returns-clause-seen g c =
     (c.if-not-finish.ensures.once (search rules)) in
     sections_seen c.args.case.now order handed.passes.items handed.job_passes.items
     c.in_ok-order.ensures (rw c.deref.ensures.value at c.in_ok-handed.ensures.handed.seen) once
+
+pub returns-clause-lists : goal.returns-clause-lists
+returns-clause-lists g c = c.in_ok-handed.ensures.handed.lists
