@@ -1,7 +1,7 @@
 -- What a worker hands back.
-use Rattle.std.proofs.Common.{◌≡◌, ℕ, List, Option, None, Some, refl, All, Result, Ok, Err}
-use Rattle.std.proofs.Common.{ap, subst, sym, true, false, is_some, ◌∙◌}
-use Rattle.std.specs.Prelude.{OnOk}
+use Rattle.std.proofs.Common.{◌≡◌, ℕ, List, Option, All, Result, Ok, Err}
+use Rattle.std.proofs.Common.{ap, subst, sym, true, ◌∙◌}
+use Rattle.std.specs.Prelude.{MatchOption, OnOk}
 use Rattle.std.proofs.lemmas.List.Elements.{All-weaker}
 use Rattle.case_core.specs.Case.{CaseOf}
 use Rattle.case_core.specs.Target.{Target}
@@ -11,10 +11,12 @@ use Rattle.board_hall.specs.declared.view.View.{View}
 use Rattle.board_hall.specs.Clauses.{Stays}
 use Rattle.board_hall.specs.Halls.{HallOf, IsPassOf, view_of}
 use Rattle.check_crew.specs.TargetProofs.{Known, IsExamined}
-use Rattle.byte_flow.specs.declared.fault.DeviceFault.{DeviceFault}
+use Rattle.byte_flow.specs.Device.{IsDeviceFault}
+use Rattle.check_crew.specs.declared.crew.Crew.{Crew}
+use Rattle.check_crew.specs.declared.worker.Shift.{Shift}
 use Rattle.check_crew.specs.declared.targets.ExaminedTarget.{ExaminedTarget}
 use Rattle.check_crew.specs.Inner.Apart.{IsListOf}
-use Rattle.check_crew.specs.Inner.Crew.{HasSeenTurn}
+use Rattle.check_crew.specs.Inner.Crew.{HasSeenTurn, IsHandedBy}
 use Rattle.check_crew.proofs.SeenTurns.{section_stays}
 use Rattle.cube_jobs.specs.Jobs.{JobPassOf}
 
@@ -31,10 +33,15 @@ turns_stay order before after job_pass (Ok value) empty seen stays = (
 )
 turns_stay order before after job_pass (Err fault) empty seen stays = (tt, tt)
 
--- where no fault is, there is none
-pub no_fault : (fault : Option DeviceFault) → is_some fault ≡ false → fault ≡ None
-no_fault None is = refl
-no_fault (Some fault) is = absurd (cc)
+-- each of these workers met a fault of the device just where a call has failed
+pub faults_met : {R G P : Type 0} (crew : Crew R G P) (held : P → Known) (failures : P → ℕ)
+    (shifts : List (Shift P)) → All (IsHandedBy crew held failures) shifts
+    → All (λ shift. MatchOption shift.fault (failures shift.proofs ≡ 0)
+    (IsDeviceFault 0 (failures shift.proofs))) shifts
+faults_met crew held failures shifts =
+    All-weaker (IsHandedBy crew held failures)
+    (λ shift. MatchOption shift.fault (failures shift.proofs ≡ 0)
+    (IsDeviceFault 0 (failures shift.proofs))) (λ shift handed. handed.is.fault_is) shifts
 
 -- the list of a worker that no fault stopped
 pub list_of : (hall : HallOf) (case : CaseOf) (held known : Known) (pass : Pass)

@@ -1,5 +1,6 @@
 -- What a worker has seen after one more section.
 use Rattle.std.proofs.Common.{◌≡◌, ◌≢◌, ℕ, List, [], ◌∷◌, ◌++◌, refl, sym, ap, ◌∙◌, subst, inl, inr}
+use Rattle.std.proofs.Common.{append_assoc, append-nil}
 use Rattle.std.proofs.lemmas.Bool.{cases_Bool}
 use Rattle.case_core.specs.Leaves.{IsTargetAt}
 use Rattle.case_core.specs.Target.{Target}
@@ -20,6 +21,28 @@ use Rattle.mark_board.specs.declared.place.Place.{Place}
 use Rattle.mark_board.specs.Boards.{IsPlaceFor}
 use Rattle.check_crew.specs.Seen.{HasSeen, HasSeenMark, HasSeenSection, IsTold}
 use Rattle.check_crew.proofs.SeenMarks.{one_board, place_home}
+
+-- a pass is its own later one
+pub stays_same : (v : View) → Stays v v
+stays_same v = record {
+  of_same = refl;
+  parts = refl;
+  more = [];
+  seen = sym (append-nil v.seen);
+}
+
+-- what comes later still has seen all
+pub stays_on : (before between after : View) → Stays before between → Stays between after →
+    Stays before after
+stays_on before between after first second = record {
+  of_same = second.of_same ∙ first.of_same;
+  parts = second.parts ∙ first.parts;
+  more = first.more ++ second.more;
+  seen =
+      second.seen
+      ∙ ap (λ (l : List Post). l ++ second.more) first.seen
+      ∙ append_assoc before.seen first.more second.more;
+}
 
 -- a row that is marked stays so
 mark_in-stays : (posts more : List Post) (board row : ℕ) → mark_in posts board row ≢ Open →

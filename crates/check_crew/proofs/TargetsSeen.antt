@@ -1,8 +1,7 @@
 -- What a worker has seen after it posted the finding of a target's proof.
-use Rattle.std.proofs.Common.{◌≡◌, ℕ, List, [], ◌∷◌, ◌++◌, Option, None, Some, Bool, refl}
+use Rattle.std.proofs.Common.{◌≡◌, ℕ, List, [], ◌∷◌, ◌++◌, Option, None, Some, Bool}
 use Rattle.std.proofs.Common.{sym, ap, All, ◌∙◌, subst, ◌+◌, ◌≤◌, length, arith, inl, inr}
 use Rattle.std.proofs.Common.{Result, Ok, Err, IfOk, IfErr, OnOk}
-use Rattle.std.proofs.Common.{append_assoc, append-nil}
 use Rattle.std.specs.Prelude.{IfSome, option_map}
 use Rattle.std.proofs.lemmas.List.Elements.{All-push, All-weaker}
 use Rattle.case_core.specs.Leaves.{IsTargetAt}
@@ -12,7 +11,6 @@ use Rattle.case_core.specs.Bundle.{labels_of}
 use Rattle.case_core.specs.Case.{CaseOf, proof_for}
 use Rattle.case_core.specs.Finding.{IsFoundBy, target_of}
 use Rattle.board_hall.specs.declared.view.CutCase.{CutCase}
-use Rattle.board_hall.specs.declared.view.Post.{Post}
 use Rattle.board_hall.specs.declared.view.View.{View}
 use Rattle.board_hall.specs.Clauses.{Stays}
 use Rattle.byte_flow.specs.Device.{IsDeviceFault, IsLeft}
@@ -79,28 +77,6 @@ failed_reads (Err fault) before failed ok (inl memory) =
     (rw memory.1 (omega arith), tt, inl (memory.0, rw memory.1 (omega arith)))
 failed_reads (Err fault) before failed ok (inr device) =
     (rw device.1 (omega arith), tt, inr (device.0, rw device.1 (omega arith)))
-
--- a pass is its own later one
-pub stays_same : (v : View) → Stays v v
-stays_same v = record {
-  of_same = refl;
-  parts = refl;
-  more = [];
-  seen = sym (append-nil v.seen);
-}
-
--- what comes later still has seen all
-pub stays_on : (before between after : View) → Stays before between → Stays between after →
-    Stays before after
-stays_on before between after first second = record {
-  of_same = second.of_same ∙ first.of_same;
-  parts = second.parts ∙ first.parts;
-  more = first.more ++ second.more;
-  seen =
-      second.seen
-      ∙ ap (λ (l : List Post). l ++ second.more) first.seen
-      ∙ append_assoc before.seen first.more second.more;
-}
 
 -- what was seen of a target stays seen
 pub as_stays : (before after : View) (target : Target) (judged : Judged) → Stays before after →

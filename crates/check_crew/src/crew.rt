@@ -1,10 +1,9 @@
 //! A run: the calling thread is a worker, and each other worker has a thread of its own.
 
 ghost use Rattle.std.specs.Prelude.{◌≡◌, ◌+◌, ◌<◌, ◌≤◌, ◌≢◌, true, None, Some, All, IfOk, IfErr};
-ghost use Rattle.std.specs.Prelude.{vec_len, vec_capacity, MatchOption, length};
+ghost use Rattle.std.specs.Prelude.{vec_len, vec_capacity, MatchOption, OnOk, length, ◌++◌, ◌∷◌, []};
 ghost use Rattle.byte_flow.specs.Device.{IsDeviceFault};
 ghost use Rattle.case_core.specs.Target.{Target};
-ghost use Rattle.cube_jobs.specs.Jobs as queue;
 ghost use Rattle.cube_jobs.specs.Jobs.{new_pass};
 ghost use Rattle.board_hall.specs.Halls.{core_of, hall_of, shared_of, view_of, IsPassOf, IsNewPass};
 ghost use Rattle.board_hall.specs.declared.view.Proofs.TheVariants.{Elsewhere as AnyElsewhere};
@@ -13,7 +12,7 @@ ghost use Rattle.check_crew.specs.TargetProofs.{Known};
 ghost use Rattle.check_crew.specs.Seen.{HaveSeenSections};
 ghost use Rattle.check_crew.specs.Inner.Apart.{IsListOf};
 ghost use Rattle.check_crew.specs.Inner.Crew.{IsReady, IsJobOf, IsDealtBy, IsShiftOf, IsHandedBy};
-ghost use Rattle.check_crew.specs.Inner.Crew.{HaveSeenClaims, IsRunFault, AreClosed};
+ghost use Rattle.check_crew.specs.Inner.Crew.{IsHandedIn, IsRunFault, AreClosed};
 
 use crate::fault::{CrewFault, RunFault};
 use crate::gate::{Elsewhere, Gate};
@@ -209,6 +208,37 @@ struct Handed {
     lists: Vec<Vec<ExaminedTarget>>,
 }
 
+impl Handed {
+    /// Adds what one more worker hands back. `AllocError` where a fault stopped it, or a growth is
+    /// refused now.
+    fn add<P: Drop>(&mut self, shift: Shift<P>) -> Result<(), AllocError>
+        ensures fault { OnOk result (shift.fault ≡ None) }
+        ensures passes { OnOk result
+            (self.new.passes.items ≡ self.old.passes.items ++ (shift.pass ∷ [])) }
+        ensures job_passes { OnOk result
+            (self.new.job_passes.items ≡ self.old.job_passes.items ++ (shift.job_pass ∷ [])) }
+        ensures lists { OnOk result
+            (self.new.lists.items ≡ self.old.lists.items ++ (shift.examined ∷ [])) }
+        ensures count { OnOk result ((vec_len self.new.passes ≡ vec_len self.old.passes + 1)
+            × (vec_len self.new.job_passes ≡ vec_len self.old.job_passes + 1)) }
+    {
+        let Shift {
+            pass,
+            job_pass,
+            proofs: _,
+            examined,
+            fault,
+        } = shift;
+        if fault.is_some() {
+            return Err(AllocError);
+        }
+        self.passes.push(pass)?;
+        self.job_passes.push(job_pass)?;
+        self.lists.push(examined)?;
+        Ok(())
+    }
+}
+
 /// Has a worker for each of `proofs`, and puts together what they hand back. A failed read stands
 /// before a refused start, and that before want of memory.
 fn run_crew<R: Threads + Wait + Sync, G: Gate + Sync, P: TargetProofs + Send + Drop>(
@@ -223,22 +253,8 @@ fn run_crew<R: Threads + Wait + Sync, G: Gate + Sync, P: TargetProofs + Send + D
     requires passes { All (IsNewPass (shared_of site.core.now)) passes.items }
     requires job_passes { All (λ pass. pass ≡ new_pass site.jobs.now) job_passes.items }
     requires fresh { All (λ one. P.failures one ≡ 0) proofs.items }
-    ensures count { IfOk result (λ handed. (vec_len handed.passes ≡ vec_len proofs)
-        × (vec_len handed.job_passes ≡ vec_len proofs)) }
-    ensures own { IfOk result (λ handed.
-        All (IsPassOf (shared_of site.entry.core.now)) handed.passes.items) }
-    ensures free { IfOk result (λ handed.
-        All (λ pass. (view_of pass).owes ≡ None) handed.passes.items) }
-    ensures jobs { IfOk result (λ handed.
-        All (queue.IsPassOf site.entry.jobs.now) handed.job_passes.items) }
-    ensures empty { IfOk result (λ handed.
-        All (λ pass. pass.found_empty ≡ true) handed.job_passes.items) }
-    ensures seen { IfOk result (λ handed.
-        HaveSeenClaims site.entry.order.now handed.passes.items handed.job_passes.items) }
-    ensures lists { (known : Known)
-        → All (λ one. (target : Target) → P.held one target ≡ known target) proofs.items
-        → IfOk result (λ handed. All (λ list. IsListOf known site.entry.case.now list.items)
-        handed.lists.items) }
+    ensures handed { IfOk result
+        (IsHandedIn site.entry P.held proofs.items (vec_len proofs)) }
     ensures failed { IfErr result (IsRunFault P.failures) }
 {
     let count = proofs.len();
@@ -431,37 +447,16 @@ fn hand_in<R, G, P: TargetProofs + Drop>(
 ) -> Result<Handed, AllocError>
     requires ready { IsReady crew.site }
     requires shifts { All (IsHandedBy crew P.held P.failures) shifts.items }
-    ensures count { IfOk result (λ handed. (vec_len handed.passes ≡ vec_len shifts)
-        × (vec_len handed.job_passes ≡ vec_len shifts)) }
-    ensures own { IfOk result (λ handed.
-        All (IsPassOf (shared_of crew.entry.site.core.now)) handed.passes.items) }
-    ensures free { IfOk result (λ handed.
-        All (λ pass. (view_of pass).owes ≡ None) handed.passes.items) }
-    ensures jobs { IfOk result (λ handed.
-        All (queue.IsPassOf crew.entry.site.jobs.now) handed.job_passes.items) }
-    ensures empty { IfOk result (λ handed.
-        All (λ pass. pass.found_empty ≡ true) handed.job_passes.items) }
-    ensures seen { IfOk result (λ handed.
-        HaveSeenClaims crew.entry.site.order.now handed.passes.items handed.job_passes.items) }
-    ensures lists { (known : Known) → All (λ one. (target : Target) → P.held one target ≡ known target)
-        crew.entry.readers.now.value.items
-        → IfOk result (λ handed. All (λ list. IsListOf known crew.entry.site.case.now list.items)
-        handed.lists.items) }
+    ensures { IfOk result (IsHandedIn crew.entry.site P.held crew.entry.readers.now.value.items
+        (vec_len shifts)) }
 {
-    let mut passes = Vec::new(crew.site.alloc);
-    let mut job_passes = Vec::new(crew.site.alloc);
-    let mut lists = Vec::new(crew.site.alloc);
+    let mut handed = Handed {
+        passes: Vec::new(crew.site.alloc),
+        job_passes: Vec::new(crew.site.alloc),
+        lists: Vec::new(crew.site.alloc),
+    };
     for shift in shifts {
-        if shift.fault.is_some() {
-            return Err(AllocError);
-        }
-        passes.push(shift.pass)?;
-        job_passes.push(shift.job_pass)?;
-        lists.push(shift.examined)?;
+        handed.add(shift)?;
     }
-    Ok(Handed {
-        passes,
-        job_passes,
-        lists,
-    })
+    Ok(handed)
 }

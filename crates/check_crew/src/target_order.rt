@@ -64,18 +64,24 @@ fn add_leaves<P: TargetProofs>(
     Ok(())
 }
 
-/// Adds an inner node for which something may lie there; the others are noted.
+/// Adds a node, if it is an inner one for which something may lie there; other inner nodes are
+/// noted.
 fn add_node<P: TargetProofs>(
+    case: &Case,
     first: &P,
     node: NodeId,
     measured: &mut Measured,
     absent: &mut Vec<bool>,
 ) -> Result<(), AllocError>
-    requires { node < vec_len absent.old }
+    requires node { node < size case.now.tree }
+    requires long { vec_len absent.old ≡ size case.now.tree }
     ensures len { vec_len absent.new ≡ vec_len absent.old }
     ensures absent { AreAbsent (P.held first.now) absent.old.items
         → AreAbsent (P.held first.now) absent.new.items }
 {
+    if case.tree().leaf_at(node).is_some() {
+        return Ok(());
+    }
     if first.may_have(Target::Node(node)) {
         let length = first.length(Target::Node(node));
         return measured.add(Target::Node(node), length);
@@ -98,10 +104,7 @@ fn add_nodes<P: TargetProofs>(
     let count = case.tree().size();
     let mut absent = vec![in alloc; false; count as usize]?;
     for number in 0..count {
-        let node = NodeId::new(number);
-        if case.tree().leaf_at(node).is_none() {
-            add_node(first, node, measured, &mut absent)?;
-        }
+        add_node(case, first, NodeId::new(number), measured, &mut absent)?;
     }
     Ok(absent)
 }

@@ -24,11 +24,22 @@ pub(crate) enum Region {
 }
 
 /// A board without its case: its cut, its nodes, their marks and open weights.
-#[derive(Drop)]
 pub struct BoardData {
     pub(crate) cut: u32,
     pub(crate) region: Region,
     pub(crate) rows: Rows,
+}
+
+// As a derive does. But who owns a board calls this, where a derived drop stands field by field in
+// the body of each owner, and is proved there.
+impl Drop for BoardData {
+    fn drop(self) {
+        let BoardData {
+            cut: _,
+            region: _,
+            rows: _,
+        } = self;
+    }
 }
 
 /// The node at the root of a part, by the part's number from 0 in tree order. `AllocError` where a

@@ -1,6 +1,7 @@
 -- What the workers of a crew share, begin with and hand back.
 use Rattle.std.specs.Prelude.{◌≡◌, ◌<◌, ℕ, List, length, slice_index, true, None, All, flat_map}
-use Rattle.std.specs.Prelude.{MatchOption, OnOk, Result}
+use Rattle.std.specs.Prelude.{MatchOption, OnOk, Result, vec_len}
+use Rattle.case_core.specs.Target.{Target}
 use Rattle.std.specs.List.{Contains}
 use Rattle.byte_flow.specs.Device.{IsDeviceFault}
 use Rattle.mark_board.specs.Boards.{BoardsOf}
@@ -14,9 +15,11 @@ use Rattle.cube_jobs.specs.Jobs.{JobPassOf, new_pass, claims_of}
 use Rattle.check_crew.specs.declared.fault.RunFault.{RunFault}
 use Rattle.check_crew.specs.declared.fault.RunFault.TheVariants.{Crew as OfCrew, Read}
 use Rattle.check_crew.specs.declared.crew.Crew.{Crew}
+use Rattle.check_crew.specs.declared.crew.Handed.{Handed}
 use Rattle.check_crew.specs.declared.worker.Job.{Job}
 use Rattle.check_crew.specs.declared.worker.Shift.{Shift}
 use Rattle.check_crew.specs.declared.worker.Site.{Site}
+use Rattle.check_crew.specs.Inner.Apart.{IsListOf}
 use Rattle.check_crew.specs.Inner.Order.{IsOrder}
 use Rattle.check_crew.specs.TargetProofs.{Known, IsExamined}
 use Rattle.check_crew.specs.Seen.{HasSeenSection, HaveSeenSections}
@@ -85,6 +88,22 @@ abbrev pub HaveSeenClaims : List ℕ → List Pass → List JobPassOf → Type 0
 HaveSeenClaims order passes job_passes =
     (turn : ℕ) → Contains (flat_map claims_of job_passes) turn →
     (pass : Pass) × Contains passes pass × HasSeenTurn order (view_of pass) turn
+
+-- So many workers handed this in. Their passes owe nothing, they left no job in the queue, and what
+-- was found of each section whose turn they claimed has been seen. Where what they read by holds
+-- what is known, their lists tell what became of targets.
+pub record IsHandedIn {R G P : Type 0} (site : Site R G) (held : P → Known) (readers : List P)
+    (count : ℕ) (handed : Handed) : Type 0 where
+  pub passes_count : vec_len handed.passes ≡ count
+  pub job_passes_count : vec_len handed.job_passes ≡ count
+  pub own : All (IsPassOf (shared_of site.core.now)) handed.passes.items
+  pub free : All (λ pass. (view_of pass).owes ≡ None) handed.passes.items
+  pub jobs : All (queue.IsPassOf site.jobs.now) handed.job_passes.items
+  pub empty : All (λ (pass : JobPassOf). pass.found_empty ≡ true) handed.job_passes.items
+  pub seen : HaveSeenClaims site.order.now handed.passes.items handed.job_passes.items
+  pub lists : (known : Known)
+      → All (λ one. (target : Target) → held one target ≡ known target) readers
+      → All (λ list. IsListOf known site.case.now list.items) handed.lists.items
 
 -- what a run tells of a failed call: the reader has met one
 abbrev pub IsRunFault : {P : Type 0} → (P → ℕ) → RunFault P → Type 0

@@ -8,10 +8,10 @@ use Rattle.check_crew.proofs.crew.examine_all.Goals as goal
 
 pub unreachable-requires : goal.unreachable-requires
 unreachable-requires g c =
-    let handed = c.in_ok-handed.handed in let are = c.in_ok-handed.ensures in
+    let handed = c.in_ok-handed.handed in let are = c.in_ok-handed.ensures.handed in
     let count : vec_len handed.job_passes ≡ c.in_ok-jobs.jobs.passes =
-    omega (arith, are.count.1, c.requires.pairs, c.in_ok-jobs.ensures.count.0) in
-    let some : 0 < vec_len handed.job_passes = omega (arith, are.count.1, c.requires.count.0) in
+    omega (arith, are.job_passes_count, c.requires.pairs, c.in_ok-jobs.ensures.count.0) in
+    let some : 0 < vec_len handed.job_passes = omega (arith, are.job_passes_count, c.requires.count.0) in
     let any =
     some_found_empty handed.job_passes.items (omega (arith, some, handed.job_passes.ok))
     are.empty in
@@ -27,4 +27,7 @@ returns-clause-seen g c =
     subst (λ n. EachOnce n (flat_map claims_of handed.job_passes.items)) turns
     (c.if-not-finish.ensures.once (search rules)) in
     sections_seen c.args.case.now order handed.passes.items handed.job_passes.items
-    c.in_ok-order.ensures (rw c.deref.ensures.value at c.in_ok-handed.ensures.seen) once
+    c.in_ok-order.ensures (rw c.deref.ensures.value at c.in_ok-handed.ensures.handed.seen) once
+
+pub returns-clause-lists : goal.returns-clause-lists
+returns-clause-lists g c = c.in_ok-handed.ensures.handed.lists

@@ -12,17 +12,17 @@ use Rattle.check_crew.proofs.crew.hand_in.Given as goal
 
 abbrev pub invariant-loop-shift : goal.invariant-loop-shift
 invariant-loop-shift g l = record {
-  passes_count : vec_len l.passes + into_iter_len l.shift-iterator ≡ vec_len l.fn.shifts;
-  job_passes_count : vec_len l.job_passes + into_iter_len l.shift-iterator ≡ vec_len l.fn.shifts;
+  passes_count : vec_len l.handed.passes + into_iter_len l.shift-iterator ≡ vec_len l.fn.shifts;
+  job_passes_count : vec_len l.handed.job_passes + into_iter_len l.shift-iterator ≡ vec_len l.fn.shifts;
   rest : All (IsHandedBy l.crew g.P.TargetProofs.held g.P.TargetProofs.failures)
       (into_iter_items l.shift-iterator);
-  own : All (IsPassOf (shared_of l.crew.site.core.now)) l.passes.items;
-  free : All (λ (pass : Pass). (view_of pass).owes ≡ None) l.passes.items;
-  jobs : All (queue.IsPassOf l.crew.site.jobs.now) l.job_passes.items;
-  empty : All (λ (pass : JobPassOf). pass.found_empty ≡ true) l.job_passes.items;
-  seen : HaveSeenClaims l.crew.site.order.now l.passes.items l.job_passes.items;
+  own : All (IsPassOf (shared_of l.crew.site.core.now)) l.handed.passes.items;
+  free : All (λ (pass : Pass). (view_of pass).owes ≡ None) l.handed.passes.items;
+  jobs : All (queue.IsPassOf l.crew.site.jobs.now) l.handed.job_passes.items;
+  empty : All (λ (pass : JobPassOf). pass.found_empty ≡ true) l.handed.job_passes.items;
+  seen : HaveSeenClaims l.crew.site.order.now l.handed.passes.items l.handed.job_passes.items;
   lists : (known : Known)
       → All (λ one. (target : Target) → g.P.TargetProofs.held one target ≡ known target)
       l.crew.readers.now.value.items
-      → All (λ list. IsListOf known l.crew.site.case.now list.items) l.lists.items;
+      → All (λ list. IsListOf known l.crew.site.case.now list.items) l.handed.lists.items;
 }

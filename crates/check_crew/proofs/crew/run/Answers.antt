@@ -26,3 +26,6 @@ returns-clause-closed g c =
       seen = subst (λ (case : CaseOf). HaveSeenSections case passes) c.requires.case
           c.in_ok-passes.ensures.seen;
     }
+
+pub returns-clause-lists : goal.returns-clause-lists
+returns-clause-lists g c = c.in_ok-passes.ensures.lists

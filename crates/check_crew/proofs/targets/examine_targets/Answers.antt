@@ -1,6 +1,6 @@
 use Rattle.std.proofs.lemmas.List.Elements.{All-nil}
 use Rattle.board_hall.specs.Halls.{view_of}
-use Rattle.check_crew.proofs.TargetsSeen.{stays_same}
+use Rattle.check_crew.proofs.SeenTurns.{stays_same}
 use Rattle.check_crew.proofs.targets.examine_targets.Goals as goal
 
 pub returns-in_default-clause-examined : goal.returns-in_default-clause-examined

@@ -1,5 +1,6 @@
 use Rattle.std.proofs.Common.{◌∙◌, ◌≡◌, rules, None}
-use Rattle.check_crew.proofs.TargetsSeen.{examined_more, none_opened, stays_same}
+use Rattle.check_crew.proofs.SeenTurns.{stays_same}
+use Rattle.check_crew.proofs.TargetsSeen.{examined_more, none_opened}
 use Rattle.check_crew.proofs.targets.next_proof.Goals as goal
 
 pub loop-preserved : goal.loop-preserved

@@ -8,7 +8,8 @@ use Rattle.board_hall.specs.declared.view.CutCase.{CutCase}
 use Rattle.board_hall.specs.Halls.{core_of, view_of}
 use Rattle.check_crew.specs.TargetProofs.{HasSeenAs}
 use Rattle.check_crew.specs.Seen.{HasSeenMark}
-use Rattle.check_crew.proofs.TargetsSeen.{as_stays, seen_as, found_at, stays_on}
+use Rattle.check_crew.proofs.SeenTurns.{stays_on}
+use Rattle.check_crew.proofs.TargetsSeen.{as_stays, seen_as, found_at}
 use Rattle.check_crew.proofs.targets.post_target.Goals as goal
 
 pub post-requires-clause-section : goal.post-requires-clause-section

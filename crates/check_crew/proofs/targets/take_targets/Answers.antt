@@ -1,6 +1,7 @@
 use Rattle.std.proofs.Common.{◌∙◌, refl}
 use Rattle.board_hall.specs.Halls.{view_of}
-use Rattle.check_crew.proofs.TargetsSeen.{examined_more, stays_same, stays_on}
+use Rattle.check_crew.proofs.SeenTurns.{stays_same, stays_on}
+use Rattle.check_crew.proofs.TargetsSeen.{examined_more}
 use Rattle.check_crew.proofs.targets.take_targets.Goals as goal
 
 pub loop-init : goal.loop-init

@@ -1,6 +1,11 @@
 use Rattle.board_hall.specs.Halls.{core_of, view_of}
 use Rattle.check_crew.proofs.SeenPosted.{mark_stays, posted_new}
+use Rattle.check_crew.proofs.SeenTurns.{stays_on}
 use Rattle.check_crew.proofs.worker.post.Goals as goal
+
+pub returns-in-RootMarked-clause-stays : goal.returns-in-RootMarked-clause-stays
+returns-in-RootMarked-clause-stays g c =
+    stays_on _ _ _ c.post.ensures.stays c.post_part.ensures.stays
 
 pub returns-in-RootMarked-clause-section : goal.returns-in-RootMarked-clause-section
 returns-in-RootMarked-clause-section g c = λ has.

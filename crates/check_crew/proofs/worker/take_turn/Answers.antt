@@ -3,7 +3,7 @@ use Rattle.board_hall.specs.declared.view.CutCase.{CutCase}
 use Rattle.board_hall.specs.Halls.{view_of}
 use Rattle.check_crew.proofs.SeenPosted.{seen_by_mark}
 use Rattle.check_crew.proofs.SeenSections.{section_here}
-use Rattle.check_crew.proofs.SeenTurns.{seen_stays, section_seen}
+use Rattle.check_crew.proofs.SeenTurns.{seen_stays, section_seen, stays_same, stays_on}
 use Rattle.check_crew.proofs.worker.take_turn.Goals as goal
 
 pub examine-requires : goal.examine-requires
@@ -55,3 +55,9 @@ returns-clause-seen g c =
     (seen_stays _ _ c.tell.ensures.stays c.in-Some.finding.node
     (seen_by_mark _ c.in-Some.finding.node c.in-Some.finding.judged
     (c.post.ensures.section (rw found.2 found.0))))
+
+pub returns-in_err-finding-clause-stays : goal.returns-in_err-finding-clause-stays
+returns-in_err-finding-clause-stays g c = stays_same _
+
+pub returns-clause-stays : goal.returns-clause-stays
+returns-clause-stays g c = stays_on _ _ _ c.post.ensures.stays c.tell.ensures.stays

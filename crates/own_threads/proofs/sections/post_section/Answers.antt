@@ -2,7 +2,7 @@ use Rattle.std.proofs.Common.{◌≡◌, sym, ◌∙◌, ap}
 use Rattle.board_hall.specs.declared.view.CutCase.{CutCase}
 use Rattle.board_hall.specs.Halls.{view_of}
 use Rattle.check_crew.proofs.SeenSections.{section_here}
-use Rattle.check_crew.proofs.SeenTurns.{section_seen}
+use Rattle.check_crew.proofs.SeenTurns.{section_seen, stays_same}
 use Rattle.own_threads.proofs.sections.post_section.Goals as goal
 
 -- the target is that of a section, so it has a proof
@@ -40,3 +40,6 @@ pub post-requires-clause-section : goal.post-requires-clause-section
 post-requires-clause-section g c =
     let found = rw (c.in-Some.is, c.requires.examiner) at c.in_ok-finding.ensures.found in
     λ alone. rw (found.1, found.2) found.0
+
+pub returns-in_err-finding-clause-stays : goal.returns-in_err-finding-clause-stays
+returns-in_err-finding-clause-stays g c = stays_same _
