@@ -7,7 +7,7 @@ ghost use Rattle.std.specs.Bool.{OnTrue};
 ghost use Rattle.case_core.specs.Case.{proof_for};
 ghost use Rattle.case_core.specs.Leaf.TheVariants.{Cube};
 ghost use Rattle.case_core.specs.Sections.{IsCaseOf};
-ghost use Rattle.case_core.specs.SplitTree.{cube};
+ghost use Rattle.case_core.specs.SplitTree.{cube, size};
 ghost use Rattle.case_core.specs.Target.{Target};
 ghost use Rattle.case_core.specs.Target.TheVariants.{Leaf as Named};
 ghost use Rattle.mark_board.specs.Marking.{mark_at};
@@ -81,13 +81,20 @@ fn is_one_cube(case: &Case) -> bool
     ensures free { OnTrue result (proof_for case.now.sections (Named (Cube 1)) ≡ None) }
 {
     let asked = Target::Leaf(Leaf::Cube(1));
-    if case.tree().size() != 1 {
+    if !has_one_node(case) {
         return false;
     }
     if !has_target(case.tree(), asked) {
         return false;
     }
     case.proof_for(Target::Leaf(Leaf::Cube(1))).is_none()
+}
+
+/// Whether the tree of a case is one node.
+fn has_one_node(case: &Case) -> bool
+    ensures { OnTrue result (size case.now.tree ≡ 1) }
+{
+    case.tree().size() == 1
 }
 
 /// The same of such a case: what is written is by a mark that is right for the proof at this path,

@@ -1,5 +1,5 @@
-use Rattle.std.proofs.Common.{◌∙◌, ap, refl, sym, subst}
-use Rattle.case_core.specs.SplitTree.{SplitTree, size}
+use Rattle.std.proofs.Common.{refl, subst}
+use Rattle.case_core.specs.SplitTree.{SplitTree}
 use Rattle.case_core.specs.Leaf.TheVariants.{Cube}
 use Rattle.case_core.specs.Leaves.{HasTarget}
 use Rattle.case_core.specs.Target.TheVariants.{Leaf as Named}
@@ -8,8 +8,7 @@ use Rattle.bundle_files.proofs.one_proof.is_one_cube.Goals as goal
 
 pub returns-clause-tree : goal.returns-clause-tree
 returns-clause-tree c =
-    let one = ap size (sym c.tree.ensures.tree) ∙ sym c.size.ensures ∙ c.if-size-ne1.false in
     let has : HasTarget c.args.case.now.tree (Named (Cube 1)) =
-    subst (λ (tree : SplitTree). HasTarget tree (Named (Cube 1))) c.tree-2.ensures.tree
+    subst (λ (tree : SplitTree). HasTarget tree (Named (Cube 1))) c.tree.ensures.tree
     (c.if-not-has_target.ensures.0 refl) in
-    on_true c.is_none.result _ (one_cube c.args.case.now.tree has.0 one has.1.0 has.1.1)
+    on_true c.is_none.result _ (one_cube c.args.case.now.tree has.0 c.if-not-has_one_node.ensures has.1.0 has.1.1)
