@@ -175,7 +175,7 @@ that it is unreadable.""",
       "lrat_text/steps.rt Steps::next_into step end err"]),
     ("lrat_binary: the text that a proof stands for", """
 A proof whose first byte is `a` or `d` is binary, and stands for the text of its steps. Any other is its own text.""",
-     ["lrat_binary/form.rt ProofForm::turn -",
+     ["lrat_binary/form.rt binary_text -",
       "lrat_binary/form.rt turn_from -"]),
     ("hint_check: the judgement of a proof", """
 The answer is the judgement of the live clauses and the proof, with RUP and RAT over all live clauses. If it is

@@ -29,7 +29,7 @@ pub use hint_check::{Judged, Reason};
 pub use laws::{
     case_or_a_fault, no_fault_beside_a_case, no_label_in_a_binary_proof, one_case, one_fault,
 };
-pub use lrat_binary::{ProofForm, turn_from};
+pub use lrat_binary::{ProofForm, binary_text, turn_from};
 pub use outline::{Outline, OutlinedCase, Stretch};
 pub use scan::LabelScan;
 pub use split_tree::{Leaf, NodeId, Target, Tree};

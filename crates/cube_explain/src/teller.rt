@@ -14,7 +14,7 @@ use crate::rejected::{Rejected, Rejections, rejections_in};
 use crate::run::Run;
 use crate::shown::{Name, Shown};
 use crate::step_lines::step_line;
-use case_core::{Case, Formula, ProofForm, read_bundle};
+use case_core::{Case, Formula, binary_text, read_bundle};
 use cube_report::{Asked, Explain, Fault, Target, icnf_part};
 use sha2::{Digest, Sha256};
 use std::alloc::{AllocError, Global};
@@ -266,11 +266,9 @@ fn tell_in_file<R: Eprint + ReadFiles>(run: &Run<'_, R>, step: Step<'_>) {
 
 /// Tells the rejected step of a folder's proof: of a text where it stands, of a binary one as text.
 fn tell_proof<R: Eprint>(run: &Run<'_, R>, step: Step<'_>, proof: &[u8]) {
-    let mut text = Vec::new(run.alloc);
-    let mut form = ProofForm::Unread;
-    match form.turn(proof, &mut text) {
-        Ok(true) => tell_binary_step(run, step, &text),
-        Ok(false) => tell_step(run, step, proof, 0),
+    match binary_text(run.alloc, proof) {
+        Ok(Some(text)) => tell_binary_step(run, step, &text),
+        Ok(None) => tell_step(run, step, proof, 0),
         Err(_) => {}
     }
 }

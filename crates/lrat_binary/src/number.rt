@@ -47,10 +47,11 @@ pub fn next_number(bytes: &[u8]) -> Option<(u64, &[u8])>
         [first, second, rest @ ..] if *first >= 128 && *second < 128 => {
             Some((two_bytes(*first, *second), rest))
         }
-        [first, second, third, rest @ ..]
-            if *first >= 128 && *second >= 128 && *third < 128 =>
-        {
-            Some((two_bytes(*first, *second % 128) + 16384 * u64::from(*third), rest))
+        [first, second, third, rest @ ..] if *first >= 128 && *second >= 128 && *third < 128 => {
+            Some((
+                two_bytes(*first, *second % 128) + 16384 * u64::from(*third),
+                rest,
+            ))
         }
         _ => long_number(bytes),
     }

@@ -64,9 +64,10 @@ one n odd none =
 pub odd : (n half : ℕ) → half ≡ n / 2 → half ≤ 4611686018427387904 → n % 2 ≡ 1 →
     (half ≡ 0 → ⊥) → IsWordOf (words.Negative half) n
 odd n half is small is_odd some =
-    no_other (words.Negative half) n (omega arith, small)
-    ((omega arith, small),
-    odd_symbol n is_odd (λ e. some (omega arith)) ∙ ap negative (sym is)) (λ e. cc)
+    no_other (words.Negative half) n (omega arith, small) (
+      (omega arith, small),
+      odd_symbol n is_odd (λ e. some (omega arith)) ∙ ap negative (sym is),
+    ) (λ e. cc)
     (λ e. omega arith) (λ k. refl)
 
 pub nothing : (n : ℕ) → (n % 2 ≡ 1 → ⊥) → n / 2 ≡ 0 → IsWordOf words.End n

@@ -11,7 +11,6 @@ use Rattle.lrat_text.specs.declared.step.OpenFault.TheVariants.{Unreadable, Unfi
 abbrev pub proof_left : List ℕ → Proof
 proof_left text = proof_in (symbols (words_left text))
 
-
 -- what may follow where this fault is told: anything, or nothing
 abbrev pub Allows : OpenFault → List StepSymbol → Type 0
 Allows Unreadable more = Unit {0}

@@ -62,6 +62,19 @@ fn push_by_blocks(rt: &impl Abort, bytes: &[u8], size: usize, text: &mut Vec<u8>
     }
 }
 
+/// Appends the bytes of a number, the lowest seven bits first.
+pub fn push_number_bytes(rt: &impl Abort, bytes: &mut Vec<u8>, number: u64) {
+    let mut left = number;
+    for _ in 0..10u32 {
+        if left < 128 {
+            bytes.push(left as u8).expect(rt, "memory");
+            return;
+        }
+        bytes.push((left % 128) as u8 + 128).expect(rt, "memory");
+        left /= 128;
+    }
+}
+
 /// A byte that a number stands for: many begin or end a step.
 fn drawn(word: u64) -> u8 {
     match word % 8 {
@@ -73,7 +86,7 @@ fn drawn(word: u64) -> u8 {
 }
 
 /// Appends so many bytes by a linear congruential generator.
-fn push_random(rt: &impl Abort, state: &mut u64, count: usize, bytes: &mut Vec<u8>) {
+pub fn push_random(rt: &impl Abort, state: &mut u64, count: usize, bytes: &mut Vec<u8>) {
     for _ in 0..count {
         *state = state
             .wrapping_mul(6364136223846793005)

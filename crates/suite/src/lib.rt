@@ -2,6 +2,8 @@
 #![tactic(auto)]
 
 #[cfg(test)]
+mod binary_parts_tests;
+#[cfg(test)]
 mod binary_tests;
 #[cfg(test)]
 mod boards_tests;

@@ -61,8 +61,8 @@ returns-in-Found-clause-labelled g c = λ none.
     c.begin-form.result c.loop-count.watch c.in_ok-watch.watch c.loop-count.length bytes
     c.loop-count.invariant.read c.in-Ok.ensures.bytes.0 c.begin-form.ensures.left
     c.begin-form.ensures.kept
-      (some_read c.in-Ok.count (take c.in-Ok.count c.read.new.buffer) c.begin-form.result
-      c.if-count-eq0.false (search rules) c.begin-form.ensures.none) c.in_ok-watch.ensures.handed)
+    (some_read c.in-Ok.count (take c.in-Ok.count c.read.new.buffer) c.begin-form.result
+    c.if-count-eq0.false (search rules) c.begin-form.ensures.none) c.in_ok-watch.ensures.handed)
     (Consumes-nil next) refl
     (subst (λ (w : LabelWatch). true ≡ holds w []) (sym c.in-Found.is) refl)
 
