@@ -1,7 +1,7 @@
 //! A run: the calling thread is a worker, and each other worker has a thread of its own.
 
-ghost use Rattle.std.specs.Prelude.{◌≡◌, ◌+◌, ◌<◌, ◌≤◌, ◌≢◌, true, None, Some, All, IfOk, IfErr};
-ghost use Rattle.std.specs.Prelude.{vec_len, vec_capacity, MatchOption, OnOk, length, ◌++◌, ◌∷◌, []};
+ghost use Rattle.std.specs.Prelude.{◌≡◌, ◌+◌, ◌<◌, ◌≤◌, ◌≢◌, ◌++◌, ◌∷◌, [], None, Some, All};
+ghost use Rattle.std.specs.Prelude.{length, IfOk, IfErr, OnOk, MatchOption, vec_len, vec_capacity};
 ghost use Rattle.byte_flow.specs.Device.{IsDeviceFault};
 ghost use Rattle.case_core.specs.Target.{Target};
 ghost use Rattle.cube_jobs.specs.Jobs.{new_pass};

@@ -38,6 +38,13 @@ impl Measured {
         self.lengths.push((length.unwrap_or(0), target))?;
         Ok(())
     }
+
+    /// The targets, those of longer proofs first.
+    fn in_order(self, alloc: Global) -> Result<Vec<Target>, AllocError> {
+        let Measured { mut lengths, .. } = self;
+        lengths.sort_by_key(|one| Reverse(one.0))?;
+        lengths.iter().map(|one| one.1).collect(alloc)
+    }
 }
 
 /// The leaf of this number, from 0: the cubes in their order, and then the missing leaves.
@@ -133,12 +140,8 @@ pub(crate) fn targets_in_order<P: TargetProofs>(
     };
     add_leaves(case, first, &mut measured)?;
     let absent = add_nodes(alloc, case, first, &mut measured)?;
-    let Measured {
-        mut lengths,
-        elsewhere,
-    } = measured;
-    lengths.sort_by_key(|one| Reverse(one.0))?;
-    let targets = lengths.iter().map(|one| one.1).collect(alloc)?;
+    let elsewhere = measured.elsewhere;
+    let targets = measured.in_order(alloc)?;
     Ok(TargetOrder {
         targets,
         elsewhere,

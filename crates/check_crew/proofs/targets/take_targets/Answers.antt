@@ -1,4 +1,5 @@
-use Rattle.std.proofs.Common.{◌∙◌, refl}
+use Rattle.std.proofs.Common.{◌∙◌, refl, rules}
+use Rattle.byte_flow.specs.Device.{IsDeviceFault}
 use Rattle.board_hall.specs.Halls.{view_of}
 use Rattle.check_crew.proofs.SeenTurns.{stays_same, stays_on}
 use Rattle.check_crew.proofs.TargetsSeen.{examined_more}
@@ -49,3 +50,16 @@ returns-in_default-clause-examined g c =
 pub returns-in_default-clause-stays : goal.returns-in_default-clause-stays
 returns-in_default-clause-stays g c =
     stays_on _ _ _ c.loop.invariant.stays c.in_ok-one.ensures.stays
+
+pub returns-in_err-one-clause-err : goal.returns-in_err-one-clause-err
+returns-in_err-one-clause-err g c =
+    let is : IsDeviceFault (g.P.TargetProofs.failures c.args.proofs.now)
+    (g.P.TargetProofs.failures c.take_target.new.proofs) c.in_err-one.field-0.0 =
+    rw c.loop.invariant.count at c.in_err-one.ensures.err in search (rules, is)
+
+pub returns-in_err-following-clause-err : goal.returns-in_err-following-clause-err
+returns-in_err-following-clause-err g c =
+    let is : IsDeviceFault (g.P.TargetProofs.failures c.args.proofs.now)
+    (g.P.TargetProofs.failures c.next_proof.new.proofs) c.in_err-following.field-0.0 =
+    rw (c.in_ok-one.ensures.ok, c.loop.invariant.count) at c.in_err-following.ensures.err in
+    search (rules, is)
