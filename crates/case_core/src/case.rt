@@ -21,7 +21,6 @@ pub struct Section {
 
 /// A formula, the tree of its cubes, and sections in the order of the text, no two of them for one
 /// target. It doesn't change.
-#[derive(Drop)]
 pub struct Case {
     pub(crate) base: Base<'static>,
     /// The bundle that was read. The proofs are parts of it.
@@ -30,6 +29,19 @@ pub struct Case {
     pub(crate) sections: Vec<Section>,
     /// For each node the place of its section, counted from 1, or 0.
     pub(crate) places: Vec<u32>,
+}
+
+// As a derive does, but proved here alone and not in the body of each owner.
+impl Drop for Case {
+    fn drop(self) {
+        let Case {
+            base: _,
+            text: _,
+            tree: _,
+            sections: _,
+            places: _,
+        } = self;
+    }
 }
 
 impl Model for Case {

@@ -25,11 +25,20 @@ use std::marker::Model;
 
 /// Examines one target of a case after another, and keeps for the next one what its judge has room
 /// for. To a contract it is its case.
-#[derive(Drop)]
 pub struct Examiner<'c> {
     case: &'c Case,
     /// Over the case's formula.
     judging: Judging<'c>,
+}
+
+// As a derive does, but proved here alone and not in the body of each owner.
+impl<'c> Drop for Examiner<'c> {
+    fn drop(self) {
+        let Examiner {
+            case: _,
+            judging: _,
+        } = self;
+    }
 }
 
 /// What is found by a proof that was read, and how many bytes were read.

@@ -275,7 +275,6 @@ fn bare_case(alloc: Global, formula: Formula, tree: Tree) -> Result<Case, CaseFa
 
 /// The case of an outline: a formula and a tree, and where the proofs stand in the text that has
 /// the outline.
-#[derive(Drop)]
 pub struct OutlinedCase {
     /// The formula and the tree, with no section.
     case: Case,
@@ -283,6 +282,17 @@ pub struct OutlinedCase {
     sections: Vec<Section>,
     /// For each node the place of its section in that list, counted from 1, or 0.
     places: Vec<u32>,
+}
+
+// As a derive does, but proved here alone and not in the body of each owner.
+impl Drop for OutlinedCase {
+    fn drop(self) {
+        let OutlinedCase {
+            case: _,
+            sections: _,
+            places: _,
+        } = self;
+    }
 }
 
 impl Model for OutlinedCase {
