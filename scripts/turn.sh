@@ -108,7 +108,7 @@ threads "
     adds cnf_text src "*.rt" "// ensures more"
     REFUSED=hint_check
     export REFUSED
-    turn "where a crate isn't proved nothing is tried" 70 "$(lines cnf_text hint_check lrat_text split_tree)" ""
+    turn "where a crate isn't proved nothing is tried" 70 "$(lines cnf_text hint_check lrat_binary_law lrat_binary_words lrat_text split_tree)" ""
     grep -q '^a goal of hint_check stays open$' "$here/err" && grep -q "^turn: the crate hint_check isn't proved; " "$here/err"
     count "what was said of it is told" $?
     REFUSED=
