@@ -294,7 +294,10 @@ const ONE_PROOF_CALLS: &[Call] = &[
     ),
     // A label line has its line in the text of both, which is read then.
     (
-        &[("CNF", b"p cnf 1 2\n1 0\n-1 0\n"), ("P", b"3 0 1 2 0\nl 1\n")],
+        &[
+            ("CNF", b"p cnf 1 2\n1 0\n-1 0\n"),
+            ("P", b"3 0 1 2 0\nl 1\n"),
+        ],
         OF_FILE,
         b"",
         (3, b"", b"cubeboard: F12 second proof, line 8\n"),
@@ -305,7 +308,11 @@ const ONE_PROOF_CALLS: &[Call] = &[
         &[("CNF", b"p cnf 1 1\n1 0\n-1 0\n"), ("P", b"3 0 1 2 0\n")],
         OF_FILE,
         b"",
-        (3, b"", b"cubeboard: F17 the header says 1 variables and 1 clauses, there are 1 and 2\n"),
+        (
+            3,
+            b"",
+            b"cubeboard: F17 the header says 1 variables and 1 clauses, there are 1 and 2\n",
+        ),
         b"CNF\nP\nCNF\n",
     ),
 ];
@@ -314,7 +321,9 @@ const ONE_PROOF_CALLS: &[Call] = &[
 #[test]
 fn one_proof_of_a_file(rt: HostRuntime) {
     for (files, words, input, ending, paths) in ONE_PROOF_CALLS {
-        let shelf = Shelf::new(rt.alloc(), files).expect(&rt, "memory").with_lengths();
+        let shelf = Shelf::new(rt.alloc(), files)
+            .expect(&rt, "memory")
+            .with_lengths();
         ends_so(&rt, shelf, &unfailing(words, input), *ending, paths);
     }
 }
