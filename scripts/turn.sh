@@ -106,10 +106,10 @@ threads "
     changes suite
     turn "a suite that has changed is tried and not proved" 0 "" "$(lines "rows " "tests suite try --test")"
     adds cnf_text src "*.rt" "// ensures more"
-    REFUSED=hint_check
+    REFUSED=cnf_text
     export REFUSED
-    turn "where a crate isn't proved nothing is tried" 70 "$(lines cnf_text hint_check lrat_binary_law lrat_binary_words lrat_text split_tree)" ""
-    grep -q '^a goal of hint_check stays open$' "$here/err" && grep -q "^turn: the crate hint_check isn't proved; " "$here/err"
+    turn "where a crate isn't proved nothing above it is, and nothing is tried" 70 cnf_text ""
+    grep -q '^a goal of cnf_text stays open$' "$here/err" && grep -q "^turn: the crate cnf_text isn't proved; " "$here/err"
     count "what was said of it is told" $?
     REFUSED=
 }
