@@ -1,1 +1,2 @@
+mod LinesFilled
 mod WholePieces

@@ -1,1 +1,3 @@
 pub mod Device
+pub mod Inner
+pub mod Lines

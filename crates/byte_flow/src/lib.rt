@@ -3,8 +3,10 @@
 
 mod device;
 mod fault;
+mod lines;
 mod whole;
 
 pub use device::{Counted, Sink, Source};
 pub use fault::DeviceFault;
+pub use lines::LineBuffer;
 pub use whole::{read_all, read_to_end, write_all};

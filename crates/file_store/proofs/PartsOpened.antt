@@ -38,7 +38,8 @@ pub no_part : (before : ℕ) (known : Option (Option (List ℕ))) (sections : Li
     → IfSome (held_in before known sections target) (λ held. None ≡ held)
 no_part before None sections target None is none = rw (is []) refl
 no_part before (Some None) sections target None is none = rw (is []) refl
-no_part before (Some (Some text)) sections target None is none = sym (is (replicate before 0 ++ text))
+no_part before (Some (Some text)) sections target None is none =
+    sym (is (replicate before 0 ++ text))
 no_part before known sections target (Some place) is none = absurd (cc)
 
 -- with a place, what is left to read is what is known, if it is that part wherever the bytes are

@@ -1,3 +1,2 @@
 pub mod Files
 pub mod Parts
-pub mod Inner

@@ -20,9 +20,9 @@ absent_if None = Some None
 absent_if (Some part) = None
 
 -- What is known of the proof of a target in a text that begins with so many bytes and goes on with
--- those of a file: the bytes at the place of the target's section, or that it has none. Of the bytes
--- before the file's nothing is known, and zeros stand for them. Which targets have none is known
--- also where the file's bytes aren't.
+-- those of a file: the bytes at the place of the target's section, or that it has none. Of the
+-- bytes before the file's nothing is known, and zeros stand for them. Which targets have none is
+-- known also where the file's bytes aren't.
 abbrev pub held_in : ℕ → Option (Option (List ℕ)) → List Section → Target →
     Option (Option (List ℕ))
 held_in before None sections target =

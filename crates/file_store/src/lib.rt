@@ -1,5 +1,5 @@
-//! What is read and written by its path: files, the proofs of a folder, and the parts of a file that
-//! are proofs.
+//! What is read and written by its path: files, the proofs of a folder, and the parts of a file
+//! that are proofs.
 #![tactic(auto)]
 
 mod blocks;
@@ -20,7 +20,7 @@ pub use folder::{add_proofs, proof_path, write_label};
 pub use inputs::{FileId, Inputs, Spared};
 pub use opener::{Opener, SystemFiles};
 pub use part::Part;
-pub use reader::ProofReader;
+pub use reader::{Place, ProofReader};
 pub use sections::SectionReader;
 pub use source::{append_given, read_given};
 pub use store::{FileStore, Store};

@@ -3,8 +3,7 @@ ghost use Rattle.std.specs.Prelude.{◌≡◌, false, IfOk, IfSome, IfNone, None
 ghost use Rattle.std.specs.String.{string_bytes};
 ghost use Rattle.proof_folder.specs.Given.{name_of};
 ghost use Rattle.proof_folder.specs.Added.{proof_path};
-ghost use Rattle.file_store.specs.Files.{Held, as_proofs};
-ghost use Rattle.file_store.specs.Files.{held_at};
+ghost use Rattle.file_store.specs.Files.{Held, as_proofs, held_at, held_for, held_for_one};
 
 use crate::opener::Opener;
 use crate::store::FileStore;
@@ -13,9 +12,9 @@ use case_core::{Leaf, ProofForm, Target};
 use check_crew::TargetProofs;
 use std::alloc::{AllocError, Global};
 
-/// Where proofs lie.
+/// Where proofs lie that are files of their own.
 #[derive(Drop)]
-pub(crate) enum Place {
+pub enum Place {
     /// In a folder: that of a leaf at `FOLDER/K.lrat` or `FOLDER/mJ.lrat`, and none of an inner
     /// node.
     Folder(String),
@@ -24,6 +23,33 @@ pub(crate) enum Place {
 }
 
 impl Place {
+    /// The folder at this path. An error is a refused growth.
+    pub fn folder(alloc: Global, path: &str) -> Result<Place, AllocError>
+        ensures { IfOk result
+            (λ place. (held : Held) → held_at held place ≡ held_for held path.now) }
+    {
+        Ok(Place::Folder(String::from_str(alloc, path)?))
+    }
+
+    /// The file at this path. An error is a refused growth.
+    pub fn file(alloc: Global, path: &str) -> Result<Place, AllocError>
+        ensures { IfOk result
+            (λ place. (held : Held) → held_at held place ≡ held_for_one held path.now) }
+    {
+        Ok(Place::File(String::from_str(alloc, path)?))
+    }
+
+    /// The same place once more. An error is a refused growth.
+    pub(crate) fn another(&self, alloc: Global) -> Result<Place, AllocError>
+        ensures { IfOk result
+            (λ place. (held : Held) → held_at held place ≡ held_at held self.now) }
+    {
+        match self {
+            Place::Folder(path) => Place::folder(alloc, path.as_str()),
+            Place::File(path) => Place::file(alloc, path.as_str()),
+        }
+    }
+
     /// Whether a proof may lie there for a target.
     fn may_have(&self, target: Target) -> bool
         ensures { result ≡ false → (held : Held) → held_at held self.now target ≡ Some None }

@@ -8,7 +8,7 @@ ghost use Rattle.file_store.specs.Files.{Gives, GrewBy, IsFound, IsOpenedAt, Sta
 ghost use Rattle.file_store.specs.Files.{StaysAllowedBeside};
 ghost use Rattle.file_store.specs.Files.{as_proofs, held_if};
 ghost use Rattle.case_core.specs.Binary.{proof_text};
-ghost use Rattle.file_store.specs.Files.{held_for, held_for_one};
+ghost use Rattle.file_store.specs.Files.{held_at};
 ghost use Rattle.file_store.specs.Parts.{GoesOnWith, held_in};
 
 use crate::blocks::outline_of;
@@ -143,18 +143,11 @@ pub trait Store {
         ensures err { IfErr result (λ fault. fault ≡ DeviceFault.Device) }
         ensures failed { OnErr result (failures self.new ≡ failures self.old + 1) };
 
-    /// A reader of the proofs of a folder, for one worker, with no failed read yet: what it reads
-    /// for a leaf is what lies at the path of the leaf's proof.
-    fn reader(&self, alloc: Global, folder: &str) -> Result<Self::Reader, AllocError>
+    /// A reader of the proofs that lie at a place, for one worker, with no failed read yet: what it
+    /// reads for a target is what lies there for it.
+    fn reader(&self, alloc: Global, place: &Place) -> Result<Self::Reader, AllocError>
         ensures held { IfOk result (λ reader. (target : Target) →
-            Self.Reader.held reader target ≡ held_for (held self.now) folder.now target) }
-        ensures none { IfOk result (λ reader. Self.Reader.failures reader ≡ 0) };
-
-    /// A reader of one proof, for one worker, with no failed read yet: what it reads for cube 1 is
-    /// what lies at this path, and for no other target it reads anything.
-    fn reader_of_one(&self, alloc: Global, path: &str) -> Result<Self::Reader, AllocError>
-        ensures held { IfOk result (λ reader. (target : Target) →
-            Self.Reader.held reader target ≡ held_for_one (held self.now) path.now target) }
+            Self.Reader.held reader target ≡ held_at (held self.now) place.now target) }
         ensures none { IfOk result (λ reader. Self.Reader.failures reader ≡ 0) };
 
     /// How long the file at this path is, where that can be told without reading it. No clause ties
@@ -482,16 +475,9 @@ where
         }
     }
 
-    fn reader(&self, alloc: Global, folder: &str) -> Result<ProofReader<F>, AllocError> {
+    fn reader(&self, alloc: Global, place: &Place) -> Result<ProofReader<F>, AllocError> {
         let opener = self.opener.another(alloc)?;
-        let folder = String::from_str(alloc, folder)?;
-        Ok(ProofReader::new(alloc, opener, Place::Folder(folder)))
-    }
-
-    fn reader_of_one(&self, alloc: Global, path: &str) -> Result<ProofReader<F>, AllocError> {
-        let opener = self.opener.another(alloc)?;
-        let path = String::from_str(alloc, path)?;
-        Ok(ProofReader::new(alloc, opener, Place::File(path)))
+        Ok(ProofReader::new(alloc, opener, place.another(alloc)?))
     }
 
     fn length(&self, path: &str) -> Option<u64> {

@@ -1,2 +1,2 @@
 -- The words of private contracts: no public contract names them, and no other crate does.
-pub mod Blocks
+pub mod Lines
