@@ -204,7 +204,3 @@ other_by line None word rest false plain is words_are = absurd (cc)
 other_by line (Some f) word rest true plain is words_are = tt
 other_by line (Some f) word rest false plain is words_are =
     word_there line (word f) (words (rest f)) plain words_are
-
-pub on_true : {P : Type 0} (b : Bool) → P → OnTrue b P
-on_true true p = p
-on_true false p = tt

@@ -35,8 +35,8 @@ joined_more n (line ∷ lines) more =
     )
 
 -- the text before the first label line, where the first lines are none
-pub plain_front : (lines more : List (List ℕ)) → AllByRecursion (λ line. is_label line ≡ false) lines
-    → (lines ≡ [] → ⊥) → (more ≡ [] → ⊥)
+pub plain_front : (lines more : List (List ℕ)) →
+    AllByRecursion (λ line. is_label line ≡ false) lines → (lines ≡ [] → ⊥) → (more ≡ [] → ⊥)
     → text_before (lines ++ more) ≡ with_ends lines ++ 10 ∷ text_before more
 plain_front [] more plain some others = absurd (some refl)
 plain_front (line ∷ lines) [] plain some others = absurd (others refl)

@@ -1,25 +1,25 @@
 -- A bundle whose tree is cube 1 alone, with one proof that was judged beside it.
-use Rattle.std.proofs.Common.{◌≡◌, ◌≢◌, ◌∙◌, sym, ap, refl, subst, ℕ, ◌+◌, ◌<◌, Bool, true, false}
+use Rattle.std.proofs.Common.{◌≡◌, ◌≢◌, ◌∙◌, sym, ap, refl, subst, ℕ, ◌<◌, Bool}
 use Rattle.std.proofs.Common.{List, [], ◌∷◌, ◌++◌, map, codes, append-nil, arith, decimal}
-use Rattle.std.proofs.Common.{Option, None, Some, Result, Ok, Err, IfOk, inl, inr}
+use Rattle.std.proofs.Common.{Option, None, Some, Result, Ok, Err, IfOk}
 use Rattle.std.specs.Prelude.{IfSome}
-use Rattle.std.specs.Bool.{OnTrue}
 use Rattle.std.specs.Fmt.{digits}
 use Rattle.std.specs.Option.{option_map}
-use Rattle.std.proofs.lemmas.Bool.{cases_Bool}
-use Rattle.std.proofs.lemmas.List.{map-append}
+use Rattle.std.proofs.lemmas.Simd.{map-map}
+use Rattle.cnf_text.proofs.WordsLeft.{whatever_line}
+use Rattle.split_tree.proofs.NodesCoding.{subtree-root}
 use Rattle.case_core.specs.Binary.{proof_text}
 use Rattle.case_core.specs.Literal.{Literal}
-use Rattle.case_core.specs.Tokens.{Token, is_comment, joined, line_tokens, lines_from, token_lines}
+use Rattle.case_core.specs.Tokens.{Token, is_comment, joined, line_tokens, token_lines}
 use Rattle.case_core.specs.Tokens.{tokens_of, words}
 use Rattle.case_core.specs.Grammar.{StepSymbol, Longest, step_symbol_of, step_symbols_of}
 use Rattle.case_core.specs.Proof.{Proof, IsProofOf}
-use Rattle.case_core.specs.SplitTree.{SplitTree, IsSplit, cube, missing, size, split, subtree_at}
+use Rattle.case_core.specs.SplitTree.{SplitTree, IsSplit, cube, size, subtree_at}
 use Rattle.case_core.specs.Leaf.{Leaf}
 use Rattle.case_core.specs.Leaf.TheVariants.{Cube, Missing}
 use Rattle.case_core.specs.Leaves.{IsLeafAt, IsTargetAt}
 use Rattle.case_core.specs.Target.TheVariants.{Leaf as Named, Node}
-use Rattle.case_core.specs.Bundle.{Labelled, is_label, labelled, labels_of, lines_of}
+use Rattle.case_core.specs.Bundle.{is_label, labelled, labels_of, lines_of}
 use Rattle.case_core.specs.Case.{CaseOf, SectionOf, proof_for}
 use Rattle.case_core.specs.Sections.{IsCaseOf}
 use Rattle.mark_board.specs.declared.mark.Mark.{Mark}
@@ -33,6 +33,7 @@ use Rattle.cube_report.specs.declared.fault.Fault.{Fault}
 use Rattle.proof_folder.specs.Added.{section_text}
 use Rattle.proof_folder.specs.Given.{Given, AreFoundApart, AreMarksBy, HasFewLeaves, IsGivenFor}
 use Rattle.proof_folder.specs.Given.{IsJudgedAs, IsMarkBy, MayBeGiven}
+use Rattle.case_core.proofs.OutlineLines.{plain_text, front_plain}
 use Rattle.proof_folder.proofs.GivenLeaves.{cubes_of_case}
 use Rattle.proof_folder.proofs.GivenFindings.{judged_with_given}
 use Rattle.file_store.specs.Files.{Held, held_for_one}
@@ -40,38 +41,16 @@ use Rattle.bundle_files.specs.Judging.{IsOutcomeWith}
 
 -- ---- a line end in front of a text
 
-abbrev symbol_of : Token → StepSymbol
-symbol_of token = step_symbol_of token.bytes
-
-words_alike : (n m : ℕ) (found : List (List ℕ))
-    → map symbol_of (map (λ word. record { line = n; bytes = word }) found)
-    ≡ map symbol_of (map (λ word. record { line = m; bytes = word }) found)
-words_alike n m [] = refl
-words_alike n m (word ∷ found) =
-    ap (λ (symbols : List StepSymbol). step_symbol_of word ∷ symbols) (words_alike n m found)
-
-line_alike : (n m : ℕ) (line : List ℕ)
-    → map symbol_of (line_tokens n line) ≡ map symbol_of (line_tokens m line)
-unfolding line_tokens
-line_alike n m line = elim (cases_Bool (is_comment line)) [
-  | inl is ↦ rw is refl
-  | inr other ↦ rw other (words_alike n m (words line))
-]
-
--- the symbols of lines are the same whatever number the first of them has
-lines_alike : (n m : ℕ) (lines : List (List ℕ))
-    → map symbol_of (joined (lines_from n lines)) ≡ map symbol_of (joined (lines_from m lines))
-lines_alike n m [] = refl
-lines_alike n m (line ∷ lines) =
-    map-append symbol_of (line_tokens n line) (joined (lines_from (n + 1) lines))
-    ∙ rw (line_alike n m line, lines_alike (n + 1) (m + 1) lines) refl
-    ∙ sym (map-append symbol_of (line_tokens m line) (joined (lines_from (m + 1) lines)))
-
-end_before : (text : List ℕ) → step_symbols_of (tokens_of (10 ∷ text)) ≡ step_symbols_of (tokens_of text)
+end_before : (text : List ℕ)
+    → step_symbols_of (tokens_of (10 ∷ text)) ≡ step_symbols_of (tokens_of text)
 unfolding token_lines line_tokens is_comment words
-end_before text = lines_alike 2 1 (lines_of text)
+end_before text =
+    sym (map-map step_symbol_of (λ (token : Token). token.bytes) (joined (token_lines 2 text)))
+    ∙ ap (map step_symbol_of) (sym (whatever_line 2 text))
+    ∙ map-map step_symbol_of (λ (token : Token). token.bytes) (tokens_of text)
 
-proof_behind_end : (text : List ℕ) (proof : Proof) → IsProofOf (10 ∷ text) proof → IsProofOf text proof
+proof_behind_end : (text : List ℕ) (proof : Proof) → IsProofOf (10 ∷ text) proof →
+    IsProofOf text proof
 proof_behind_end text proof is = record {
   left = is.left;
   longest =
@@ -80,20 +59,11 @@ proof_behind_end text proof is = record {
   blank = is.blank;
 }
 
-some_labels : (label : Labelled) (labels : List Labelled) → label ∷ labels ≡ [] → ⊥
-some_labels label labels e = cc
-
--- lines without a label line have none whatever number the first of them has
-plain_lines : (n m : ℕ) (lines : List (List ℕ)) → labelled n lines ≡ [] → labelled m lines ≡ []
-plain_lines n m [] none = refl
-plain_lines n m (line ∷ lines) none = elim (cases_Bool (is_label line)) [
-  | inl one ↦ absurd (some_labels _ _ (rw one at none))
-  | inr other ↦ rw other (plain_lines (n + 1) (m + 1) lines (rw other at none))
-]
-
 labels_behind_end : (text : List ℕ) → labels_of text ≡ [] → labels_of (10 ∷ text) ≡ []
 unfolding is_label words
-labels_behind_end text none = plain_lines 1 2 (lines_of text) none
+labels_behind_end text none =
+    subst (λ (t : List ℕ). labelled 2 (lines_of t) ≡ []) (plain_text 1 text none)
+    (front_plain text 2)
 
 -- ---- bytes of a proof
 
@@ -297,18 +267,9 @@ found_by held path case here marks draws (Err fault) same are judged by = tt
 
 -- ---- one node
 
-root_is : (tree : SplitTree) → subtree_at tree 0 ≡ tree
-root_is missing = refl
-root_is (cube k) = refl
-root_is (split v positive negative) = refl
-
 -- a tree of one node that has cube 1 is that cube alone
 pub one_cube : (tree : SplitTree) (node : ℕ) → size tree ≡ 1 → node < size tree
     → subtree_at tree node ≡ cube 1 → tree ≡ cube 1
 one_cube tree node one inside is =
     let first : node ≡ 0 = omega (arith, one, inside) in
-    sym (root_is tree) ∙ subst (λ (n : ℕ). subtree_at tree n ≡ cube 1) first is
-
-pub on_true : (test : Bool) (P : Type 0) → P → OnTrue test P
-on_true true P is = is
-on_true false P is = tt
+    sym (subtree-root tree) ∙ subst (λ (n : ℕ). subtree_at tree n ≡ cube 1) first is

@@ -1,5 +1,6 @@
 -- A bundle whose iCNF text is known, and of whose proofs is only known which targets have none.
-use Rattle.std.proofs.Common.{◌≡◌, ◌∙◌, ◌⊎◌, ap, sym, subst, refl, inl, inr, arith, ℕ, ◌+◌, List, []}
+use Rattle.std.proofs.Common.{◌≡◌, ◌∙◌, ◌⊎◌, ap, sym, subst, refl, inl, inr, arith, ℕ, ◌+◌, List}
+use Rattle.std.proofs.Common.{[]}
 use Rattle.std.proofs.Common.{◌∷◌, ◌++◌, map, append_assoc, append-nil, true, false, Option, None}
 use Rattle.std.proofs.Common.{Some}
 use Rattle.std.specs.List.{AllByRecursion, onto_first}

@@ -62,7 +62,8 @@ module _ (before : ℕ) (front text : List ℕ) (outlined : OutlinedOf) (marks :
         IsMarkOf whole target (mark_at marks node)
     mark_of node target at =
         let found = are.targets node target at in
-        subst (λ (given : Option (List ℕ)). IsMarkBy outlined.case target given (mark_at marks node))
+        subst
+        (λ (given : Option (List ℕ)). IsMarkBy outlined.case target given (mark_at marks node))
         (found.1.held ∙ same_part target) (found.1.mark_is (no_section target))
 
     judged_in_file : IsJudgedAs (front ++ text) outlined.case marks

@@ -28,8 +28,8 @@ use std::thread::Threads;
 ///
 /// Each proof is read from its place when a worker comes to its target, and judged while it is
 /// read. A bundle with a fault has to be read whole. So have one with other clauses than its
-/// formula's file says, and one where a label line stands in a proof when it is read, since the file
-/// has changed meanwhile.
+/// formula's file says, and one where a label line stands in a proof when it is read, since the
+/// file has changed meanwhile.
 ///
 /// `Device` where the file can't be read; `Memory` and `Thread` may stand in the place of any other
 /// answer.

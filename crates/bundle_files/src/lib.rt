@@ -1,5 +1,5 @@
-//! What is said of a bundle whose bytes come from the program's input, a file, and a folder with the
-//! proofs of leaves.
+//! What is said of a bundle whose bytes come from the program's input, a file, and a folder with
+//! the proofs of leaves.
 #![tactic(auto)]
 
 mod by_section;

@@ -1,14 +1,13 @@
 //! What is said of a bundle whose tree is cube 1 alone, with one proof that lies in a file of its
 //! own.
 
-ghost use Rattle.std.specs.Prelude.{◌≡◌, ◌≢◌, ◌<◌, ◌^◌, ◌-◌, All, IfOk, IfErr, IfSome, OnOk};
-ghost use Rattle.std.specs.Prelude.{None, List, vec_len};
+ghost use Rattle.std.specs.Prelude.{◌≡◌, ◌≢◌, ◌<◌, ◌^◌, ◌-◌, IfOk, IfErr, IfSome, OnOk};
+ghost use Rattle.std.specs.Prelude.{None, List};
 ghost use Rattle.std.specs.Bool.{OnTrue};
 ghost use Rattle.case_core.specs.Case.{proof_for};
 ghost use Rattle.case_core.specs.Leaf.TheVariants.{Cube};
 ghost use Rattle.case_core.specs.Sections.{IsCaseOf};
 ghost use Rattle.case_core.specs.SplitTree.{cube, size};
-ghost use Rattle.case_core.specs.Target.{Target};
 ghost use Rattle.case_core.specs.Target.TheVariants.{Leaf as Named};
 ghost use Rattle.mark_board.specs.Marking.{mark_at};
 ghost use Rattle.mark_board.specs.declared.mark.Mark.{Mark};
@@ -19,9 +18,10 @@ ghost use Rattle.proof_folder.specs.Given.{AreFoundApart};
 ghost use Rattle.file_store.specs.Files.{StaysAllowed, held_for_one};
 ghost use Rattle.bundle_files.specs.Judging.{IsJudgingFault, IsOutcomeWith};
 
+use crate::judge::readers_of;
 use case_core::{Case, has_target};
 use cube_report::{Fault, Gate, Leaf, Outcome, Settings, Target, conquer_elsewhere, written_by};
-use file_store::Store;
+use file_store::{Place, Store};
 use mark_board::{Boards, Mark};
 use std::alloc::Global;
 use std::sync::Wait;
@@ -125,7 +125,8 @@ where
     ensures ok { OnOk result (D.failures store.new ≡ D.failures store.old) }
     ensures err { IfErr result (IsJudgingFault (D.failures store.old) (D.failures store.new)) }
 {
-    let readers = readers_of_one(rt.alloc(), store, path, settings.workers())?;
+    let place = Place::file(rt.alloc(), path)?;
+    let readers = readers_of(rt.alloc(), store, &place, settings.workers())?;
     match conquer_elsewhere(rt, rt.alloc(), case, settings, gate, readers) {
         Ok(Ok(Some(boards))) => written_if_judged(rt.alloc(), &boards, draws),
         Ok(Ok(None)) => Ok(None),
@@ -135,28 +136,6 @@ where
             Err(Fault::Device)
         }
     }
-}
-
-/// Readers of the proof at this path, one for each worker.
-fn readers_of_one<D: Store>(
-    alloc: Global,
-    store: &D,
-    path: &str,
-    workers: u32,
-) -> Result<Vec<D::Reader>, Fault>
-    ensures count { IfOk result (λ readers. vec_len readers ≡ workers) }
-    ensures held { IfOk result (λ readers. All (λ reader. (target : Target)
-        → D.Reader.held reader target ≡ held_for_one (D.held store.now) path.now target)
-        readers.items) }
-    ensures fresh { IfOk result (λ readers.
-        All (λ reader. D.Reader.failures reader ≡ 0) readers.items) }
-    ensures memory { IfErr result (λ fault. fault ≡ Fault.Memory) }
-{
-    let mut readers = Vec::new(alloc);
-    for _ in 0..workers {
-        readers.push(store.reader_of_one(alloc, path)?)?;
-    }
-    Ok(readers)
 }
 
 /// What is written by the boards of a case whose tree is cube 1, where that has a mark.

@@ -37,8 +37,8 @@ pub struct BundleOutline {
 /// A bundle has to be read whole whose file isn't there, or has no length that can be told, as a
 /// pipe. So it has where the formula's file is like that, or no DIMACS text.
 ///
-/// `Device` where a file is there and can't be read, or the formula's isn't there any more; `Memory`
-/// where a growth was refused.
+/// `Device` where a file is there and can't be read, or the formula's isn't there any more;
+/// `Memory` where a growth was refused.
 pub fn outline_bundle<D: Store>(
     alloc: Global,
     store: &mut D,

@@ -31,7 +31,7 @@ with_proof bundle proof = bundle ++ (codes "\nl 1\n" ++ proof)
 -- ---- the record
 
 -- what names the text of the formula doesn't depend on the proof
-pub recorded_with : (out : Option (List ℕ)) (bundle proof report made : List ℕ)
+recorded_with : (out : Option (List ℕ)) (bundle proof report made : List ℕ)
     → ((at : List ℕ) → out ≡ Some at
     → made ≡ digest_line (icnf_text (bundle ++ codes "\nl 1\n")) ++ report)
     → (at : List ℕ) → out ≡ Some at → made ≡ record_text (with_proof bundle proof) report
@@ -61,8 +61,8 @@ made_below held asked path bundle draws report map made text answer of drawn sam
 
 -- ---- the bundle
 
--- the cube without a literal below a formula, with a proof behind it, is one proof's text below that
--- formula
+-- the cube without a literal below a formula, with a proof behind it, is one proof's text below
+-- that formula
 under_proof : (has : List ℕ → List ℕ → Type 0) (formula : Option (List ℕ)) (bundle proof : List ℕ)
     → IsBundleBy has formula None (Some (codes "a 0")) bundle
     → IsBundleBy has formula None (Some (of_one_proof proof)) (with_proof bundle proof)
@@ -161,9 +161,3 @@ handed_alone (Ok (Some recorded)) hands held asked file bundle none by case made
           handed_formula hands (λ _. None) asked.formula None (Some (codes "a 0")) None bundle
           bundle case.0 by refl case.1 unsatisfiable;
     }
-
--- ---- a run that may be made anew
-
-pub some_is : {X : Type 0} (run : Result (Option X) Fault) (made : X) (P : X → Type 0)
-    → run ≡ Ok (Some made) → IfOk run (λ some. IfSome some P) → P made
-some_is run made P is all = subst (λ (r : Result (Option _) Fault). IfOk r (λ some. IfSome some P)) is all

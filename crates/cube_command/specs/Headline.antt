@@ -10,8 +10,8 @@ use Rattle.cube_command.specs.Sources.{input_handed, sources_of}
 use Rattle.cube_command.specs.Words.{Asked}
 
 -- Status 0: no assignment makes all clauses true of the bundle that was read, from the files that
--- are asked for, which hold this, as far as that is known, or from what the input had left; with one
--- proof in the place of that, of the formula's text with whatever stands below it.
+-- are asked for, which hold this, as far as that is known, or from what the input had left; with
+-- one proof in the place of that, of the formula's text with whatever stands below it.
 abbrev pub IsSound : ℕ → Held → Asked → Option (List ℕ) → Type 0
 IsSound status held asked input =
     status ≡ 0 →

@@ -27,6 +27,7 @@ loop-done-preserved g c =
       same = search rules;
       looked =
           looked_on (as_proofs (g.D.Store.held c.args.store.now)) _ c.args.folder.now
-          c.args.kind.now _ c.loop-done.done _ _ _ _ _ _ (ap as_proofs c.loop-done.invariant.held) name_is
+          c.args.kind.now _ c.loop-done.done _ _ _ _ _ _ (ap as_proofs c.loop-done.invariant.held)
+          name_is
           c.loop-done.invariant.looked c.in_ok-look_at_one.ensures.added;
     }

@@ -1,11 +1,12 @@
 use Rattle.std.proofs.Common.{sym, ◌∙◌}
-use Rattle.bundle_files.proofs.FormulaLines.{bare_by, comment_bare, on_true, other_by}
+use Rattle.std.proofs.lemmas.Bool.{OnTrue_from}
+use Rattle.bundle_files.proofs.FormulaLines.{bare_by, comment_bare, other_by}
 use Rattle.bundle_files.proofs.formula.is_bare.Goals as goal
 
 pub returns-then-is_comment-clause-bare : goal.returns-then-is_comment-clause-bare
 returns-then-is_comment-clause-bare c =
-    on_true c.is_comment.result
-    (comment_bare c.args.line.now (sym c.is_comment.ensures ∙ c.if-is_comment.true))
+    OnTrue_from c.is_comment.result _
+    (λ _. comment_bare c.args.line.now (sym c.is_comment.ensures ∙ c.if-is_comment.true))
 
 pub returns-else-is_comment-clause-bare : goal.returns-else-is_comment-clause-bare
 returns-else-is_comment-clause-bare c =

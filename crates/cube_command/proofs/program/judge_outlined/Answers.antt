@@ -14,8 +14,10 @@ returns-in_ok-end_record-in-Some-clause-run g c = λ formula by.
     (rw c.in-Some.is at (c.in_ok-outcome.ensures.outcome formula by)) by
     (some_mapped (λ (text : Bor (List ℕ)). text.now) c.args.request.now.map
     c.is_some-draws.result c.is_some-draws.ensures)
-    c.icnf.ensures c.deref.ensures.value refl c.in_ok-bytes.ensures c.in_ok-end_record-in-Some.ensures
+    c.icnf.ensures c.deref.ensures.value refl c.in_ok-bytes.ensures
+    c.in_ok-end_record-in-Some.ensures
 
-pub returns-in_ok-end_record-in-Some-clause-handed : goal.returns-in_ok-end_record-in-Some-clause-handed
+pub returns-in_ok-end_record-in-Some-clause-handed :
+    goal.returns-in_ok-end_record-in-Some-clause-handed
 returns-in_ok-end_record-in-Some-clause-handed g c = λ formula by handed.
     rw c.in-Some.is at (c.in_ok-outcome.ensures.handed formula by handed)

@@ -40,7 +40,8 @@ returns-in-Some-clause-fault g c =
 
 pub returns-in-None-clause-made : goal.returns-in-None-clause-made
 returns-in-None-clause-made g c =
-    recorded_for c.judge_cubes.result (g.D.Store.held c.args.store.now) (asked_in c.args.request.now)
+    recorded_for c.judge_cubes.result (g.D.Store.held c.args.store.now)
+    (asked_in c.args.request.now)
     (g.I.Source.remaining c.args.input.now)
     (subst
     (λ (proof : Option (Bor (List ℕ))). IfOk c.judge_cubes.result
