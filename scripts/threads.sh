@@ -1,18 +1,23 @@
 #!/bin/sh
-# Runs the built program with many threads, and looks at its standard output, its standard error and its status, byte for byte:
-# - on the rows of tests/rows that have no word for the workers or the cut of their own, and on each beginning of the bundle of
-#   tests/prefixes, as a file and by a pipe; and by pipes whose writer is slow;
-# - on bundles that are made here, the report of which is known from how they are made: fewer sections than workers and more,
-#   4,096 sections that are all rejected, all sections under one part, proofs for the root and for inner nodes at each depth, one
-#   long proof among empty ones;
-# - on folders of proofs: thousands of leaves of which each third has a file, one that can't be read among them, a label line in the last
-#   of them, and files that come or change while the program runs;
-# - with standard streams that fail: a full device, one that fails at its Nth write or takes one byte at a time, a pipe that fails at
-#   its Nth read or gives one byte at a time, a closed descriptor, a pipe that nobody reads. There the status is 5 where the report, or the input, met a failure, and what was written is a
-#   beginning of the report; whether the error could be written changes no status. How a system treats the writer of a pipe that
-#   nobody reads makes no difference: the program takes no signal for it, the write fails, and that is F13.
-# A run that hasn't ended after a minute is ended, and fails. The reads and writes that fail need a C compiler; where there is none, they are
-# skipped, or fail where CI is set. The last line counts.
+# Runs the built program with many threads, and looks at its standard output, its standard error and
+# its status, byte for byte:
+# - on the rows of tests/rows that have no word for the workers or the cut of their own, and on each
+#   beginning of the bundle of tests/prefixes, as a file and by a pipe; and by pipes whose writer is
+#   slow;
+# - on bundles that are made here, the report of which is known from how they are made: fewer
+#   sections than workers and more, 4,096 sections that are all rejected, all sections under one part,
+#   proofs for the root and for inner nodes at each depth, one long proof among empty ones;
+# - on folders of proofs: thousands of leaves of which each third has a file, one that can't be read
+#   among them, a label line in the last of them, and files that come or change while the program
+#   runs;
+# - with standard streams that fail: a full device, one that fails at its Nth write or takes one byte
+#   at a time, a pipe that fails at its Nth read or gives one byte at a time, a closed descriptor, a
+#   pipe that nobody reads. There the status is 5 where the report, or the input, met a failure, and
+#   what was written is a beginning of the report; whether the error could be written changes no
+#   status. How a system treats the writer of a pipe that nobody reads makes no difference: the
+#   program takes no signal for it, the write fails, and that is F13.
+# A run that hasn't ended after a minute is ended, and fails. The reads and writes that fail need a C
+# compiler; where there is none, they are skipped, or fail where CI is set. The last line counts.
 root=$(CDPATH= cd -- "$(dirname -- "$0")/.." && pwd) || exit 1
 . "$root/scripts/runs.sh"
 printf '0\n' > "$here/zero"
@@ -30,7 +35,8 @@ done
 
 beginnings --workers 32 --cut 6
 
-# The input by a pipe: cut behind each of its bytes, written byte by byte, and by a writer that stops for a second in the midst.
+# The input by a pipe: cut behind each of its bytes, written byte by byte, and by a writer that stops
+# for a second in the midst.
 by_bytes() { dd bs=1 status=none if="$1"; }
 with_a_pause() {
     half=$(($(wc -c < "$1") / 2))

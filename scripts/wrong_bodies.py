@@ -318,11 +318,18 @@ def tried(names, is_each, is_turn=False):
 def main():
     words = sys.argv[1:]
     is_each, is_turn = words[:1] == ["--each"], words[:1] == ["--turn"]
+    names = words[is_each or is_turn :]
+    # (before the launchers' libraries are built, which may take long)
+    if any(name.startswith("-") for name in names):
+        print(__doc__)
+        return 0 if names == ["--help"] else 2
+    if not crates_of(names):
+        sys.exit("wrong_bodies.py: there is no such crate with wrong bodies")
     for program in () if is_turn else turn.PROGRAMS:
         built = subprocess.run([sys.executable, str(build.ROOT / "scripts/build.py"), program])
         if built.returncode:
             return built.returncode
-    return tried(words[is_each or is_turn :], is_each, is_turn)
+    return tried(names, is_each, is_turn)
 
 
 if __name__ == "__main__":

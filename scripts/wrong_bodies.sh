@@ -22,4 +22,9 @@ for crate in numbers lost; do
 done
 grep -q '^wrong_bodies: 3 passed, 8 failed$' "$here/numbers" && grep -q '^wrong_bodies: 1 passed, 1 failed$' "$here/lost"
 count "the last lines count" $?
+python3 "$root/scripts/wrong_bodies.py" --help > "$here/help" 2>&1 && grep -q '^Tries the must-fail edits' "$here/help"
+count "--help tells the words, and nothing is built" $?
+python3 "$root/scripts/wrong_bodies.py" --turns numbers > "$here/word" 2>&1
+[ $? -eq 2 ] && grep -q '^Tries the must-fail edits' "$here/word"
+count "a word that isn't known is refused, and nothing is built" $?
 finish
