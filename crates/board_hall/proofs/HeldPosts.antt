@@ -218,7 +218,8 @@ on_top_only k b e =
 pub finding_post : (k : CutCase) (b row node : ℕ) (target : Target) (judged : Judged)
     (case : CaseOf) → case ≡ k.case → IsHome k node b row → IsTargetAt case.tree node target →
     (NeedsSection k.proofs target → HasSection case target) → IsFinding case target judged
-    → IsSoundFinding case target judged → IsFindingPost k record { board = b; row = row; judged = judged }
+    → IsSoundFinding case target judged →
+    IsFindingPost k record { board = b; row = row; judged = judged }
 finding_post k b row node target judged case e home here section is sound =
     let there : IsTargetAt k.case.tree (node_of k b row) target =
     subst (λ (p : CaseOf × ℕ). IsTargetAt p.0.tree p.1 target) (λ i. (e i, sym home.is_row.here i))

@@ -121,7 +121,8 @@ tabled_alike tree one other places alike are tabled =
     }
 
 -- moved sections keep the table
-pub moved_kept : (tree : SplitTree) (text : List ℕ) (sections : List Section) (places : List Stretch)
+pub moved_kept : (tree : SplitTree) (text : List ℕ) (sections : List Section)
+    (places : List Stretch)
     (news : List Section) (table : List ℕ) → AreMoved sections places news
     → IsCaseKept tree (map (section_in text) sections) table → IsOutlinedKept tree news table
 moved_kept tree text sections places news table are kept other =

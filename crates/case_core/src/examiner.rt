@@ -105,10 +105,10 @@ impl<'c> Examiner<'c> {
     }
 
     /// Judges a proof that the case doesn't hold, for a target of its tree that has no section
-    /// there: what a source gives up to its end. It is opened as a text, or before its first byte: then a
-    /// proof that begins with an `a` or a `d` is binary LRAT, and judged as the text that it stands
-    /// for. A block of it is in memory at a time, so it may be longer than memory. `None` where one
-    /// of the text's lines is a label line; it is read no further then.
+    /// there: what a source gives up to its end. It is opened as a text, or before its first byte:
+    /// then a proof that begins with an `a` or a `d` is binary LRAT, and judged as the text that it
+    /// stands for. A block of it is in memory at a time, so it may be longer than memory. `None`
+    /// where one of the text's lines is a label line; it is read no further then.
     ///
     /// `Device` where a read failed, `Memory` where a growth was refused.
     pub fn examine_read<S: Source>(

@@ -1,7 +1,7 @@
 //! Judges the proof of a target while it is read.
 
-ghost use Rattle.std.specs.Prelude.{◌≡◌, ◌≢◌, ◌<◌, ◌^◌, ◌-◌, ℕ, List, [], length, IfOk, IfErr, IfSome};
-ghost use Rattle.std.specs.Prelude.{OnOk, None};
+ghost use Rattle.std.specs.Prelude.{◌≡◌, ◌≢◌, ◌<◌, ◌^◌, ◌-◌, ℕ, List, [], length, IfOk, IfErr};
+ghost use Rattle.std.specs.Prelude.{IfSome, OnOk, None};
 ghost use Rattle.byte_flow.specs.Device.{IsDeviceFault, IsLeft};
 ghost use Rattle.hint_check.specs.Judging.{says};
 ghost use Rattle.lrat_binary.specs.Form.{proof_left};

@@ -33,8 +33,8 @@ use std::sync::atomic::AtomicU64;
 use std::thread;
 use std::thread::{Promise, PromisedHandle, Scope, Threads};
 
-/// A site, and what its workers read proofs of targets by, as it was before they began. As a promise
-/// it says what each of them hands back.
+/// A site, and what its workers read proofs of targets by, as it was before they began. As a
+/// promise it says what each of them hands back.
 struct Crew<'a, R, G, P> {
     site: Site<'a, R, G>,
     readers: &'a Snapshot<Vec<P>>,
@@ -105,9 +105,9 @@ pub(crate) struct Opened<'c> {
     pub(crate) elsewhere: Elsewhere,
 }
 
-/// Has a worker for each of `proofs`, which examine the sections of the case and then the targets in
-/// their order, between the gate's start and its end, and closes the hall. Answers its boards, and a
-/// list of targets of each worker.
+/// Has a worker for each of `proofs`, which examine the sections of the case and then the targets
+/// in their order, between the gate's start and its end, and closes the hall. Answers its boards,
+/// and a list of targets of each worker.
 pub(crate) fn run<'c, R: Threads + Wait + Sync, G: Gate + Sync, P: TargetProofs + Send + Drop>(
     rt: &R,
     alloc: Global,

@@ -1,7 +1,7 @@
 //! What one worker does.
 
-ghost use Rattle.std.specs.Prelude.{◌≡◌, ◌<◌, ◌∷◌, [], None, length, true, false, All, IsTrue, IfOk};
-ghost use Rattle.std.specs.Prelude.{IfErr, OnOk};
+ghost use Rattle.std.specs.Prelude.{◌≡◌, ◌<◌, ◌∷◌, [], None, length, true, false, All, IsTrue};
+ghost use Rattle.std.specs.Prelude.{IfOk, IfErr, OnOk};
 ghost use Rattle.byte_flow.specs.Device.{IsDeviceFault};
 ghost use Rattle.case_core.specs.FindingOf.{finding_of};
 ghost use Rattle.case_core.specs.Finding.{HasSection, IsFinding, target_of};
@@ -35,8 +35,8 @@ pub(crate) struct Job<P> {
     pub(crate) proofs: P,
 }
 
-/// What it hands back when it ends: what it began with, what became of the targets that it took, and
-/// the fault that stopped it, if one did.
+/// What it hands back when it ends: what it began with, what became of the targets that it took,
+/// and the fault that stopped it, if one did.
 #[derive(Drop)]
 pub(crate) struct Shift<P> {
     pub(crate) pass: Pass,

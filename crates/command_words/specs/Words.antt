@@ -124,8 +124,8 @@ AreSpared asked =
     × AreApart asked.log asked.picture × AreApart asked.log asked.out
     × SparesRead asked.log asked
 
--- one proof of the whole formula goes with that formula's own file, and with neither a file of cubes
--- nor a folder of proofs
+-- one proof of the whole formula goes with that formula's own file, and with neither a file of
+-- cubes nor a folder of proofs
 abbrev pub GoesWith : Option Text → Option Text → Option Text → Option Text → Type 0
 GoesWith proof formula file folder =
     (path : Text) → proof ≡ Some path → (formula ≢ None) × (file ≡ None) × (folder ≡ None)

@@ -21,7 +21,8 @@ pub(crate) struct Part<'t> {
 
 /// The part of a run's bundle that the file with the cubes gave, or with one proof of the formula.
 /// Where the formula has a file of its own, the other one, or else that one, is read again to see
-/// where it ends. Where neither can be, that is told, and the part is the whole bundle, by that name.
+/// where it ends. Where neither can be, that is told, and the part is the whole bundle, by that
+/// name.
 pub(crate) fn file_part<'r, R: Eprint + ReadFiles>(run: &Run<'r, R>) -> Part<'r> {
     let Some(path) = run.asked.formula else {
         return part_of(run.file(), run.bundle, run.bundle);

@@ -1,6 +1,7 @@
 -- A text that is judged line by line.
 use Rattle.std.proofs.Common.{◌≡◌, ◌∙◌, sym, ap, ◌+◌, ◌<◌, ℕ, false, List, []}
-use Rattle.std.proofs.Common.{◌∷◌, ◌++◌, take, drop, length, get_or, add-one, drop-cons, append_assoc}
+use Rattle.std.proofs.Common.{◌∷◌, ◌++◌, take, drop, length, get_or, add-one, drop-cons}
+use Rattle.std.proofs.Common.{append_assoc}
 use Rattle.std.proofs.Common.{Some, None, ◌-◌, arith}
 use Rattle.std.proofs.lemmas.List.{take-append-drop, take_all, length-drop}
 use Rattle.std.proofs.lemmas.Bool.{eqb-true}

@@ -1,5 +1,6 @@
 -- What a binary search of ids in order tells.
-use Rattle.std.proofs.Common.{◌≡◌, ℕ, ◌==◌, ◌<◌, List, [], ◌∷◌, false, length, get_or, arith, sym, refl, suc, inl, inr}
+use Rattle.std.proofs.Common.{◌≡◌, ℕ, ◌==◌, ◌<◌, List, [], ◌∷◌, false, length, get_or, arith, sym}
+use Rattle.std.proofs.Common.{refl, suc, inl, inr}
 use Rattle.std.proofs.lemmas.Bool.{cases_lt}
 use Rattle.std.proofs.lemmas.List.Folds.{list_any_at}
 use Rattle.std.proofs.lemmas.List.Sorted.{searched, IsNonDecreasingBy-from_sort}
@@ -15,7 +16,11 @@ not_among : (x : ℕ) (xs : List ℕ) → ((k : ℕ) → k < length xs → (get_
     → list_any (λ named. named == x) xs ≡ false
 not_among x [] nowhere = refl
 not_among x (y ∷ xs) nowhere =
-    grind (arith, nowhere 0 (omega arith), not_among x xs (λ k below. nowhere (suc k) (omega (arith, below))))
+    grind (
+      arith,
+      nowhere 0 (omega arith),
+      not_among x xs (λ k below. nowhere (suc k) (omega (arith, below))),
+    )
 
 pub found : (xs : List ℕ) (x : ℕ) (r : Result ℕ ℕ) → IsBinarySearchResult (λ y. nat_cmp y x) xs r
     → IsSorted nat_cmp xs → is_ok r ≡ list_any (λ named. named == x) xs

@@ -110,7 +110,8 @@ module _ (first : ℕ) (slots : List Slot) (before : List (ℕ × Span)) where
               put blocks q
               ∙ cond-true (nat_eq (first + i) q) there (far_at blocks far q) here
               ∙ ap (option_or (slot_clause blocks slot))
-              (were blocks q ∙ cond-false (nat_lt q (first + i)) now was (le-ltb q (first + i) high))
+              (were blocks q ∙ cond-false (nat_lt q (first + i)) now was
+              (le-ltb q (first + i) high))
               ∙ ap (λ (s : Slot). option_or (slot_clause blocks s) was)
               (is ∙ ap (slot_at slots) (let k : i ≡ q - first = omega (arith, e) in k))
               ∙ ap (λ o. option_or o was)
@@ -122,7 +123,8 @@ module _ (first : ℕ) (slots : List Slot) (before : List (ℕ × Span)) where
               in omega (arith, high, ne) in
               put blocks q
               ∙ cond-false (nat_eq (first + i) q) there (far_at blocks far q) apart
-              ∙ were blocks q ∙ cond-false (nat_lt q (first + i)) now was (le-ltb q (first + i) high)
+              ∙ were blocks q ∙ cond-false (nat_lt q (first + i)) now was
+              (le-ltb q (first + i) high)
               ∙ sym (cond-false (nat_lt q (first + (i + 1))) now was
               (le-ltb q (first + (i + 1)) past_it))
         ]
@@ -146,7 +148,8 @@ module _ (first : ℕ) (slots : List Slot) (before : List (ℕ × Span)) where
       elim (cases_lt q bound) [
         | inl low ↦ were blocks q ∙ cond-true (nat_lt q bound) now was (lt-ltb q bound low)
         | inr high ↦ were blocks q ∙ cond-false (nat_lt q bound) now was (le-ltb q bound high)
-            ∙ ap (λ o. option_or o was) (sym (near-from blocks first slots q (omega (arith, all, high))
+            ∙ ap (λ o. option_or o was)
+            (sym (near-from blocks first slots q (omega (arith, all, high))
             ∙ ap (slot_clause blocks) (past slots (q - first) (omega (arith, all, high)))))
       ]
 

@@ -205,7 +205,8 @@ KeepsFront-same slots slots' front emptied named same more kept q within =
       | inr gone ↦ inr (more q gone.0, same q ∙ gone.1)
     ]
 
-pub slot-take : (n : ℕ) (slots : List Slot) (i : ℕ) → i < n → slot_at (take n slots) i ≡ slot_at slots i
+pub slot-take : (n : ℕ) (slots : List Slot) (i : ℕ) → i < n →
+    slot_at (take n slots) i ≡ slot_at slots i
 slot-take zero slots i h = absurd (omega arith)
 slot-take (suc n) [] i h = refl
 slot-take (suc n) (slot ∷ slots) zero h = refl

@@ -261,8 +261,8 @@ impl<'b> Judging<'b> {
         self.last(alloc, &[])
     }
 
-    /// The binary proof goes on with these bytes. They are judged where they lie, but for those of a
-    /// step that is begun before them or behind. An error is a refused growth.
+    /// The binary proof goes on with these bytes. They are judged where they lie, but for those of
+    /// a step that is begun before them or behind. An error is a refused growth.
     pub fn more_binary(&mut self, alloc: Global, bytes: &[u8]) -> Result<(), AllocError>
         // Of each rest it says what it would have said of these bytes and the rest.
         ensures told { OnOk result ((rest : List ℕ)
@@ -274,8 +274,8 @@ impl<'b> Judging<'b> {
         self.go_on_binary(alloc, left)
     }
 
-    /// Where a step is begun, the binary proof goes on with the first of these bytes, up to one that
-    /// may be an end mark; answers the others.
+    /// Where a step is begun, the binary proof goes on with the first of these bytes, up to one
+    /// that may be an end mark; answers the others.
     fn to_end_mark<'t>(&mut self, alloc: Global, bytes: &'t [u8]) -> Result<&'t [u8], AllocError>
         ensures told { IfOk result (λ left. (rest : List ℕ)
             → says_binary self.new (left.now ++ rest) ≡ says_binary self.old (bytes.now ++ rest)) }
@@ -291,8 +291,8 @@ impl<'b> Judging<'b> {
         Ok(&bytes[end + 1..])
     }
 
-    /// The binary proof goes on with these bytes. They are judged where they lie if no step is begun
-    /// before them.
+    /// The binary proof goes on with these bytes. They are judged where they lie if no step is
+    /// begun before them.
     fn go_on_binary(&mut self, alloc: Global, bytes: &[u8]) -> Result<(), AllocError>
         ensures told { OnOk result ((rest : List ℕ)
             → says_binary self.new rest ≡ says_binary self.old (bytes.now ++ rest)) }
@@ -321,8 +321,8 @@ impl<'b> Judging<'b> {
         self.judge_begun(alloc)
     }
 
-    /// Judges these bytes of a binary proof, where no step is begun before them, as far as steps are
-    /// whole.
+    /// Judges these bytes of a binary proof, where no step is begun before them, as far as steps
+    /// are whole.
     fn judge_bytes(&mut self, alloc: Global, bytes: &[u8]) -> Result<(), AllocError>
         requires { self.old.begun ≡ [] }
         ensures told { OnOk result ((rest : List ℕ)
@@ -347,8 +347,8 @@ impl<'b> Judging<'b> {
         Ok(())
     }
 
-    /// Judges the bytes of a binary proof that were put behind a step that is begun, as far as steps
-    /// are whole.
+    /// Judges the bytes of a binary proof that were put behind a step that is begun, as far as
+    /// steps are whole.
     fn judge_begun(&mut self, alloc: Global) -> Result<(), AllocError>
         ensures told { OnOk result ((rest : List ℕ)
             → says_binary self.new rest ≡ says_binary self.old rest) }

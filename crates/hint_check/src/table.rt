@@ -199,10 +199,10 @@ impl Table {
         Ok(())
     }
 
-    /// Gives the blocks of clauses that are gone back, where they are three of four, and many beside
-    /// the slots, the seats of far ids and the blocks of the front, which are gone through. It gives
-    /// back the slots behind the front, too, where few of them are in use. An error is a refused
-    /// growth.
+    /// Gives the blocks of clauses that are gone back, where they are three of four, and many
+    /// beside the slots, the seats of far ids and the blocks of the front, which are gone through.
+    /// It gives back the slots behind the front, too, where few of them are in use. An error is a
+    /// refused growth.
     #[inline(always)]
     pub fn tidy(&mut self) -> Result<(), AllocError>
         ensures { self.new ≡ self.old }

@@ -167,7 +167,8 @@ pub byte_taken : (bytes left : List ℕ) (scale value w t : ℕ) → 0 < length 
     w ≡ capped (value + scale * (get_or left 0 0 % 128)) → t ≡ capped (scale * 128) →
     ReadSoFar bytes scale value left → ReadSoFar bytes t w (behind 1 left)
 byte_taken bytes left scale value w t some high w_is t_is so_far =
-    byte_read bytes (behind 1 left) scale value (get_or left 0 0) w t high (so_far.small 0) w_is t_is
+    byte_read bytes (behind 1 left) scale value (get_or left 0 0) w t high (so_far.small 0) w_is
+    t_is
     (subst (λ l. ReadSoFar bytes scale value l) (first_of left some) so_far)
 
 pub number_taken : (bytes left : List ℕ) (scale value w : ℕ) → 0 < length left →

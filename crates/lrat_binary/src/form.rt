@@ -9,9 +9,9 @@ ghost use Rattle.lrat_binary.specs.declared.form.ProofForm.TheVariants.{Unread};
 use crate::decoder::Decoder;
 use std::alloc::{AllocError, Global};
 
-/// In which form the bytes of an LRAT proof (CADE 2017) are. Its first byte decides: an `a` or a `d`
-/// begins a binary proof, as CaDiCaL 2 and drat-trim write it, and no text with a step, whose first
-/// word is a number.
+/// In which form the bytes of an LRAT proof (CADE 2017) are. Its first byte decides: an `a` or a
+/// `d` begins a binary proof, as CaDiCaL 2 and drat-trim write it, and no text with a step, whose
+/// first word is a number.
 #[derive(Clone, Copy, Debug, PartialEq, Eq)]
 pub enum ProofForm {
     /// No byte of it was read yet.

@@ -1,5 +1,5 @@
-//! The numbers of a binary LRAT proof, the text that a proof stands for, binary or a text, and which
-//! proofs are binary.
+//! The numbers of a binary LRAT proof, the text that a proof stands for, binary or a text, and
+//! which proofs are binary.
 #![tactic(auto)]
 
 mod decoder;

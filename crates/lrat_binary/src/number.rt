@@ -34,8 +34,8 @@ pub(crate) fn scale_behind(scale: u64) -> u64
 }
 
 /// The number with which bytes of a binary proof (as CaDiCaL 2 and drat-trim write it) begin, and
-/// the bytes behind it; `None` where they are no whole number. One that has more than 64 bits counts
-/// as the greatest that has 64. Most numbers have one byte or two.
+/// the bytes behind it; `None` where they are no whole number. One that has more than 64 bits
+/// counts as the greatest that has 64. Most numbers have one byte or two.
 #[inline(always)]
 pub fn next_number(bytes: &[u8]) -> Option<(u64, &[u8])>
     ensures { MatchOption result

@@ -1,5 +1,6 @@
 -- What a number within a step is.
-use Rattle.std.proofs.Common.{◌≡◌, ℕ, suc, ◌/◌, ◌%◌, ◌<◌, ◌≤◌, ◌==◌, refl, sym, ap, ◌∙◌, arith, inl, inr}
+use Rattle.std.proofs.Common.{◌≡◌, ℕ, suc, ◌/◌, ◌%◌, ◌<◌, ◌≤◌, ◌==◌, refl, sym, ap, ◌∙◌, arith, inl}
+use Rattle.std.proofs.Common.{inr}
 use Rattle.std.proofs.lemmas.Bool.{ne_eqb, cases_Bool, eqb-true, eqb-false}
 use Rattle.lrat_text.specs.declared.words.Word.{Word}
 use Rattle.lrat_binary_law.specs.Symbols.{symbol_of}
@@ -58,7 +59,8 @@ large n above =
 pub one : (n : ℕ) → n % 2 ≡ 1 → n / 2 ≡ 0 → IsWordOf words.Stray n
 one n odd none =
     no_other words.Stray n tt
-    (rw (one_is_stray n (omega arith)) (λ number small. stray_is_no_numeral number, stray_is_no_mark))
+    (rw (one_is_stray n (omega arith))
+    (λ number small. stray_is_no_numeral number, stray_is_no_mark))
     (λ e. cc) (λ e. omega arith) (λ k. refl)
 
 pub odd : (n half : ℕ) → half ≡ n / 2 → half ≤ 4611686018427387904 → n % 2 ≡ 1 →

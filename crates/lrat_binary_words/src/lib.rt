@@ -1,5 +1,5 @@
-//! The words of a binary LRAT proof (CADE 2017, as CaDiCaL 2 and drat-trim write it), for the reader
-//! of steps: the proof is read straight from its bytes.
+//! The words of a binary LRAT proof (CADE 2017, as CaDiCaL 2 and drat-trim write it), for the
+//! reader of steps: the proof is read straight from its bytes.
 #![tactic(auto)]
 
 mod numeral;

@@ -46,7 +46,8 @@ impl<'t> BinaryWords<'t> {
         self.bytes
     }
 
-    /// What stands at the front of a step behind the mark of an addition; `None` where nothing does.
+    /// What stands at the front of a step behind the mark of an addition; `None` where nothing
+    /// does.
     #[inline(always)]
     fn addition(self) -> Option<(Front, Self)>
         ensures { MatchOption result

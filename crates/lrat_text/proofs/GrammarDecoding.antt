@@ -379,7 +379,8 @@ fits fronts.Unreadable symbols left is = tt
 fits fronts.Unfinished symbols left is = tt
 
 -- a word that is no end mark leaves as many of them
-pub none_ended : (word : Word) (ends : ℕ) → (word ≡ words.End → ⊥) → ends_behind word ends ≡ suc ends
+pub none_ended : (word : Word) (ends : ℕ) → (word ≡ words.End → ⊥) →
+    ends_behind word ends ≡ suc ends
 none_ended words.End ends other = absurd (other refl)
 none_ended (words.Positive n) ends other = refl
 none_ended (words.Negative n) ends other = refl

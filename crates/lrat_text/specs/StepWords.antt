@@ -38,8 +38,8 @@ abbrev pub IsNext : Word → List StepSymbol → List StepSymbol → Type 0
 IsNext word symbols left =
     HasId word × ((symbol : StepSymbol) × IsReadAs word symbol × (symbols ≡ symbol ∷ left))
 
--- where the words of a proof that may go on are cut off: how many end marks are still to come in the
--- step that is begun there, and the bytes of a word that is begun
+-- where the words of a proof that may go on are cut off: how many end marks are still to come in
+-- the step that is begun there, and the bytes of a word that is begun
 pub record Cut : Type 0 where
   pub ends : ℕ
   pub begun : List ℕ

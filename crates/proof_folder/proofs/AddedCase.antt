@@ -226,7 +226,8 @@ may_almost tree one other (leaf ∷ leaves) almost may = (
       (almost_more one other (section_of leaf.target leaf.proof) almost) may.1,
 )
 
-pub none_added : (bundle : List ℕ) (case : CaseOf) → IsCaseOf bundle case → IsCaseWith bundle case []
+pub none_added : (bundle : List ℕ) (case : CaseOf) → IsCaseOf bundle case →
+    IsCaseWith bundle case []
 none_added bundle case is = record {
   whole = case;
   is = is;

@@ -77,7 +77,10 @@ apart_and_there tree [] are = (tt, tt)
 apart_and_there tree (section ∷ sections) are =
     let below =
     apart_and_there tree sections
-    (λ i l. ((are (suc i) (omega arith)).0, λ j h. (are (suc i) (omega arith)).1 (suc j) (omega arith)))
+    (λ i l. (
+      (are (suc i) (omega arith)).0,
+      λ j h. (are (suc i) (omega arith)).1 (suc j) (omega arith),
+    ))
     in (
       (
         all_other section.target sections

@@ -118,7 +118,8 @@ module _ (known : Target → Option (Option (List ℕ))) (case : CaseOf) (marks 
         (subst (λ (given : Option (List ℕ)). IsMarkBy case (Node node) given (mark_at marks node))
         (nothing node at) ((is_given node (Node node) at).mark_is free))
     node_mark node at (Some text) is =
-        are.sections node (Node node) at (λ free. let clash : Some text ≡ None = sym is ∙ free in cc)
+        are.sections node (Node node) at
+        (λ free. let clash : Some text ≡ None = sym is ∙ free in cc)
 
     pub marks_by_given : AreMarksBy case leaves_given marks
     marks_by_given = record {

@@ -52,7 +52,8 @@ fn is_read_whole(rt: &impl Abort, alloc: Global, bundle: &str) -> bool {
     outlined(rt, alloc, bundle.as_bytes(), b"").is_none()
 }
 
-/// Ends the test where the proof of the root of `ROOT` stands elsewhere, or that of a cube anywhere.
+/// Ends the test where the proof of the root of `ROOT` stands elsewhere, or that of a cube
+/// anywhere.
 fn need_root_place(rt: &impl Abort, outlined: &OutlinedCase) {
     let place = outlined.place_of(inner(0)).expect(rt, "no place");
     assert!(rt; ROOT.len().checked_sub(place.start) == Some(24) && place.length == 24);

@@ -44,8 +44,8 @@ pub record IsHanded (old new : JudgingOf) (form : ProofForm) (watch watched : La
   pub judged : (rest : List ℕ) → says_by form new rest ≡ says_by form old (bytes ++ rest)
   pub seen : (rest : List ℕ) → holds_by form watched rest ≡ holds_by form watch (bytes ++ rest)
 
--- what a source has given so far has so many bytes, and was handed over to a judging and to a watch,
--- by the form in which it was opened
+-- what a source has given so far has so many bytes, and was handed over to a judging and to a
+-- watch, by the form in which it was opened
 pub record ReadSoFar (first now : Option (List ℕ)) (begun j : JudgingOf) (opened form : ProofForm)
     (watch : LabelWatch) (size : ℕ) : Type 0 where
   pub read : List ℕ

@@ -20,7 +20,8 @@ pub invariant_of-result : goal.invariant_of-result
 invariant_of-result c =
     let found =
     found_beside c.args.case.now c.args.target _ c.requires.judged.0 c.args.judged
-    c.number-node.result (c.leaf_of.ensures c.args.case.now.tree c.number-node.result (here c.before))
+    c.number-node.result (c.leaf_of.ensures c.args.case.now.tree c.number-node.result
+    (here c.before))
     c.requires.none (here c.before) (only c.before) c.requires.judged.1 in
     record { here = found.0; only = found.1; is = found.2; sound = found.3 }
 
@@ -30,5 +31,6 @@ returns-clause-target c =
 
 pub returns-clause-found : goal.returns-clause-found
 returns-clause-found c = λ text judged.
-    (found_by c.args.case.now c.args.target text c.args.judged c.number-node.result (only c.before.before)
+    (found_by c.args.case.now c.args.target text c.args.judged c.number-node.result
+    (only c.before.before)
     judged).0

@@ -11,7 +11,8 @@ unreachable-requires g c =
     let handed = c.in_ok-handed.handed in let are = c.in_ok-handed.ensures.handed in
     let count : vec_len handed.job_passes ≡ c.in_ok-jobs.jobs.passes =
     omega (arith, are.job_passes_count, c.requires.pairs, c.in_ok-jobs.ensures.count.0) in
-    let some : 0 < vec_len handed.job_passes = omega (arith, are.job_passes_count, c.requires.count.0) in
+    let some : 0 < vec_len handed.job_passes =
+    omega (arith, are.job_passes_count, c.requires.count.0) in
     let any =
     some_found_empty handed.job_passes.items (omega (arith, some, handed.job_passes.ok))
     are.empty in

@@ -45,7 +45,8 @@ loop-shift-preserved g c =
           (list_of (shared_of site.core.now) site.case.now (g.P.TargetProofs.held mine.reader) known
           shift.pass shift.examined.items c.requires.ready.case_is mine.is.own
           (mine.is.each step.fault)
-          (All-contains (λ one. (target : Target) → g.P.TargetProofs.held one target ≡ known target) _
+          (All-contains
+          (λ one. (target : Target) → g.P.TargetProofs.held one target ≡ known target) _
           mine.reader all mine.among)));
     }
 

@@ -13,7 +13,8 @@ use Rattle.check_crew.proofs.crew.hand_in.Given as goal
 abbrev pub invariant-loop-shift : goal.invariant-loop-shift
 invariant-loop-shift g l = record {
   passes_count : vec_len l.handed.passes + into_iter_len l.shift-iterator ≡ vec_len l.fn.shifts;
-  job_passes_count : vec_len l.handed.job_passes + into_iter_len l.shift-iterator ≡ vec_len l.fn.shifts;
+  job_passes_count : vec_len l.handed.job_passes + into_iter_len l.shift-iterator
+      ≡ vec_len l.fn.shifts;
   rest : All (IsHandedBy l.crew g.P.TargetProofs.held g.P.TargetProofs.failures)
       (into_iter_items l.shift-iterator);
   own : All (IsPassOf (shared_of l.crew.site.core.now)) l.handed.passes.items;

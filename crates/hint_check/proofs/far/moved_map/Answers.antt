@@ -21,7 +21,8 @@ loop-id-init c =
       moved = (
         [],
         sym same,
-        subst (SpansMove blocks list []) (sym c.new-moved.ensures.empty) (SpansMove-none blocks list),
+        subst (SpansMove blocks list []) (sym c.new-moved.ensures.empty)
+            (SpansMove-none blocks list),
       );
     }
 

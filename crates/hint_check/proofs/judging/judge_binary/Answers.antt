@@ -22,7 +22,8 @@ returns c = record {
       c.in_ok-halt.number c.judge_steps.new.steps c.in_ok-halt.halt c.in_default.not-Decided
       c.in_ok-halt.ensures.halt)
       c.words.ensures c.judge_steps.ensures.cut
-      (c.in_ok-extend_from_slice.ensures.items ∙ ap (λ xs. xs ++ c.bytes.result.now) c.clear.ensures.items
+      (c.in_ok-extend_from_slice.ensures.items ∙ ap (λ xs. xs ++ c.bytes.result.now)
+      c.clear.ensures.items
       ∙ c.bytes.ensures);
   base = c.judge_steps.ensures.base;
 }

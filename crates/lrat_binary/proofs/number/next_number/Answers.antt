@@ -11,11 +11,13 @@ returns-in-len1-up c =
 pub returns-in-len2-up : goal.returns-in-len2-up
 returns-in-len2-up c =
     two_bytes_of c.args.bytes.now c.two_bytes.result c.in-len2-up.len_at_least
-    c.if-first-ge128.true (Fits-lt-pow (c.type_inv.bytes 0)) c.if-second-lt128.true c.two_bytes.ensures.value
+    c.if-first-ge128.true (Fits-lt-pow (c.type_inv.bytes 0)) c.if-second-lt128.true
+    c.two_bytes.ensures.value
 
 pub returns-in-len3-up : goal.returns-in-len3-up
 returns-in-len3-up c =
     three_bytes_of c.args.bytes.now c.two_bytes-in-len3-up.result _ c.in-len3-up.len_at_least
-    (omega arith) (Fits-lt-pow (c.type_inv.bytes 0)) (omega arith) (Fits-lt-pow (c.type_inv.bytes 1)) (omega arith)
+    (omega arith) (Fits-lt-pow (c.type_inv.bytes 0)) (omega arith)
+    (Fits-lt-pow (c.type_inv.bytes 1)) (omega arith)
     c.two_bytes-in-len3-up.ensures.value
     (ap (λ t. c.two_bytes-in-len3-up.result + 16384 * t) c.from-in-len3-up.ensures)

@@ -19,7 +19,8 @@ returns-then-not-has_target c text =
     (target_absent c.self.inside.case.tree (map (section_in text) c.self.inside.sections.items)
     c.args.target (c.self.invariant text).are_sections
     (λ has. let true_is = c.if-not-has_target.ensures.1
-    (subst (λ (t : SplitTree). HasTarget t c.args.target) (sym c.tree-tree.ensures.tree) has) in cc))
+    (subst (λ (t : SplitTree). HasTarget t c.args.target) (sym c.tree-tree.ensures.tree) has)
+    in cc))
 
 within : (c : After-index) → c.index.result < length c.self.inside.places.items
 within c =

@@ -15,7 +15,8 @@ left_from bytes place start is =
       | inl beyond ↦ whole ∙ drop_all start bytes (omega (arith, is, beyond))
           ∙ sym (drop_all place bytes (omega (arith, beyond)))
       | inr within ↦ whole
-          ∙ ap (λ (n : ℕ). drop n bytes) (let same : start ≡ place = omega (arith, is, within) in same)
+          ∙ ap (λ (n : ℕ). drop n bytes)
+          (let same : start ≡ place = omega (arith, is, within) in same)
     ]
 
 pub returns-in-Some-bytes_at-clause-opened : goal.returns-in-Some-bytes_at-clause-opened

@@ -60,7 +60,8 @@ pub returns-in-Some-next_word : goal.returns-in-Some-next_word
 returns-in-Some-next_word c =
     let next = (c.in_ok-first.ensures 0).0.1 in
     let word = (c.in-Some-next_word.ensures 0).0.1 in
-    let whole : symbols c.args.self ≡ positive c.in-Some.front ∷ word.0 ∷ symbols c.in-Some-next_word.rest =
+    let whole : symbols c.args.self
+    ≡ positive c.in-Some.front ∷ word.0 ∷ symbols c.in-Some-next_word.rest =
     next.2 ∙ ap (λ s. next.0 ∷ s) word.2 ∙ rw (c.in-Some.ensures.some.2 next.0 next.1) refl in (
       subst (λ s. IsFront c.addition_front.result s (λ ends. symbols c.in-Some-next_word.rest))
           (sym whole)
