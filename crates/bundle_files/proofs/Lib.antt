@@ -4,6 +4,7 @@ pub mod FormulaText
 mod FormulaPlace
 mod FormulaReading
 mod LawsApart
+mod JudgingFaults
 mod JudgingRuns
 mod FaultsSearch
 mod OneProof

@@ -1,3 +1,4 @@
+mod WordsAdded
 pub mod WordsProof
 pub mod WordsPaths
 pub mod WordsRequests

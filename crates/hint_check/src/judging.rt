@@ -27,7 +27,6 @@ const NOT_JUDGED: Judged = Judged::Rejected {
 /// that is begun and the step that is begun, and nothing else of the proof. To a contract it is the
 /// list of the base's clauses, and what it says of each text, and of each binary proof, that may
 /// follow what it was handed.
-#[derive(Drop)]
 pub struct Judging<'b> {
     live: LiveClauses<'b>,
     scratch: Scratch,
@@ -46,6 +45,23 @@ pub struct Judging<'b> {
     /// So many bytes are awaited before steps are read again: then each byte of a step is read some
     /// three times at most, however many parts the step spans.
     wanted: usize,
+}
+
+// As a derive does, but proved here alone and not in the body of each owner.
+impl<'b> Drop for Judging<'b> {
+    fn drop(self) {
+        let Judging {
+            live: _,
+            scratch: _,
+            decided: _,
+            number: _,
+            unread: _,
+            begun: _,
+            left: _,
+            ended: _,
+            wanted: _,
+        } = self;
+    }
 }
 
 impl<'b> Model for Judging<'b> {

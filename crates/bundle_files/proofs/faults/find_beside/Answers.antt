@@ -3,6 +3,7 @@ use Rattle.cube_report.specs.declared.fault.Fault.{Fault}
 use Rattle.cube_report.specs.declared.fault.Fault.TheVariants.{Device}
 use Rattle.bundle_files.specs.Judging.{IsRefusedOf}
 use Rattle.bundle_files.proofs.FaultsSearch.{refused_with, no_device}
+use Rattle.bundle_files.proofs.JudgingFaults.{told_no_input, told_judging}
 use Rattle.bundle_files.proofs.faults.find_beside.Goals as goal
 
 pub returns-in-Some-clause-fault : goal.returns-in-Some-clause-fault
@@ -19,3 +20,15 @@ returns-in-Some-clause-err g c =
       subst (λ (fault : Fault). fault ≢ Device) (sym c.from.ensures) (no_device c.in-Some.fault),
       c.in_ok-fault.ensures.ok,
     )
+
+pub returns-in_err-fault-clause-fault : goal.returns-in_err-fault-clause-fault
+returns-in_err-fault-clause-fault g c =
+    told_no_input c.from_residual.result c.in_err-fault.field-0.0
+    (IsRefusedOf (g.D.Store.held c.args.store.now) (Some c.args.folder.now) c.args.bundle.now)
+    c.from_residual.ensures.1
+
+pub returns-in_err-fault-clause-err : goal.returns-in_err-fault-clause-err
+returns-in_err-fault-clause-err g c =
+    told_judging c.from_residual.result c.in_err-fault.field-0.0
+    (g.D.Store.failures c.args.store.now) (g.D.Store.failures c.look.new.store)
+    c.from_residual.ensures.1 c.in_err-fault.ensures.err
