@@ -246,6 +246,15 @@ is_record() {
     { printf 'i %s\n' "$(sha256sum < "$1" | cut -c1-64)" && cat "$here/out"; } | cmp -s - "$here/run/a.record"
 }
 refuted=$root/tests/rows/two_cubes_refuted
+# Lines that are longer than what is read at once: a comment before each line, and blanks behind it.
+awk 'BEGIN { for (i = 0; i < 100000; i++) blanks = blanks " " } { print "c" blanks; print $0 blanks }' "$refuted.in" > "$here/run/long.icnf"
+run /dev/null long.icnf
+has_given "$refuted.out" "$refuted.err" "$refuted.status"
+count "long lines in a file" $?
+run "$here/run/long.icnf"
+has_given "$refuted.out" "$refuted.err" "$refuted.status"
+count "long lines from the input" $?
+rm "$here/run/long.icnf"
 folder=$root/tests/rows/folder_of_proofs
 lay_out "$folder"
 echo "what was there" > "$here/run/a.record"
