@@ -32,5 +32,5 @@ returns-in-Err-clause-err g c =
     inr (
       refl,
       c.settle_sections.ensures.failures
-      ∙ ap (λ n. g.D.Store.failures c.args.store.now + n) c.in-Err.ensures.failed,
+          ∙ ap (λ n. g.D.Store.failures c.args.store.now + n) c.in-Err.ensures.failed,
     )
