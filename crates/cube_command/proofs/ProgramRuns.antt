@@ -186,7 +186,7 @@ ToldRun run status Same old new before after =
     MatchResult run (λ answer. (status ≡ status_of_answer answer) × Same)
     (λ fault. IsFaultWritten fault status old new before after)
 
-above_two : (fault : Fault) → 2 < status_of fault
+pub above_two : (fault : Fault) → 2 < status_of fault
 above_two Header = omega arith
 above_two (Token line) = omega arith
 above_two Unfinished = omega arith

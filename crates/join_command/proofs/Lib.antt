@@ -4,3 +4,4 @@ mod FilesJoined
 mod RecordsTold
 mod ProgramFiles
 mod ProgramRuns
+mod ProgramStatus

@@ -66,7 +66,7 @@ above_two_run Memory = omega arith
 above_two_run Device = omega arith
 above_two_run Thread = omega arith
 
-above_two : (fault : JoinFault) → 2 < status_of fault
+pub above_two : (fault : JoinFault) → 2 < status_of fault
 above_two (Run fault) = above_two_run fault
 above_two (Stranger number) = omega arith
 

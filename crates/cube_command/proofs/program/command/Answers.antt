@@ -2,10 +2,13 @@ use Rattle.std.proofs.Common.{◌≡◌, arith, map, subst, sym, true, IfOk}
 use Rattle.cube_command.specs.Words.{AreApart, Asked, asked_of, IsElsewhere}
 use Rattle.cube_command.specs.Headline.{IsRefutedAsHanded}
 use Rattle.cube_command.specs.Program.{AllowsPicturesFor, AllowsRecordsFor, AllowsReportsFor}
+use Rattle.cube_command.specs.Program.{IsReported}
 use Rattle.command_words.proofs.WordsPaths.{input_apart}
 use Rattle.command_words.proofs.WordsRequests.{none_asked, nothing_taken}
 use Rattle.cube_command.proofs.ProgramRuns.{device_run, fault_run, memory_run, sound_run}
 use Rattle.cube_command.proofs.ProgramRuns.{fault_asked, handed_run, memory_asked, published_run}
+use Rattle.cube_command.proofs.ProgramStatus.{below_five, below_two, with_fault, with_one}
+use Rattle.cube_command.proofs.ProgramStatus.{with_zero}
 use Rattle.cube_command.proofs.program.command.Goals as goal
 
 pub run_request-run-requires-clause-reports : goal.run_request-run-requires-clause-reports
@@ -123,3 +126,54 @@ returns-in-Ok-clause-handed g c = λ zero.
     (λ (a : Asked). IfOk c.run_request-run.result (λ refuted. refuted ≡ true
     → IsRefutedAsHanded g.D.Store.hands a (g.I.Source.remaining c.args.input.now)))
     c.in-Ok.ensures.asked c.run_request-run.ensures.handed) zero
+
+pub returns-in-Ok-clause-refuted : goal.returns-in-Ok-clause-refuted
+returns-in-Ok-clause-refuted g c = λ zero.
+    with_zero
+    (IsReported (g.D.Store.held c.args.store.now) (g.D.Store.held c.run_request-run.new.store)
+    (asked_of (map g.S.AsStr.text c.args.words.now)) (g.I.Source.remaining c.args.input.now)
+    (g.O.Sink.contents c.args.output.now) (g.O.Sink.contents c.run_request-run.new.output))
+    c.run_request-run.result c.tell_run-status.result _
+    (g.E.Sink.contents c.args.errors.now) (g.E.Sink.contents c.tell_run-status.new.errors)
+    (g.E.Sink.failures c.args.errors.now) (g.E.Sink.failures c.tell_run-status.new.errors)
+    c.tell_run-status.ensures.told (rw c.in-Ok.ensures.asked at c.run_request-run.ensures.report) zero
+
+pub returns-in-Ok-clause-open : goal.returns-in-Ok-clause-open
+returns-in-Ok-clause-open g c = λ one.
+    with_one
+    (IsReported (g.D.Store.held c.args.store.now) (g.D.Store.held c.run_request-run.new.store)
+    (asked_of (map g.S.AsStr.text c.args.words.now)) (g.I.Source.remaining c.args.input.now)
+    (g.O.Sink.contents c.args.output.now) (g.O.Sink.contents c.run_request-run.new.output))
+    c.run_request-run.result c.tell_run-status.result _
+    (g.E.Sink.contents c.args.errors.now) (g.E.Sink.contents c.tell_run-status.new.errors)
+    (g.E.Sink.failures c.args.errors.now) (g.E.Sink.failures c.tell_run-status.new.errors)
+    c.tell_run-status.ensures.told (rw c.in-Ok.ensures.asked at c.run_request-run.ensures.report) one
+
+pub returns-in-Ok-clause-quiet : goal.returns-in-Ok-clause-quiet
+returns-in-Ok-clause-quiet g c = λ below.
+    below_two c.run_request-run.result c.tell_run-status.result _
+    (g.E.Sink.contents c.args.errors.now) (g.E.Sink.contents c.tell_run-status.new.errors)
+    (g.E.Sink.failures c.args.errors.now) (g.E.Sink.failures c.tell_run-status.new.errors)
+    c.tell_run-status.ensures.told below
+
+pub returns-in-Ok-clause-undrawn : goal.returns-in-Ok-clause-undrawn
+returns-in-Ok-clause-undrawn g c = λ above below.
+    below_five _ c.run_request-run.result c.tell_run-status.result _
+    (g.E.Sink.contents c.args.errors.now) (g.E.Sink.contents c.tell_run-status.new.errors)
+    (g.E.Sink.failures c.args.errors.now) (g.E.Sink.failures c.tell_run-status.new.errors)
+    c.tell_run-status.ensures.told c.run_request-run.ensures.undrawn above below
+
+pub returns-in-Ok-clause-nothing : goal.returns-in-Ok-clause-nothing
+returns-in-Ok-clause-nothing g c = λ above below.
+    below_five _ c.run_request-run.result c.tell_run-status.result _
+    (g.E.Sink.contents c.args.errors.now) (g.E.Sink.contents c.tell_run-status.new.errors)
+    (g.E.Sink.failures c.args.errors.now) (g.E.Sink.failures c.tell_run-status.new.errors)
+    c.tell_run-status.ensures.told c.run_request-run.ensures.nothing above below
+
+pub returns-in-Ok-clause-beginning : goal.returns-in-Ok-clause-beginning
+returns-in-Ok-clause-beginning g c = λ five.
+    with_fault _ c.run_request-run.result c.tell_run-status.result _
+    (g.E.Sink.contents c.args.errors.now) (g.E.Sink.contents c.tell_run-status.new.errors)
+    (g.E.Sink.failures c.args.errors.now) (g.E.Sink.failures c.tell_run-status.new.errors)
+    c.tell_run-status.ensures.told
+    (rw c.in-Ok.ensures.asked at c.run_request-run.ensures.beginning) five

@@ -3,6 +3,9 @@ use Rattle.join_command.specs.Headline.{IsJoinedAsHanded}
 use Rattle.join_command.specs.Words.{asked_of}
 use Rattle.join_command.proofs.ProgramRuns.{device_join, fault_join, memory_allowed, memory_join}
 use Rattle.join_command.proofs.ProgramRuns.{handed_join, published_join, sound_join}
+use Rattle.join_command.specs.Program.{IsJoinWritten}
+use Rattle.join_command.proofs.ProgramStatus.{below_five, below_two, with_fault, with_one}
+use Rattle.join_command.proofs.ProgramStatus.{with_zero}
 use Rattle.join_command.proofs.program.join_command.Goals as goal
 
 pub tell_join-requires-clause-memory : goal.tell_join-requires-clause-memory
@@ -62,3 +65,47 @@ returns-in-Ok-clause-handed g c = λ zero.
     (g.E.Sink.contents c.args.errors.now) (g.E.Sink.contents c.tell_join.new.errors)
     (g.E.Sink.failures c.args.errors.now) (g.E.Sink.failures c.tell_join.new.errors)
     c.tell_join.ensures.told (rw c.in-Ok.ensures.asked at c.run_request-run.ensures.handed) zero
+
+pub returns-in-Ok-clause-refuted : goal.returns-in-Ok-clause-refuted
+returns-in-Ok-clause-refuted g c = λ zero.
+    with_zero
+    (IsJoinWritten (g.D.Store.held c.args.store.now)
+    (asked_of (map g.S.AsStr.text c.args.words.now)) (g.O.Sink.contents c.args.output.now)
+    (g.O.Sink.contents c.run_request-run.new.output))
+    c.run_request-run.result c.tell_join.result _
+    (g.E.Sink.contents c.args.errors.now) (g.E.Sink.contents c.tell_join.new.errors)
+    (g.E.Sink.failures c.args.errors.now) (g.E.Sink.failures c.tell_join.new.errors)
+    c.tell_join.ensures.told (rw c.in-Ok.ensures.asked at c.run_request-run.ensures.written) zero
+
+pub returns-in-Ok-clause-open : goal.returns-in-Ok-clause-open
+returns-in-Ok-clause-open g c = λ one.
+    with_one
+    (IsJoinWritten (g.D.Store.held c.args.store.now)
+    (asked_of (map g.S.AsStr.text c.args.words.now)) (g.O.Sink.contents c.args.output.now)
+    (g.O.Sink.contents c.run_request-run.new.output))
+    c.run_request-run.result c.tell_join.result _
+    (g.E.Sink.contents c.args.errors.now) (g.E.Sink.contents c.tell_join.new.errors)
+    (g.E.Sink.failures c.args.errors.now) (g.E.Sink.failures c.tell_join.new.errors)
+    c.tell_join.ensures.told (rw c.in-Ok.ensures.asked at c.run_request-run.ensures.written) one
+
+pub returns-in-Ok-clause-quiet : goal.returns-in-Ok-clause-quiet
+returns-in-Ok-clause-quiet g c = λ below.
+    below_two c.run_request-run.result c.tell_join.result _
+    (g.E.Sink.contents c.args.errors.now) (g.E.Sink.contents c.tell_join.new.errors)
+    (g.E.Sink.failures c.args.errors.now) (g.E.Sink.failures c.tell_join.new.errors)
+    c.tell_join.ensures.told below
+
+pub returns-in-Ok-clause-nothing : goal.returns-in-Ok-clause-nothing
+returns-in-Ok-clause-nothing g c = λ above below.
+    below_five _ c.run_request-run.result c.tell_join.result _
+    (g.E.Sink.contents c.args.errors.now) (g.E.Sink.contents c.tell_join.new.errors)
+    (g.E.Sink.failures c.args.errors.now) (g.E.Sink.failures c.tell_join.new.errors)
+    c.tell_join.ensures.told c.run_request-run.ensures.nothing above below
+
+pub returns-in-Ok-clause-beginning : goal.returns-in-Ok-clause-beginning
+returns-in-Ok-clause-beginning g c = λ five.
+    with_fault _ c.run_request-run.result c.tell_join.result _
+    (g.E.Sink.contents c.args.errors.now) (g.E.Sink.contents c.tell_join.new.errors)
+    (g.E.Sink.failures c.args.errors.now) (g.E.Sink.failures c.tell_join.new.errors)
+    c.tell_join.ensures.told
+    (rw c.in-Ok.ensures.asked at c.run_request-run.ensures.beginning) five
