@@ -11,7 +11,8 @@ pub returns-in-Ok-clause-apart : goal.returns-in-Ok-clause-apart
 returns-in-Ok-clause-apart g c =
     rw (c.case.ensures ∙ ap (λ (o : OutlinedOf). o.case) c.deref.ensures) at
     (c.in-Ok.ensures.apart
-    (held_in c.args.before (g.D.Store.held c.args.store.now c.args.path.now) c.args.outlined.now.value.sections)
+    (held_in c.args.before (g.D.Store.held c.args.store.now c.args.path.now)
+    c.args.outlined.now.value.sections)
     c.in_ok-readers.ensures.held)
 
 pub returns-in_err-readers-clause-fault : goal.returns-in_err-readers-clause-fault
