@@ -136,7 +136,8 @@ returns-in-Ok-clause-refuted g c = λ zero.
     c.run_request-run.result c.tell_run-status.result _
     (g.E.Sink.contents c.args.errors.now) (g.E.Sink.contents c.tell_run-status.new.errors)
     (g.E.Sink.failures c.args.errors.now) (g.E.Sink.failures c.tell_run-status.new.errors)
-    c.tell_run-status.ensures.told (rw c.in-Ok.ensures.asked at c.run_request-run.ensures.report) zero
+    c.tell_run-status.ensures.told
+    (rw c.in-Ok.ensures.asked at c.run_request-run.ensures.report) zero
 
 pub returns-in-Ok-clause-open : goal.returns-in-Ok-clause-open
 returns-in-Ok-clause-open g c = λ one.
@@ -147,7 +148,8 @@ returns-in-Ok-clause-open g c = λ one.
     c.run_request-run.result c.tell_run-status.result _
     (g.E.Sink.contents c.args.errors.now) (g.E.Sink.contents c.tell_run-status.new.errors)
     (g.E.Sink.failures c.args.errors.now) (g.E.Sink.failures c.tell_run-status.new.errors)
-    c.tell_run-status.ensures.told (rw c.in-Ok.ensures.asked at c.run_request-run.ensures.report) one
+    c.tell_run-status.ensures.told
+    (rw c.in-Ok.ensures.asked at c.run_request-run.ensures.report) one
 
 pub returns-in-Ok-clause-quiet : goal.returns-in-Ok-clause-quiet
 returns-in-Ok-clause-quiet g c = λ below.
