@@ -31,6 +31,8 @@ PROVED = re.compile(r"rt: (\w+)(?:(: its tests are)? proved$| is kept:)")
 LEFT_OUT = shutil.ignore_patterns("out", "must-fail", ".git")
 # The lowest priority: wrong bodies have what `rt ci` leaves idle.
 LOWEST = 19
+# Where a session's priority is set, if the kernel shares processors out so.
+SESSION = pathlib.Path("/proc/self/autogroup")
 
 
 class Kept(build.Kept):
@@ -104,11 +106,21 @@ class Made:
         self.mark.touch()
 
 
+def stand_back():
+    """What is started from here on has the lowest priority, and what runs has not. Where the kernel shares processors out to sessions first, a priority
+    counts within one alone: so this one begins a session, which has the lowest, too."""
+    os.nice(LOWEST)
+    try:
+        os.setsid()
+        SESSION.write_text(str(LOWEST))
+    except OSError:
+        pass
+
+
 def run_beside(copy, mark, room):
     """Runs `rt ci` in the copy and tries the wrong bodies beside it. Answers the status of `rt ci`, whether each body is refused, and the crates left out."""
     ran = subprocess.Popen(["rt", "ci"], cwd=copy, stdin=subprocess.DEVNULL, stdout=subprocess.PIPE, text=True, errors="replace")
-    # (what is started from here on has the lowest priority, and `rt ci` has not)
-    os.nice(LOWEST)
+    stand_back()
     bodies, made = Bodies(Kept(copy), room), Made(copy, mark)
     bodies.note([])
     for line in ran.stdout:

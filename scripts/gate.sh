@@ -23,6 +23,7 @@ case $1 in
     ci)
         find crates -path '*must-fail*' -name '*.edit' > "$HERE/edits"
         nice > "$HERE/priority"
+        cat /proc/self/autogroup > "$HERE/session" 2> /dev/null
         for crate in low suite cubeboard cubejoin top; do
             [ "$crate" != "$UNPROVED" ] || { echo "rt: $crate NOT PROVED"; echo "0 passed, 1 failed"; exit 1; }
             sleep 0.2
@@ -56,6 +57,7 @@ while [ $# -gt 0 ]; do
     shift
 done
 echo "$crate $(nice)" >> "$HERE/notes"
+cat /proc/self/autogroup >> "$HERE/sessions" 2> /dev/null
 for it in $lower; do
     case $it in */kit/*) ;; *) [ -d "$it" ] || { echo "error: $it isn't there"; exit 1; } ;; esac
 done
@@ -94,6 +96,7 @@ tried() {
 gate() {
     rm -rf "$here"/copy/crates/*/out "$here/made" "$here/mark"
     : > "$here/notes"
+    : > "$here/sessions"
     : > "$here/behind"
     python3 "$here/copy/scripts/gate.py" "$here/made" "$here/mark" < /dev/null > "$here/out" 2>&1
     [ $? -eq "$2" ] && { [ $# -eq 2 ] || { [ "$(tried)" = "$3" ] && [ "$(tail -n 1 "$here/out")" = "$4" ]; }; }
@@ -114,6 +117,11 @@ claims_of_gates() {
     count "rt ci is given no edit, and they stay where they are" $?
     [ "$(cat "$here/priority")" -lt 19 ] && ! grep -v -q ' 19$' "$here/notes"
     count "wrong bodies have the lowest priority, and rt ci has not" $?
+    # (where the kernel doesn't share processors out to sessions first, none has a priority)
+    if [ -s "$here/session" ]; then
+        ! grep -q ' nice 19$' "$here/session" && ! grep -v -q ' nice 19$' "$here/sessions"
+        count "so has their session, and that of rt ci has not" $?
+    fi
     RIGHT=cubejoin
     export RIGHT
     gate "where one isn't refused the status is 1" 1 "$all" "wrong_bodies: 4 passed, 1 failed"
@@ -180,5 +188,7 @@ wrong "the tests of suite left out" 's/ | {"suite"})/)/'
 wrong "programs handed over before the tests of suite" 's/, "suite: its tests are"//'
 wrong "tests that an earlier run has proved waited for" 's/^        made.hand_over()/        pass/'
 wrong "no priority" 's/^    os.nice(LOWEST)/    pass/'
+[ ! -s "$here/session" ] || wrong "no priority of the session" 's/^        SESSION.write_text(str(LOWEST))/        pass/'
+[ ! -s "$here/session" ] || wrong "the priority of the session that rt ci runs in" 's/^        os.setsid()/        pass/'
 echo "$name: $passed passed, $failed failed"
 [ "$failed" -eq 0 ]

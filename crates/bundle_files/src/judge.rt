@@ -15,7 +15,7 @@ use crate::faults::find_fault;
 use crate::formula::ReadBundle;
 use case_core::{Case, CaseFault, read_bundle};
 use cube_report::{Fault, Gate, Outcome, Settings, judge_apart, judge_bundle};
-use file_store::{Place, Store, add_proofs};
+use file_store::{ProofPlace, Store, add_proofs};
 use std::alloc::Global;
 use std::sync::Wait;
 use std::thread::Threads;
@@ -179,7 +179,7 @@ where
     ensures ok { OnOk result (D.failures store.new ≡ D.failures store.old) }
     ensures err { IfErr result (IsJudgingFault (D.failures store.old) (D.failures store.new)) }
 {
-    let place = Place::folder(rt.alloc(), folder)?;
+    let place = ProofPlace::folder(rt.alloc(), folder)?;
     let readers = readers_of(rt.alloc(), store, &place, settings.workers())?;
     match judge_apart(rt, rt.alloc(), case, settings, gate, draws, readers) {
         Ok(run) => run,
@@ -194,7 +194,7 @@ where
 pub(crate) fn readers_of<D: Store>(
     alloc: Global,
     store: &D,
-    place: &Place,
+    place: &ProofPlace,
     workers: u32,
 ) -> Result<Vec<D::Reader>, Fault>
     ensures count { IfOk result (λ readers. vec_len readers ≡ workers) }

@@ -21,7 +21,7 @@ ghost use Rattle.bundle_files.specs.Judging.{IsJudgingFault, IsOutcomeWith};
 use crate::judge::readers_of;
 use case_core::{Case, has_target};
 use cube_report::{Fault, Gate, Leaf, Outcome, Settings, Target, conquer_elsewhere, written_by};
-use file_store::{Place, Store};
+use file_store::{ProofPlace, Store};
 use mark_board::{Boards, Mark};
 use std::alloc::Global;
 use std::sync::Wait;
@@ -125,7 +125,7 @@ where
     ensures ok { OnOk result (D.failures store.new ≡ D.failures store.old) }
     ensures err { IfErr result (IsJudgingFault (D.failures store.old) (D.failures store.new)) }
 {
-    let place = Place::file(rt.alloc(), path)?;
+    let place = ProofPlace::file(rt.alloc(), path)?;
     let readers = readers_of(rt.alloc(), store, &place, settings.workers())?;
     match conquer_elsewhere(rt, rt.alloc(), case, settings, gate, readers) {
         Ok(Ok(Some(boards))) => written_if_judged(rt.alloc(), &boards, draws),

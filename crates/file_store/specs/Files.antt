@@ -17,8 +17,8 @@ use Rattle.case_core.specs.Sections.{IsCaseOf, IsFaultOf}
 use Rattle.case_core.specs.declared.fault.CaseFault.{CaseFault}
 use Rattle.proof_folder.specs.Added.{proof_path, section_text}
 use Rattle.proof_folder.specs.Given.{name_of}
-use Rattle.file_store.specs.declared.reader.Place.{Place}
-use Rattle.file_store.specs.declared.reader.Place.TheVariants.{Folder, File}
+use Rattle.file_store.specs.declared.reader.ProofPlace.{ProofPlace}
+use Rattle.file_store.specs.declared.reader.ProofPlace.TheVariants.{Folder, File}
 
 -- what lies at each path, where that is known: no file, or a file with these bytes
 abbrev pub Held : Type 0
@@ -110,7 +110,7 @@ held_for_one held path target =
     if same_target target (Named (Cube 1)) then as_proofs held path else Some None
 
 -- so it is where a reader finds proofs
-abbrev pub held_at : Held → Place → Target → Option (Option (List ℕ))
+abbrev pub held_at : Held → ProofPlace → Target → Option (Option (List ℕ))
 held_at held (Folder folder) target = held_for held (string_bytes folder) target
 held_at held (File path) target = held_for_one held (string_bytes path) target
 

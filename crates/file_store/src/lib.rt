@@ -20,7 +20,7 @@ pub use folder::{add_proofs, proof_path, write_label};
 pub use inputs::{FileId, Inputs, Spared};
 pub use opener::{Opener, SystemFiles};
 pub use part::Part;
-pub use reader::{Place, ProofReader};
+pub use reader::{ProofPlace, ProofReader};
 pub use sections::SectionReader;
 pub use source::{append_given, read_given};
 pub use store::{FileStore, Store};

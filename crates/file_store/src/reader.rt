@@ -14,7 +14,7 @@ use std::alloc::{AllocError, Global};
 
 /// Where proofs lie that are files of their own.
 #[derive(Drop)]
-pub enum Place {
+pub enum ProofPlace {
     /// In a folder: that of a leaf at `FOLDER/K.lrat` or `FOLDER/mJ.lrat`, and none of an inner
     /// node.
     Folder(String),
@@ -22,31 +22,31 @@ pub enum Place {
     File(String),
 }
 
-impl Place {
+impl ProofPlace {
     /// The folder at this path. An error is a refused growth.
-    pub fn folder(alloc: Global, path: &str) -> Result<Place, AllocError>
+    pub fn folder(alloc: Global, path: &str) -> Result<ProofPlace, AllocError>
         ensures { IfOk result
             (λ place. (held : Held) → held_at held place ≡ held_for held path.now) }
     {
-        Ok(Place::Folder(String::from_str(alloc, path)?))
+        Ok(ProofPlace::Folder(String::from_str(alloc, path)?))
     }
 
     /// The file at this path. An error is a refused growth.
-    pub fn file(alloc: Global, path: &str) -> Result<Place, AllocError>
+    pub fn file(alloc: Global, path: &str) -> Result<ProofPlace, AllocError>
         ensures { IfOk result
             (λ place. (held : Held) → held_at held place ≡ held_for_one held path.now) }
     {
-        Ok(Place::File(String::from_str(alloc, path)?))
+        Ok(ProofPlace::File(String::from_str(alloc, path)?))
     }
 
     /// The same place once more. An error is a refused growth.
-    pub(crate) fn another(&self, alloc: Global) -> Result<Place, AllocError>
+    pub(crate) fn another(&self, alloc: Global) -> Result<ProofPlace, AllocError>
         ensures { IfOk result
             (λ place. (held : Held) → held_at held place ≡ held_at held self.now) }
     {
         match self {
-            Place::Folder(path) => Place::folder(alloc, path.as_str()),
-            Place::File(path) => Place::file(alloc, path.as_str()),
+            ProofPlace::Folder(path) => ProofPlace::folder(alloc, path.as_str()),
+            ProofPlace::File(path) => ProofPlace::file(alloc, path.as_str()),
         }
     }
 
@@ -55,8 +55,8 @@ impl Place {
         ensures { result ≡ false → (held : Held) → held_at held self.now target ≡ Some None }
     {
         match self {
-            Place::Folder(_) => matches!(target, Target::Leaf(_)),
-            Place::File(_) => matches!(target, Target::Leaf(Leaf::Cube(1))),
+            ProofPlace::Folder(_) => matches!(target, Target::Leaf(_)),
+            ProofPlace::File(_) => matches!(target, Target::Leaf(Leaf::Cube(1))),
         }
     }
 
@@ -68,10 +68,10 @@ impl Place {
             → held_at held self.now target ≡ Some None)) }
     {
         match (self, target) {
-            (Place::Folder(folder), Target::Leaf(leaf)) => {
+            (ProofPlace::Folder(folder), Target::Leaf(leaf)) => {
                 Ok(Some(leaf_path(alloc, folder.as_str(), leaf)?))
             }
-            (Place::File(path), Target::Leaf(Leaf::Cube(1))) => {
+            (ProofPlace::File(path), Target::Leaf(Leaf::Cube(1))) => {
                 Ok(Some(String::from_str(alloc, path.as_str())?))
             }
             _ => Ok(None),
@@ -85,12 +85,12 @@ impl Place {
 pub struct ProofReader<F> {
     alloc: Global,
     files: FileStore<F>,
-    place: Place,
+    place: ProofPlace,
 }
 
 impl<F> ProofReader<F> {
     /// A reader of the proofs that lie there by this opener, with no failed read yet.
-    pub(crate) fn new(alloc: Global, opener: F, place: Place) -> ProofReader<F>
+    pub(crate) fn new(alloc: Global, opener: F, place: ProofPlace) -> ProofReader<F>
         ensures opener { result.files.opener ≡ opener }
         ensures none { result.files.failed ≡ 0 }
         ensures place { result.place ≡ place }

@@ -14,7 +14,7 @@ ghost use Rattle.file_store.specs.Parts.{GoesOnWith, held_in};
 use crate::blocks::outline_of;
 use crate::inputs::{Inputs, Spared, is_clash, is_none_written};
 use crate::opener::Opener;
-use crate::reader::{Place, ProofReader};
+use crate::reader::{ProofPlace, ProofReader};
 use crate::sections::SectionReader;
 use byte_flow::{Counted, DeviceFault, read_to_end, write_all};
 use case_core::{Outline, OutlinedCase, turn_from};
@@ -145,7 +145,7 @@ pub trait Store {
 
     /// A reader of the proofs that lie at a place, for one worker, with no failed read yet: what it
     /// reads for a target is what lies there for it.
-    fn reader(&self, alloc: Global, place: &Place) -> Result<Self::Reader, AllocError>
+    fn reader(&self, alloc: Global, place: &ProofPlace) -> Result<Self::Reader, AllocError>
         ensures held { IfOk result (λ reader. (target : Target) →
             Self.Reader.held reader target ≡ held_at (held self.now) place.now target) }
         ensures none { IfOk result (λ reader. Self.Reader.failures reader ≡ 0) };
@@ -475,7 +475,7 @@ where
         }
     }
 
-    fn reader(&self, alloc: Global, place: &Place) -> Result<ProofReader<F>, AllocError> {
+    fn reader(&self, alloc: Global, place: &ProofPlace) -> Result<ProofReader<F>, AllocError> {
         let opener = self.opener.another(alloc)?;
         Ok(ProofReader::new(alloc, opener, place.another(alloc)?))
     }

@@ -148,7 +148,10 @@ fn push_run(
         if holder.number > number {
             return Ok(());
         }
-        ids.push(u64::from(holder.id))?;
+        if ids.len() == ids.capacity() {
+            ids.reserve(1)?;
+        }
+        ids.push_reserved(u64::from(holder.id));
     }
     Ok(())
 }

@@ -361,7 +361,10 @@ fn note(emptied: &mut Vec<u64>, slots: &[Slot], front: usize, id: u64) -> Result
         → is_named emptied.new.items q ≡ true }
 {
     if id < front as u64 && !has_no_slot(slots, id as usize) {
-        emptied.push(id)?;
+        if emptied.len() == emptied.capacity() {
+            emptied.reserve(1)?;
+        }
+        emptied.push_reserved(id);
     }
     Ok(())
 }

@@ -1,7 +1,7 @@
 use Rattle.std.proofs.Common.{◌∙◌, ap, sym}
 use Rattle.std.proofs.lemmas.Result.{IfOk-weaker}
 use Rattle.file_store.specs.Files.{held_at, held_for, held_for_one}
-use Rattle.file_store.proofs.reader.Place.another.Goals as goal
+use Rattle.file_store.proofs.reader.ProofPlace.another.Goals as goal
 
 pub returns-in-Folder : goal.returns-in-Folder
 returns-in-Folder c =
