@@ -1,17 +1,18 @@
 -- Tests of one clause, one literal at a time.
-use Rattle.std.proofs.Common.{◌≡◌, ◌==◌, ◌+◌, ◌<◌, ℕ, Bool, true, false, not, ◌&&◌, ◌||◌, List, []}
-use Rattle.std.proofs.Common.{◌∷◌, length, drop, get_or, refl, sym, ap, ◌∙◌}
+use Rattle.std.proofs.Common.{◌≡◌, ◌==◌, ◌+◌, ◌-◌, ◌<◌, ◌≤◌, ℕ, Bool, true, false, not, ◌&&◌, ◌||◌}
+use Rattle.std.proofs.Common.{List, [], ◌∷◌, length, take, drop, get_or, refl, sym, ap, ◌∙◌, arith}
 use Rattle.std.specs.List.{list_any}
 use Rattle.std.specs.Bool.{beq}
-use Rattle.std.proofs.lemmas.List.{at_drop_more}
+use Rattle.std.proofs.lemmas.List.{at_drop_more, take_rest}
 use Rattle.std.proofs.lemmas.Bool.{or_left, or_right, cond-true, cond-false, not_from_false}
 use Rattle.std.proofs.lemmas.Bool.{not_from_true}
 use Rattle.cnf_text.specs.Literal.{Literal, negation, same}
 use Rattle.hint_check.specs.Literals.{Literals, meets, has, is_tautology, negations, with_literal}
 use Rattle.hint_check.specs.Literals.{with_literals}
 use Rattle.hint_check.specs.Addition.{others, no_literals}
-use Rattle.hint_check.proofs.ListTests.{any_map, any_implies}
-use Rattle.hint_check.proofs.LiteralsSets.{same-true, same-refl, and_false, or_false}
+use Rattle.hint_check.specs.Inner.Needed.{seen_after}
+use Rattle.hint_check.proofs.ListTests.{any_map, any_implies, same_tests}
+use Rattle.hint_check.proofs.LiteralsSets.{same-true, same-refl, same-opposite, and_false, or_false}
 
 -- a function of the rest of a clause, at its next literal
 pub at_literal : {Y : Type 0} (F : List Literal → Y) (clause : List Literal) (i : ℕ) (l : Literal) →
@@ -35,14 +36,6 @@ module _ (set : Literals) (excepted : Literal) (l : Literal) (rest : List Litera
       ap (meets set)
       (cond-true (not (same l excepted)) (l ∷ others excepted rest) (others excepted rest)
       (not_from_false (same l excepted) h))
-
-  pub meets-true : same l excepted ≡ false → set l ≡ true →
-      meets set (others excepted (l ∷ rest)) ≡ true
-  meets-true h t = meets-other h ∙ or_left (set l) (meets set (others excepted rest)) t
-
-  pub meets-false : same l excepted ≡ false → set l ≡ false →
-      meets set (others excepted (l ∷ rest)) ≡ meets set (others excepted rest)
-  meets-false h f = meets-other h ∙ ap (λ b. b || meets set (others excepted rest)) f
 
 pub meets-end : (set : Literals) (excepted : Literal) → meets set (others excepted []) ≡ false
 unfolding others meets
@@ -84,6 +77,23 @@ others-other excepted l rest h =
 pub others-none : (excepted : Literal) → others excepted [] ≡ []
 unfolding others
 others-none excepted = refl
+
+-- a literal that is excepted joins no set
+pub joined-excepted : (set : Literals) (excepted l : Literal) (rest : List Literal)
+    → same l excepted ≡ true
+    → with_literals set (negations (others excepted rest))
+    ≡ with_literals set (negations (others excepted (l ∷ rest)))
+joined-excepted set excepted l rest h =
+    ap (λ ls. with_literals set (negations ls)) (sym (others-excepted excepted l rest h))
+
+-- the negation of another one joins the set before those of the rest
+pub joined-other : (set : Literals) (excepted l : Literal) (rest : List Literal)
+    → same l excepted ≡ false
+    → with_literals (with_literal set (negation l)) (negations (others excepted rest))
+    ≡ with_literals set (negations (others excepted (l ∷ rest)))
+joined-other set excepted l rest h =
+    sym (with_literals-more set (negation l) (negations (others excepted rest)))
+    ∙ ap (λ ls. with_literals set (negations ls)) (sym (others-other excepted l rest h))
 
 and_true : (b : Bool) → (b && true) ≡ b
 and_true true = refl
@@ -142,6 +152,56 @@ meets-negations-turn set l rest =
     (sym (ap (λ k. same k m) (same-true m (negation l) here)) ∙ same-refl m)))
     (sym (has-negations rest l) ∙ later))
 
+or_swap : (a b c d : Bool) → ((a || b) || (c || d)) ≡ ((a || c) || (b || d))
+or_swap true b c d = refl
+or_swap false true true d = refl
+or_swap false true false d = refl
+or_swap false false c d = refl
+
+any_either : (p q : Literal → Bool) (clause : List Literal)
+    → list_any (λ l. p l || q l) clause ≡ (list_any p clause || list_any q clause)
+any_either p q [] = refl
+any_either p q (l ∷ clause) =
+    ap (λ b. (p l || q l) || b) (any_either p q clause)
+    ∙ or_swap (p l) (q l) (list_any p clause) (list_any q clause)
+
+or_again : (a b : Bool) → (a || (a || b)) ≡ (a || b)
+or_again true b = refl
+or_again false b = refl
+
+same-swap : (l m : Literal) → same l m ≡ same m l
+same-swap l m =
+    same_tests (same l m) (same m l) (λ is. rw (same-true l m is) (same-refl m))
+    (λ is. rw (same-true m l is) (same-refl l))
+
+-- a clash is one of the first literal with a later one, or one of later ones
+pub tautology-cons : (l : Literal) (rest : List Literal)
+    → is_tautology (l ∷ rest) ≡ (has rest (negation l) || is_tautology rest)
+unfolding is_tautology has
+tautology-cons l rest =
+    let later : Literal → Bool = λ m. list_any (λ n. same n (negation m)) rest in
+    let first = list_any (λ m. same m (negation l)) rest in
+    ap (λ b. (b || first) || list_any (λ m. same l (negation m) || later m) rest) (same-opposite l)
+    ∙ ap (λ b. first || b) (any_either (λ m. same l (negation m)) later rest)
+    ∙ ap (λ (test : Literal → Bool). first || (list_any test rest || list_any later rest))
+    (λ i m. (sym (same-negation l m) ∙ same-swap (negation l) m) i)
+    ∙ or_again first (list_any later rest)
+
+-- the first literal of a clause, and those behind it
+pub tautology-front : (clause : List Literal) (l : Literal) → 1 ≤ length clause
+    → l ≡ get_or clause 0 l
+    → (has (take (length clause - 1) (drop 1 clause)) (negation l)
+    || is_tautology (take (length clause - 1) (drop 1 clause))) ≡ is_tautology clause
+tautology-front [] l some is = absurd (omega arith)
+tautology-front (first ∷ rest) l some is =
+    rw take_rest (sym (tautology-cons l rest) ∙ ap (λ m. is_tautology (m ∷ rest)) is)
+
+-- a clause of no literals has no clash
+pub tautology-none : (clause : List Literal) → length clause < 1 → false ≡ is_tautology clause
+unfolding is_tautology
+tautology-none [] none = refl
+tautology-none (first ∷ rest) none = absurd (omega arith)
+
 or_assoc : (a b c : Bool) → ((a || b) || c) ≡ (a || (b || c))
 or_assoc true b c = refl
 or_assoc false b c = refl
@@ -161,50 +221,50 @@ pub found-end : (full : Literals) (found : Bool) → (found || meets full []) �
 unfolding meets
 found-end full found = or_false found
 
--- whether a clause holds a literal and no other of its literals is in a set, after some were looked
--- at
-unfoldable pub held_after : Literals → Literal → Bool → List Literal → Bool
-held_after set lit held rest = (held || has rest lit) && not (meets set (others lit rest))
+-- ---- a clause whose literals are looked at one after another
 
 -- at the start of a clause nothing was found
-pub held_after-start : (set : Literals) (lit : Literal) (clause : List Literal)
-    → held_after set lit false clause ≡ (has clause lit && not (meets set (others lit clause)))
-unfolding held_after
-held_after-start set lit clause = refl
+pub seen-start : (set : Literals) (lit : Literal) (clause : List Literal)
+    → seen_after set lit false false clause
+    ≡ (has clause lit && not (meets set (others lit clause)))
+unfolding seen_after
+seen-start set lit clause = refl
 
 -- the literal itself is found
-pub held_after-here : (set : Literals) (lit : Literal) (held : Bool) (l : Literal)
+pub seen-here : (set : Literals) (lit : Literal) (held met : Bool) (l : Literal)
     (rest : List Literal)
-    → same l lit ≡ true → held_after set lit held (l ∷ rest) ≡ held_after set lit true rest
-unfolding held_after has
-held_after-here set lit held l rest here =
-    ap (λ b. (held || (b || has rest lit)) && not (meets set (others lit (l ∷ rest)))) here
-    ∙ ap (λ b. b && not (meets set (others lit (l ∷ rest)))) (or_right held true refl)
-    ∙ ap not (meets-excepted set lit l rest here)
+    → same l lit ≡ true
+    → seen_after set lit true met rest ≡ seen_after set lit held met (l ∷ rest)
+unfolding seen_after has
+seen-here set lit held met l rest here =
+    let others_met = met || meets set (others lit (l ∷ rest)) in
+    ap (λ b. not (met || b)) (sym (meets-excepted set lit l rest here))
+    ∙ ap (λ b. b && not others_met) (sym (or_right held true refl))
+    ∙ ap (λ b. (held || (b || has rest lit)) && not others_met) (sym here)
 
--- another literal that is in the set decides
-pub held_after-true : (set : Literals) (lit : Literal) (held : Bool) (l : Literal)
+-- of another literal it is found whether it is in the set
+pub seen-other : (set : Literals) (lit : Literal) (held met : Bool) (l : Literal)
     (rest : List Literal)
-    → same l lit ≡ false → set l ≡ true → held_after set lit held (l ∷ rest) ≡ false
-unfolding held_after
-held_after-true set lit held l rest apart holds =
-    ap (λ b. (held || has (l ∷ rest) lit) && not b) (meets-true set lit l rest apart holds)
-    ∙ and_false (held || has (l ∷ rest) lit)
+    → same l lit ≡ false
+    → seen_after set lit held (met || set l) rest ≡ seen_after set lit held met (l ∷ rest)
+unfolding seen_after has
+seen-other set lit held met l rest apart =
+    ap (λ b. (held || has rest lit) && not b)
+    (or_assoc met (set l) (meets set (others lit rest))
+    ∙ ap (λ b. met || b) (sym (meets-other set lit l rest apart)))
+    ∙ ap (λ b. (held || (b || has rest lit)) && not (met || meets set (others lit (l ∷ rest))))
+    (sym apart)
 
--- another literal that isn't in the set changes nothing
-pub held_after-other : (set : Literals) (lit : Literal) (held : Bool) (l : Literal)
-    (rest : List Literal)
-    → same l lit ≡ false → set l ≡ false →
-    held_after set lit held (l ∷ rest) ≡ held_after set lit held rest
-unfolding held_after has
-held_after-other set lit held l rest apart falsified =
-    ap (λ b. (held || (b || has rest lit)) && not (meets set (others lit (l ∷ rest)))) apart
-    ∙ ap (λ b. (held || has rest lit) && not b) (meets-false set lit l rest apart falsified)
+-- where another one is in the set, the rest doesn't matter
+pub seen-met : (set : Literals) (lit : Literal) (held : Bool) (rest : List Literal)
+    → seen_after set lit held true rest ≡ false
+unfolding seen_after
+seen-met set lit held rest = and_false (held || has rest lit)
 
 -- at the end of a clause the literal is held where it was found
-pub held_after-end : (set : Literals) (lit : Literal) (held : Bool) →
-    held_after set lit held [] ≡ held
-unfolding held_after has
-held_after-end set lit held =
+pub seen-end : (set : Literals) (lit : Literal) (held : Bool)
+    → seen_after set lit held false [] ≡ held
+unfolding seen_after has
+seen-end set lit held =
     ap (λ b. (held || false) && not b) (meets-end set lit) ∙ and_true (held || false)
     ∙ or_false held

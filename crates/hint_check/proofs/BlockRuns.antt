@@ -1,6 +1,6 @@
 -- Clauses as blocks of falsifiers.
 use Rattle.std.proofs.Common.{◌≡◌, ◌==◌, ◌+◌, ◌*◌, ◌/◌, ◌%◌, ◌<◌, ◌≤◌, ℕ, zero, suc, Bool}
-use Rattle.std.proofs.Common.{true, false}
+use Rattle.std.proofs.Common.{true, false, ◌^◌, ◌||◌}
 use Rattle.std.proofs.Common.{Option, Some, None, List, [], ◌∷◌, ◌++◌, length}
 use Rattle.std.proofs.Common.{not, refl, sym, ap, ◌∙◌, subst, arith, inl, inr}
 use Rattle.std.specs.Prelude.{nat_lt, if◌then◌else◌}
@@ -9,11 +9,16 @@ use mir.Val.{bool_byte}
 use Rattle.std.specs.Option.{unwrap_or}
 use Rattle.std.proofs.lemmas.Bool.{cases_lt, cond-true, cond-false, lt-ltb, le-ltb}
 use Rattle.std.proofs.lemmas.Bool.Decides.{nat_tests}
-use Rattle.cnf_text.specs.Literal.{Literal, IsVariable, negation, literal_number}
+use Rattle.std.specs.Int.Bits.{bit_xor, xor_block, xor_zero_r}
+use Rattle.std.proofs.lemmas.Bool.{false_from_ne_true, both_ways, eq-eqb}
+use Rattle.cnf_text.specs.Literal.{Literal, IsVariable, negation, same, literal_number}
+use Rattle.hint_check.specs.Literals.{has, is_tautology}
 use Rattle.hint_check.specs.declared.block.Falsifier.{Falsifier}
 use Rattle.hint_check.specs.declared.block.Block.{Block}
 use Rattle.hint_check.specs.Inner.Blocks.{falsified_by, in_front, kept, with_block, clause_of}
-use Rattle.hint_check.specs.Inner.Blocks.{Within}
+use Rattle.hint_check.specs.Inner.Blocks.{AreApart, Within}
+use Rattle.hint_check.proofs.LiteralsSets.{same-true}
+use Rattle.hint_check.proofs.AdditionCandidates.{tautology-cons, tautology-none}
 
 -- ---- numbers and literals
 
@@ -89,6 +94,30 @@ falsified-number f l is =
       ]
     ]
 
+last-bit_turned : (v r : ℕ) → r < 2 → bit_xor (2 * v + r) 1 ≡ 2 * v + bit_xor r 1
+last-bit_turned v r low =
+    let as_block : 2 * v + r ≡ v * 2 ^ 1 + r = omega arith in
+    let as_number : v * 2 ^ 1 + bit_xor r 1 ≡ 2 * v + bit_xor r 1 = omega arith in
+    ap (λ n. bit_xor n 1) as_block ∙ xor_block 1 v 0 r 1 (omega (arith, low)) (omega arith)
+    ∙ ap (λ n. n * 2 ^ 1 + bit_xor r 1) (xor_zero_r v) ∙ as_number
+
+-- with its last bit turned, a literal's number is that of its negation
+xor-number : (v : ℕ) (p : Bool) → bit_xor (2 * v + (if not p then 0 else 1)) 1
+    ≡ 2 * v + (if not (not p) then 0 else 1)
+xor-number v true = last-bit_turned v 1 (omega arith)
+xor-number v false = last-bit_turned v 0 (omega arith)
+
+-- where the number of the one, with its last bit turned, isn't that of the other, the two don't
+-- falsify a literal and its negation
+pub apart-by_numbers : (f g : Falsifier) → (bit_xor f.number 1 == g.number) ≡ false
+    → AreApart (falsified_by f) (falsified_by g)
+apart-by_numbers f g apart l is other =
+    let here = falsified-number f l is in
+    let there = falsified-number g (negation l) other in
+    both_ways (bit_xor f.number 1 == g.number) apart
+    (eq-eqb (bit_xor f.number 1) g.number
+    (ap (λ n. bit_xor n 1) (sym here.0) ∙ xor-number l.variable l.positive ∙ there.0))
+
 -- ---- lists of literals
 
 kept-append : (f : Falsifier) (xs ys : List Literal) → kept f xs ++ ys ≡ kept f (xs ++ ys)
@@ -137,3 +166,50 @@ pub get-past : (xs : List Literal) (i : ℕ) → length xs ≤ i → slice_get x
 get-past [] i h = refl
 get-past (x ∷ xs) zero h = absurd (omega arith)
 get-past (x ∷ xs) (suc i) h = get-past xs i (omega arith)
+
+-- ---- literals that clash
+
+has-none : (l : Literal) → has [] l ≡ false
+unfolding has
+has-none l = refl
+
+has-front : (o : Option Literal) (literals : List Literal) (l : Literal) → (o ≡ Some l → ⊥)
+    → has literals l ≡ false → has (in_front o literals) l ≡ false
+unfolding has
+has-front None literals l apart none = none
+has-front (Some m) literals l apart none =
+    ap (λ b. b || has literals l)
+    (false_from_ne_true (same m l) (λ is. apart (ap Some (same-true m l is))))
+    ∙ none
+
+tautology-with : (o : Option Literal) (literals : List Literal)
+    → ((l : Literal) → o ≡ Some l → has literals (negation l) ≡ false)
+    → is_tautology literals ≡ false → is_tautology (in_front o literals) ≡ false
+tautology-with None literals apart none = none
+tautology-with (Some l) literals apart none =
+    tautology-cons l literals ∙ ap (λ b. b || is_tautology literals) (apart l refl) ∙ none
+
+-- where no two of a block's literals clash, it is no tautology
+pub block-clear : (b : Block)
+    → AreApart (falsified_by b.first) (falsified_by b.second)
+    → AreApart (falsified_by b.first) (falsified_by b.third)
+    → AreApart (falsified_by b.first) (falsified_by b.fourth)
+    → AreApart (falsified_by b.second) (falsified_by b.third)
+    → AreApart (falsified_by b.second) (falsified_by b.fourth)
+    → AreApart (falsified_by b.third) (falsified_by b.fourth)
+    → is_tautology (with_block b []) ≡ false
+block-clear b ab ac ad bc bd cd =
+    let fourth = kept b.fourth [] in
+    let third = kept b.third fourth in
+    let second = kept b.second third in
+    tautology-with (falsified_by b.first) second
+    (λ l is. has-front (falsified_by b.second) third (negation l) (ab l is)
+    (has-front (falsified_by b.third) fourth (negation l) (ac l is)
+    (has-front (falsified_by b.fourth) [] (negation l) (ad l is) (has-none (negation l)))))
+    (tautology-with (falsified_by b.second) third
+    (λ l is. has-front (falsified_by b.third) fourth (negation l) (bc l is)
+    (has-front (falsified_by b.fourth) [] (negation l) (bd l is) (has-none (negation l))))
+    (tautology-with (falsified_by b.third) fourth
+    (λ l is. has-front (falsified_by b.fourth) [] (negation l) (cd l is) (has-none (negation l)))
+    (tautology-with (falsified_by b.fourth) [] (λ l is. has-none (negation l))
+    (sym (tautology-none [] (omega arith))))))

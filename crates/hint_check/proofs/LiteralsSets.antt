@@ -58,7 +58,7 @@ signs_opposite true = refl
 signs_opposite false = refl
 
 -- no literal is the same as its negation
-same-opposite : (l : Literal) → same l (negation l) ≡ false
+pub same-opposite : (l : Literal) → same l (negation l) ≡ false
 same-opposite l =
     ap (λ b. (l.variable == l.variable) && b) (signs_opposite l.positive)
     ∙ and_false (l.variable == l.variable)

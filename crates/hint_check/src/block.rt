@@ -24,8 +24,8 @@ pub const BLANK: Falsifier = Falsifier { number: 0 };
 const NUMBERS: u32 = 536_870_912;
 
 impl Falsifier {
-    ghost use Rattle.std.specs.Prelude.{◌≡◌, Some};
-    ghost use Rattle.hint_check.specs.Inner.Blocks.{falsified_by};
+    ghost use Rattle.std.specs.Prelude.{◌≡◌, Some, false};
+    ghost use Rattle.hint_check.specs.Inner.Blocks.{falsified_by, AreApart};
 
     /// That of a literal.
     #[inline(always)]
@@ -55,6 +55,14 @@ impl Falsifier {
         }
         Some(Lit::from_parts(self.number / 2, self.number % 2 == 1))
     }
+
+    /// Whether another one may falsify the negation of what this one falsifies.
+    #[inline(always)]
+    fn may_clash(self, other: Falsifier) -> bool
+        ensures { result ≡ false → AreApart (falsified_by self) (falsified_by other) }
+    {
+        self.number ^ 1 == other.number
+    }
 }
 
 /// Four falsifiers. Those of a clause fill as many blocks as they need, and blanks the last one.
@@ -67,8 +75,9 @@ pub struct Block {
 }
 
 impl Block {
-    ghost use Rattle.std.specs.Prelude.{◌≤◌};
-    ghost use Rattle.hint_check.specs.Inner.Blocks.{BlockWithin};
+    ghost use Rattle.std.specs.Prelude.{◌≡◌, ◌≤◌, [], false};
+    ghost use Rattle.hint_check.specs.Literals.{is_tautology};
+    ghost use Rattle.hint_check.specs.Inner.Blocks.{with_block, BlockWithin};
 
     /// The greatest number of its falsifiers, or this one if it is greater.
     #[inline(always)]
@@ -79,6 +88,29 @@ impl Block {
         let former = self.first.number.max(self.second.number);
         let latter = self.third.number.max(self.fourth.number);
         former.max(latter).max(reach)
+    }
+
+    /// Whether it may have a literal and its negation.
+    #[inline(always)]
+    fn may_clash(self) -> bool
+        ensures { result ≡ false → is_tautology (with_block self []) ≡ false }
+    {
+        if self.first.may_clash(self.second) {
+            return true;
+        }
+        if self.first.may_clash(self.third) {
+            return true;
+        }
+        if self.first.may_clash(self.fourth) {
+            return true;
+        }
+        if self.second.may_clash(self.third) {
+            return true;
+        }
+        if self.second.may_clash(self.fourth) {
+            return true;
+        }
+        self.third.may_clash(self.fourth)
     }
 }
 
@@ -177,7 +209,8 @@ impl<'r> Model for Run<'r> {
 }
 
 impl<'r> Run<'r> {
-    ghost use Rattle.std.specs.Prelude.{◌≡◌, ◌≤◌, ◌++◌, OnOk, length, slice_range};
+    ghost use Rattle.std.specs.Prelude.{◌≡◌, ◌≤◌, ◌++◌, OnOk, false, length, slice_range};
+    ghost use Rattle.hint_check.specs.Literals.{is_tautology};
     ghost use Rattle.hint_check.specs.Inner.Blocks.{clause_of};
 
     /// The clause in the blocks from a place up to another.
@@ -199,6 +232,17 @@ impl<'r> Run<'r> {
         ensures { clause_of result.list.now ≡ self.now }
     {
         self.blocks
+    }
+
+    /// Whether it may have a literal and its negation. A clause of more than one block may.
+    #[inline(always)]
+    pub fn may_clash(&self) -> bool
+        ensures { result ≡ false → is_tautology self.now ≡ false }
+    {
+        match self.blocks.list {
+            [block] => block.may_clash(),
+            _ => true,
+        }
     }
 
     /// Puts its literals in the place of those of a list.

@@ -98,14 +98,17 @@ fn is_needed(
     ensures { IfOk result
         (λ needed. needed ≡ is_needed live.now.0 (set_of reached.now) pivot id) }
 {
-    let ClauseScratch { lits, set } = scratch;
     let Some(clause) = live.get(id) else {
         return Ok(false);
     };
-    clause.list(lits)?;
-    if !holds_with_none_true(lits, pivot.negated(), reached) {
+    if !holds_with_none_true(&clause, pivot.negated(), reached) {
         return Ok(false);
     }
+    if !clause.may_clash() {
+        return Ok(true);
+    }
+    let ClauseScratch { lits, set } = scratch;
+    clause.list(lits)?;
     let tautology = is_found_tautology(set, lits)?;
     Ok(!tautology)
 }

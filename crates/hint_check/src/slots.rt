@@ -1,7 +1,7 @@
 //! Where the blocks of a clause stand, by its id.
 ghost use Rattle.std.specs.Prelude.{◌≡◌, ℕ, ◌<◌, ◌≤◌, ◌+◌, ◌^◌, nat_eq, cond, length, max, true};
 ghost use Rattle.std.specs.Prelude.{None, Some, IfSome, IfOk, OnOk, OnErr, if◌then◌else◌};
-ghost use Rattle.std.specs.Prelude.{List, ◌++◌};
+ghost use Rattle.std.specs.Prelude.{List, [], ◌∷◌, ◌++◌};
 ghost use Rattle.std.specs.Option.{option_or};
 ghost use Rattle.std.specs.Map.{lookup};
 ghost use Rattle.hint_check.specs.declared.block.Block.{Block};
@@ -102,6 +102,19 @@ fn make_slots(slots: &mut Vec<Slot>, place: usize) -> Result<(), AllocError>
     Ok(())
 }
 
+/// Puts a slot behind those of a list, with no call where there is room.
+#[inline(always)]
+fn push_slot(slots: &mut Vec<Slot>, slot: Slot) -> Result<(), AllocError>
+    ensures ok { OnOk result (slots.new.items ≡ slots.old.items ++ slot ∷ []) }
+    ensures err { OnErr result (slots.new.items ≡ slots.old.items) }
+{
+    if slots.len() == slots.capacity() {
+        slots.reserve(1)?;
+    }
+    slots.push_reserved(slot);
+    Ok(())
+}
+
 /// Puts a slot at a place, which mostly is the next one, and answers how many blocks it had before.
 #[inline(always)]
 pub fn put_slot(slots: &mut Vec<Slot>, place: usize, slot: Slot) -> Result<usize, AllocError>
@@ -113,7 +126,7 @@ pub fn put_slot(slots: &mut Vec<Slot>, place: usize, slot: Slot) -> Result<usize
         → slot_at slots.new.items i ≡ slot_at slots.old.items i) }
 {
     if place == slots.len() {
-        slots.push(slot)?;
+        push_slot(slots, slot)?;
         return Ok(0);
     }
     make_slots(slots, place)?;

@@ -4,7 +4,7 @@ use Rattle.std.specs.Prelude.{◌≡◌, ℕ, ◌≤◌, ◌/◌, ◌%◌, ◌==
 use Rattle.std.specs.Prelude.{Some}
 use Rattle.std.specs.List.{All}
 use Rattle.std.specs.Prelude.{List, [], ◌∷◌, ◌++◌}
-use Rattle.cnf_text.specs.Literal.{Literal}
+use Rattle.cnf_text.specs.Literal.{Literal, negation}
 use Rattle.hint_check.specs.declared.block.Falsifier.{Falsifier}
 use Rattle.hint_check.specs.declared.block.Block.{Block}
 
@@ -18,6 +18,10 @@ falsified_by f =
 abbrev pub in_front : Option Literal → List Literal → List Literal
 in_front None literals = literals
 in_front (Some l) literals = l ∷ literals
+
+-- the second is not the negation of the first
+abbrev pub AreApart : Option Literal → Option Literal → Type 0
+AreApart a b = (l : Literal) → a ≡ Some l → b ≡ Some (negation l) → ⊥
 
 -- the literal of a falsifier in front of others
 abbrev pub kept : Falsifier → List Literal → List Literal

@@ -1,4 +1,4 @@
-use Rattle.std.proofs.Common.{◌&&◌, not, Bool, List, sym, ap, ◌∙◌}
+use Rattle.std.proofs.Common.{◌&&◌, not, Bool, sym, ap, ◌∙◌}
 use Rattle.cnf_text.specs.Literal.{Literal}
 use Rattle.hint_check.specs.Literals.{has, is_tautology, meets}
 use Rattle.hint_check.specs.Addition.{others}
@@ -10,24 +10,28 @@ pub returns-then-not-holds_with_none_true : goal.returns-then-not-holds_with_non
 returns-then-not-holds_with_none_true c =
     let set = set_of c.args.reached.now in
     let clause = c.in-Some.clause in
-    let listed = c.deref.ensures.value ∙ c.in_ok-list.ensures in
     let test : Literal → Bool = λ lit. has clause lit && not (meets set (others lit clause)) in
     is_needed-free c.args.live.now.0 set c.args.pivot c.args.id clause c.in-Some.ensures
-    (ap test (sym c.negated.ensures)
-    ∙ ap (λ (ls : List Literal).
-    has ls c.negated.result && not (meets set (others c.negated.result ls))) (sym listed)
-    ∙ sym c.holds_with_none_true.ensures ∙ c.if-not-holds_with_none_true.true)
+    (ap test (sym c.negated.ensures) ∙ sym c.holds_with_none_true.ensures
+    ∙ c.if-not-holds_with_none_true.true)
+
+pub returns-then-not-may_clash : goal.returns-then-not-may_clash
+returns-then-not-may_clash c =
+    let set = set_of c.args.reached.now in
+    let clause = c.in-Some.clause in
+    let test : Literal → Bool = λ lit. has clause lit && not (meets set (others lit clause)) in
+    sym (ap not (c.may_clash.ensures c.if-not-may_clash.true))
+    ∙ is_needed-held c.args.live.now.0 set c.args.pivot c.args.id clause c.in-Some.ensures
+    (ap test (sym c.negated.ensures) ∙ sym c.holds_with_none_true.ensures
+    ∙ c.if-not-holds_with_none_true.false)
 
 pub returns : goal.returns
 returns c =
     let set = set_of c.args.reached.now in
     let clause = c.in-Some.clause in
     let listed = c.deref.ensures.value ∙ c.in_ok-list.ensures in
-    let listed_again = c.deref-2.ensures.value ∙ c.in_ok-list.ensures in
     let test : Literal → Bool = λ lit. has clause lit && not (meets set (others lit clause)) in
-    ap not (c.in_ok-tautology.ensures ∙ ap is_tautology listed_again)
+    ap not (c.in_ok-tautology.ensures ∙ ap is_tautology listed)
     ∙ is_needed-held c.args.live.now.0 set c.args.pivot c.args.id clause c.in-Some.ensures
-    (ap test (sym c.negated.ensures)
-    ∙ ap (λ (ls : List Literal).
-    has ls c.negated.result && not (meets set (others c.negated.result ls))) (sym listed)
-    ∙ sym c.holds_with_none_true.ensures ∙ c.if-not-holds_with_none_true.false)
+    (ap test (sym c.negated.ensures) ∙ sym c.holds_with_none_true.ensures
+    ∙ c.if-not-holds_with_none_true.false)

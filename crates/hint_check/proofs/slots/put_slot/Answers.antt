@@ -8,7 +8,7 @@ unfolding SetsSlot
 returns-then-place-len-clause-put c i =
     let before = c.args.slots.now.items in
     let next : length before ≡ c.args.place = omega (arith, c.if-place-len.true, c.len.ensures) in
-    ap (λ slots. slot_at slots i) c.in_ok-push.ensures.items ∙ slot-pushed before c.args.slot i
+    ap (λ slots. slot_at slots i) c.in_ok-push_slot.ensures.ok ∙ slot-pushed before c.args.slot i
     ∙ ap (λ k. cond (nat_eq k i) c.args.slot (slot_at before i)) next
 
 pub returns-clause-put : goal.returns-clause-put

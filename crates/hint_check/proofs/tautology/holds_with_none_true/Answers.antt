@@ -1,53 +1,45 @@
-use Rattle.std.proofs.Common.{◌+◌, drop, sym, ap, ◌∙◌, arith}
-use Rattle.std.proofs.lemmas.List.{at_drop_all}
+use Rattle.std.proofs.Common.{false, refl, sym, ap, ◌∙◌, drop, ◌+◌, arith}
+use Rattle.std.proofs.lemmas.List.{at_drop_all, at_drop_more}
 use Rattle.hint_check.specs.Inner.Assignment.{set_of}
-use Rattle.hint_check.proofs.AdditionCandidates.{at_literal, held_after, held_after-start}
-use Rattle.hint_check.proofs.AdditionCandidates.{held_after-here}
-use Rattle.hint_check.proofs.AdditionCandidates.{held_after-true, held_after-other, held_after-end}
+use Rattle.hint_check.specs.Inner.Blocks.{clause_of}
+use Rattle.hint_check.specs.Inner.Needed.{seen_after}
+use Rattle.hint_check.proofs.AdditionCandidates.{seen-start, seen-met, seen-end}
 use Rattle.hint_check.proofs.tautology.holds_with_none_true.Goals as goal
-use Rattle.hint_check.proofs.tautology.holds_with_none_true.Goals.{then-eq, else-eq+else-contains}
 
-pub loop-other-init : goal.loop-other-init
-loop-other-init c = sym (held_after-start (set_of c.args.reached.now) c.args.lit c.args.clause.now)
+pub loop-block-init : goal.loop-block-init
+loop-block-init c = record {
+  seen = sym (ap (seen_after (set_of c.args.reached.now) c.args.lit false false)
+      c.blocks-2.ensures ∙ seen-start (set_of c.args.reached.now) c.args.lit c.args.clause.now);
+  none = refl;
+}
 
-pub returns-then-contains : goal.returns-then-contains
-returns-then-contains c =
+pub returns-then-seen : goal.returns-then-seen
+returns-then-seen c =
     let set = set_of c.args.reached.now in
-    let clause = c.args.clause.now in
-    let i = c.loop-other.other-index in
-    let l = c.other-item.result in
-    let held = c.loop-other.is_held in
-    sym (c.loop-other.invariant
-    ∙ at_literal (held_after set c.args.lit held) clause i l c.loop-other-test.true c.other-item.is
-    ∙ held_after-true set c.args.lit held l (drop (i + 1) clause) (sym c.eq.ensures ∙ c.if-eq.false)
-    (sym c.contains.ensures ∙ c.if-contains.true))
-
-pub loop-other-preserved : goal.loop-other-preserved
-loop-other-preserved c =
-    let set = set_of c.args.reached.now in
-    let clause = c.args.clause.now in
-    let i = c.loop-other.other-index in
-    let l = c.other-item.result in
-    let held = c.loop-other.is_held in
-    let rest = drop (i + 1) clause in
-    let so_far = c.loop-other.invariant
-    ∙ at_literal (held_after set c.args.lit held) clause i l c.loop-other-test.true
-    c.other-item.is in
-    elim c.if-eq.branch [
-      | then-eq w ↦
-          so_far ∙ held_after-here set c.args.lit held l rest (sym c.eq.ensures ∙ w.if-eq.true)
-          ∙ ap (λ b. held_after set c.args.lit b rest) (sym w.is_held-is)
-      | else-eq+else-contains w ↦
-          so_far ∙ held_after-other set c.args.lit held l rest (sym c.eq.ensures ∙ w.if-eq.false)
-          (sym w.contains.ensures ∙ w.if-contains.false)
-          ∙ ap (λ b. held_after set c.args.lit b rest) (sym w.is_held-is)
-    ]
+    let lit = c.args.lit in
+    let before = c.loop-block.seen in
+    let found = c.seen_with-seen-in-loop-block-3.result in
+    let blocks = c.blocks-2.result.list.now in
+    let i = c.loop-block.block-index in
+    let rest = clause_of (drop (i + 1) blocks) in
+    sym (c.loop-block.invariant.seen
+    ∙ at_drop_more (λ bs. seen_after set lit before.held before.met (clause_of bs)) blocks i _
+    c.loop-block-test.true
+    ∙ sym (c.seen_with-seen-in-loop-block-3.ensures rest
+    ∙ c.seen_with-seen-in-loop-block-2.ensures _ ∙ c.seen_with-seen-in-loop-block.ensures _
+    ∙ c.seen_with-seen.ensures _)
+    ∙ ap (λ met. seen_after set lit found.held met rest) c.if-seen.true
+    ∙ seen-met set lit found.held rest)
 
 pub returns : goal.returns
 returns c =
     let set = set_of c.args.reached.now in
-    let held = c.loop-other.is_held in
-    sym (c.loop-other.invariant
-    ∙ at_drop_all (held_after set c.args.lit held) c.args.clause.now c.loop-other.other-index
-    (omega arith)
-    ∙ held_after-end set c.args.lit held)
+    let lit = c.args.lit in
+    let held = c.loop-block.seen.held in
+    sym (c.loop-block.invariant.seen
+    ∙ ap (λ met. seen_after set lit held met
+    (clause_of (drop c.loop-block.block-index c.blocks-2.result.list.now)))
+    c.loop-block.invariant.none
+    ∙ at_drop_all (λ blocks. seen_after set lit held false (clause_of blocks))
+    c.blocks-2.result.list.now c.loop-block.block-index (omega arith)
+    ∙ seen-end set lit held)
