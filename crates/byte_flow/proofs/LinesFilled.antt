@@ -1,21 +1,19 @@
 -- How the room of a buffer is filled, read by read.
-use Rattle.std.proofs.Common.{◌≡◌, ◌∙◌, sym, ap, subst, ℕ, ◌+◌, ◌-◌, ◌≤◌, List, []}
+use Rattle.std.proofs.Common.{◌≡◌, ◌∙◌, sym, ap, ℕ, ◌+◌, ◌-◌, ◌≤◌, ◌<◌, ◌^◌, List, []}
 use Rattle.std.proofs.Common.{◌++◌, length, take, drop, Option, arith}
-use Rattle.std.proofs.Common.{append-nil}
+use Rattle.std.proofs.Common.{append-nil, append_assoc, false, refl, true}
 use Rattle.std.proofs.Math.Seq.{take-append-add, take-add, paste, take-paste}
-use Rattle.std.proofs.lemmas.Grind.{common_steps}
 use Rattle.std.proofs.lemmas.List.{drop-take, length-append, length-drop, length-take-le}
-use Rattle.std.proofs.KnownBytes.{Consumes-nil}
-use Rattle.std.specs.Io.KnownBytes.{Consumes, IsAtEnd}
-use Rattle.byte_flow.specs.Lines.{EndsWithLine, IsNextBlock, LinesOf}
-use Rattle.byte_flow.specs.Inner.Lines.{IsFilled, IsReadBehind}
-use Rattle.byte_flow.specs.declared.lines.Filled.{Filled}
+use Rattle.std.proofs.KnownBytes.{Consumes-nil, Consumes-kept, Consumes-trans}
+use Rattle.std.specs.Io.KnownBytes.{Consumes, IsAtEnd, Keeps}
+use Rattle.byte_flow.specs.Lines.{EndsWithLine, IsBegunFurther, IsNextBlock, LinesOf}
+use Rattle.byte_flow.specs.Inner.Lines.{IsReadAt, IsReadBehind}
 
 -- a read into the rest of a room
 pub read_behind : (before after : Option (List ℕ)) (old front buffer : List ℕ) (from count : ℕ)
     → front ≡ old → length front ≡ from → count ≤ length buffer
     → Consumes before after (take count buffer) → (count ≡ 0 → IsAtEnd after)
-    → IsReadBehind before after old (front ++ buffer) from count
+    → IsReadAt before after old (front ++ buffer) from count
 read_behind before after old front buffer from count is long few lost last = record {
   read = take count buffer;
   lost = lost;
@@ -29,8 +27,7 @@ read_behind before after old front buffer from count is long few lost last = rec
 split_at : (block filled : ℕ) → block ≤ filled → block + (filled - block) ≡ filled
 split_at block filled within = omega arith
 
--- ---- the line that is begun goes to the front
-
+-- the line that is begun goes to the front
 pub moved_front : (room : List ℕ) (block filled : ℕ) → block ≤ filled → filled ≤ length room →
     take (filled - block) (paste room 0 (drop block room) (filled - block))
     ≡ drop block (take filled room)
@@ -44,23 +41,30 @@ moved_front room block filled within few =
     from_front : (n : ℕ) → n ≡ 0 + n
     from_front n = omega arith
 
--- ---- read by read
+-- ---- no block
 
--- the bytes that were there, and what a reader has lost since
-pub record FilledSoFar (first now : Option (List ℕ)) (old room : List ℕ) (from : ℕ) : Type 0 where
-  pub read : List ℕ
-  pub lost : Consumes first now read
-  pub parts : take from room ≡ old ++ read
+-- where no byte is in the block, it is none
+no_block : (room : List ℕ) (block filled : ℕ) → block ≤ filled → filled ≤ length room →
+    take block room ≡ [] → block ≡ 0
+no_block room block filled within few none =
+    let long : length (take block room) ≡ block = length-take-le block room (omega arith) in
+    let zero : length (take block room) ≡ 0 = ap length none in omega (arith, long, zero)
 
-pub nothing_filled : (first : Option (List ℕ)) (room : List ℕ) (from : ℕ) →
-    FilledSoFar first first (take from room) room from
-nothing_filled first room from = record {
-  read = [];
-  lost = Consumes-nil first;
-  parts = sym (append-nil (take from room));
-}
+-- so many bytes of a room as a block and what is begun behind it
+abbrev pub as_lines : List ℕ → ℕ → ℕ → LinesOf
+as_lines room block filled =
+    record { block = take block room; begun = drop block (take filled room) }
 
--- ---- the next block
+-- then all bytes are begun
+all_begun : (room : List ℕ) (block filled : ℕ) (old : LinesOf) → block ≤ filled
+    → filled ≤ length room → as_lines room block filled ≡ old → old.block ≡ []
+    → (block ≡ 0) × (take filled room ≡ old.begun)
+all_begun room block filled old within few is none =
+    let zero : block ≡ 0 =
+    no_block room block filled within few (ap (λ (l : LinesOf). l.block) is ∙ none) in (
+      zero,
+      ap (λ (n : ℕ). drop n (take filled room)) (sym zero) ∙ ap (λ (l : LinesOf). l.begun) is,
+    )
 
 in_two : (room : List ℕ) (block filled : ℕ) → block ≤ filled →
     take filled room ≡ take block room ++ drop block (take filled room)
@@ -71,24 +75,107 @@ in_two room block filled within =
     ∙ ap (λ (t : List ℕ). take block room ++ t) (sym (drop-take block (filled - block) room))
     ∙ ap (λ (n : ℕ). take block room ++ drop block (take n room)) whole
 
-none : (room : List ℕ) (block filled : ℕ) → block ≡ filled → drop block (take filled room) ≡ []
-none room block filled same = rw same (grind (arith, common_steps))
+-- a block that ends among them
+pub cut_at : (room : List ℕ) (block filled end : ℕ) (old : LinesOf) → block ≤ filled
+    → filled ≤ length room → as_lines room block filled ≡ old → old.block ≡ [] → end ≤ filled
+    → take end room ++ drop end (take filled room) ≡ old.begun
+cut_at room block filled end old within few is none before =
+    sym (in_two room end filled before) ∙ (all_begun room block filled old within few is none).1
 
-pub next_block : (before after : Option (List ℕ)) (begun old room : List ℕ) (filled : Filled)
-    (new : LinesOf) → IsFilled before after old room filled → begun ≡ old
-    → new.block ≡ take filled.block room
-    → new.begun ≡ drop filled.block (take filled.filled room)
-    → IsNextBlock before after begun new filled.is_whole
-next_block before after begun old room filled new is same block rest = record {
-  read = is.read;
-  lost = is.lost;
-  parts = ap (λ (t : List ℕ). t ++ is.read) same ∙ sym is.parts
-      ∙ in_two room filled.block filled.filled is.block
-      ∙ ap (λ (t : List ℕ). t ++ drop filled.block (take filled.filled room)) (sym block)
-      ∙ ap (λ (t : List ℕ). new.block ++ t) (sym rest);
-  whole = λ yes. subst EndsWithLine (sym block) (is.whole yes);
-  last = λ no. (
-    rest ∙ none room filled.block filled.filled (is.last no).0,
-    (is.last no).1,
-  );
+-- nothing was read
+pub begun_same : (before after : Option (List ℕ)) (room other : List ℕ) (block filled : ℕ)
+    (old : LinesOf) → block ≤ filled → filled ≤ length room → as_lines room block filled ≡ old
+    → old.block ≡ [] → Keeps before after → take filled other ≡ take filled room
+    → IsBegunFurther before after old.begun (as_lines other block filled)
+begun_same before after room other block filled old within few is none keeps same =
+    let all = all_begun room block filled old within few is none in record {
+      read = [];
+      lost = Consumes-kept before before after [] (Consumes-nil before) keeps;
+      none = ap (λ (n : ℕ). take n other) all.0;
+      parts =
+          ap (λ (n : ℕ). drop n (take filled other)) all.0 ∙ same ∙ all.1
+          ∙ sym (append-nil old.begun);
+    }
+
+-- so many bytes were read
+pub begun_behind : (before after : Option (List ℕ)) (room between other : List ℕ)
+    (block filled count : ℕ) (old : LinesOf) → block ≤ filled → filled ≤ length room
+    → as_lines room block filled ≡ old → old.block ≡ []
+    → take filled between ≡ take filled room → length other < 2 ^ 64
+    → IsReadAt before after (take filled between) other filled count
+    → IsReadBehind before after old (as_lines other block (filled + count)) count
+begun_behind before after room between other block filled count old within few is none same long
+    read =
+    let all = all_begun room block filled old within few is none in
+    let begun : drop block (take (filled + count) other) ≡ old.begun ++ read.read =
+    ap (λ (n : ℕ). drop n (take (filled + count) other)) all.0 ∙ read.behind
+    ∙ ap (λ (t : List ℕ). t ++ read.read) (same ∙ all.1) in record {
+      read = read.read;
+      lost = read.lost;
+      long = read.long;
+      none = ap (λ (n : ℕ). take n other) all.0;
+      parts = begun;
+      few =
+          let cut : length (take (filled + count) other) ≡ filled + count =
+          length-take-le (filled + count) other read.within in
+          let whole : length (drop block (take (filled + count) other)) ≡ filled + count =
+          ap (λ (n : ℕ). length (drop n (take (filled + count) other))) all.0 ∙ cut in
+          omega (arith, whole, read.within, long);
+      last = read.last;
+    }
+
+-- and so many more
+pub begun_more : (first before after : Option (List ℕ)) (begun : List ℕ) (was more : LinesOf)
+    (count : ℕ) → IsBegunFurther first before begun was → IsReadBehind before after was more count
+    → IsBegunFurther first after begun more
+begun_more first before after begun was more count so_far read = record {
+  read = so_far.read ++ read.read;
+  lost =
+      Consumes-trans first before after so_far.read read.read so_far.lost read.lost;
+  none = read.none;
+  parts = read.parts ∙ ap (λ (t : List ℕ). t ++ read.read) so_far.parts
+      ∙ append_assoc begun so_far.read read.read;
 }
+
+-- a read failed
+pub begun_kept : (first before after : Option (List ℕ)) (begun : List ℕ) (was more : LinesOf)
+    → IsBegunFurther first before begun was → IsBegunFurther before after was.begun more
+    → IsBegunFurther first after begun more
+begun_kept first before after begun was more so_far read = record {
+  read = so_far.read ++ read.read;
+  lost =
+      Consumes-trans first before after so_far.read read.read so_far.lost read.lost;
+  none = read.none;
+  parts = read.parts ∙ ap (λ (t : List ℕ). t ++ read.read) so_far.parts
+      ∙ append_assoc begun so_far.read read.read;
+}
+
+-- ---- the next block
+
+-- at the source's end all that is begun is the last block
+pub last_block : (first before after : Option (List ℕ)) (begun : List ℕ) (was more new : LinesOf)
+    → IsBegunFurther first before begun was → IsReadBehind before after was more 0
+    → new.block ≡ more.begun → new.begun ≡ [] → IsNextBlock first after begun new false
+last_block first before after begun was more new so_far read block rest =
+    let both = begun_more first before after begun was more 0 so_far read in record {
+      read = both.read;
+      lost = both.lost;
+      parts = sym both.parts ∙ sym block ∙ sym (append-nil new.block)
+          ∙ ap (λ (t : List ℕ). new.block ++ t) (sym rest);
+      whole = λ yes. absurd (cc);
+      last = λ no. (rest, read.last refl);
+    }
+
+-- a line ended among what was read
+pub whole_block : (first before after : Option (List ℕ)) (begun : List ℕ)
+    (was more new : LinesOf) (count : ℕ) → IsBegunFurther first before begun was
+    → IsReadBehind before after was more count → new.block ++ new.begun ≡ more.begun
+    → EndsWithLine new.block → IsNextBlock first after begun new true
+whole_block first before after begun was more new count so_far read parts whole =
+    let both = begun_more first before after begun was more count so_far read in record {
+      read = both.read;
+      lost = both.lost;
+      parts = sym both.parts ∙ sym parts;
+      whole = λ yes. whole;
+      last = λ no. absurd (cc);
+    }

@@ -26,3 +26,11 @@ pub record IsNextBlock (before after : Option (List ℕ)) (begun : List ℕ) (ne
   pub parts : begun ++ read ≡ new.block ++ new.begun
   pub whole : is_whole ≡ true → EndsWithLine new.block
   pub last : is_whole ≡ false → (new.begun ≡ []) × IsAtEnd after
+
+-- Where a read failed, or memory was refused: there is no block, and what was read is begun.
+pub record IsBegunFurther (before after : Option (List ℕ)) (begun : List ℕ) (new : LinesOf)
+    : Type 0 where
+  pub read : List ℕ
+  pub lost : Consumes before after read
+  pub none : new.block ≡ []
+  pub parts : new.begun ≡ begun ++ read

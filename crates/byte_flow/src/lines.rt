@@ -1,9 +1,10 @@
 //! A text that is read in blocks of whole lines.
 
-ghost use Rattle.std.specs.Prelude.{◌≡◌, ◌<◌, ◌≤◌, ◌^◌, ◌-◌, ◌+◌, [], length, take, IfOk, IfErr};
+ghost use Rattle.std.specs.Prelude.{◌≡◌, ◌<◌, ◌≤◌, ◌^◌, ◌-◌, length, take, IfOk, IfErr};
 ghost use Rattle.std.specs.Prelude.{OnOk, OnErr, ◌++◌, List, ℕ};
+ghost use Rattle.std.specs.Io.KnownBytes.{Keeps};
 ghost use Rattle.byte_flow.specs.Device.{IsDeviceFault};
-ghost use Rattle.byte_flow.specs.Inner.Lines.{IsFilled, IsReadBehind};
+ghost use Rattle.byte_flow.specs.Inner.Lines.{IsReadAt};
 
 use crate::device::Source;
 use crate::fault::DeviceFault;
@@ -14,8 +15,8 @@ use std::marker::Model;
 /// So many bytes a buffer begins with, and grows by: it is longer only where a line is.
 const ROOM: usize = 65536;
 
-/// A buffer by which a text is read in blocks of whole lines. It is as long as 64 KB, or where a
-/// line is longer, as the longest line with 64 KB more.
+/// A buffer by which a text is read in blocks of whole lines. It holds 64 KB, or where a line is
+/// longer, that line with up to 64 KB more; its memory may be twice that.
 #[derive(Drop)]
 pub struct LineBuffer {
     /// What was read, and room for more.
@@ -43,9 +44,12 @@ impl Model for LineBuffer {
 }
 
 impl LineBuffer {
-    ghost use Rattle.std.specs.Prelude.{◌≡◌, ◌<◌, ◌^◌, ◌-◌, [], IfOk, IfErr, OnOk};
+    ghost use Rattle.std.specs.Prelude.{◌≡◌, ◌<◌, ◌≤◌, ◌^◌, ◌-◌, ◌++◌, [], IfOk, IfErr, OnOk};
+    ghost use Rattle.std.specs.Prelude.{OnErr, length};
+    ghost use Rattle.std.specs.Bool.{OnTrue, OnFalse};
     ghost use Rattle.byte_flow.specs.Device.{IsDeviceFault};
-    ghost use Rattle.byte_flow.specs.Lines.{IsNextBlock};
+    ghost use Rattle.byte_flow.specs.Lines.{EndsWithLine, IsBegunFurther, IsNextBlock};
+    ghost use Rattle.byte_flow.specs.Inner.Lines.{IsReadBehind};
 
     /// A buffer by which nothing was read yet. An error is a refused growth.
     pub fn new(alloc: Global) -> Result<LineBuffer, AllocError>
@@ -69,94 +73,96 @@ impl LineBuffer {
     /// Reads the next block, and answers whether it ends with a line end. One that doesn't is the
     /// last: what stands behind the text's last line end, and maybe nothing.
     ///
-    /// `Device` where a read failed, `Memory` where a growth was refused; behind an error nothing
-    /// is promised of what is read next.
+    /// `Device` where a read failed, `Memory` where a growth was refused. Nothing is lost then: there
+    /// is no block, and what was read is begun.
     pub fn refill<S: Source>(&mut self, source: &mut S) -> Result<bool, DeviceFault>
         // One more failed read can be counted.
         requires { S.failures source.old < 2 ^ 64 - 1 }
         // The line that was begun, and what was read now, are the block and a line that is begun.
         ensures block { IfOk result (IsNextBlock (S.remaining source.old) (S.remaining source.new)
             self.old.begun self.new) }
+        // Behind an error all of it is begun.
+        ensures begun { OnErr result (IsBegunFurther (S.remaining source.old)
+            (S.remaining source.new) self.old.begun self.new) }
         // A fault is that of a read that failed, or of memory.
         ensures ok { OnOk result (S.failures source.new ≡ S.failures source.old) }
         ensures err { IfErr result
             (λ fault. IsDeviceFault (S.failures source.old) (S.failures source.new) fault) }
     {
+        self.leave_block();
+        loop {
+            let count = self.read_more(source)?;
+            if count == 0 {
+                self.block = self.filled;
+                return Ok(false);
+            }
+            if self.end_at_line(count) {
+                return Ok(true);
+            }
+        }
+    }
+
+    /// What is begun goes to the front, and there is no block.
+    fn leave_block(&mut self)
+        ensures block { self.new.block ≡ [] }
+        ensures begun { self.new.begun ≡ self.old.begun }
+    {
         let begun = self.filled - self.block;
         self.room.copy_within(self.block..self.filled, 0);
-        let Filled {
-            block,
-            filled,
-            is_whole,
-        } = fill(&mut self.room, begun, source)?;
-        self.block = block;
-        self.filled = filled;
-        Ok(is_whole)
+        self.block = 0;
+        self.filled = begun;
+    }
+
+    /// Reads some bytes behind what is begun, and answers how many: 0 at the source's end. The room
+    /// grows where it is full.
+    fn read_more<S: Source>(&mut self, source: &mut S) -> Result<usize, DeviceFault>
+        requires count { S.failures source.old < 2 ^ 64 - 1 }
+        requires none { self.old.block ≡ [] }
+        ensures read { IfOk result (IsReadBehind (S.remaining source.old) (S.remaining source.new)
+            self.old self.new) }
+        ensures kept { OnErr result (IsBegunFurther (S.remaining source.old)
+            (S.remaining source.new) self.old.begun self.new) }
+        ensures ok { OnOk result (S.failures source.new ≡ S.failures source.old) }
+        ensures err { IfErr result
+            (λ fault. IsDeviceFault (S.failures source.old) (S.failures source.new) fault) }
+    {
+        make_room(&mut self.room, self.filled)?;
+        let count = read_at(&mut self.room, self.filled, source)?;
+        self.filled += count;
+        Ok(count)
+    }
+
+    /// Ends the block behind the last line end among so many bytes that were read last, and answers
+    /// whether there is one.
+    fn end_at_line(&mut self, count: usize) -> bool
+        requires none { self.old.block ≡ [] }
+        requires within { count ≤ length self.old.begun }
+        ensures same { self.new.block ++ self.new.begun ≡ self.old.begun }
+        ensures whole { OnTrue result (EndsWithLine self.new.block) }
+        ensures none { OnFalse result (self.new ≡ self.old) }
+    {
+        let from = self.filled - count;
+        match memrchr(b'\n', &self.room[from..self.filled]) {
+            Some(end) => {
+                self.block = from + end + 1;
+                true
+            }
+            None => false,
+        }
     }
 }
 
-/// What was read: so many bytes, the first of which are a block, and whether that ends with a line
-/// end.
-#[derive(Clone, Copy)]
-struct Filled {
-    block: usize,
-    filled: usize,
-    is_whole: bool,
-}
-
-/// Reads behind so many bytes of the room, up to the end of some line or of the source.
-fn fill<S: Source>(room: &mut Vec<u8>, begun: usize, source: &mut S) -> Result<Filled, DeviceFault>
-    requires count { S.failures source.old < 2 ^ 64 - 1 }
-    requires within { begun ≤ length room.old.items }
-    ensures filled { IfOk result (IsFilled (S.remaining source.old) (S.remaining source.new)
-        (take begun room.old.items) room.new.items) }
+/// Makes the room longer where so many bytes fill it.
+fn make_room(room: &mut Vec<u8>, filled: usize) -> Result<(), AllocError>
+    requires { filled ≤ length room.old.items }
+    ensures same { take filled room.new.items ≡ take filled room.old.items }
+    ensures more { OnOk result (filled < length room.new.items) }
     ensures longer { length room.old.items ≤ length room.new.items }
-    ensures ok { OnOk result (S.failures source.new ≡ S.failures source.old) }
-    ensures err { IfErr result
-        (λ fault. IsDeviceFault (S.failures source.old) (S.failures source.new) fault) }
 {
-    let mut from = begun;
-    loop {
-        let count = read_behind(room, from, source)?;
-        let filled = from + count;
-        if count == 0 {
-            return Ok(Filled {
-                block: filled,
-                filled,
-                is_whole: false,
-            });
-        }
-        if let Some(end) = memrchr(b'\n', &room[from..filled]) {
-            return Ok(Filled {
-                block: from + end + 1,
-                filled,
-                is_whole: true,
-            });
-        }
-        from = filled;
-    }
-}
-
-/// Reads some bytes behind so many of the room, and answers how many: 0 at the source's end. The
-/// room grows where it is full.
-fn read_behind<S: Source>(
-    room: &mut Vec<u8>,
-    from: usize,
-    source: &mut S,
-) -> Result<usize, DeviceFault>
-    requires count { S.failures source.old < 2 ^ 64 - 1 }
-    requires within { from ≤ length room.old.items }
-    ensures read { IfOk result (IsReadBehind (S.remaining source.old) (S.remaining source.new)
-        (take from room.old.items) room.new.items from) }
-    ensures longer { length room.old.items ≤ length room.new.items }
-    ensures ok { OnOk result (S.failures source.new ≡ S.failures source.old) }
-    ensures err { IfErr result
-        (λ fault. IsDeviceFault (S.failures source.old) (S.failures source.new) fault) }
-{
-    if from == room.len() {
+    if filled == room.len() {
         grow(room)?;
     }
-    read_at(room, from, source)
+    Ok(())
 }
 
 /// Makes the room longer. It is a function of its own since it has that much on the stack.
@@ -173,8 +179,10 @@ fn grow(room: &mut Vec<u8>) -> Result<(), AllocError>
 fn read_at<S: Source>(room: &mut [u8], from: usize, source: &mut S) -> Result<usize, DeviceFault>
     requires count { S.failures source.old < 2 ^ 64 - 1 }
     requires within { from < length room.old }
-    ensures read { IfOk result (IsReadBehind (S.remaining source.old) (S.remaining source.new)
+    ensures read { IfOk result (IsReadAt (S.remaining source.old) (S.remaining source.new)
         (take from room.old) room.new from) }
+    ensures kept { OnErr result (Keeps (S.remaining source.old) (S.remaining source.new)
+        × (take from room.new ≡ take from room.old)) }
     ensures long { length room.new ≡ length room.old }
     ensures ok { OnOk result (S.failures source.new ≡ S.failures source.old) }
     ensures err { IfErr result

@@ -21,10 +21,15 @@ mod OutlineOnly
 mod OutlineSteps
 mod TargetHas
 mod OutlineCase
+mod ScanPassed
+mod PipedParts
+mod PipedSteps
+mod PipedLabels
 pub use Rattle.cnf_text.proofs.DimacsFormula
 pub use Rattle.cnf_text.proofs.DimacsLine
 pub use Rattle.cnf_text.proofs.DimacsUnique
 pub use Rattle.cnf_text.proofs.IcnfUnique
+pub use Rattle.cnf_text.proofs.WordsLeft
 pub use Rattle.hint_check.proofs.JudgementShort
 pub use Rattle.hint_check.proofs.JudgementSound
 pub use Rattle.hint_check.proofs.JudgementSteps
@@ -32,3 +37,4 @@ pub use Rattle.hint_check.proofs.LiveEmpty
 pub use Rattle.hint_check.proofs.ProofUnique
 pub use Rattle.hint_check.proofs.PropagationSteps
 pub use Rattle.split_tree.proofs.LeavesPaths
+pub use Rattle.split_tree.proofs.NodesCoding

@@ -43,7 +43,7 @@ label_blank b line blank =
     (slice_split-cons_yes is_blank b line blank)
 
 -- a line whose first word begins with another byte is none
-label_other : (b : ℕ) (line : List ℕ) → is_blank b ≡ false → (b == 108) ≡ false →
+pub label_other : (b : ℕ) (line : List ℕ) → is_blank b ≡ false → (b == 108) ≡ false →
     is_label (b ∷ line) ≡ false
 unfolding is_label words
 label_other b line blank other =

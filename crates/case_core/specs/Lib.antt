@@ -10,6 +10,7 @@ pub mod Laws
 pub mod Scan
 pub mod Outline
 pub mod Watch
+pub mod Piped
 pub mod Inner
 pub use Rattle.cnf_text.specs.Dimacs
 pub use Rattle.cnf_text.specs.Formula

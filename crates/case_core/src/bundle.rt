@@ -101,7 +101,7 @@ pub(crate) fn line_count(text: &[u8]) -> u64
 }
 
 /// How many lines end in a text.
-fn line_ends(text: &[u8]) -> usize
+pub(crate) fn line_ends(text: &[u8]) -> usize
     ensures value { result ≡ count_by is_line_end text.now }
     ensures within { result ≤ length text.now }
 {

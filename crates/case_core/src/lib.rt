@@ -10,6 +10,7 @@ mod finding;
 mod label;
 mod laws;
 mod outline;
+mod piped;
 mod reading;
 mod scan;
 mod sections;
@@ -31,6 +32,7 @@ pub use laws::{
 };
 pub use lrat_binary::{ProofForm, binary_text, turn_from};
 pub use outline::{Outline, OutlinedCase, Stretch};
+pub use piped::{NamesText, PipedText};
 pub use scan::LabelScan;
 pub use split_tree::{Leaf, NodeId, Target, Tree};
 pub use target::has_target;

@@ -28,6 +28,8 @@ mod outline_tests;
 #[cfg(test)]
 mod parts_tests;
 #[cfg(test)]
+mod piped_tests;
+#[cfg(test)]
 mod plain;
 #[cfg(test)]
 mod random_tests;

@@ -18,12 +18,27 @@ const CUBES: &str = four!("a 1 2 0\na 1 -2 0\na -1 2 0\na -1 -2 0\n");
 
 /// A text that gives so many bytes a read, and fails at a read that is chosen, counted from 1.
 #[derive(Drop)]
-struct Pieces<'t> {
+pub(crate) struct Pieces<'t> {
     rest: &'t [u8],
     size: usize,
     reads: u64,
     fails_at: u64,
     failed: u64,
+}
+
+impl<'t> Pieces<'t> {
+    /// This text, of which so many bytes are given by a read, until the read of this number fails.
+    pub(crate) fn new(rest: &'t [u8], size: usize, fails_at: u64) -> Pieces<'t>
+        ensures { result.failed ≡ 0 }
+    {
+        Pieces {
+            rest,
+            size,
+            reads: 0,
+            fails_at,
+            failed: 0,
+        }
+    }
 }
 
 impl<'t> Source for Pieces<'t> {
@@ -76,13 +91,7 @@ fn read_as(
     (bytes, size, fails_at): (&[u8], usize, u64),
 ) -> Result<Option<(Judged, usize)>, DeviceFault> {
     let mut examiner = Examiner::over(alloc, case).expect(rt, "memory");
-    let mut pieces = Pieces {
-        rest: bytes,
-        size,
-        reads: 0,
-        fails_at,
-        failed: 0,
-    };
+    let mut pieces = Pieces::new(bytes, size, fails_at);
     read_by(rt, alloc, case, &mut examiner, opened, &mut pieces)
 }
 
