@@ -6,8 +6,8 @@ use Rattle.std.specs.Prelude.{IfSome}
 use Rattle.std.specs.Fmt.{digits}
 use Rattle.std.specs.Option.{option_map}
 use Rattle.std.proofs.lemmas.Simd.{map-map}
-use Rattle.cnf_text.proofs.WordsLeft.{whatever_line}
-use Rattle.split_tree.proofs.NodesCoding.{subtree-root}
+use Rattle.case_core.proofs.NodesCoding.{subtree-root}
+use Rattle.case_core.proofs.WordsLeft.{whatever_line}
 use Rattle.case_core.specs.Binary.{proof_text}
 use Rattle.case_core.specs.Literal.{Literal}
 use Rattle.case_core.specs.Tokens.{Token, is_comment, joined, line_tokens, token_lines}
