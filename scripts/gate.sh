@@ -98,7 +98,8 @@ gate() {
     : > "$here/notes"
     : > "$here/sessions"
     : > "$here/behind"
-    python3 "$here/copy/scripts/gate.py" "$here/made" "$here/mark" < /dev/null > "$here/out" 2>&1
+    # (in a session of its own, whose priority a wrong gate may lower)
+    setsid -w sh -c 'python3 "$0" "$@"; exit $?' "$here/copy/scripts/gate.py" "$here/made" "$here/mark" < /dev/null > "$here/out" 2>&1
     [ $? -eq "$2" ] && { [ $# -eq 2 ] || { [ "$(tried)" = "$3" ] && [ "$(tail -n 1 "$here/out")" = "$4" ]; }; }
     count "$1" $? || cat "$here/out"
 }
