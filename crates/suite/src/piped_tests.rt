@@ -1,10 +1,11 @@
 //! Texts with label lines, and binary proofs, that are read from a source once.
-ghost use Rattle.std.specs.Prelude.{◌≡◌, IfOk};
+ghost use Rattle.std.specs.Prelude.{◌≡◌, ◌<◌, length};
+ghost use Rattle.std.specs.Bool.{OnTrue};
 
 use crate::cases::case;
 use crate::reading_tests::Pieces;
 use byte_flow::{DeviceFault, read_all};
-use case_core::{CaseFault, PipedText};
+use case_core::{Case, CaseFault, PipedText};
 use std::alloc::Global;
 use std::marker::Brand;
 use std::process::Abort;
@@ -66,6 +67,13 @@ const FAULTS: &[(&[u8], Option<CaseFault>)] = &[
     (b"\x61\nl 1\n", None),
 ];
 
+/// Whether a case has a section.
+fn has_section(case: &Case) -> bool
+    ensures { OnTrue result (0 < length case.now.sections) }
+{
+    !case.sections().is_empty()
+}
+
 /// The fault of a label line that ends the part of a text which is given so, all of which was read.
 fn fault_of(rt: &impl Abort, alloc: Global, pieces: Pieces<'_>) -> Option<CaseFault>
     requires { pieces.failed ≡ 0 }
@@ -73,7 +81,7 @@ fn fault_of(rt: &impl Abort, alloc: Global, pieces: Pieces<'_>) -> Option<CaseFa
     let labelled = case(rt, alloc, LABELLED);
     let mut piped = PipedText::<Brand, Pieces<'_>>::new(alloc, pieces).expect(rt, "a fault");
     read_all(alloc, &mut piped).expect(rt, "a fault");
-    assert!(rt; !labelled.sections().is_empty());
+    assert!(rt; has_section(&labelled));
     piped
         .label_fault(alloc, &labelled, LABELLED.as_bytes())
         .err()
