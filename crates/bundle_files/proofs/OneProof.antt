@@ -1,100 +1,80 @@
--- A bundle whose tree is cube 1 alone, with one proof that was judged beside it.
-use Rattle.std.proofs.Common.{◌≡◌, ◌≢◌, ◌∙◌, sym, ap, refl, subst, ℕ, ◌<◌, Bool}
-use Rattle.std.proofs.Common.{List, [], ◌∷◌, ◌++◌, map, codes, append-nil, arith, decimal}
-use Rattle.std.proofs.Common.{Option, None, Some, Result, Ok, Err, IfOk}
-use Rattle.std.specs.Prelude.{IfSome}
+-- A bundle whose tree is cube 1 alone, with one proof that was judged while it was read.
+use Rattle.std.proofs.Common.{◌≡◌, ◌≢◌, ◌∙◌, ◌+◌, sym, ap, refl, subst, ℕ, ◌<◌, Bool, true}
+use Rattle.std.proofs.Common.{List, [], ◌∷◌, ◌++◌, codes, append-nil, append_assoc, arith, decimal}
+use Rattle.std.proofs.Common.{Option, None, Some, Result, Ok, Err, IfOk, IfErr, inl, inr}
+use Rattle.std.specs.Prelude.{IfSome, replicate, slice_set}
+use Rattle.std.proofs.lemmas.Bool.{cases_Bool}
 use Rattle.std.specs.Fmt.{digits}
 use Rattle.std.specs.Option.{option_map}
-use Rattle.std.proofs.lemmas.Simd.{map-map}
+use Rattle.cube_report.specs.Device.{IsLeft}
+use Rattle.case_core.proofs.BundleMore.{lines_more}
 use Rattle.case_core.proofs.NodesCoding.{subtree-root}
-use Rattle.case_core.proofs.WordsLeft.{whatever_line}
 use Rattle.case_core.specs.Binary.{proof_text}
+use Rattle.case_core.specs.Judged.{Judged}
+use Rattle.case_core.specs.Judgement.{judgement}
 use Rattle.case_core.specs.Literal.{Literal}
-use Rattle.case_core.specs.Tokens.{Token, is_comment, joined, line_tokens, token_lines}
-use Rattle.case_core.specs.Tokens.{tokens_of, words}
-use Rattle.case_core.specs.Grammar.{StepSymbol, Longest, step_symbol_of, step_symbols_of}
 use Rattle.case_core.specs.Proof.{Proof, IsProofOf}
 use Rattle.case_core.specs.SplitTree.{SplitTree, IsSplit, cube, size, subtree_at}
 use Rattle.case_core.specs.Leaf.{Leaf}
 use Rattle.case_core.specs.Leaf.TheVariants.{Cube, Missing}
-use Rattle.case_core.specs.Leaves.{IsLeafAt, IsTargetAt}
+use Rattle.case_core.specs.Leaves.{IsLeafAt, IsPathOf, IsTargetAt}
+use Rattle.case_core.specs.Target.{Target}
 use Rattle.case_core.specs.Target.TheVariants.{Leaf as Named, Node}
-use Rattle.case_core.specs.Bundle.{is_label, labelled, labels_of, lines_of}
+use Rattle.case_core.specs.Bundle.{BeginsWithLabel, is_label, labelled, labels_of, lines_of}
 use Rattle.case_core.specs.Case.{CaseOf, SectionOf, proof_for}
-use Rattle.case_core.specs.Sections.{IsCaseOf}
+use Rattle.case_core.specs.Finding.{HasSection, IsFoundBy}
+use Rattle.case_core.specs.Sections.{IsCaseOf, IsFaultOf}
+use Rattle.case_core.specs.Reading.{IsFirstLabel}
+use Rattle.case_core.specs.declared.fault.CaseFault.{CaseFault}
+use Rattle.case_core.specs.declared.fault.CaseFault.TheVariants.{Memory}
 use Rattle.mark_board.specs.declared.mark.Mark.{Mark}
 use Rattle.mark_board.specs.declared.mark.Mark.TheVariants.{Open}
+use Rattle.mark_board.specs.Findings.{IsMarkOf, mark_as}
 use Rattle.mark_board.specs.Marking.{mark_at}
+use Rattle.cube_report.specs.Faults.{IsInputFault, fault_of_case}
 use Rattle.cube_report.specs.Stated.{IsWrittenBy}
 use Rattle.cube_report.proofs.CorrectReports.{outcome}
 use Rattle.cube_report.proofs.ReportSame.{written_is_stated}
 use Rattle.cube_report.specs.declared.engine.Outcome.{Outcome}
 use Rattle.cube_report.specs.declared.fault.Fault.{Fault}
 use Rattle.proof_folder.specs.Added.{section_text}
-use Rattle.proof_folder.specs.Given.{Given, AreFoundApart, AreMarksBy, HasFewLeaves, IsGivenFor}
-use Rattle.proof_folder.specs.Given.{IsJudgedAs, IsMarkBy, MayBeGiven}
-use Rattle.case_core.proofs.OutlineLines.{plain_text, front_plain}
+use Rattle.proof_folder.specs.Given.{Given, AreMarksBy, HasFewLeaves, IsJudgedAs, MayBeGiven}
 use Rattle.proof_folder.proofs.GivenLeaves.{cubes_of_case}
 use Rattle.proof_folder.proofs.GivenFindings.{judged_with_given}
-use Rattle.file_store.specs.Files.{Held, held_for_one}
-use Rattle.bundle_files.specs.Judging.{IsOutcomeWith}
-
--- ---- a line end in front of a text
-
-end_before : (text : List ℕ)
-    → step_symbols_of (tokens_of (10 ∷ text)) ≡ step_symbols_of (tokens_of text)
-unfolding token_lines line_tokens is_comment words
-end_before text =
-    sym (map-map step_symbol_of (λ (token : Token). token.bytes) (joined (token_lines 2 text)))
-    ∙ ap (map step_symbol_of) (sym (whatever_line 2 text))
-    ∙ map-map step_symbol_of (λ (token : Token). token.bytes) (tokens_of text)
-
-proof_behind_end : (text : List ℕ) (proof : Proof) → IsProofOf (10 ∷ text) proof →
-    IsProofOf text proof
-proof_behind_end text proof is = record {
-  left = is.left;
-  longest =
-      subst (λ (symbols : List StepSymbol). Longest symbols proof.steps is.left) (end_before text)
-      is.longest;
-  blank = is.blank;
-}
-
-labels_behind_end : (text : List ℕ) → labels_of text ≡ [] → labels_of (10 ∷ text) ≡ []
-unfolding is_label words
-labels_behind_end text none =
-    subst (λ (t : List ℕ). labelled 2 (lines_of t) ≡ []) (plain_text 1 text none)
-    (front_plain text 2)
+use Rattle.file_store.specs.Files.{Held, held_for_one, lies_in}
+use Rattle.bundle_files.specs.Judging.{IsOutcomeWith, IsRefusedWith}
+use Rattle.bundle_files.specs.Inner.Proof.{IsGivenBy}
+use Rattle.bundle_files.proofs.LawsFormula.{first_label}
 
 -- ---- bytes of a proof
-
--- Bytes that are what is known to lie there, as far as that is known, and stand for a text which is
--- as good as this one.
-record BytesFor (known : Option (Option (List ℕ))) (text : List ℕ) : Type 0 where
-  pub bytes : List ℕ
-  pub lie : IfSome known (λ lies. Some bytes ≡ lies)
-  pub plain : labels_of text ≡ [] → labels_of (proof_text bytes) ≡ []
-  pub proof : (proof : Proof) → IsProofOf (proof_text bytes) proof → IsProofOf text proof
 
 some_same : {a b : List ℕ} → Some a ≡ Some b → a ≡ b
 some_same e = cc
 
-bytes_for : (known : Option (Option (List ℕ))) (text : List ℕ)
-    → IfSome (option_map (λ lies. option_map proof_text lies) known) (λ held. Some text ≡ held)
-    → BytesFor known text
-bytes_for None text is = record {
-  bytes = 10 ∷ text;
-  lie = tt;
-  plain = labels_behind_end text;
-  proof = proof_behind_end text;
-}
-bytes_for (Some None) text is = absurd (cc)
-bytes_for (Some (Some bytes)) text is =
-    let same : text ≡ proof_text bytes = some_same is in record {
-      bytes = bytes;
-      lie = refl;
-      plain = subst (λ (t : List ℕ). labels_of t ≡ []) same;
-      proof = λ proof. subst (λ (t : List ℕ). IsProofOf t proof) (sym same);
-    }
+-- what is left to read of a proof stands for what is known to lie there
+abbrev pub StandsFor : Option (Option (List ℕ)) → Option (List ℕ) → Type 0
+StandsFor known left = IfSome known (λ lies. (text : List ℕ) × (lies ≡ Some text)
+    × (option_map proof_text left ≡ Some text))
+
+given_opened : (known : Option (Option (List ℕ))) (left : Option (List ℕ)) (bytes : List ℕ)
+    → StandsFor known left → IsLeft left bytes → IsGivenBy known bytes
+given_opened None left bytes lies given = tt
+given_opened (Some held) None bytes lies given = absurd (cc (lies.2))
+given_opened (Some held) (Some rest) bytes lies given =
+    ap (λ (b : List ℕ). Some (proof_text b)) given ∙ lies.2 ∙ sym lies.1
+
+-- bytes that lie there and stand for the same text
+record Lies (known : Option (Option (List ℕ))) (bytes : List ℕ) : Type 0 where
+  pub there : List ℕ
+  pub lie : IfSome known (λ held. Some there ≡ held)
+  pub same : proof_text there ≡ proof_text bytes
+
+lies_for : (known : Option (Option (List ℕ))) (bytes : List ℕ)
+    → IsGivenBy (option_map (λ lies. option_map proof_text lies) known) bytes → Lies known bytes
+lies_for None bytes given = record { there = bytes; lie = tt; same = refl }
+lies_for (Some None) bytes given = absurd (cc)
+lies_for (Some (Some there)) bytes given =
+    record { there = there; lie = refl; same = some_same (sym given) }
 
 -- ---- a tree that is cube 1 alone
 
@@ -123,147 +103,143 @@ no_inner node at =
     let first : node ≡ 0 = omega (arith, at.1) in
     subst (λ (n : ℕ). IsSplit (subtree_at (cube 1) n)) first at.2
 
+only_target : (node : ℕ) (target : Target) → IsTargetAt (cube 1) node target
+    → target ≡ Named (Cube 1)
+only_target node (Named leaf) at = ap (λ (l : Leaf). Named l) (only_leaf node leaf at)
+only_target node (Node inner) at =
+    absurd (no_inner node (subst (λ (n : ℕ). IsTargetAt (cube 1) node (Node n)) (sym at.0) at))
+
+-- its cube stands at the first node
+pub first_node : (tree : SplitTree) (node : ℕ) (target : Target) → tree ≡ cube 1
+    → target ≡ Named (Cube 1) → IsTargetAt tree node target → node ≡ 0
+first_node tree node target one named at =
+    only_node node (Cube 1)
+    (subst (λ (t : Target). IsTargetAt (cube 1) node t) named
+    (subst (λ (t : SplitTree). IsTargetAt t node target) one at))
+
 -- the name of that leaf
 one_is : decimal 1 ≡ codes "1"
 unfolding digits
 one_is = refl
 
-module _ (held : Held) (path bundle : List ℕ) (formula : List (List Literal))
-    (sections : List SectionOf) (marks : List Mark) where
+-- one post on it
+pub one_mark : (tree : SplitTree) (node : ℕ) (mark : Mark) (marks : List Mark) → tree ≡ cube 1
+    → node ≡ 0 → marks ≡ slice_set (replicate (size tree) Open) node mark → marks ≡ mark ∷ []
+one_mark tree node mark marks one first are =
+    are ∙ ap (λ (n : ℕ). slice_set (replicate (size tree) Open) n mark) first
+    ∙ ap (λ (t : SplitTree). slice_set (replicate (size t) Open) 0 mark) one
+
+module _ (bundle : List ℕ) (formula : List (List Literal)) (sections : List SectionOf)
+    (bytes : List ℕ) (judged : Judged) where
   abbrev lone : CaseOf
   lone = alone formula sections
 
-  -- the proof that was judged, as one that is given for the leaf
-  record Judged : Type 0 where
-    pub bytes : List ℕ
-    pub lie : IfSome (held path) (λ lies. Some bytes ≡ lies)
-    pub judged : IsJudgedAs (bundle ++ section_text (codes "1") (Some (proof_text bytes))) lone
-        marks
+  abbrev marks : List Mark
+  marks = mark_as judged ∷ []
 
-  leaf_mark : (node : ℕ) (leaf : Leaf) (given : Option (List ℕ)) → IsLeafAt (cube 1) node leaf
-      → IsMarkBy lone (Named (Cube 1)) given (mark_at marks 0)
-      → IsMarkBy lone (Named leaf) given (mark_at marks node)
-  leaf_mark node leaf given at first =
-      subst (λ (l : Leaf). IsMarkBy lone (Named l) given (mark_at marks node))
-      (sym (only_leaf node leaf at))
-      (subst (λ (n : ℕ). IsMarkBy lone (Named (Cube 1)) given (mark_at marks n))
-      (sym (only_node node leaf at)) first)
+  abbrev given : Given
+  given = λ _. Some (proof_text bytes)
 
-  by_text : (text : List ℕ) → IsCaseOf bundle lone → proof_for sections (Named (Cube 1)) ≡ None
-      → AreFoundApart (held_for_one held path) lone marks
-      → IsGivenFor (held_for_one held path (Named (Cube 1))) lone (Named (Cube 1)) (mark_at marks 0)
-      (Some text) → Judged
-  by_text text is free are of =
-      let found = bytes_for (held path) text of.held in
-      let given : Given = λ _. Some (proof_text found.bytes) in
+  leaf_mark : (node : ℕ) (leaf : Leaf) → IsLeafAt (cube 1) node leaf
+      → IsFoundBy lone (Named (Cube 1)) (proof_text bytes) judged
+      → (path : List Literal) (proof : Proof) → IsPathOf (cube 1) (Named leaf) path
+      → IsProofOf (proof_text bytes) proof
+      → mark_at marks node ≡ mark_as (judgement formula path proof)
+  leaf_mark node leaf at found path proof on is =
+      ap (mark_at marks) (only_node node leaf at)
+      ∙ ap mark_as (found path proof
+      (subst (λ (l : Leaf). IsPathOf (cube 1) (Named l) path) (only_leaf node leaf at) on) is)
+
+  no_section : proof_for sections (Named (Cube 1)) ≡ None → (node : ℕ) (target : Target)
+      → IsTargetAt (cube 1) node target → HasSection lone target
+      → IsMarkOf lone target (mark_at marks node)
+  no_section free node target at has =
+      absurd (has (ap (proof_for sections) (only_target node target at) ∙ free))
+
+  judged_as : IsCaseOf bundle lone → proof_for sections (Named (Cube 1)) ≡ None
+      → labels_of (proof_text bytes) ≡ []
+      → IsFoundBy lone (Named (Cube 1)) (proof_text bytes) judged
+      → IsJudgedAs (bundle ++ section_text (codes "1") (Some (proof_text bytes))) lone marks
+  judged_as is free plain found =
       let few : HasFewLeaves (cube 1) = omega arith in
       let may : MayBeGiven lone given = record {
         plain = λ leaf other has same. subst (λ (t : List ℕ). labels_of t ≡ []) (some_same same)
-            (found.plain (of.plain text refl));
+            plain;
         free = λ leaf other has same. subst (λ (l : Leaf). proof_for sections (Named l) ≡ None)
             (sym (only_leaf has.0 leaf has.1)) free;
       } in
       let by : AreMarksBy lone given marks = record {
-        long = are.long;
-        sections = are.sections;
+        long = refl;
+        sections = no_section free;
         nodes = λ node at. absurd (no_inner node at);
-        leaves = λ node leaf at none. leaf_mark node leaf (Some (proof_text found.bytes)) at
-            (λ path proof on is_proof. of.mark_is free path proof on (found.proof proof is_proof));
-      } in record {
-        bytes = found.bytes;
-        lie = found.lie;
-        judged =
-            subst (λ (t : List ℕ). IsJudgedAs (bundle ++ t) lone marks)
-            (append-nil (section_text (decimal 1) (Some (proof_text found.bytes)))
-            ∙ ap (λ (name : List ℕ). section_text name (Some (proof_text found.bytes))) one_is)
-            (judged_with_given bundle lone given marks (cubes_of_case bundle lone is) few is may
-            by);
-      }
+        leaves = λ node leaf at none. leaf_mark node leaf at found;
+      } in
+      subst (λ (t : List ℕ). IsJudgedAs (bundle ++ t) lone marks)
+      (append-nil (section_text (decimal 1) (Some (proof_text bytes)))
+      ∙ ap (λ (name : List ℕ). section_text name (Some (proof_text bytes))) one_is)
+      (judged_with_given bundle lone given marks (cubes_of_case bundle lone is) few is may by)
 
-  by_given : (given : Option (List ℕ)) → IsCaseOf bundle lone
-      → proof_for sections (Named (Cube 1)) ≡ None
-      → AreFoundApart (held_for_one held path) lone marks → mark_at marks 0 ≢ Open
-      → IsGivenFor (held_for_one held path (Named (Cube 1))) lone (Named (Cube 1)) (mark_at marks 0)
-      given → Judged
-  by_given None is free are judged of = absurd (judged (of.mark_is free))
-  by_given (Some text) is free are judged of = by_text text is free are of
-
-  written : (draws : Bool) (report map : List ℕ) (answer : Bool) → Judged
+  written : (gives : List ℕ → Type 0) (draws : Bool) (report map : List ℕ) (answer : Bool)
+      → gives bytes
+      → IsJudgedAs (bundle ++ section_text (codes "1") (Some (proof_text bytes))) lone marks
       → IsWrittenBy lone marks draws report map answer
-      → IsOutcomeWith held path bundle draws report map answer
-  written draws report map answer found by =
-      let whole = found.judged.whole in record {
-        bytes = found.bytes;
-        lie = found.lie;
+      → IsOutcomeWith gives bundle draws report map answer
+  written gives draws report map answer is_given made by =
+      let whole = made.whole in record {
+        bytes = bytes;
+        given = is_given;
         outcome =
-            outcome (bundle ++ section_text (codes "1") (Some (proof_text found.bytes))) whole draws
-            report map answer found.judged.is
-            (written_is_stated whole lone marks draws report map answer found.judged.formula
-            found.judged.tree found.judged.findings by);
+            outcome (bundle ++ section_text (codes "1") (Some (proof_text bytes))) whole draws
+            report map answer made.is
+            (written_is_stated whole lone marks draws report map answer made.formula made.tree
+            made.findings by);
       }
 
-  found_alone : (draws : Bool) (report map : List ℕ) (answer : Bool) → IsCaseOf bundle lone
-      → proof_for sections (Named (Cube 1)) ≡ None
-      → AreFoundApart (held_for_one held path) lone marks → mark_at marks 0 ≢ Open
+  found_alone : (gives : List ℕ → Type 0) (draws : Bool) (report map : List ℕ) (answer : Bool)
+      → gives bytes → IsCaseOf bundle lone → proof_for sections (Named (Cube 1)) ≡ None
+      → labels_of (proof_text bytes) ≡ []
+      → IsFoundBy lone (Named (Cube 1)) (proof_text bytes) judged
       → IsWrittenBy lone marks draws report map answer
-      → IsOutcomeWith held path bundle draws report map answer
-  found_alone draws report map answer is free are judged by =
-      let one = are.targets 0 (Named (Cube 1)) (omega arith, refl) in
-      written draws report map answer (by_given one.0 is free are judged one.1) by
+      → IsOutcomeWith gives bundle draws report map answer
+  found_alone gives draws report map answer is_given is free plain found =
+      written gives draws report map answer is_given (judged_as is free plain found)
 
 -- what is written by the mark of that proof is what a run on the bundle with it promises
-pub outcome_with : (held : Held) (path bundle : List ℕ) (case : CaseOf) (marks : List Mark)
-    (draws : Bool) (report map : List ℕ) (answer : Bool) → case.tree ≡ cube 1
-    → IsCaseOf bundle case → proof_for case.sections (Named (Cube 1)) ≡ None
-    → AreFoundApart (held_for_one held path) case marks → mark_at marks 0 ≢ Open
-    → IsWrittenBy case marks draws report map answer
-    → IsOutcomeWith held path bundle draws report map answer
-outcome_with held path bundle case marks draws report map answer one =
+outcome_with : (gives : List ℕ → Type 0) (bundle : List ℕ) (case : CaseOf) (bytes : List ℕ)
+    (judged : Judged) (draws : Bool) (report map : List ℕ) (answer : Bool) → case.tree ≡ cube 1
+    → gives bytes → IsCaseOf bundle case → proof_for case.sections (Named (Cube 1)) ≡ None
+    → labels_of (proof_text bytes) ≡ []
+    → IsFoundBy case (Named (Cube 1)) (proof_text bytes) judged
+    → IsWrittenBy case (mark_as judged ∷ []) draws report map answer
+    → IsOutcomeWith gives bundle draws report map answer
+outcome_with gives bundle case bytes judged draws report map answer one is_given =
     subst (λ (c : CaseOf). IsCaseOf bundle c → proof_for c.sections (Named (Cube 1)) ≡ None
-    → AreFoundApart (held_for_one held path) c marks → mark_at marks 0 ≢ Open
-    → IsWrittenBy c marks draws report map answer
-    → IsOutcomeWith held path bundle draws report map answer)
+    → labels_of (proof_text bytes) ≡ []
+    → IsFoundBy c (Named (Cube 1)) (proof_text bytes) judged
+    → IsWrittenBy c (mark_as judged ∷ []) draws report map answer
+    → IsOutcomeWith gives bundle draws report map answer)
     (ap (λ (t : SplitTree). record {
       formula = case.formula;
       tree = t;
       sections = case.sections;
     }) (sym one))
-    (found_alone held path bundle case.formula case.sections marks draws report map answer)
+    (found_alone bundle case.formula case.sections bytes judged gives draws report map answer
+    is_given)
 
 -- so it is of a run, where it wrote something
-pub run_with : (held : Held) (path bundle : List ℕ) (case : CaseOf) (draws : Bool)
-    (run : Result (Option Outcome) Fault) → case.tree ≡ cube 1 → IsCaseOf bundle case
-    → proof_for case.sections (Named (Cube 1)) ≡ None
-    → IfOk run (λ some. IfSome some (λ outcome. (marks : List Mark)
-    × AreFoundApart (held_for_one held path) case marks × (mark_at marks 0 ≢ Open)
-    × IsWrittenBy case marks draws outcome.text.items outcome.map.items outcome.refuted))
-    → IfOk run (λ some. IfSome some (λ outcome. IsOutcomeWith held path bundle draws
-    outcome.text.items outcome.map.items outcome.refuted))
-run_with held path bundle case draws (Ok (Some outcome)) one is free found =
-    outcome_with held path bundle case found.0 draws outcome.text.items outcome.map.items
-    outcome.refuted one is free found.1 found.2 found.3
-run_with held path bundle case draws (Ok None) one is free found = tt
-run_with held path bundle case draws (Err fault) one is free found = tt
-
--- what was written by boards of the case, whose root was judged
-pub found_by : (held : Held) (path : List ℕ) (case here : CaseOf) (marks : List Mark)
-    (draws : Bool) (run : Result (Option Outcome) Fault) → here ≡ case
-    → AreFoundApart (held_for_one held path) case marks
-    → IfOk run (λ some. IfSome some (λ _. mark_at marks 0 ≢ Open))
-    → IfOk run (λ some. IfSome some (λ outcome. IsWrittenBy here marks draws outcome.text.items
-    outcome.map.items outcome.refuted))
-    → IfOk run (λ some. IfSome some (λ outcome. (all : List Mark)
-    × AreFoundApart (held_for_one held path) case all × (mark_at all 0 ≢ Open)
-    × IsWrittenBy case all draws outcome.text.items outcome.map.items outcome.refuted))
-found_by held path case here marks draws (Ok (Some outcome)) same are judged by = (
-  marks,
-  are,
-  judged,
-  subst (λ (c : CaseOf). IsWrittenBy c marks draws outcome.text.items outcome.map.items
-      outcome.refuted) same by,
-)
-found_by held path case here marks draws (Ok None) same are judged by = tt
-found_by held path case here marks draws (Err fault) same are judged by = tt
+pub run_with : (gives : List ℕ → Type 0) (bundle : List ℕ) (case : CaseOf) (bytes : List ℕ)
+    (judged : Judged) (draws : Bool) (run : Result Outcome Fault) → case.tree ≡ cube 1
+    → gives bytes → IsCaseOf bundle case → proof_for case.sections (Named (Cube 1)) ≡ None
+    → labels_of (proof_text bytes) ≡ []
+    → IsFoundBy case (Named (Cube 1)) (proof_text bytes) judged
+    → IfOk run (λ outcome. IsWrittenBy case (mark_as judged ∷ []) draws outcome.text.items
+    outcome.map.items outcome.refuted)
+    → IfOk run (λ outcome. IsOutcomeWith gives bundle draws outcome.text.items outcome.map.items
+    outcome.refuted)
+run_with gives bundle case bytes judged draws (Err fault) one is_given is free plain found by = tt
+run_with gives bundle case bytes judged draws (Ok outcome) one is_given is free plain found by =
+    outcome_with gives bundle case bytes judged draws outcome.text.items outcome.map.items
+    outcome.refuted one is_given is free plain found by
 
 -- ---- one node
 
@@ -273,3 +249,115 @@ pub one_cube : (tree : SplitTree) (node : ℕ) → size tree ≡ 1 → node < si
 one_cube tree node one inside is =
     let first : node ≡ 0 = omega (arith, one, inside) in
     sym (subtree-root tree) ∙ subst (λ (n : ℕ). subtree_at tree n ≡ cube 1) first is
+
+-- ---- a label line below that of cube 1
+
+pub one_begins : BeginsWithLabel (codes "l 1")
+one_begins =
+    let first = first_label (49 ∷ []) (lines_of (49 ∷ [])) refl in
+    record { line = first.0; others = first.1; lines = first.2; is = first.3 }
+
+label_last : (number : ℕ) (lines more : List (List ℕ)) (label : List ℕ) → is_label label ≡ true
+    → labelled number (lines ++ label ∷ more) ≢ []
+label_last number [] more label is none = let some = rw is at none in cc
+label_last number (line ∷ lines) more label is none = elim (cases_Bool (is_label line)) [
+  | inl here ↦ let some = rw here at none in absurd (cc)
+  | inr other ↦ label_last (number + 1) lines more label is (rw other at none)
+]
+
+pub label_below : (bundle : List ℕ) → labels_of (bundle ++ codes "\nl 1") ≢ []
+label_below bundle none =
+    let begins = one_begins in
+    label_last 1 (lines_of bundle) begins.others begins.line begins.is
+    (ap (labelled 1)
+    (sym (lines_more bundle (codes "l 1")
+    ∙ ap (λ (l : List (List ℕ)). lines_of bundle ++ l) begins.lines)) ∙ none)
+
+-- the text goes on below it
+pub fault_of_text : (bundle text : List ℕ) (fault : CaseFault)
+    → IsFaultOf ((bundle ++ codes "\nl 1") ++ 10 ∷ text) fault
+    → IsFaultOf (bundle ++ (codes "\nl 1\n" ++ text)) fault
+fault_of_text bundle text fault =
+    subst (λ (t : List ℕ). IsFaultOf t fault) (append_assoc bundle (codes "\nl 1") (10 ∷ text))
+
+-- the fault of that line
+pub refused_with : (gives : List ℕ → Type 0) (bundle bytes line : List ℕ) (lines : ℕ)
+    (kind : CaseFault) (fault : Fault) → fault ≡ fault_of_case kind → gives bytes
+    → proof_text bytes ≡ bytes → IsFirstLabel bytes line lines
+    → (kind ≢ Memory → (text : List ℕ) → IsFirstLabel text line lines
+    → IsFaultOf (bundle ++ (codes "\nl 1\n" ++ text)) kind)
+    → IsInputFault fault → IsRefusedWith gives bundle fault
+refused_with gives bundle bytes line lines kind fault same given text first faulty of_input =
+    let other : kind ≢ Memory =
+    λ memory. of_input.0 (same ∙ ap fault_of_case memory) in record {
+      bytes = bytes;
+      given = given;
+      first = (
+        kind,
+        same,
+        subst (λ (t : List ℕ). IsFaultOf (bundle ++ section_text (codes "1") (Some t)) kind)
+            (sym text) (faulty other bytes first),
+      );
+    }
+
+-- ---- a proof that was opened
+
+pub given_outcome : (known : Option (Option (List ℕ))) (left : Option (List ℕ)) (bundle : List ℕ)
+    (draws : Bool) (report map : List ℕ) (answer : Bool) → StandsFor known left
+    → IsOutcomeWith (IsLeft left) bundle draws report map answer
+    → IsOutcomeWith (IsGivenBy known) bundle draws report map answer
+given_outcome known left bundle draws report map answer lies is = record {
+  bytes = is.bytes;
+  given = given_opened known left is.bytes lies is.given;
+  outcome = is.outcome;
+}
+
+pub refused_opened : (known : Option (Option (List ℕ))) (left : Option (List ℕ))
+    (bundle : List ℕ) (fault : Fault) → StandsFor known left
+    → (IsInputFault fault → IsRefusedWith (IsLeft left) bundle fault)
+    → IsInputFault fault → IsRefusedWith (IsGivenBy known) bundle fault
+refused_opened known left bundle fault lies is of_input =
+    let refused = is of_input in record {
+      bytes = refused.bytes;
+      given = given_opened known left refused.bytes lies refused.given;
+      first = refused.first;
+    }
+
+-- ---- a file's proof
+
+outcome_lies : (held : Held) (path bundle : List ℕ) (draws : Bool) (report map : List ℕ)
+    (answer : Bool)
+    → IsOutcomeWith (IsGivenBy (held_for_one held path (Named (Cube 1)))) bundle draws report map
+    answer
+    → IsOutcomeWith (lies_in held path) bundle draws report map answer
+outcome_lies held path bundle draws report map answer is =
+    let lies = lies_for (held path) is.bytes is.given in record {
+      bytes = lies.there;
+      given = lies.lie;
+      outcome = rw lies.same is.outcome;
+    }
+
+pub run_lies : (held : Held) (path bundle : List ℕ) (draws : Bool)
+    (run : Result (Option Outcome) Fault)
+    → IfOk run (λ some. IfSome some (λ outcome. IsOutcomeWith
+    (IsGivenBy (held_for_one held path (Named (Cube 1)))) bundle draws outcome.text.items
+    outcome.map.items outcome.refuted))
+    → IfOk run (λ some. IfSome some (λ outcome. IsOutcomeWith (lies_in held path) bundle draws
+    outcome.text.items outcome.map.items outcome.refuted))
+run_lies held path bundle draws (Err fault) is = tt
+run_lies held path bundle draws (Ok None) is = tt
+run_lies held path bundle draws (Ok (Some outcome)) is =
+    outcome_lies held path bundle draws outcome.text.items outcome.map.items outcome.refuted is
+
+pub refused_lies : {T : Type 0} (held : Held) (path bundle : List ℕ) (run : Result T Fault)
+    → IfErr run (λ fault. IsInputFault fault → IsRefusedWith
+    (IsGivenBy (held_for_one held path (Named (Cube 1)))) bundle fault)
+    → IfErr run (λ fault. IsInputFault fault → IsRefusedWith (lies_in held path) bundle fault)
+refused_lies held path bundle (Ok outcome) is = tt
+refused_lies held path bundle (Err fault) is = λ of_input.
+    let refused = is of_input in
+    let lies = lies_for (held path) refused.bytes refused.given in record {
+      bytes = lies.there;
+      given = lies.lie;
+      first = rw lies.same refused.first;
+    }

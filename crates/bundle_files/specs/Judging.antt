@@ -2,7 +2,7 @@
 use Rattle.std.specs.Prelude.{◌≡◌, ◌≢◌, ◌+◌, ◌++◌, ◌⊎◌, ℕ, Bool, List, Option, Some, codes}
 use Rattle.case_core.specs.Binary.{proof_text}
 use Rattle.proof_folder.specs.Added.{section_text}
-use Rattle.file_store.specs.Files.{Held, IsJudgedOf, lies_in}
+use Rattle.file_store.specs.Files.{Held, IsJudgedOf}
 use Rattle.cube_report.specs.declared.fault.Fault.{Fault}
 use Rattle.cube_report.specs.declared.fault.Fault.TheVariants.{Device}
 use Rattle.cube_report.specs.Correct.{IsOutcome, IsFaultOn}
@@ -15,13 +15,20 @@ pub record IsOutcomeOf (held : Held) (folder : Option (List ℕ)) (read : List �
   pub outcome : IsOutcome whole draws report map answer
 
 -- What is written is what a run promises on the bundle with one proof more, below the label line of
--- cube 1: the text that a file's bytes stand for, which lie at this path, as far as is known.
-pub record IsOutcomeWith (held : Held) (path read : List ℕ) (draws : Bool) (report map : List ℕ)
-    (answer : Bool) : Type 0 where
+-- cube 1: the text that bytes stand for which were given.
+pub record IsOutcomeWith (gives : List ℕ → Type 0) (read : List ℕ) (draws : Bool)
+    (report map : List ℕ) (answer : Bool) : Type 0 where
   pub bytes : List ℕ
-  pub lie : lies_in held path bytes
+  pub given : gives bytes
   pub outcome : IsOutcome (read ++ section_text (codes "1") (Some (proof_text bytes))) draws report
       map answer
+
+-- the bundle with such a proof has this fault, its first
+pub record IsRefusedWith (gives : List ℕ → Type 0) (read : List ℕ) (fault : Fault)
+    : Type 0 where
+  pub bytes : List ℕ
+  pub given : gives bytes
+  pub first : IsFaultOn (read ++ section_text (codes "1") (Some (proof_text bytes))) fault
 
 -- the bundle with the folder's proofs has this fault, its first
 pub record IsRefusedOf (held : Held) (folder : Option (List ℕ)) (read : List ℕ) (fault : Fault)

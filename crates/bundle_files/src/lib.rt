@@ -19,5 +19,5 @@ pub use file_store::{
 pub use formula::{ReadBundle, read_from};
 pub use judge::judge_given;
 pub use laws::{proofs_judged_apart, proofs_keep_formula};
-pub use one_proof::judge_with_proof;
+pub use one_proof::{judge_proof_of, judge_with_proof};
 pub use outlined::{BundleOutline, outline_bundle, told_whole};

@@ -1,43 +1,85 @@
-//! What is said of a bundle whose tree is cube 1 alone, with one proof that lies in a file of its
-//! own.
+//! What is said of a bundle whose tree is cube 1 alone, with one proof that is read once, and
+//! judged while it is read.
 
-ghost use Rattle.std.specs.Prelude.{◌≡◌, ◌≢◌, ◌<◌, ◌^◌, ◌-◌, IfOk, IfErr, IfSome, OnOk};
-ghost use Rattle.std.specs.Prelude.{None, List};
+ghost use Rattle.std.specs.Prelude.{◌≡◌, ◌≢◌, ◌<◌, ◌^◌, ◌-◌, ◌++◌, ℕ, List, IfOk, IfErr, IfSome};
+ghost use Rattle.std.specs.Prelude.{OnOk, None, codes, true, ◌∷◌, []};
 ghost use Rattle.std.specs.Bool.{OnTrue};
+ghost use Rattle.cube_report.specs.Device.{IsLeft};
+ghost use Rattle.case_core.specs.Bundle.{BeginsWithLabel};
 ghost use Rattle.case_core.specs.Case.{proof_for};
 ghost use Rattle.case_core.specs.Leaf.TheVariants.{Cube};
-ghost use Rattle.case_core.specs.Sections.{IsCaseOf};
+ghost use Rattle.case_core.specs.Reading.{IsFirstLabel};
+ghost use Rattle.case_core.specs.Scan.{HasScanned};
+ghost use Rattle.case_core.specs.Sections.{IsCaseOf, IsFaultOf};
 ghost use Rattle.case_core.specs.SplitTree.{cube, size};
 ghost use Rattle.case_core.specs.Target.TheVariants.{Leaf as Named};
-ghost use Rattle.mark_board.specs.Marking.{mark_at};
-ghost use Rattle.mark_board.specs.declared.mark.Mark.{Mark};
-ghost use Rattle.mark_board.specs.declared.mark.Mark.TheVariants.{Open};
+ghost use Rattle.mark_board.specs.Findings.{mark_as};
 ghost use Rattle.cube_report.specs.Faults.{IsInputFault};
 ghost use Rattle.cube_report.specs.Stated.{IsWrittenBy};
-ghost use Rattle.proof_folder.specs.Given.{AreFoundApart};
-ghost use Rattle.file_store.specs.Files.{StaysAllowed, held_for_one};
-ghost use Rattle.bundle_files.specs.Judging.{IsJudgingFault, IsOutcomeWith};
+ghost use Rattle.file_store.specs.Files.{StaysAllowed, held_for_one, lies_in};
+ghost use Rattle.bundle_files.specs.Judging.{IsJudgingFault, IsOutcomeWith, IsRefusedWith};
+ghost use Rattle.bundle_files.specs.Inner.Proof.{IsGivenBy};
 
-use crate::judge::readers_of;
-use case_core::{Case, has_target};
-use cube_report::{Fault, Gate, Leaf, Outcome, Settings, Target, conquer_elsewhere, written_by};
-use file_store::{ProofPlace, Store};
-use mark_board::{Boards, Mark};
+use case_core::{
+    Case, CaseFault, Examiner, LabelLine, LabelScan, Leaf, ProofForm, ReadFinding, ReadProof,
+    Target, has_target,
+};
+use cube_report::{Elsewhere, Fault, Gate, Outcome, Settings, Source, conquer_one, written_by};
+use file_store::{ProofPlace, Store, TargetProofs};
 use std::alloc::Global;
 use std::sync::Wait;
-use std::thread::Threads;
 
-/// What a run says of a bundle whose tree is cube 1 alone, with the proof in the file at this path
-/// below a label line of that cube, by as many workers and at the cut that the settings say, and
-/// with a picture of the tree where `draws` asks for one; or `None` where the proof has to be put
-/// behind the bundle and both be judged together. The gate is called as `judge_apart` says.
+/// What a run says of a bundle whose tree is cube 1 alone, with the proof that a source gives below
+/// a label line of that cube, at the cut that the settings say, and with a picture of the tree where
+/// `draws` asks for one; or the first fault of the bundle with the proof. `None` where the tree is
+/// another or the bundle has a section, and then nothing is read.
 ///
-/// The proof, a text or binary, is judged while it is read. It has to be put behind the bundle
-/// where the tree is another or the bundle has a section, where the proof has a label line, and
-/// where no file is there.
+/// The proof, a text or binary, is judged while it is read, by this thread, in blocks of whole
+/// lines; a text is read no further where a block has a label line. The gate is started for one
+/// proof of so many bytes, and called as by worker 0.
 ///
-/// `Device` where the file is there and can't be read; `Memory` and `Thread` may stand in the place
-/// of any other answer.
+/// `Device` where a read failed; `Memory` may stand in the place of any other answer.
+pub fn judge_proof_of<R, S, G>(
+    rt: &R,
+    bundle: &[u8],
+    case: &Case,
+    source: &mut S,
+    length: u64,
+    settings: Settings,
+    gate: &G,
+    draws: bool,
+) -> Result<Option<Outcome>, Fault>
+where
+    R: AllocGlobal + Wait,
+    S: Source,
+    G: Gate,
+    // One more failed read can be counted.
+    requires count { S.failures source.old < 2 ^ 64 - 1 }
+    // The case is the bundle's.
+    requires case { IsCaseOf bundle.now case.now }
+    // It is what a run on the bundle with that proof promises.
+    ensures outcome { IfOk result (λ some. IfSome some (λ outcome. IsOutcomeWith
+        (IsLeft (S.remaining source.old)) bundle.now draws outcome.text.items outcome.map.items
+        outcome.refuted)) }
+    // A fault of the input is the first one of that bundle.
+    ensures fault { IfErr result (λ fault. IsInputFault fault → IsRefusedWith
+        (IsLeft (S.remaining source.old)) bundle.now fault) }
+    // Without an answer nothing was read.
+    ensures unread { IfOk result (λ some. some ≡ None → source.new ≡ source.old) }
+    // The device is at fault exactly where a read failed.
+    ensures ok { OnOk result (S.failures source.new ≡ S.failures source.old) }
+    ensures err { IfErr result (IsJudgingFault (S.failures source.old) (S.failures source.new)) }
+{
+    if !is_one_cube(case) {
+        return Ok(None);
+    }
+    Ok(Some(judge_one_cube(rt, bundle, case, source, length, settings, gate, draws)?))
+}
+
+/// The same with the proof in the file at this path. `None` also where no file is there. The file is
+/// opened once.
+///
+/// `Device` where the file is there and can't be read.
 pub fn judge_with_proof<R, D, G>(
     rt: &R,
     store: &mut D,
@@ -49,9 +91,9 @@ pub fn judge_with_proof<R, D, G>(
     draws: bool,
 ) -> Result<Option<Outcome>, Fault>
 where
-    R: AllocGlobal + Threads + Wait + Sync,
+    R: AllocGlobal + Wait,
     D: Store,
-    G: Gate + Sync,
+    G: Gate,
     // One more failed read can be counted.
     requires count { D.failures store.old < 2 ^ 64 - 1 }
     // The case is the bundle's.
@@ -61,10 +103,11 @@ where
     ensures allowed { StaysAllowed (D.allows store.old) (D.allows store.new) }
     // It is what a run on the bundle with the proof promises.
     ensures outcome { IfOk result (λ some. IfSome some (λ outcome. IsOutcomeWith
-        (D.held store.old) path.now bundle.now draws outcome.text.items outcome.map.items
-        outcome.refuted)) }
-    // No fault of the input is told.
-    ensures fault { IfErr result (λ fault. ¬ IsInputFault fault) }
+        (lies_in (D.held store.old) path.now) bundle.now draws outcome.text.items
+        outcome.map.items outcome.refuted)) }
+    // A fault of the input is the first one of that bundle.
+    ensures fault { IfErr result (λ fault. IsInputFault fault → IsRefusedWith
+        (lies_in (D.held store.old) path.now) bundle.now fault) }
     // The device is at fault exactly where a read failed.
     ensures ok { OnOk result (D.failures store.new ≡ D.failures store.old) }
     ensures err { IfErr result (IsJudgingFault (D.failures store.old) (D.failures store.new)) }
@@ -72,7 +115,11 @@ where
     if !is_one_cube(case) {
         return Ok(None);
     }
-    judge_one_cube(rt, store, case, path, settings, gate, draws)
+    let place = ProofPlace::file(rt.alloc(), path)?;
+    let mut reader = store.reader(rt.alloc(), &place)?;
+    let outcome = judge_opened(rt, &mut reader, bundle, case, settings, gate, draws);
+    store.settle(reader);
+    outcome
 }
 
 /// Whether the tree of a case is cube 1 alone, which has no section.
@@ -97,61 +144,169 @@ fn has_one_node(case: &Case) -> bool
     case.tree().size() == 1
 }
 
-/// The same of such a case: what is written is by a mark that is right for the proof at this path,
-/// which was judged.
-fn judge_one_cube<R, D, G>(
+/// The same of such a case with the proof of its cube that a reader opens; `None` where it opens
+/// none.
+fn judge_opened<R, P, G>(
     rt: &R,
-    store: &mut D,
+    reader: &mut P,
+    bundle: &[u8],
     case: &Case,
-    path: &str,
     settings: Settings,
     gate: &G,
     draws: bool,
 ) -> Result<Option<Outcome>, Fault>
 where
-    R: AllocGlobal + Threads + Wait + Sync,
-    D: Store,
-    G: Gate + Sync,
-    requires count { D.failures store.old < 2 ^ 64 - 1 }
+    R: AllocGlobal + Wait,
+    P: TargetProofs,
+    G: Gate,
+    requires fresh { P.failures reader.old ≡ 0 }
+    requires binary { P.takes_binary ≡ true }
+    requires case { IsCaseOf bundle.now case.now }
     requires one { case.now.tree ≡ cube 1 }
-    ensures held { D.held store.new ≡ D.held store.old }
-    ensures allowed { StaysAllowed (D.allows store.old) (D.allows store.new) }
-    ensures found { IfOk result (λ some. IfSome some (λ outcome. (marks : List Mark)
-        × AreFoundApart (held_for_one (D.held store.old) path.now) case.now marks
-        × (mark_at marks 0 ≢ Open)
-        × IsWrittenBy case.now marks draws outcome.text.items outcome.map.items
-        outcome.refuted)) }
-    ensures fault { IfErr result (λ fault. ¬ IsInputFault fault) }
-    ensures ok { OnOk result (D.failures store.new ≡ D.failures store.old) }
-    ensures err { IfErr result (IsJudgingFault (D.failures store.old) (D.failures store.new)) }
+    requires free { proof_for case.now.sections (Named (Cube 1)) ≡ None }
+    ensures outcome { IfOk result (λ some. IfSome some (λ outcome. IsOutcomeWith
+        (IsGivenBy (P.held reader.old (Named (Cube 1)))) bundle.now draws outcome.text.items
+        outcome.map.items outcome.refuted)) }
+    ensures fault { IfErr result (λ fault. IsInputFault fault → IsRefusedWith
+        (IsGivenBy (P.held reader.old (Named (Cube 1)))) bundle.now fault) }
+    ensures ok { OnOk result (P.failures reader.new ≡ 0) }
+    ensures err { IfErr result (IsJudgingFault 0 (P.failures reader.new)) }
 {
-    let place = ProofPlace::file(rt.alloc(), path)?;
-    let readers = readers_of(rt.alloc(), store, &place, settings.workers())?;
-    match conquer_elsewhere(rt, rt.alloc(), case, settings, gate, readers) {
-        Ok(Ok(Some(boards))) => written_if_judged(rt.alloc(), &boards, draws),
-        Ok(Ok(None)) => Ok(None),
-        Ok(Err(fault)) => Err(Fault::from(fault)),
-        Err(reader) => {
-            store.settle(reader);
-            Err(Fault::Device)
-        }
+    let length = reader.length(Target::Leaf(Leaf::Cube(1))).unwrap_or(0);
+    let Some(mut proof) = reader.open(Target::Leaf(Leaf::Cube(1)))? else {
+        return Ok(None);
+    };
+    let outcome = judge_one_cube(rt, bundle, case, &mut proof, length, settings, gate, draws);
+    reader.close(proof);
+    match outcome {
+        Ok(outcome) => Ok(Some(outcome)),
+        Err(fault) => Err(fault),
     }
 }
 
-/// What is written by the boards of a case whose tree is cube 1, where that has a mark.
-fn written_if_judged(
-    alloc: Global,
-    boards: &Boards<'_>,
+/// The same with the proof that a source gives, between the start of the gate and its end.
+fn judge_one_cube<R, S, G>(
+    rt: &R,
+    bundle: &[u8],
+    case: &Case,
+    source: &mut S,
+    length: u64,
+    settings: Settings,
+    gate: &G,
     draws: bool,
-) -> Result<Option<Outcome>, Fault>
-    requires one { boards.now.case.tree ≡ cube 1 }
-    ensures judged { IfOk result (λ some. IfSome some (λ _. mark_at boards.now.marks 0 ≢ Open)) }
-    ensures written { IfOk result (λ some. IfSome some (λ outcome. IsWrittenBy boards.now.case
-        boards.now.marks draws outcome.text.items outcome.map.items outcome.refuted)) }
+) -> Result<Outcome, Fault>
+where
+    R: AllocGlobal + Wait,
+    S: Source,
+    G: Gate,
+    requires count { S.failures source.old < 2 ^ 64 - 1 }
+    requires case { IsCaseOf bundle.now case.now }
+    requires one { case.now.tree ≡ cube 1 }
+    requires free { proof_for case.now.sections (Named (Cube 1)) ≡ None }
+    ensures outcome { IfOk result (λ outcome. IsOutcomeWith (IsLeft (S.remaining source.old))
+        bundle.now draws outcome.text.items outcome.map.items outcome.refuted) }
+    ensures fault { IfErr result (λ fault. IsInputFault fault → IsRefusedWith
+        (IsLeft (S.remaining source.old)) bundle.now fault) }
+    ensures ok { OnOk result (S.failures source.new ≡ S.failures source.old) }
+    ensures err { IfErr result (IsJudgingFault (S.failures source.old) (S.failures source.new)) }
+{
+    let elsewhere = Elsewhere {
+        proofs: 1,
+        bytes: length,
+    };
+    gate.start(rt.alloc(), case, settings.cut(), elsewhere)?;
+    let outcome = judge_begun(rt, bundle, case, source, settings, gate, draws);
+    gate.end();
+    outcome
+}
+
+/// The same, where the gate was started.
+fn judge_begun<R, S, G>(
+    rt: &R,
+    bundle: &[u8],
+    case: &Case,
+    source: &mut S,
+    settings: Settings,
+    gate: &G,
+    draws: bool,
+) -> Result<Outcome, Fault>
+where
+    R: AllocGlobal + Wait,
+    S: Source,
+    G: Gate,
+    requires count { S.failures source.old < 2 ^ 64 - 1 }
+    requires case { IsCaseOf bundle.now case.now }
+    requires one { case.now.tree ≡ cube 1 }
+    requires free { proof_for case.now.sections (Named (Cube 1)) ≡ None }
+    ensures outcome { IfOk result (λ outcome. IsOutcomeWith (IsLeft (S.remaining source.old))
+        bundle.now draws outcome.text.items outcome.map.items outcome.refuted) }
+    ensures fault { IfErr result (λ fault. IsInputFault fault → IsRefusedWith
+        (IsLeft (S.remaining source.old)) bundle.now fault) }
+    ensures ok { OnOk result (S.failures source.new ≡ S.failures source.old) }
+    ensures err { IfErr result (IsJudgingFault (S.failures source.old) (S.failures source.new)) }
+{
+    gate.before(0, Target::Leaf(Leaf::Cube(1)));
+    let mut examiner = Examiner::over(rt.alloc(), case)?;
+    let cube = Target::Leaf(Leaf::Cube(1));
+    let read = match examiner.examine_read(rt.alloc(), cube, ProofForm::Unread, source)? {
+        ReadProof::Found(read) => read,
+        ReadProof::Labelled(label) => {
+            return Err(Fault::from(fault_below(rt.alloc(), bundle, case, &label)));
+        }
+    };
+    written_of(rt, case, read, settings, gate, draws)
+}
+
+/// What is written by this finding alone.
+fn written_of<'c, R, G>(
+    rt: &R,
+    case: &'c Case,
+    read: ReadFinding<'c>,
+    settings: Settings,
+    gate: &G,
+    draws: bool,
+) -> Result<Outcome, Fault>
+where
+    R: AllocGlobal + Wait,
+    G: Gate,
+    requires case { read.finding.case.now ≡ case.now }
+    requires one { case.now.tree ≡ cube 1 }
+    requires node { read.finding.node ≡ 0 }
+    ensures written { IfOk result (λ outcome. IsWrittenBy case.now
+        (mark_as read.entry.finding.judged ∷ []) draws outcome.text.items outcome.map.items
+        outcome.refuted) }
     ensures memory { IfErr result (λ fault. fault ≡ Fault.Memory) }
 {
-    match boards.mark_of(Target::Leaf(Leaf::Cube(1))) {
-        Mark::Open => Ok(None),
-        _ => Ok(Some(written_by(alloc, boards, draws)?)),
+    let boards = conquer_one(rt, rt.alloc(), case, settings, gate, read)?;
+    Ok(written_by(rt.alloc(), &boards, draws)?)
+}
+
+/// The first fault of a bundle of this case that goes on with the label line of cube 1 and below it
+/// with a text whose first label line this is. `Memory` where a growth was refused, or where that
+/// line has no fault.
+fn fault_below(alloc: Global, bundle: &[u8], case: &Case, label: &LabelLine) -> CaseFault
+    requires case { IsCaseOf bundle.now case.now }
+    requires label { BeginsWithLabel label.now.line.items }
+    ensures { result ≢ CaseFault.Memory → (text : List ℕ)
+        → IsFirstLabel text label.now.line.items label.now.lines
+        → IsFaultOf (bundle.now ++ (codes "\nl 1\n" ++ text)) result }
+{
+    match scan_below(alloc, bundle, case) {
+        Ok(scan) => label.fault(alloc, scan),
+        Err(fault) => fault,
     }
+}
+
+/// The scan of such a bundle up to the label line of cube 1.
+fn scan_below<'c>(alloc: Global, bundle: &[u8], case: &'c Case) -> Result<LabelScan<'c>, CaseFault>
+    requires { IsCaseOf bundle.now case.now }
+    ensures ok { IfOk result (λ scan. HasScanned scan (bundle.now ++ codes "\nl 1")) }
+    ensures err { IfErr result (λ fault. fault ≢ CaseFault.Memory → (text : List ℕ)
+        → IsFaultOf (bundle.now ++ (codes "\nl 1\n" ++ text)) fault) }
+{
+    let mut scan = LabelScan::new(alloc, case, bundle)?;
+    if let Err(fault) = scan.add(alloc, b"l 1") {
+        return Err(fault);
+    }
+    Ok(scan)
 }

@@ -25,16 +25,6 @@ pub trait Source {
         ensures count { CountsFailures (failures self.old) (failures self.new) result };
 }
 
-impl<S: Source> Source for &mut S {
-    ghost remaining = { λ s. S.remaining s.now };
-
-    ghost failures = { λ s. S.failures s.now };
-
-    fn read(&mut self, buffer: &mut [u8]) -> io::Result<usize> {
-        (**self).read(buffer)
-    }
-}
-
 /// What can be written to, with the number of calls that failed.
 ///
 /// A sink takes no text but those that it allows. What a call ensures is said of the calls that

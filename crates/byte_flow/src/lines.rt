@@ -63,6 +63,19 @@ impl LineBuffer {
         })
     }
 
+    /// A buffer by which these bytes were read, of a line that is begun. An error is a refused
+    /// growth.
+    pub fn begun(alloc: Global, begun: &[u8]) -> Result<LineBuffer, AllocError>
+        ensures block { IfOk result (λ buffer. buffer.block ≡ []) }
+        ensures begun { IfOk result (λ buffer. buffer.begun ≡ begun.now) }
+    {
+        Ok(LineBuffer {
+            room: begun.to_vec(alloc)?,
+            block: 0,
+            filled: begun.len(),
+        })
+    }
+
     /// The block that was read last.
     pub fn block(&self) -> &[u8]
         ensures { result.now ≡ self.now.block }

@@ -1,6 +1,6 @@
 -- The text of a binary proof has no label line, since it has no letter l.
 use Rattle.std.proofs.Common.{◌≡◌, ◌<◌, ◌^◌, ◌+◌, ◌/◌, ◌%◌, ◌==◌, ◌&&◌, ℕ, zero, suc, List, [], ◌∷◌}
-use Rattle.std.proofs.Common.{◌++◌, map, false, refl, sym, arith, inl, inr}
+use Rattle.std.proofs.Common.{◌++◌, map, false, refl, arith, inl, inr}
 use Rattle.std.specs.Prelude.{codes, decimal}
 use Rattle.std.specs.List.{list_any}
 use Rattle.std.proofs.lemmas.Bool.{cases_Bool, ne_eqb}
@@ -10,7 +10,6 @@ use Rattle.lrat_binary.specs.Binary.{capped, numbers_of, ends_behind, text_at, t
 use Rattle.lrat_binary.specs.Binary.{word_of}
 use Rattle.cnf_text.specs.Tokens.{is_line_end}
 use Rattle.case_core.specs.Bundle.{is_label, lines_of, labelled, labels_of}
-use Rattle.case_core.specs.Watch.{has_label}
 use Rattle.case_core.specs.Inner.Bundle.{HasNoLetter}
 use Rattle.case_core.proofs.BundleLetters.{Plain, plain_parts, plain_line}
 
@@ -73,11 +72,6 @@ no_label : (lines : List (List ℕ)) → Plain lines → list_any is_label lines
 no_label [] plain = refl
 no_label (line ∷ lines) plain = rw (plain_line line plain.0) (no_label lines plain.1)
 
-pub no_label_line : (bytes : List ℕ) → has_label (text_of bytes) ≡ false
-no_label_line bytes =
-    no_label (lines_of (text_of bytes))
-    (plain_parts is_line_end (text_of bytes) (for_numbers 0 (numbers_of bytes)))
-
 -- lines of which none is a label line have no labels
 no_labels : (number : ℕ) (lines : List (List ℕ)) → list_any is_label lines ≡ false →
     labelled number lines ≡ []
@@ -87,8 +81,8 @@ no_labels number (line ∷ lines) none = elim (cases_Bool (is_label line)) [
   | inr e ↦ rw e (no_labels (number + 1) lines (rw e at none))
 ]
 
-pub unlabelled : (text : List ℕ) → false ≡ has_label text → labels_of text ≡ []
-unlabelled text none = no_labels 1 (lines_of text) (sym none)
-
 pub no_label_in_binary : (bytes : List ℕ) → labels_of (text_of bytes) ≡ []
-no_label_in_binary bytes = unlabelled (text_of bytes) (sym (no_label_line bytes))
+no_label_in_binary bytes =
+    no_labels 1 (lines_of (text_of bytes))
+    (no_label (lines_of (text_of bytes))
+    (plain_parts is_line_end (text_of bytes) (for_numbers 0 (numbers_of bytes))))

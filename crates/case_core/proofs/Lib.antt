@@ -9,7 +9,6 @@ pub mod SectionsUniqueCase
 mod SectionsUniqueFault
 mod SectionsTotal
 mod BundleLetters
-mod WatchLines
 mod ReadingParts
 mod BinaryLines
 pub mod BundleMore
@@ -22,9 +21,8 @@ mod OutlineSteps
 mod TargetHas
 mod OutlineCase
 mod ScanPassed
-mod PipedParts
-mod PipedSteps
-mod PipedLabels
+mod LabelFirst
+mod ReadingBlocks
 pub use Rattle.cnf_text.proofs.DimacsFormula
 pub use Rattle.cnf_text.proofs.DimacsLine
 pub use Rattle.cnf_text.proofs.DimacsUnique

@@ -51,7 +51,7 @@ labels_same number (line ∷ lines) more none = elim (cases_Bool (is_label line)
   | inr other ↦ rw other (labels_same (number + 1) lines more none)
 ]
 
-none_labelled : (lines : List (List ℕ)) (number other : ℕ) → labelled number lines ≡ []
+pub none_labelled : (lines : List (List ℕ)) (number other : ℕ) → labelled number lines ≡ []
     → labelled other lines ≡ []
 none_labelled [] number other none = refl
 none_labelled (line ∷ lines) number other none = elim (cases_Bool (is_label line)) [

@@ -7,4 +7,3 @@ pub mod Sections
 pub mod Scan
 pub mod Outline
 pub mod Reading
-pub mod Piped

@@ -9,8 +9,7 @@ pub mod Sections
 pub mod Laws
 pub mod Scan
 pub mod Outline
-pub mod Watch
-pub mod Piped
+pub mod Reading
 pub mod Inner
 pub use Rattle.cnf_text.specs.Dimacs
 pub use Rattle.cnf_text.specs.Formula

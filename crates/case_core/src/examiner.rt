@@ -10,12 +10,13 @@ ghost use Rattle.case_core.specs.Bundle.{labels_of};
 ghost use Rattle.case_core.specs.Case.{proof_for};
 ghost use Rattle.case_core.specs.Finding.{IsFinding, HasSection, IsFoundBy, IsSoundFinding};
 ghost use Rattle.case_core.specs.Finding.{target_of};
-ghost use Rattle.case_core.specs.Watch.{HasGivenLabel};
+ghost use Rattle.case_core.specs.Reading.{IsReadProof};
 ghost use Rattle.case_core.specs.Inner.Finding.{IsJudgement};
 
 use crate::case::Case;
 use crate::finding::Finding;
-use crate::reading::{begin_proof, read_proof};
+use crate::label_line::LabelLine;
+use crate::reading::{ReadText, begin_proof, read_proof};
 use byte_flow::{DeviceFault, Source};
 use hint_check::{Judged, Judging};
 use lrat_binary::ProofForm;
@@ -48,6 +49,16 @@ pub struct ReadFinding<'c> {
     pub finding: Finding<'c>,
     /// How many bytes the source gave: those of a binary proof, and not of its text.
     pub length: usize,
+}
+
+/// What becomes of a proof that was read.
+#[derive(Drop)]
+pub enum ReadProof<'c> {
+    /// It has no label line, and this is found by it.
+    Found(ReadFinding<'c>),
+    /// It is a text with label lines, and this is the first of them. Nothing was read behind the
+    /// block in which that stands.
+    Labelled(LabelLine),
 }
 
 impl<'c> Model for Examiner<'c> {
@@ -107,8 +118,9 @@ impl<'c> Examiner<'c> {
     /// Judges a proof that the case doesn't hold, for a target of its tree that has no section
     /// there: what a source gives up to its end. It is opened as a text, or before its first byte:
     /// then a proof that begins with an `a` or a `d` is binary LRAT, and judged as the text that it
-    /// stands for. A block of it is in memory at a time, so it may be longer than memory. `None`
-    /// where one of the text's lines is a label line; it is read no further then.
+    /// stands for. A block of it is in memory at a time, of a text one of whole lines, so it may be
+    /// longer than memory. Where one of the text's lines is a label line, that is answered in the
+    /// place of a finding, and no block behind it is read.
     ///
     /// `Device` where a read failed, `Memory` where a growth was refused.
     pub fn examine_read<S: Source>(
@@ -117,22 +129,15 @@ impl<'c> Examiner<'c> {
         target: Target,
         opened: ProofForm,
         source: &mut S,
-    ) -> Result<Option<ReadFinding<'c>>, DeviceFault>
+    ) -> Result<ReadProof<'c>, DeviceFault>
         requires target { HasTarget self.old.tree target }
         requires none { proof_for self.old.sections target ≡ None }
         // One more failed read can be counted.
         requires count { S.failures source.old < 2 ^ 64 - 1 }
-        // It is what is found by the text of all that the source had left, in which no line is a
-        // label line.
-        ensures found { IfOk result (λ some. IfSome some (λ read.
-            (read.finding.case.now ≡ self.old)
-            × (target_of read.finding.leaf read.finding.node ≡ target)
-            × ((bytes : List ℕ) × IsLeft (S.remaining source.old) bytes
-            × (labels_of (proof_left opened bytes) ≡ []) × (length bytes ≡ read.length)
-            × IsFoundBy self.old target (proof_left opened bytes) read.finding.judged))) }
-        // Without an answer one of the lines that it gave is a label line.
-        ensures labelled { IfOk result (λ some. some ≡ None
-            → HasGivenLabel opened (S.remaining source.old) (S.remaining source.new)) }
+        // It is what becomes of all that the source had left.
+        ensures read { IfOk result (λ proof. (bytes : List ℕ)
+            × IsLeft (S.remaining source.old) bytes
+            × IsReadProof self.old target opened bytes proof) }
         ensures same { self.new ≡ self.old }
         ensures ok { OnOk result (S.failures source.new ≡ S.failures source.old) }
         ensures err { IfErr result
@@ -140,13 +145,14 @@ impl<'c> Examiner<'c> {
     {
         let asked = target;
         begin_proof(alloc, self.case, &mut self.judging, asked)?;
-        match read_proof(alloc, &mut self.judging, opened, source)? {
-            Some(read) => Ok(Some(ReadFinding {
-                finding: finding_beside(self.case, target, read.judged),
-                length: read.length,
-            })),
-            None => Ok(None),
-        }
+        let read = match read_proof(alloc, &mut self.judging, opened, source)? {
+            ReadText::Judged(read) => read,
+            ReadText::Labelled(label) => return Ok(ReadProof::Labelled(label)),
+        };
+        Ok(ReadProof::Found(ReadFinding {
+            finding: finding_beside(self.case, target, read.judged),
+            length: read.length,
+        }))
     }
 
     /// What is said of the target's proof, if it has one.

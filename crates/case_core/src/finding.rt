@@ -56,6 +56,21 @@ impl<'c> Finding<'c> {
         NodeId::new(self.node)
     }
 
+    /// The same finding once more, for other boards.
+    pub fn again(&self) -> Finding<'c>
+        ensures case { result.case.now ≡ self.now.case.now }
+        ensures leaf { result.leaf ≡ self.now.leaf }
+        ensures node { result.node ≡ self.now.node }
+        ensures judged { result.judged ≡ self.now.judged }
+    {
+        Finding {
+            case: self.case,
+            leaf: self.leaf,
+            node: self.node,
+            judged: self.judged,
+        }
+    }
+
     /// What is said of the target's proof.
     pub fn judged(&self) -> Judged
         ensures value { result ≡ self.now.judged }

@@ -8,14 +8,13 @@ mod examiner;
 mod fault;
 mod finding;
 mod label;
+mod label_line;
 mod laws;
 mod outline;
-mod piped;
 mod reading;
 mod scan;
 mod sections;
 mod target;
-mod watch;
 
 pub use bundle::{icnf_part, read_bundle, read_tree, take_bundle};
 pub use case::{Case, Section};
@@ -23,17 +22,16 @@ pub use cnf_text::tokens::{first_word, is_comment, split_line};
 pub use cnf_text::{
     Clause, DimacsFault, Formula, Lit, Problem, TextFault, read_icnf, read_problem,
 };
-pub use examiner::{Examiner, ReadFinding, examine};
+pub use examiner::{Examiner, ReadFinding, ReadProof, examine};
 pub use fault::CaseFault;
 pub use finding::Finding;
 pub use hint_check::{Judged, Reason};
+pub use label_line::LabelLine;
 pub use laws::{
     case_or_a_fault, no_fault_beside_a_case, no_label_in_a_binary_proof, one_case, one_fault,
 };
 pub use lrat_binary::{ProofForm, binary_text, turn_from};
 pub use outline::{Outline, OutlinedCase, Stretch};
-pub use piped::{NamesText, PipedText};
 pub use scan::LabelScan;
 pub use split_tree::{Leaf, NodeId, Target, Tree};
 pub use target::has_target;
-pub use watch::LabelWatch;

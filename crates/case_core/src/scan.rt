@@ -104,21 +104,13 @@ impl<'c> LabelScan<'c> {
     }
 }
 
-/// A scan of a bundle that stands for this case, which has a section, and of so many lines behind it
-/// and a line end, none of which is a label line. `AllocError` where a growth was refused, or where
-/// the lines are too many to be counted.
-pub(crate) fn scan_to<'c>(
-    alloc: Global,
-    case: &'c Case,
-    bundle: &[u8],
-    lines: u64,
-) -> Result<LabelScan<'c>, AllocError>
-    requires case { IsCaseOf bundle.now case.now }
-    requires section { 0 < length case.now.sections }
-    ensures { IfOk result (λ scan. (before : List ℕ) → AreWholeLines before → HasNoLabel before
-        → lines ≡ count_by is_line_end before → IsScannedTo scan bundle.now before) }
+/// A scan of a bundle, which has a label line, that goes on with a line end and so many lines, none
+/// of which is a label line. `AllocError` where the lines are too many to be counted.
+pub(crate) fn pass_lines(mut scan: LabelScan<'_>, lines: u64) -> Result<LabelScan<'_>, AllocError>
+    ensures { IfOk result (λ after. (bundle before : List ℕ) → HasScanned scan.entry bundle
+        → labels_of bundle ≢ [] → AreWholeLines before → HasNoLabel before
+        → lines ≡ count_by is_line_end before → IsScannedTo after bundle before) }
 {
-    let mut scan = LabelScan::new(alloc, case, bundle)?;
     if lines == 0 {
         return Ok(scan);
     }

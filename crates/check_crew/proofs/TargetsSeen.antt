@@ -1,6 +1,6 @@
 -- What a worker has seen after it posted the finding of a target's proof.
 use Rattle.std.proofs.Common.{◌≡◌, ℕ, List, [], ◌∷◌, ◌++◌, Option, None, Some, Bool}
-use Rattle.std.proofs.Common.{sym, ap, All, ◌∙◌, subst, ◌+◌, ◌≤◌, length, arith, inl, inr}
+use Rattle.std.proofs.Common.{sym, ap, All, ◌∙◌, subst, ◌+◌, ◌≤◌, arith, inl, inr}
 use Rattle.std.proofs.Common.{Result, Ok, Err, IfOk, IfErr, OnOk}
 use Rattle.std.specs.Prelude.{IfSome, option_map}
 use Rattle.std.proofs.lemmas.List.Elements.{All-push, All-weaker}
@@ -9,18 +9,20 @@ use Rattle.case_core.specs.Target.{Target}
 use Rattle.case_core.specs.Judged.{Judged}
 use Rattle.case_core.specs.Bundle.{labels_of}
 use Rattle.case_core.specs.Case.{CaseOf, proof_for}
-use Rattle.case_core.specs.Finding.{IsFoundBy, target_of}
+use Rattle.case_core.specs.Finding.{IsFoundBy}
 use Rattle.board_hall.specs.declared.view.CutCase.{CutCase}
 use Rattle.board_hall.specs.declared.view.View.{View}
 use Rattle.board_hall.specs.Clauses.{Stays}
 use Rattle.byte_flow.specs.Device.{IsDeviceFault, IsLeft}
 use Rattle.byte_flow.specs.declared.fault.DeviceFault.{DeviceFault}
-use Rattle.case_core.specs.declared.examiner.ReadFinding.{ReadFinding}
+use Rattle.case_core.specs.Reading.{IsReadProof}
+use Rattle.case_core.specs.declared.examiner.ReadProof.{ReadProof}
+use Rattle.case_core.specs.declared.examiner.ReadProof.TheVariants.{Found as FoundBy, Labelled}
 use Rattle.case_core.specs.Form.{proof_left}
 use Rattle.case_core.specs.ProofForm.{ProofForm}
 use Rattle.check_crew.specs.TargetProofs.{IsGiven, IsLeftOf, IsOpenedOf, HasSeenAs, IsFoundAt}
 use Rattle.check_crew.specs.TargetProofs.{IsExamined, Known, left_text, text_by}
-use Rattle.check_crew.specs.Inner.Apart.{IsFoundOf}
+use Rattle.check_crew.specs.Inner.Apart.{IsFoundOf, found_in}
 use Rattle.check_crew.specs.declared.targets.ExaminedTarget.{ExaminedTarget}
 use Rattle.check_crew.specs.declared.targets.Examined.{Examined}
 use Rattle.check_crew.specs.declared.targets.Examined.TheVariants.{Absent, Found, Other}
@@ -37,29 +39,39 @@ left_given turned (Some lies) (Some all) bytes of is =
     ap (λ (b : List ℕ). Some (turned b)) is ∙ of.2 ∙ sym of.1
 
 -- what was found by it is found by what is known to lie there
-pub found_given : {E : Type 0} (result : Result (Option ReadFinding) E)
-    (known : Option (Option (List ℕ))) (left : Option (List ℕ)) (case : CaseOf) (target : Target)
-    (binary : Bool) (form : ProofForm) →
-    ((bytes : List ℕ) → proof_left form bytes ≡ text_by binary bytes) →
-    IsLeftOf known (left_text binary left) →
-    IfOk result (λ some. IfSome some (λ read. (read.finding.case.now ≡ case)
-    × (target_of read.finding.leaf read.finding.node ≡ target)
-    × ((bytes : List ℕ) × IsLeft left bytes × (labels_of (proof_left form bytes) ≡ [])
-    × (length bytes ≡ read.length)
-    × IsFoundBy case target (proof_left form bytes) read.finding.judged))) →
-    IfOk result (λ some. IfSome some (λ read. IsFoundOf known case target read))
-found_given (Err fault) known left case target binary form opened of found = tt
-found_given (Ok None) known left case target binary form opened of found = tt
-found_given (Ok (Some read)) known left case target binary form opened of found = record {
-  of_case = found.0;
-  of_target = found.1;
-  text = proof_left form found.2.0;
-  given =
-      subst (λ (text : List ℕ). IsGiven known (Some text)) (sym (opened found.2.0))
-      (left_given (text_by binary) known left found.2.0 of found.2.1);
-  plain = found.2.2;
-  found = found.2.4;
-}
+pub found_given : (result : Result ReadProof DeviceFault) (known : Option (Option (List ℕ)))
+    (left : Option (List ℕ)) (case : CaseOf) (target : Target) (binary : Bool) (form : ProofForm)
+    → ((bytes : List ℕ) → proof_left form bytes ≡ text_by binary bytes)
+    → IsLeftOf known (left_text binary left)
+    → IfOk result (λ proof. (bytes : List ℕ) × IsLeft left bytes
+    × IsReadProof case target form bytes proof)
+    → IfOk (found_in result) (λ some. IfSome some (λ read. IsFoundOf known case target read))
+found_given (Err fault) known left case target binary form opened of read = tt
+found_given (Ok (Labelled label)) known left case target binary form opened of read = tt
+found_given (Ok (FoundBy found)) known left case target binary form opened of read =
+    let is = read.2 in record {
+      of_case = is.0;
+      of_target = is.1;
+      text = proof_left form read.0;
+      given =
+          subst (λ (text : List ℕ). IsGiven known (Some text)) (sym (opened read.0))
+          (left_given (text_by binary) known left read.0 of read.1);
+      plain = is.2;
+      found = is.4;
+    }
+
+-- and its calls have failed as they did
+pub ok_in : (result : Result ReadProof DeviceFault) (So : Type 0) → OnOk result So →
+    OnOk (found_in result) So
+ok_in (Err fault) So is = tt
+ok_in (Ok (Labelled label)) So is = is
+ok_in (Ok (FoundBy found)) So is = is
+
+pub err_in : (result : Result ReadProof DeviceFault) (So : DeviceFault → Type 0) →
+    IfErr result So → IfErr (found_in result) So
+err_in (Err fault) So is = is
+err_in (Ok (Labelled label)) So is = tt
+err_in (Ok (FoundBy found)) So is = tt
 
 -- of a target for which nothing was opened there is none
 pub none_opened : {T : Type 0} (known : Option (Option (List ℕ))) (left : T → Option (List ℕ))

@@ -12,7 +12,7 @@ ghost use Rattle.board_hall.specs.Clauses.{Stays};
 ghost use Rattle.board_hall.specs.declared.view.View.{View};
 ghost use Rattle.board_hall.specs.declared.view.Proofs.TheVariants.{Elsewhere as AnyElsewhere};
 ghost use Rattle.check_crew.specs.TargetProofs.{IsExamined, IsLeftOf, left_text};
-ghost use Rattle.check_crew.specs.Inner.Apart.{IsFoundOf};
+ghost use Rattle.check_crew.specs.Inner.Apart.{IsFoundOf, found_in};
 ghost use Rattle.check_crew.specs.Inner.Crew.{IsReady};
 
 use crate::gate::Gate;
@@ -20,7 +20,7 @@ use crate::target_proofs::TargetProofs;
 use crate::worker::{JudgedProof, Site, post, tell};
 use board_hall::Pass;
 use byte_flow::DeviceFault;
-use case_core::{Case, Examiner, Judged, ReadFinding, Target, has_target};
+use case_core::{Case, Examiner, Judged, ReadFinding, ReadProof, Target, has_target};
 use std::alloc::Global;
 use std::sync::Wait;
 use std::sync::atomic::Ordering;
@@ -83,9 +83,22 @@ fn read_target<'c, P: TargetProofs>(
 {
     let OpenedTarget { target, mut proof } = opened;
     let form = proofs.form();
-    let found = examiner.examine_read(alloc, target, form, &mut proof);
+    let read = examiner.examine_read(alloc, target, form, &mut proof);
     proofs.close(proof);
-    found
+    found_in(read)
+}
+
+/// What is found by a proof that was read; `None` where it has a label line.
+fn found_in(
+    read: Result<ReadProof<'_>, DeviceFault>,
+) -> Result<Option<ReadFinding<'_>>, DeviceFault>
+    ensures { result ≡ found_in read.entry }
+{
+    match read {
+        Ok(ReadProof::Found(found)) => Ok(Some(found)),
+        Ok(ReadProof::Labelled(_)) => Ok(None),
+        Err(fault) => Err(fault),
+    }
 }
 
 /// Posts what was found by the proof of a target, and then the part that is owed, if any, and tells

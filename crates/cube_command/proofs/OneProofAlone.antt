@@ -1,22 +1,24 @@
 -- What is said of a run on one proof that was judged while it was read.
 use Rattle.std.proofs.Common.{◌≡◌, ◌∙◌, ◌++◌, ◌∷◌, [], append_assoc, ap, refl, subst, sym, ℕ}
-use Rattle.std.proofs.Common.{Bool, List, codes, Option, None, Some, Result, Ok, Err, IfOk}
-use Rattle.std.proofs.Common.{true}
+use Rattle.std.proofs.Common.{List, codes, Option, None, Some, Result, Ok, Err, IfOk, IfErr}
+use Rattle.std.proofs.Common.{Bool, inl, true}
 use Rattle.std.specs.Prelude.{IfSome, is_some}
 use Rattle.case_core.specs.Binary.{proof_text}
 use Rattle.case_core.specs.Case.{CaseOf}
 use Rattle.case_core.specs.Sections.{IsCaseOf}
 use Rattle.cube_report.specs.Bundle.{icnf_text}
 use Rattle.cube_report.specs.Correct.{IsOutcome, IsUnsatisfiable}
+use Rattle.cube_report.specs.Faults.{IsInputFault}
 use Rattle.cube_report.specs.declared.fault.Fault.{Fault}
 use Rattle.bundle_files.specs.Files.{Held, IsTextAt, lies_in}
-use Rattle.bundle_files.specs.Formula.{IsBundleBy, IsReadBy}
-use Rattle.bundle_files.specs.Judging.{IsOutcomeWith}
+use Rattle.bundle_files.specs.Formula.{IsBundleBy, IsBundleOf, IsReadBy}
+use Rattle.bundle_files.specs.Judging.{IsOutcomeWith, IsRefusedWith}
 use Rattle.bundle_files.proofs.LawsFormula.{icnf_before_label, section_keeps_items}
 use Rattle.bundle_files.proofs.LawsFormula.{unsatisfiable_before}
 use Rattle.cube_command.specs.Headline.{IsRefutedFrom}
+use Rattle.cube_command.specs.Program.{IsRefusedFrom}
 use Rattle.cube_command.specs.Record.{digest_line, record_text}
-use Rattle.cube_command.specs.Sources.{IsSoBy, file_at, of_one_proof}
+use Rattle.cube_command.specs.Sources.{IsSoBy, file_at, of_one_proof, sources_of}
 use Rattle.cube_command.specs.Words.{Asked}
 use Rattle.cube_command.specs.Inner.Recorded.{IsRecordedFrom, IsRecordedWith}
 use Rattle.cube_command.specs.declared.program.Recorded.{Recorded}
@@ -40,19 +42,16 @@ recorded_with out bundle proof report made is at asked =
     ∙ ap (λ (t : List ℕ). digest_line t ++ report) (icnf_before_label bundle [] proof)
 
 -- what is written is of the bundle with the proof, and so is the record
-pub made_below : (held : Held) (asked : Asked) (path bundle : List ℕ) (draws : Bool)
+pub made_below : (gives : List ℕ → Type 0) (asked : Asked) (bundle : List ℕ)
     (report map made text : List ℕ) (answer : Bool)
-    → IsOutcomeWith held path bundle draws report map answer → draws ≡ is_some asked.picture
-    → text ≡ report
+    → IsOutcomeWith gives bundle (is_some asked.picture) report map answer → text ≡ report
     → ((at : List ℕ) → asked.out ≡ Some at
     → made ≡ digest_line (icnf_text (bundle ++ codes "\nl 1\n")) ++ text)
-    → IsRecordedWith held asked path bundle report map answer made
-made_below held asked path bundle draws report map made text answer of drawn same is = record {
+    → IsRecordedWith gives asked bundle report map answer made
+made_below gives asked bundle report map made text answer of same is = record {
   bytes = of.bytes;
-  lie = of.lie;
-  outcome =
-      subst (λ (d : Bool). IsOutcome (with_proof bundle (proof_text of.bytes)) d report map answer)
-      drawn of.outcome;
+  given = of.given;
+  outcome = of.outcome;
   recorded =
       recorded_with asked.out bundle (proof_text of.bytes) report made
       (subst (λ (t : List ℕ). (at : List ℕ) → asked.out ≡ Some at
@@ -85,69 +84,86 @@ under_proof has (Some path) bundle proof by = record {
       (section_keeps_items bundle (49 ∷ 10 ∷ proof) items stands);
 }
 
--- what is so of a proof that lies there
-so_by : (held : Held) (path file : List ℕ) (input : Option (List ℕ)) (bytes : List ℕ)
-    (So : Option (List ℕ) → Type 0) → file_at path ≡ Some file → lies_in held file bytes
-    → So (Some (of_one_proof (proof_text bytes))) → IsSoBy held (Some path) input So
-so_by held path file input bytes So at lie so = (
-  proof_text bytes,
-  (
-    bytes,
-    subst (λ (f : Option (List ℕ)). IsTextAt (lies_in held) f input bytes) (sym at) lie,
-    refl,
-  ),
-  so,
-)
+-- what is given of a proof
+abbrev pub given_at : Held → List ℕ → Option (List ℕ) → List ℕ → Type 0
+given_at held path input bytes = IsTextAt (lies_in held) (file_at path) input bytes
 
-recorded_from : (held : Held) (asked : Asked) (file bundle report map : List ℕ) (answer : Bool)
-    (made : List ℕ) (of : IsRecordedWith held asked file bundle report map answer made)
+bundle_with : (held : Held) (asked : Asked) (bundle proof : List ℕ)
+    → asked.file ≡ None → asked.folder ≡ None
+    → IsReadBy held asked.formula None (Some (codes "a 0")) bundle
+    → IsBundleOf held (sources_of asked) asked.folder (Some (of_one_proof proof))
+    (with_proof bundle proof) (with_proof bundle proof)
+bundle_with held asked bundle proof none folder read =
+    let whole = with_proof bundle proof in let input = Some (of_one_proof proof) in
+    bundle_of held asked input whole whole
+    (subst (λ (f : Option (List ℕ)). IsReadBy held asked.formula f input whole) (sym none)
+    (under_proof (lies_in held) asked.formula bundle proof read))
+    (file_judged held asked.folder whole folder)
+
+recorded_from : (held : Held) (asked : Asked) (gives : List ℕ → Type 0) (bundle report map : List ℕ)
+    (answer : Bool) (made : List ℕ) (of : IsRecordedWith gives asked bundle report map answer made)
     → asked.file ≡ None → asked.folder ≡ None
     → IsReadBy held asked.formula None (Some (codes "a 0")) bundle
     → IsRecordedFrom held asked (Some (of_one_proof (proof_text of.bytes))) report map answer made
-recorded_from held asked file bundle report map answer made of none folder read =
-    let whole = with_proof bundle (proof_text of.bytes) in
-    let input = Some (of_one_proof (proof_text of.bytes)) in record {
-      read = whole;
-      whole = whole;
-      bundle =
-          bundle_of held asked input whole whole
-          (subst (λ (f : Option (List ℕ)). IsReadBy held asked.formula f input whole) (sym none)
-          (under_proof (lies_in held) asked.formula bundle (proof_text of.bytes) read))
-          (file_judged held asked.folder whole folder);
-      outcome = of.outcome;
-      recorded = of.recorded;
-    }
+recorded_from held asked gives bundle report map answer made of none folder read = record {
+  read = with_proof bundle (proof_text of.bytes);
+  whole = with_proof bundle (proof_text of.bytes);
+  bundle = bundle_with held asked bundle (proof_text of.bytes) none folder read;
+  outcome = of.outcome;
+  recorded = of.recorded;
+}
 
 pub made_alone : (run : Result (Option Recorded) Fault) (held : Held) (asked : Asked)
-    (path file bundle : List ℕ) → file_at path ≡ Some file → asked.file ≡ None
+    (path : List ℕ) (input : Option (List ℕ)) (bundle : List ℕ) → asked.file ≡ None
     → asked.folder ≡ None → IsReadBy held asked.formula None (Some (codes "a 0")) bundle
-    → IfOk run (λ some. IfSome some (λ made. IsRecordedWith held asked file bundle
+    → IfOk run (λ some. IfSome some (λ made. IsRecordedWith (given_at held path input) asked bundle
     made.outcome.text.items made.outcome.map.items made.outcome.refuted made.bytes.items))
-    → IfOk run (λ some. IfSome some (λ made. (input : Option (List ℕ))
-    → IsSoBy held (Some path) input (λ given. IsRecordedFrom held asked given
+    → IfOk run (λ some. IfSome some (λ made.
+    IsSoBy held (Some path) input (λ given. IsRecordedFrom held asked given
     made.outcome.text.items made.outcome.map.items made.outcome.refuted made.bytes.items)))
-made_alone (Err fault) held asked path file bundle at none folder read made = tt
-made_alone (Ok None) held asked path file bundle at none folder read made = tt
-made_alone (Ok (Some recorded)) held asked path file bundle at none folder read made = λ input.
-    so_by held path file input made.bytes
-    (λ given. IsRecordedFrom held asked given recorded.outcome.text.items
-    recorded.outcome.map.items recorded.outcome.refuted recorded.bytes.items) at made.lie
-    (recorded_from held asked file bundle recorded.outcome.text.items recorded.outcome.map.items
-    recorded.outcome.refuted recorded.bytes.items made none folder read)
+made_alone (Err fault) held asked path input bundle none folder read made = tt
+made_alone (Ok None) held asked path input bundle none folder read made = tt
+made_alone (Ok (Some recorded)) held asked path input bundle none folder read made = (
+  proof_text made.bytes,
+  (made.bytes, made.given, refl),
+  recorded_from held asked (given_at held path input) bundle recorded.outcome.text.items
+      recorded.outcome.map.items recorded.outcome.refuted recorded.bytes.items made none folder
+      read,
+)
+
+pub refused_alone : {T : Type 0} (run : Result T Fault) (held : Held) (asked : Asked)
+    (path : List ℕ) (input : Option (List ℕ)) (bundle : List ℕ) → asked.file ≡ None
+    → asked.folder ≡ None → IsReadBy held asked.formula None (Some (codes "a 0")) bundle
+    → IfErr run (λ fault. IsInputFault fault
+    → IsRefusedWith (given_at held path input) bundle fault)
+    → IfErr run (λ fault. IsInputFault fault
+    → IsSoBy held (Some path) input (λ given. IsRefusedFrom held asked given fault))
+refused_alone (Ok made) held asked path input bundle none folder read refused = tt
+refused_alone (Err fault) held asked path input bundle none folder read refused = λ of_input.
+    let is = refused of_input in (
+      proof_text is.bytes,
+      (is.bytes, is.given, refl),
+      inl (record {
+        read = with_proof bundle (proof_text is.bytes);
+        whole = with_proof bundle (proof_text is.bytes);
+        bundle = bundle_with held asked bundle (proof_text is.bytes) none folder read;
+        first = is.first;
+      }),
+    )
 
 -- ---- what readings handed over
 
 pub handed_alone : (run : Result (Option Recorded) Fault) (hands : List ℕ → List ℕ → Type 0)
-    (held : Held) (asked : Asked) (file bundle : List ℕ) → asked.file ≡ None
+    (gives : List ℕ → Type 0) (asked : Asked) (bundle : List ℕ) → asked.file ≡ None
     → IsBundleBy hands asked.formula None (Some (codes "a 0")) bundle
     → IfOk run (λ some. IfSome some (λ _. (case : CaseOf) × IsCaseOf bundle case))
-    → IfOk run (λ some. IfSome some (λ made. IsRecordedWith held asked file bundle
+    → IfOk run (λ some. IfSome some (λ made. IsRecordedWith gives asked bundle
     made.outcome.text.items made.outcome.map.items made.outcome.refuted made.bytes.items))
     → IfOk run (λ some. IfSome some (λ made. made.outcome.refuted ≡ true
     → IsRefutedFrom hands asked None))
-handed_alone (Err fault) hands held asked file bundle none by case made = tt
-handed_alone (Ok None) hands held asked file bundle none by case made = tt
-handed_alone (Ok (Some recorded)) hands held asked file bundle none by case made = λ says.
+handed_alone (Err fault) hands gives asked bundle none by case made = tt
+handed_alone (Ok None) hands gives asked bundle none by case made = tt
+handed_alone (Ok (Some recorded)) hands gives asked bundle none by case made = λ says.
     let unsatisfiable : IsUnsatisfiable bundle =
     unsatisfiable_before bundle (49 ∷ 10 ∷ proof_text made.bytes)
     (made.outcome.correct.sound says) in record {

@@ -1,31 +1,34 @@
 //! One proof of the whole formula, in the place of a text of cubes and proofs.
 
 ghost use Rattle.std.specs.Prelude.{◌≡◌, ◌<◌, ◌+◌, ◌++◌, ◌^◌, ◌-◌, ℕ, List, Some, IfOk, IfErr};
-ghost use Rattle.std.specs.Prelude.{OnOk, option_map, Option, None, IfSome, true, codes};
+ghost use Rattle.std.specs.Prelude.{OnOk, option_map, None, IfSome, true, codes, is_some};
+ghost use Rattle.std.specs.Bool.{OnTrue};
 ghost use Rattle.case_core.specs.Case.{CaseOf};
 ghost use Rattle.case_core.specs.Sections.{IsCaseOf};
 ghost use Rattle.command_words.specs.Request.{asked_in};
 ghost use Rattle.cube_report.specs.Bundle.{icnf_text};
 ghost use Rattle.cube_report.specs.Device.{IsDeviceFault};
 ghost use Rattle.cube_report.specs.Faults.{IsInputFault};
-ghost use Rattle.bundle_files.specs.Files.{StaysAllowed};
-ghost use Rattle.bundle_files.specs.Judging.{IsJudgingFault};
+ghost use Rattle.bundle_files.specs.Files.{IsTextAt, StaysAllowed, lies_in};
+ghost use Rattle.bundle_files.specs.Judging.{IsJudgingFault, IsOutcomeWith, IsRefusedWith};
 ghost use Rattle.cube_command.specs.Headline.{IsRefutedFrom};
+ghost use Rattle.cube_command.specs.Program.{IsRefusedFrom};
 ghost use Rattle.cube_command.specs.Record.{digest_line};
 ghost use Rattle.cube_command.specs.Sources.{IsProofAt, IsSoBy, file_at};
 ghost use Rattle.cube_command.specs.Inner.Recorded.{IsRecordedFrom, IsRecordedWith};
 
 use crate::program::Recorded;
 use crate::record::{begin_record, end_record};
-use bundle_files::{ReadBundle, Store, append_given, judge_with_proof, read_from, told_whole};
-use case_core::turn_from;
+use bundle_files::{
+    ReadBundle, Store, append_given, judge_proof_of, judge_with_proof, read_from, told_whole,
+};
+use case_core::{Case, turn_from};
 use command_words::Request;
-use cube_report::{DeviceFault, Fault, Gate, Source, icnf_part};
+use cube_report::{DeviceFault, Fault, Gate, Outcome, Source, icnf_part};
 use std::alloc::{AllocError, Global};
 use std::io;
 use std::io::Read;
 use std::sync::Wait;
-use std::thread::Threads;
 
 /// A text as a source, of which no read fails.
 #[derive(Drop)]
@@ -115,99 +118,146 @@ pub(crate) fn file_at(path: &str) -> Option<&str>
     if path == "-" { None } else { Some(path) }
 }
 
-/// What is said of the request's one proof where that lies in the file at this path, and the record
-/// of it where a file for that is asked for. The proof is judged while it is read. `None` where its
-/// text has to be made first: it is the input's, or a file without a length, as a pipe, which is
-/// read once; or there is something else to judge or to tell; or the formula's file has a fault; or
-/// the proof has a label line.
-pub(crate) fn judge_proof_file<R, D, G>(
+/// What is said of the request's one proof, and the record of it where a file for that is asked
+/// for. The proof, which is that in the file at this path, or the input's where the path is `-`, is
+/// judged while it is read. `None` where its text has to be read first: there is something else to
+/// judge or to tell, or the formula's file has a fault, or no file is at the path. Then nothing was
+/// read of the input.
+pub(crate) fn judge_proof<R, D, I, G>(
     rt: &R,
     store: &mut D,
     request: &Request<'_>,
     path: &str,
+    input: &mut I,
     gate: &G,
 ) -> Result<Option<Recorded>, Fault>
 where
-    R: AllocGlobal + Threads + Wait + Sync,
+    R: AllocGlobal + Wait,
     D: Store,
-    G: Gate + Sync,
-    requires count { D.failures store.old < 2 ^ 64 - 1 }
+    I: Source,
+    G: Gate,
+    requires store { D.failures store.old < 2 ^ 64 - 1 }
+    requires input { I.failures input.old < 2 ^ 64 - 1 }
     ensures held { D.held store.new ≡ D.held store.old }
     ensures allowed { StaysAllowed (D.allows store.old) (D.allows store.new) }
-    ensures made { IfOk result (λ some. IfSome some (λ made. (input : Option (List ℕ))
-        → IsSoBy (D.held store.old) (Some path.now) input (λ given. IsRecordedFrom
-        (D.held store.old) (asked_in request.now) given made.outcome.text.items
-        made.outcome.map.items made.outcome.refuted made.bytes.items))) }
+    ensures made { IfOk result (λ some. IfSome some (λ made. IsSoBy (D.held store.old)
+        (Some path.now) (I.remaining input.old) (λ given. IsRecordedFrom (D.held store.old)
+        (asked_in request.now) given made.outcome.text.items made.outcome.map.items
+        made.outcome.refuted made.bytes.items))) }
     ensures handed { IfOk result (λ some. IfSome some (λ made. made.outcome.refuted ≡ true
         → IsRefutedFrom D.hands (asked_in request.now) None)) }
-    ensures fault { IfErr result (λ fault. ¬ IsInputFault fault) }
-    ensures ok { OnOk result (D.failures store.new ≡ D.failures store.old) }
-    ensures err { IfErr result (IsJudgingFault (D.failures store.old) (D.failures store.new)) }
+    ensures fault { IfErr result (λ fault. IsInputFault fault → IsSoBy (D.held store.old)
+        (Some path.now) (I.remaining input.old)
+        (λ given. IsRefusedFrom (D.held store.old) (asked_in request.now) given fault)) }
+    ensures unread { IfOk result (λ some. some ≡ None → input.new ≡ input.old) }
+    ensures ok { OnOk result ((D.failures store.new ≡ D.failures store.old)
+        × (I.failures input.new ≡ I.failures input.old)) }
+    ensures err { IfErr result (IsJudgingFault (D.failures store.old + I.failures input.old)
+        (D.failures store.new + I.failures input.new)) }
 {
-    let Some(file) = proof_alone(request, path) else {
-        return Ok(None);
-    };
-    if store.length(file).unwrap_or(0) == 0 {
+    if !is_alone(request) {
         return Ok(None);
     }
     let mut cube = Given::new(b"a 0");
     match read_from(rt.alloc(), store, &mut cube, request.formula, None, true) {
-        Ok(read) => judge_below(rt, store, read, file, request, gate),
+        Ok(read) => judge_below(rt, store, read, path, input, request, gate),
         Err(fault) => told_whole(fault),
     }
 }
 
-/// The file with the proof at this path, where there is nothing else to judge, and nothing is told
-/// for which the text is kept.
-fn proof_alone<'p>(request: &Request<'_>, path: &'p str) -> Option<&'p str>
-    ensures { IfSome result (λ file. (file_at path.now ≡ Some file.now)
-        × ((asked_in request.now).file ≡ None)
+/// Whether there is nothing else to judge, and nothing is told for which the text is kept.
+fn is_alone(request: &Request<'_>) -> bool
+    ensures { OnTrue result (((asked_in request.now).file ≡ None)
         × ((asked_in request.now).folder ≡ None)) }
 {
-    if request.explain || request.file.is_some() || request.proofs.is_some() {
-        return None;
-    }
-    file_at(path)
+    !request.explain && request.file.is_none() && request.proofs.is_none()
 }
 
 /// The same below the formula and the cube without a literal, which were read.
-fn judge_below<R, D, G>(
+fn judge_below<R, D, I, G>(
     rt: &R,
     store: &mut D,
     read: ReadBundle,
-    file: &str,
+    path: &str,
+    input: &mut I,
     request: &Request<'_>,
     gate: &G,
 ) -> Result<Option<Recorded>, Fault>
 where
-    R: AllocGlobal + Threads + Wait + Sync,
+    R: AllocGlobal + Wait,
     D: Store,
-    G: Gate + Sync,
-    requires count { D.failures store.old < 2 ^ 64 - 1 }
+    I: Source,
+    G: Gate,
+    requires store { D.failures store.old < 2 ^ 64 - 1 }
+    requires input { I.failures input.old < 2 ^ 64 - 1 }
     requires case { IfSome read.case (IsCaseOf read.bundle.items) }
     ensures held { D.held store.new ≡ D.held store.old }
     ensures allowed { StaysAllowed (D.allows store.old) (D.allows store.new) }
     ensures case { IfOk result (λ some. IfSome some (λ _.
         (case : CaseOf) × IsCaseOf read.bundle.items case)) }
-    ensures made { IfOk result (λ some. IfSome some (λ made. IsRecordedWith (D.held store.old)
-        (asked_in request.now) file.now read.bundle.items made.outcome.text.items
+    ensures made { IfOk result (λ some. IfSome some (λ made. IsRecordedWith
+        (IsTextAt (lies_in (D.held store.old)) (file_at path.now) (I.remaining input.old))
+        (asked_in request.now) read.bundle.items made.outcome.text.items
         made.outcome.map.items made.outcome.refuted made.bytes.items)) }
-    ensures fault { IfErr result (λ fault. ¬ IsInputFault fault) }
-    ensures ok { OnOk result (D.failures store.new ≡ D.failures store.old) }
-    ensures err { IfErr result (IsJudgingFault (D.failures store.old) (D.failures store.new)) }
+    ensures fault { IfErr result (λ fault. IsInputFault fault → IsRefusedWith
+        (IsTextAt (lies_in (D.held store.old)) (file_at path.now) (I.remaining input.old))
+        read.bundle.items fault) }
+    ensures unread { IfOk result (λ some. some ≡ None → input.new ≡ input.old) }
+    ensures ok { OnOk result ((D.failures store.new ≡ D.failures store.old)
+        × (I.failures input.new ≡ I.failures input.old)) }
+    ensures err { IfErr result (IsJudgingFault (D.failures store.old + I.failures input.old)
+        (D.failures store.new + I.failures input.new)) }
 {
     let ReadBundle { bundle, case } = read;
     let Some(case) = case else {
         return Ok(None);
     };
+    let Some(outcome) = outcome_below(rt, store, &bundle, &case, path, input, request, gate)? else {
+        return Ok(None);
+    };
+    let bytes = record_below(rt.alloc(), request, bundle, &outcome.text)?;
+    Ok(Some(Recorded { outcome, bytes }))
+}
+
+/// What is said of a bundle with the proof at this path, or that of the input, below it.
+fn outcome_below<R, D, I, G>(
+    rt: &R,
+    store: &mut D,
+    bundle: &[u8],
+    case: &Case,
+    path: &str,
+    input: &mut I,
+    request: &Request<'_>,
+    gate: &G,
+) -> Result<Option<Outcome>, Fault>
+where
+    R: AllocGlobal + Wait,
+    D: Store,
+    I: Source,
+    G: Gate,
+    requires store { D.failures store.old < 2 ^ 64 - 1 }
+    requires input { I.failures input.old < 2 ^ 64 - 1 }
+    requires case { IsCaseOf bundle.now case.now }
+    ensures held { D.held store.new ≡ D.held store.old }
+    ensures allowed { StaysAllowed (D.allows store.old) (D.allows store.new) }
+    ensures outcome { IfOk result (λ some. IfSome some (λ outcome. IsOutcomeWith
+        (IsTextAt (lies_in (D.held store.old)) (file_at path.now) (I.remaining input.old))
+        bundle.now (is_some (asked_in request.now).picture) outcome.text.items
+        outcome.map.items outcome.refuted)) }
+    ensures fault { IfErr result (λ fault. IsInputFault fault → IsRefusedWith
+        (IsTextAt (lies_in (D.held store.old)) (file_at path.now) (I.remaining input.old))
+        bundle.now fault) }
+    ensures unread { IfOk result (λ some. some ≡ None → input.new ≡ input.old) }
+    ensures ok { OnOk result ((D.failures store.new ≡ D.failures store.old)
+        × (I.failures input.new ≡ I.failures input.old)) }
+    ensures err { IfErr result (IsJudgingFault (D.failures store.old + I.failures input.old)
+        (D.failures store.new + I.failures input.new)) }
+{
     let draws = request.map.is_some();
     let settings = request.settings;
-    match judge_with_proof(rt, store, &bundle, &case, file, settings, gate, draws)? {
-        Some(outcome) => {
-            let bytes = record_below(rt.alloc(), request, bundle, &outcome.text)?;
-            Ok(Some(Recorded { outcome, bytes }))
-        }
-        None => Ok(None),
+    match file_at(path) {
+        Some(file) => judge_with_proof(rt, store, bundle, case, file, settings, gate, draws),
+        None => judge_proof_of(rt, bundle, case, input, 0, settings, gate, draws),
     }
 }
 

@@ -24,7 +24,7 @@ ghost use Rattle.cube_command.specs.Inner.Recorded.{IsRecordedFor, IsRecordedFro
 ghost use Rattle.command_words.specs.Request.{asked_in};
 
 use crate::asked::{Telling, asked_in, fault_in, file_of};
-use crate::one_proof::{Given, judge_proof_file, text_of_one};
+use crate::one_proof::{Given, judge_proof, text_of_one};
 use crate::open::{names_asked, shown};
 use crate::record::{begin_record, end_record};
 use crate::telling::{tell_refused, tell_run};
@@ -52,8 +52,8 @@ use std::thread::Threads;
 ///
 /// With `--proof LRAT` and without FILE there is one proof of CNF's whole formula, a text or
 /// binary: that file, or `input` where LRAT is `-`. It is judged as the only section of the text
-/// `a 0`, `l 1` and the proof, in the place of FILE's. A file is judged while it is read, unless it
-/// has a label line, or `explain` may tell of it.
+/// `a 0`, `l 1` and the proof, in the place of FILE's. It is judged while it is read, unless
+/// `explain` may tell of it, or CNF has a fault.
 ///
 /// With `--proofs DIR` the proofs of that folder are added to the bundle: for each cube K and after
 /// that for each missing leaf J, in order, the file `DIR/K.lrat` or `DIR/mJ.lrat`, where it is
@@ -458,7 +458,7 @@ where
     ensures err { IfErr result (IsJudgingFault (D.failures store.old + I.failures input.old)
         (D.failures store.new + I.failures input.new)) }
 {
-    if let Some(made) = judge_proof_file(rt, store, request, path, gate)? {
+    if let Some(made) = judge_proof(rt, store, request, path, input, gate)? {
         return Ok(made);
     }
     let text = text_of_one(rt.alloc(), store, input, path)?;

@@ -148,6 +148,8 @@ pub trait Store {
     fn reader(&self, alloc: Global, place: &ProofPlace) -> Result<Self::Reader, AllocError>
         ensures held { IfOk result (λ reader. (target : Target) →
             Self.Reader.held reader target ≡ held_at (held self.now) place.now target) }
+        // A proof may be binary there.
+        ensures binary { IfOk result (λ _. Self.Reader.takes_binary ≡ true) }
         ensures none { IfOk result (λ reader. Self.Reader.failures reader ≡ 0) };
 
     /// How long the file at this path is, where that can be told without reading it. No clause ties

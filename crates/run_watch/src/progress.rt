@@ -34,8 +34,9 @@ struct Part {
 /// how many, how many of their bytes, of how many, how many are refuted and rejected, and how much
 /// of the tree's weight is still open. It tells that at most once a second while the workers are at
 /// work, and once when they have ended; a run that is made anew counts anew. As a meter it tells,
-/// once a second at most, how much was read so far: before the workers start, and again where all
-/// proofs are read before they are judged. What it can't write is left out.
+/// once a second at most, how much was read so far: before the workers start, while a proof is
+/// judged whose length nobody knows, and again where all proofs are read before they are judged.
+/// What it can't write is left out.
 #[derive(Drop)]
 pub struct Progress<'a, R> {
     device: &'a R,
@@ -54,7 +55,8 @@ pub struct Progress<'a, R> {
     parts: [Part; MOST_PARTS],
     /// When the last line was written, or the run began, in milliseconds.
     told_at: AtomicU64,
-    /// Whether the run reads what it judges later, and how many bytes it has read so.
+    /// Whether the run reads what it judges later, or what has no known length, and how many bytes
+    /// it has read so.
     is_reading: AtomicBool,
     bytes_read: AtomicU64,
     /// Whether a line on that stands on the terminal.
@@ -210,8 +212,8 @@ impl<'a, R: Eprint> Progress<'a, R> {
     /// Writes how far the run is; the last line is ended also on a terminal.
     fn tell(&self, is_last: bool) {
         let proofs = self.proofs.load(Ordering::SeqCst);
-        let bytes = self.bytes.load(Ordering::SeqCst);
         let done = self.bytes_judged.load(Ordering::SeqCst);
+        let bytes = self.bytes.load(Ordering::SeqCst).max(done);
         let refuted = self.refuted.load(Ordering::SeqCst);
         let rejected = self.rejected.load(Ordering::SeqCst);
         let judged = refuted.saturating_add(rejected);
@@ -312,7 +314,8 @@ impl<'a, R: Clock + Eprint> Gate for Progress<'a, R> {
         cut: u32,
         elsewhere: Elsewhere,
     ) -> Result<(), AllocError> {
-        self.is_reading.store(false, Ordering::SeqCst);
+        let is_unknown = elsewhere.proofs > 0 && elsewhere.bytes == 0;
+        self.is_reading.store(is_unknown, Ordering::SeqCst);
         let tree = case.tree();
         let roots = tree.parts(alloc, cut)?;
         begin_parts(&self.parts, tree, cut, &roots);
@@ -347,6 +350,7 @@ impl<'a, R: Clock + Eprint> Gate for Progress<'a, R> {
     }
 
     fn end(&self) {
+        self.is_reading.store(false, Ordering::SeqCst);
         self.is_shown.store(false, Ordering::SeqCst);
         self.tell(true);
     }

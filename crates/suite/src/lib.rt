@@ -18,6 +18,8 @@ mod judges;
 #[cfg(test)]
 mod judging_tests;
 #[cfg(test)]
+mod label_line_tests;
+#[cfg(test)]
 mod literals;
 #[cfg(test)]
 mod lrat_text_tests;
@@ -27,8 +29,6 @@ mod map_tests;
 mod outline_tests;
 #[cfg(test)]
 mod parts_tests;
-#[cfg(test)]
-mod piped_tests;
 #[cfg(test)]
 mod plain;
 #[cfg(test)]

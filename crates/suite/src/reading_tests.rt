@@ -4,7 +4,7 @@ ghost use Rattle.std.specs.Prelude.{◌≡◌};
 use crate::cases::case;
 use crate::judging_tests::expected;
 use byte_flow::{DeviceFault, Source};
-use case_core::{Case, Examiner, Judged, ProofForm, Reason};
+use case_core::{Case, Examiner, Judged, ProofForm, ReadProof, Reason};
 use fixtures::four;
 use fixtures::targets::{cube, has_target};
 use split_tree::{Leaf, Target};
@@ -110,8 +110,8 @@ fn read_by(
     assert!(rt; has_target(case.tree(), cube(1)));
     assert!(rt; case.proof_for(cube(1)).is_none());
     match examiner.examine_read(alloc, cube(1), opened, pieces) {
-        Ok(Some(read)) => Ok(Some((read.finding.judged(), read.length))),
-        Ok(None) => Ok(None),
+        Ok(ReadProof::Found(read)) => Ok(Some((read.finding.judged(), read.length))),
+        Ok(ReadProof::Labelled(_)) => Ok(None),
         Err(fault) => Err(fault),
     }
 }

@@ -1,10 +1,14 @@
 -- What workers find of targets, and the marks that are compared with it.
 use Rattle.std.specs.Prelude.{◌≡◌, ℕ, List, [], All, Option, None, Some, Bool, true, false, get_or}
+use Rattle.std.specs.Prelude.{Result, Ok, Err}
+use Rattle.byte_flow.specs.declared.fault.DeviceFault.{DeviceFault}
 use Rattle.case_core.specs.Bundle.{labels_of}
 use Rattle.case_core.specs.Finding.{IsFoundBy, target_of}
 use Rattle.case_core.specs.Target.{Target}
 use Rattle.case_core.specs.Target.TheVariants.{Node}
 use Rattle.case_core.specs.declared.examiner.ReadFinding.{ReadFinding}
+use Rattle.case_core.specs.declared.examiner.ReadProof.{ReadProof}
+use Rattle.case_core.specs.declared.examiner.ReadProof.TheVariants.{Found as FoundBy, Labelled}
 use Rattle.case_core.specs.Leaves.{IsTargetAt}
 use Rattle.case_core.specs.Case.{CaseOf}
 use Rattle.mark_board.specs.declared.mark.Mark.{Mark}
@@ -13,6 +17,12 @@ use Rattle.proof_folder.specs.Given.{IsGivenFor}
 use Rattle.board_hall.specs.declared.view.View.{View}
 use Rattle.check_crew.specs.TargetProofs.{Known, IsExamined, IsGiven}
 use Rattle.check_crew.specs.declared.targets.ExaminedTarget.{ExaminedTarget}
+
+-- what is found by a proof that was read, and nothing where it has a label line
+abbrev pub found_in : Result ReadProof DeviceFault → Result (Option ReadFinding) DeviceFault
+found_in (Ok (FoundBy found)) = Ok (Some found)
+found_in (Ok (Labelled label)) = Ok None
+found_in (Err fault) = Err fault
 
 -- what was found by the text of the proof that is known to lie there for the target, in which no
 -- line is a label line

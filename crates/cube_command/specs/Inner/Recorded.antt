@@ -1,7 +1,7 @@
 -- What is said of the bundle that is asked for, before it is written.
 use Rattle.std.specs.Prelude.{◌≡◌, ℕ, Bool, List, ◌++◌, codes, Option, Some, is_some}
 use Rattle.case_core.specs.Binary.{proof_text}
-use Rattle.bundle_files.specs.Files.{Held, lies_in}
+use Rattle.bundle_files.specs.Files.{Held}
 use Rattle.bundle_files.specs.Formula.{IsBundleOf, IsReadBy}
 use Rattle.cube_report.specs.Correct.{IsOutcome}
 use Rattle.cube_command.specs.Program.{IsBundleFor}
@@ -28,12 +28,12 @@ pub record IsRecordedFrom (held : Held) (asked : Asked) (input : Option (List �
   pub outcome : IsOutcome whole (is_some asked.picture) report map answer
   pub recorded : (path : List ℕ) → asked.out ≡ Some path → made ≡ record_text read report
 
--- the same of a bundle with one proof more, below the label line of cube 1, which is the text that
--- the bytes at this path stand for
-pub record IsRecordedWith (held : Held) (asked : Asked) (path bundle report map : List ℕ)
+-- the same of a bundle with one proof more, below the label line of cube 1: the text that bytes
+-- stand for which were given
+pub record IsRecordedWith (gives : List ℕ → Type 0) (asked : Asked) (bundle report map : List ℕ)
     (answer : Bool) (made : List ℕ) : Type 0 where
   pub bytes : List ℕ
-  pub lie : lies_in held path bytes
+  pub given : gives bytes
   pub outcome : IsOutcome (bundle ++ (codes "\nl 1\n" ++ proof_text bytes))
       (is_some asked.picture) report map answer
   pub recorded : (out : List ℕ) → asked.out ≡ Some out

@@ -1,16 +1,25 @@
-use Rattle.std.proofs.Common.{Bor, List, ℕ}
+use Rattle.bundle_files.specs.Judging.{IsRefusedWith}
 use Rattle.command_words.specs.Request.{asked_in}
-use Rattle.cube_command.proofs.OneProofAlone.{made_below}
-use Rattle.cube_command.proofs.ProgramRuns.{some_mapped}
+use Rattle.cube_report.specs.Faults.{IsInputFault}
+use Rattle.cube_command.proofs.OneProofAlone.{given_at, made_below}
+use Rattle.command_words.proofs.WordsRequests.{handed_on}
 use Rattle.cube_command.proofs.one_proof.judge_below.Goals as goal
 
-pub returns-in_ok-bytes-in-Some-2-clause-made : goal.returns-in_ok-bytes-in-Some-2-clause-made
-returns-in_ok-bytes-in-Some-2-clause-made g c =
-    made_below (g.D.Store.held c.args.store.now) (asked_in c.args.request.now) c.args.file.now
-    c.args.read.bundle.items c.is_some-draws.result c.in-Some-2.outcome.text.items
-    c.in-Some-2.outcome.map.items c.in_ok-bytes-in-Some-2.bytes.items
-    c.deref-in-Some-2.result.now c.in-Some-2.outcome.refuted
+pub returns-in_err-outcome-clause-fault : goal.returns-in_err-outcome-clause-fault
+returns-in_err-outcome-clause-fault g c =
+    handed_on c.from_residual.result
+    (λ fault. IsInputFault fault → IsRefusedWith
+    (given_at (g.D.Store.held c.args.store.now) c.args.path.now
+    (g.I.Source.remaining c.args.input.now)) c.args.read.bundle.items fault)
+    c.in_err-outcome.field-0.0
+    (rw c.deref.ensures.value at c.in_err-outcome.ensures.fault) c.from_residual.ensures.1
+
+pub returns-clause-made : goal.returns-clause-made
+returns-clause-made g c =
+    made_below
+    (given_at (g.D.Store.held c.args.store.now) c.args.path.now
+    (g.I.Source.remaining c.args.input.now)) (asked_in c.args.request.now)
+    c.args.read.bundle.items c.in-Some-2.outcome.text.items c.in-Some-2.outcome.map.items
+    c.in_ok-bytes.bytes.items c.deref-2.result.now c.in-Some-2.outcome.refuted
     (rw (c.in-Some-2.is, c.deref.ensures.value) at c.in_ok-outcome.ensures.outcome)
-    (some_mapped (λ (text : Bor (List ℕ)). text.now) c.args.request.now.map
-    c.is_some-draws.result c.is_some-draws.ensures)
-    c.deref-in-Some-2.ensures.value c.in_ok-bytes-in-Some-2.ensures
+    c.deref-2.ensures.value c.in_ok-bytes.ensures

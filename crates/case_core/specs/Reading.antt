@@ -1,0 +1,34 @@
+-- A proof that is read, and the label line that ends it.
+use Rattle.std.specs.Prelude.{◌≡◌, ℕ, List, [], ◌++◌, length, count_by}
+use Rattle.cnf_text.specs.Tokens.{is_line_end}
+use Rattle.lrat_binary.specs.Form.{proof_left}
+use Rattle.lrat_binary.specs.declared.form.ProofForm.{ProofForm}
+use Rattle.split_tree.specs.declared.node.Target.{Target}
+use Rattle.case_core.specs.Bundle.{BeginsWithLabel, labels_of}
+use Rattle.case_core.specs.Case.{CaseOf}
+use Rattle.case_core.specs.Finding.{IsFoundBy, target_of}
+use Rattle.case_core.specs.Outline.{AreWholeLines}
+use Rattle.case_core.specs.Scan.{IsBehindLine}
+use Rattle.case_core.specs.declared.examiner.ReadProof.{ReadProof}
+use Rattle.case_core.specs.declared.examiner.ReadProof.TheVariants.{Found, Labelled}
+
+-- the first label line of a text: so many lines end before it, and none of these is one
+pub record IsFirstLabel (text line : List ℕ) (lines : ℕ) : Type 0 where
+  pub is : BeginsWithLabel line
+  pub before : List ℕ
+  pub after : List ℕ
+  pub parts : text ≡ before ++ (line ++ after)
+  pub at_line : AreWholeLines before
+  pub none : labels_of before ≡ []
+  pub counted : lines ≡ count_by is_line_end before
+  pub behind : IsBehindLine after
+
+-- what becomes of a target's proof with these bytes, which was opened in this form: no line of its
+-- text is a label line, and this is found by it; or it is a text, and this is its first label line
+abbrev pub IsReadProof : CaseOf → Target → ProofForm → List ℕ → ReadProof → Type 0
+IsReadProof case target opened bytes (Found read) =
+    (read.finding.case.now ≡ case) × (target_of read.finding.leaf read.finding.node ≡ target)
+    × (labels_of (proof_left opened bytes) ≡ []) × (length bytes ≡ read.length)
+    × IsFoundBy case target (proof_left opened bytes) read.finding.judged
+IsReadProof case target opened bytes (Labelled label) =
+    (proof_left opened bytes ≡ bytes) × IsFirstLabel bytes label.line.items label.lines
