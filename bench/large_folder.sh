@@ -2,9 +2,9 @@
 # large_folder.sh PROGRAM [GIGABYTES=2] [PROOFS=4096] [rising]
 # Runs PROGRAM with four workers on a folder of so many proofs, a power of two, that are so many
 # gigabytes in all, and then on one bundle of the same proofs in a file, and says how much memory each
-# took; on one proof also by `--formula` and `--proof`. With `rising` the ids of a proof rise, beside old clauses that stay. The status is 1 if a
-# run took more than 16 MB and a thousand bytes for each leaf, or if a report isn't that all leaves
-# are refuted.
+# took; on one proof also by `--formula` and `--proof`, from a file and through a pipe. With
+# `rising` the ids of a proof rise, beside old clauses that stay. The status is 1 if a run took more
+# than 16 MB and a thousand bytes for each leaf, or if a report isn't that all leaves are refuted.
 # What is made is in TMPDIR (/tmp), where there has to be room for twice the proofs, and removed.
 set -eu
 program=$(realpath "${1:?a program}")
@@ -19,10 +19,8 @@ if ! within "$gigabytes" "$(awk -v room="$room" 'BEGIN {print room / 2.4e9}')"; 
     echo "large_folder.sh: no room for twice $gigabytes GB in ${TMPDIR:-/tmp}" >&2
     exit 1
 fi
-if [ ! -x bin/measure ]; then
-    mkdir -p bin
-    gcc -O2 -o bin/measure tools/measure.c
-fi
+mkdir -p bin
+gcc -O2 -o bin/measure tools/measure.c
 folder=$(mktemp -d)
 trap 'rm -rf "$folder"' EXIT
 
@@ -31,11 +29,11 @@ bytes=$(find "$folder/proofs" -name '*.lrat' -printf '%s\n' | awk '{n += $1} END
 limit=$(awk -v proofs="$proofs" 'BEGIN {printf "%.0f", 16 + proofs / 1000}')
 failed=0
 
-# A run on these words, which is named so.
+# A run on these words, which is named so, with what comes by standard input.
 measure() {
     name=$1
     shift
-    told=$(bin/measure "$folder/out" "$program" --workers 4 "$@")
+    told=$(bin/measure -i "$folder/out" "$program" --workers 4 "$@")
     read -r wall processor kilobytes status <<< "$told"
     awk -v name="$name" -v bytes="$bytes" -v proofs="$proofs" -v wall="$wall" -v processor="$processor" -v kilobytes="$kilobytes" 'BEGIN {
         printf "%s of %d proofs, %.3f GB: %.2f s, %.2f s of processor time, %.1f MB in memory\n",
@@ -53,7 +51,7 @@ measure() {
     fi
 }
 
-measure "a folder" --proofs "$folder/proofs" "$folder/case.icnf"
+measure "a folder" --proofs "$folder/proofs" "$folder/case.icnf" < /dev/null
 {
     cat "$folder/case.icnf"
     for number in $(seq "$proofs"); do
@@ -61,11 +59,13 @@ measure "a folder" --proofs "$folder/proofs" "$folder/case.icnf"
         cat "$folder/proofs/$number.lrat"
     done
 } > "$folder/bundle.icnf"
-measure "a file" "$folder/bundle.icnf"
+measure "a file" "$folder/bundle.icnf" < /dev/null
 if [ "$proofs" -eq 1 ]; then
     awk '/^[ap]/ {next}
         {text = text $0 "\n"; ++clauses; for (i = 1; i < NF; ++i) {v = $i < 0 ? -$i : $i; if (v > most) most = v}}
         END {printf "p cnf %d %d\n%s", most, clauses, text}' "$folder/case.icnf" > "$folder/formula.cnf"
-    measure "--proof" --formula "$folder/formula.cnf" --proof "$folder/proofs/1.lrat"
+    measure "--proof" --formula "$folder/formula.cnf" --proof "$folder/proofs/1.lrat" < /dev/null
+    # (not in the last part of a pipe, where what has failed would be forgotten)
+    measure "--proof -" --formula "$folder/formula.cnf" --proof - < <(cat "$folder/proofs/1.lrat")
 fi
 exit "$failed"

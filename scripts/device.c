@@ -1,4 +1,4 @@
-/* Preloaded by scripts/threads.sh: each write on the descriptor WRITE_FILE takes no more bytes than WRITE_SHORT says, and the Nth of
+/* Preloaded by scripts/threads.sh and scripts/pipes.sh: each write on the descriptor WRITE_FILE takes no more bytes than WRITE_SHORT says, and the Nth of
    them, N from WRITE_FAILS, takes none and fails with the error WRITE_ERROR: ENOSPC or EINTR. Where one has failed, the file that
    WRITE_MARK names is made. Other descriptors are written as they are. So it is with reads of the standard input by READ_SHORT and
    READ_FAILS: the Nth fails with the error EIO. */

@@ -8,7 +8,11 @@
 # - `faulty` refuses every bundle by the line of a fault;
 # - `first`, in the place of `cubejoin` alone, looks at no record but the first, and writes the report that stands in it.
 # Then scripts/files.sh has to fail with each stand-in of scripts/stand_in.c: the true program, but for what it does with files. Without a C compiler they
-# are skipped. The last line counts: a claim for each script and each false program, and one for each stand-in.
+# are skipped. And scripts/pipes.sh has to fail with each of these, the true program but for how it reads a proof by standard input:
+# - `block` takes the proof's first 64 KB for all of it, and `seam` loses the byte at their end;
+# - `own_lines` counts the line of a label from the proof's beginning;
+# - `hasty` looks for no label line behind the step that refutes.
+# The last line counts: a claim for each script and each false program, one for each stand-in, and one for each of these.
 root=$(CDPATH= cd -- "$(dirname -- "$0")/.." && pwd) || exit 1
 . "$root/scripts/runs.sh"
 programs="silent done open refuted faulty"
@@ -24,16 +28,18 @@ always() {
 #!/bin/sh
 picture=
 record=
+alone=
 while [ \$# -gt 0 ]; do
     case \$1 in
-        --workers | --cut | --proofs | --log) shift 2 ;;
+        --workers | --cut | --proofs | --log | --formula) shift 2 ;;
+        --proof) alone=1 && shift 2 ;;
         --record) record=\$2 && shift 2 ;;
         --map) picture=\$2 && shift 2 ;;
         --*) shift ;;
         *) break ;;
     esac
 done
-report=\$(cat -- "\${1:--}" | awk '
+report=\$(if [ -n "\$alone" ]; then echo "a 0"; else cat -- "\${1:--}"; fi | awk '
     /^a / { cubes[++n] }
     END {
         print "t " n + 0 " 0 1152921504606846976"
@@ -83,19 +89,31 @@ try_all() {
     done
 }
 
-# The stand-ins, side by side.
+# One script with each of these, side by side: the script, their names, and what they are.
+try_each() {
+    for program in $2; do
+        chmod 755 "$here/$program"
+        try "$1" "$program" CUBEBOARD_PROGRAM &
+    done
+    wait
+    for program in $2; do
+        fails=$(cat "$here/$1.$program.fails")
+        count "$1.sh fails with the $3 $program" "$fails"
+        [ "$fails" -eq 0 ] || tail -n 3 "$here/$1.$program"
+    done
+}
+
+# The stand-ins: their names.
 stand_ins() {
     for program in $1; do
         printf '%s\n' '#!/bin/sh' "STAND_IN=$program LD_PRELOAD='$here/stand_in.so' exec '$built' \"\$@\"" > "$here/$program"
-        chmod 755 "$here/$program"
-        try files "$program" CUBEBOARD_PROGRAM &
     done
-    wait
-    for program in $1; do
-        fails=$(cat "$here/files.$program.fails")
-        count "files.sh fails with the stand-in $program" "$fails"
-        [ "$fails" -eq 0 ] || tail -n 3 "$here/files.$program"
-    done
+    try_each files "$1" stand-in
+}
+
+# Makes one that reads a proof by standard input in its own way: its name, and what it does with its words where `--proof -` is among them.
+reader() {
+    printf '%s\n' '#!/bin/sh' "built='$built' here='$here'" 'case " $* " in *" --proof - "*) ;; *) exec "$built" "$@" ;; esac' "$2" > "$here/$1"
 }
 
 for program in $programs; do try_all "$program" CUBEBOARD_PROGRAM build_program program; done
@@ -105,4 +123,19 @@ if preload stand_in "the stand-ins"; then
     build_program
     stand_ins "twice late lengths empties apart"
 fi
+readers() {
+    build_program
+    reader block 'head -c 65536 | "$built" "$@"'
+    reader seam '{ head -c 65535 && head -c 1 > /dev/null && cat; } | "$built" "$@"'
+    reader own_lines '"$built" "$@" 2> "$here/own_lines.err"
+        status=$?
+        above=$(($(tr -d -c "\n" < formula.cnf | wc -c) + 3))
+        awk -v above="$above" "/, line [0-9]*$/ { \$NF -= above } { print }" "$here/own_lines.err" >&2
+        exit "$status"'
+    reader hasty 'cat > "$here/hasty.in"
+        sed "/^ *l/,\$d" "$here/hasty.in" | "$built" "$@" > "$here/hasty.out" 2> /dev/null && exec cat "$here/hasty.out"
+        "$built" "$@" < "$here/hasty.in"'
+    try_each pipes "block seam own_lines hasty" reader
+}
+readers
 finish

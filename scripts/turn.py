@@ -34,6 +34,7 @@ PROGRAMS = ("cubeboard", "cubejoin")
 SCRIPTS = {
     "explain": {"lrat_binary", "cube_explain", "cube_command", "cube_report", "cubeboard"},
     "files": {"byte_flow", "file_store", "bundle_files", "run_watch", "cube_command", "join_command", "cubeboard", "cubejoin"},
+    "pipes": {"byte_flow", "lrat_binary", "case_core", "check_crew", "file_store", "bundle_files", "run_watch", "cube_command", "cubeboard"},
     "picture": {"tree_map", "node_fields", "split_tree", "mark_board"},
     "questions": {"cube_report", "node_fields", "cube_command"},
     "cluster": {"join_command", "cube_join", "cubejoin"},

@@ -22,7 +22,7 @@ make_base() {
 copy_with_notes() {
     rm -rf "$here/copy"
     cp -r "$here/base" "$here/copy"
-    for script in rows explain files picture questions cluster threads refused; do
+    for script in rows explain files pipes picture questions cluster threads refused; do
         printf '#!/bin/sh\necho "%s $*" >> "$HERE/tried"\n[ "$FAILS" != %s ]\n' "$script" "$script" > "$here/copy/scripts/$script.sh"
     done
     cat > "$here/copy/scripts/wrong_bodies.py" << 'WRONG'
@@ -69,6 +69,7 @@ claims_of_turns() {
 explain 
 files 
 picture 
+pipes 
 questions 
 refused 
 rows 

@@ -132,9 +132,9 @@ begin() {
 
 # The run over many machines by the page's plain loop: who tries it.
 many_machines() {
-    block 8.1
+    block 8.2
     cd run || exit 1
-    block 8.5
+    block 8.6
     [ "$status" -eq 0 ] && [ "$(ls -- *.record | wc -l)" -eq 16 ] && [ ! -s "$here/err" ] && "$root/cubeboard" --proofs ../proofs case.icnf | cmp -s - joined.report
     count "$1: the jobs' joined report is that of one run" $?
     rm 3.record
@@ -142,6 +142,19 @@ many_machines() {
     [ $? -eq 1 ] && [ "$(grep '^o ' "$here/out")" = "o $(sed -n '3s/^a //p' ../cubes)" ] && [ ! -s "$here/err" ]
     count "$1: without a record its leaf is open" $?
     cd ..
+}
+
+# The example's formula through a pipe, and one that has a model: who tries it.
+through_a_pipe() {
+    block 8.1
+    [ "$status" -eq 0 ] && [ "$(tail -n 3 "$here/out" | tr '\n' ' ')" = "a 1 refuted w 0 s REFUTED " ] && [ ! -s "$here/err" ]
+    count "$1: its proof through a pipe" $?
+    mv formula.cnf whole.cnf
+    printf 'p cnf 2 2\n1 2 0\n-1 2 0\n' > formula.cnf
+    block 8.1
+    [ "$status" -eq 1 ] && grep -q '^a 1 rejected 1 unreadable$' "$here/out" && [ ! -s "$here/err" ]
+    count "$1: a formula with a model, through a pipe" $?
+    mv whole.cnf formula.cnf
 }
 
 # Yesterday's proofs and today's, in a folder with all of them: whose they are, and the report on all.
@@ -153,7 +166,7 @@ two_days() {
     "$root/cubejoin" case.icnf yesterday.record > "$here/joined" 2> "$here/err"
     [ $? -eq 1 ] && cmp -s "$here/joined" "$here/out" && [ ! -s "$here/err" ]
     count "$1: yesterday's record alone joins to its report" $?
-    block 8.6
+    block 8.7
     [ "$status" -eq 0 ] && cmp -s "$here/out" "$2" && [ ! -s "$here/err" ]
     count "$1: yesterday's record and today's give the report on all proofs" $?
 }
@@ -177,6 +190,7 @@ try() {
     block 5.6
     [ "$status" -eq 0 ] && [ "$(tail -n 3 "$here/out" | tr '\n' ' ')" = "a 1 refuted w 0 s REFUTED " ] && [ ! -s "$here/err" ]
     count "$2: the example: one proof of the whole formula" $?
+    [ "$way" != 4.2 ] || through_a_pipe "$2: the example"
     rm proofs/1.lrat proofs/2.lrat proofs/14.lrat
     echo 'garbage' > proofs/8.lrat
     block 6.1
@@ -189,7 +203,7 @@ try() {
     . "$here/labels" > labels
     [ "$(tr '\n' ',' < labels)" = "l n 16 17 15 0,l 8,l 14," ]
     count "$2: the example: the labels of the open branches" $?
-    block 8.7
+    block 8.8
     [ "$status" -eq 0 ] && grep -q '^n 16 17 15 0 refuted$' "$here/out" && [ "$(tail -n 1 "$here/out")" = "s REFUTED" ] && [ ! -s "$here/err" ]
     count "$2: the example: what is left is refuted in the next run" $?
     cd "$here/unsplit" || exit 1
@@ -213,7 +227,7 @@ fi
 
 cut_page "$root/docs/USING.md"
 blocks=$(ls "$here/page" | tr '\n' ' ')
-if [ "$blocks" != "1.1 2.1 2.2 3.1 3.2 4.1 4.2 4.3 4.4 4.5 4.6 4.7 4.8 4.9 5.1 5.2 5.3 5.4 5.5 5.6 6.1 6.2 8.1 8.2 8.3 8.4 8.5 8.6 8.7 " ]; then
+if [ "$blocks" != "1.1 2.1 2.2 3.1 3.2 4.1 4.2 4.3 4.4 4.5 4.6 4.7 4.8 4.9 5.1 5.2 5.3 5.4 5.5 5.6 6.1 6.2 8.1 8.2 8.3 8.4 8.5 8.6 8.7 8.8 " ]; then
     fail "the page has the blocks $blocks, which this script doesn't know"
     finish
 fi
@@ -231,7 +245,7 @@ cp -r "$root/examples/van-der-waerden-3-6" "$here/solved" && cd "$here/solved" &
 check "no solver: the folder van-der-waerden-3-6 of examples"
 two_days "no solver: the folder van-der-waerden-3-6 of examples" "$root/examples/van-der-waerden-3-6.report"
 sed -n 's/^    //p' "$root/examples/cluster/README.md" > "$here/commands"
-for number in 2 3 4 5; do
+for number in 3 4 5 6; do
     tr '\n' '~' < "$here/commands" | grep -q -F "$(tr '\n' '~' < "$here/page/8.$number")"
     count "the page's commands $number for many machines are those of examples/cluster" $?
 done
