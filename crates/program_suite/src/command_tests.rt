@@ -261,7 +261,7 @@ const CALLS: &[Call] = &[
     // they are read a third time, for the run on it.
     (SECTION_IN_FILE, ALONE, MIXED, (0, ALL_REPORT, b""), THRICE),
     // One proof of the whole formula: of a file, of the input, and of a file that isn't there.
-    (ONE_PROOF, OF_FILE, b"", (0, ONE_REPORT, b""), b"P\nCNF\n"),
+    (ONE_PROOF, OF_FILE, b"", (0, ONE_REPORT, b""), b"CNF\nP\n"),
     (
         ONE_PROOF,
         OF_INPUT,
@@ -269,7 +269,7 @@ const CALLS: &[Call] = &[
         (0, ONE_REPORT, b""),
         b"CNF\n",
     ),
-    (&[], OF_FILE, b"", (5, b"", DEVICE), b"P\n"),
+    (&[], OF_FILE, b"", (5, b"", DEVICE), b"CNF\n"),
 ];
 
 #[test]
@@ -292,7 +292,7 @@ const ONE_PROOF_CALLS: &[Call] = &[
         (0, ONE_REPORT, b""),
         b"P\nCNF\n",
     ),
-    // A label line has its line in the text of both, which is read then.
+    // A label line has its line in the text of both, and nothing is read again for that.
     (
         &[
             ("CNF", b"p cnf 1 2\n1 0\n-1 0\n"),
@@ -301,7 +301,7 @@ const ONE_PROOF_CALLS: &[Call] = &[
         OF_FILE,
         b"",
         (3, b"", b"cubeboard: F12 second proof, line 8\n"),
-        b"CNF\nP\nP\nCNF\n",
+        b"CNF\nP\n",
     ),
     // A formula's file with a fault is read again, for that.
     (
