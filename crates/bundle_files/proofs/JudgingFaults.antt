@@ -40,3 +40,9 @@ pub memory_judging : (fault : Fault) (failed : ℕ) → fault ≡ Memory
     → IsJudgingFault failed failed fault
 memory_judging fault failed is =
     subst (IsJudgingFault failed failed) (sym is) (inl (λ e. cc, refl))
+
+-- it is none of the input
+pub told_memory : {X : Type 0} (run : Result X Fault) (Y : Fault → Type 0)
+    → IsErrAnd run (λ e. e ≡ Memory) → IfErr run (λ fault. IsInputFault fault → Y fault)
+told_memory run Y is =
+    told run (λ fault. IsInputFault fault → Y fault) Memory is (λ input. absurd (input.0 refl))

@@ -12,3 +12,5 @@ mod OutlinedBehind
 mod OutlinedFronts
 mod SectionsHead
 mod SectionsJudged
+mod WhileReadMarks
+mod WhileRead

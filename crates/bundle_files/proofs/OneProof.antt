@@ -29,9 +29,11 @@ use Rattle.case_core.specs.declared.fault.CaseFault.{CaseFault}
 use Rattle.case_core.specs.declared.fault.CaseFault.TheVariants.{Memory}
 use Rattle.mark_board.specs.declared.mark.Mark.{Mark}
 use Rattle.mark_board.specs.declared.mark.Mark.TheVariants.{Open}
+use Rattle.mark_board.specs.Boards.{BoardsOf}
 use Rattle.mark_board.specs.Findings.{IsMarkOf, mark_as}
 use Rattle.mark_board.specs.Marking.{mark_at}
 use Rattle.cube_report.specs.Faults.{IsInputFault, fault_of_case}
+use Rattle.cube_report.specs.One.{IsFoundOn}
 use Rattle.cube_report.specs.Stated.{IsWrittenBy}
 use Rattle.cube_report.proofs.CorrectReports.{outcome}
 use Rattle.cube_report.proofs.ReportSame.{written_is_stated}
@@ -226,20 +228,38 @@ outcome_with gives bundle case bytes judged draws report map answer one is_given
     (found_alone bundle case.formula case.sections bytes judged gives draws report map answer
     is_given)
 
--- so it is of a run, where it wrote something
-pub run_with : (gives : List ℕ → Type 0) (bundle : List ℕ) (case : CaseOf) (bytes : List ℕ)
-    (judged : Judged) (draws : Bool) (run : Result Outcome Fault) → case.tree ≡ cube 1
-    → gives bytes → IsCaseOf bundle case → proof_for case.sections (Named (Cube 1)) ≡ None
-    → labels_of (proof_text bytes) ≡ []
-    → IsFoundBy case (Named (Cube 1)) (proof_text bytes) judged
-    → IfOk run (λ outcome. IsWrittenBy case (mark_as judged ∷ []) draws outcome.text.items
-    outcome.map.items outcome.refuted)
-    → IfOk run (λ outcome. IsOutcomeWith gives bundle draws outcome.text.items outcome.map.items
-    outcome.refuted)
-run_with gives bundle case bytes judged draws (Err fault) one is_given is free plain found by = tt
-run_with gives bundle case bytes judged draws (Ok outcome) one is_given is free plain found by =
-    outcome_with gives bundle case bytes judged draws outcome.text.items outcome.map.items
-    outcome.refuted one is_given is free plain found by
+-- so it is of boards on which that mark was posted alone
+pub posted_alone : (gives : List ℕ → Type 0) (bundle : List ℕ) (case : CaseOf) (bytes : List ℕ)
+    (old new boards : BoardsOf) (draws : Bool) (report map : List ℕ) (answer : Bool)
+    → case.tree ≡ cube 1 → gives bytes → IsCaseOf bundle case
+    → proof_for case.sections (Named (Cube 1)) ≡ None → labels_of (proof_text bytes) ≡ []
+    → old.case ≡ case → old.marks ≡ replicate (size case.tree) Open → new.case ≡ old.case
+    → boards ≡ new → IsFoundOn old new (Named (Cube 1)) (proof_text bytes)
+    → IsWrittenBy boards.case boards.marks draws report map answer
+    → IsOutcomeWith gives bundle draws report map answer
+posted_alone gives bundle case bytes old new boards draws report map answer one is_given is free
+    plain of_case none same last found by =
+    outcome_with gives bundle case bytes found.judged draws report map answer one is_given is free
+    plain
+    (subst (λ (k : CaseOf). IsFoundBy k (Named (Cube 1)) (proof_text bytes) found.judged) of_case
+    found.found)
+    (subst (λ (m : List Mark). IsWrittenBy case m draws report map answer) marks
+    (subst (λ (k : CaseOf). IsWrittenBy k boards.marks draws report map answer) cases by))
+  where
+    cases : boards.case ≡ case
+    cases = ap (λ (b : BoardsOf). b.case) last ∙ same ∙ of_case
+
+    first : found.node ≡ 0
+    first =
+        first_node case.tree found.node (Named (Cube 1)) one refl
+        (subst (λ (k : CaseOf). IsTargetAt k.tree found.node (Named (Cube 1))) of_case found.here)
+
+    marks : boards.marks ≡ mark_as found.judged ∷ []
+    marks =
+        ap (λ (b : BoardsOf). b.marks) last
+        ∙ one_mark case.tree found.node (mark_as found.judged) new.marks one first
+        (found.marks
+        ∙ ap (λ (m : List Mark). slice_set m found.node (mark_as found.judged)) none)
 
 -- ---- one node
 

@@ -9,6 +9,7 @@ mod judge;
 mod laws;
 mod one_proof;
 mod outlined;
+mod while_read;
 
 pub use by_section::judge_by_section;
 pub use file_store::{
@@ -21,3 +22,4 @@ pub use judge::judge_given;
 pub use laws::{proofs_judged_apart, proofs_keep_formula};
 pub use one_proof::{judge_proof_of, judge_with_proof};
 pub use outlined::{BundleOutline, outline_bundle, told_whole};
+pub use while_read::{BundleFront, judge_while_read, read_front};

@@ -2,7 +2,7 @@
 //! judged while it is read.
 
 ghost use Rattle.std.specs.Prelude.{◌≡◌, ◌≢◌, ◌<◌, ◌^◌, ◌-◌, ◌++◌, ℕ, List, IfOk, IfErr, IfSome};
-ghost use Rattle.std.specs.Prelude.{OnOk, None, codes, true, ◌∷◌, []};
+ghost use Rattle.std.specs.Prelude.{OnOk, None, codes, true};
 ghost use Rattle.std.specs.Bool.{OnTrue};
 ghost use Rattle.cube_report.specs.Device.{IsLeft};
 ghost use Rattle.case_core.specs.Bundle.{BeginsWithLabel};
@@ -13,18 +13,13 @@ ghost use Rattle.case_core.specs.Scan.{HasScanned};
 ghost use Rattle.case_core.specs.Sections.{IsCaseOf, IsFaultOf};
 ghost use Rattle.case_core.specs.SplitTree.{cube, size};
 ghost use Rattle.case_core.specs.Target.TheVariants.{Leaf as Named};
-ghost use Rattle.mark_board.specs.Findings.{mark_as};
 ghost use Rattle.cube_report.specs.Faults.{IsInputFault};
-ghost use Rattle.cube_report.specs.Stated.{IsWrittenBy};
-ghost use Rattle.file_store.specs.Files.{StaysAllowed, held_for_one, lies_in};
+ghost use Rattle.file_store.specs.Files.{StaysAllowed, lies_in};
 ghost use Rattle.bundle_files.specs.Judging.{IsJudgingFault, IsOutcomeWith, IsRefusedWith};
 ghost use Rattle.bundle_files.specs.Inner.Proof.{IsGivenBy};
 
-use case_core::{
-    Case, CaseFault, Examiner, LabelLine, LabelScan, Leaf, ProofForm, ReadFinding, ReadProof,
-    Target, has_target,
-};
-use cube_report::{Elsewhere, Fault, Gate, Outcome, Settings, Source, conquer_one, written_by};
+use case_core::{Case, CaseFault, LabelLine, LabelScan, Leaf, ProofForm, Target, has_target};
+use cube_report::{Elsewhere, Fault, Gate, OneWorker, Outcome, Settings, Source, written_by};
 use file_store::{ProofPlace, Store, TargetProofs};
 use std::alloc::Global;
 use std::sync::Wait;
@@ -245,40 +240,12 @@ where
     ensures ok { OnOk result (S.failures source.new ≡ S.failures source.old) }
     ensures err { IfErr result (IsJudgingFault (S.failures source.old) (S.failures source.new)) }
 {
-    gate.before(0, Target::Leaf(Leaf::Cube(1)));
-    let mut examiner = Examiner::over(rt.alloc(), case)?;
+    let mut worker = OneWorker::over(rt.alloc(), case, settings)?;
     let cube = Target::Leaf(Leaf::Cube(1));
-    let read = match examiner.examine_read(rt.alloc(), cube, ProofForm::Unread, source)? {
-        ReadProof::Found(read) => read,
-        ReadProof::Labelled(label) => {
-            return Err(Fault::from(fault_below(rt.alloc(), bundle, case, &label)));
-        }
-    };
-    written_of(rt, case, read, settings, gate, draws)
-}
-
-/// What is written by this finding alone.
-fn written_of<'c, R, G>(
-    rt: &R,
-    case: &'c Case,
-    read: ReadFinding<'c>,
-    settings: Settings,
-    gate: &G,
-    draws: bool,
-) -> Result<Outcome, Fault>
-where
-    R: AllocGlobal + Wait,
-    G: Gate,
-    requires case { read.finding.case.now ≡ case.now }
-    requires one { case.now.tree ≡ cube 1 }
-    requires node { read.finding.node ≡ 0 }
-    ensures written { IfOk result (λ outcome. IsWrittenBy case.now
-        (mark_as read.entry.finding.judged ∷ []) draws outcome.text.items outcome.map.items
-        outcome.refuted) }
-    ensures memory { IfErr result (λ fault. fault ≡ Fault.Memory) }
-{
-    let boards = conquer_one(rt, rt.alloc(), case, settings, gate, read)?;
-    Ok(written_by(rt.alloc(), &boards, draws)?)
+    match worker.read_proof(rt, rt.alloc(), gate, cube, ProofForm::Unread, source)? {
+        None => Ok(written_by(rt.alloc(), &worker.into_boards(), draws)?),
+        Some(label) => Err(Fault::from(fault_below(rt.alloc(), bundle, case, &label))),
+    }
 }
 
 /// The first fault of a bundle of this case that goes on with the label line of cube 1 and below it

@@ -1,12 +1,12 @@
 -- The first label line of a text.
 use Rattle.std.proofs.Common.{◌≡◌, ◌≢◌, ◌∙◌, sym, ap, subst, refl, ℕ, ◌+◌, true, List, []}
-use Rattle.std.proofs.Common.{◌∷◌, ◌++◌, Option, None, Some, Bor, MatchOption, append-nil}
+use Rattle.std.proofs.Common.{◌∷◌, ◌++◌, Option, None, Some, Bor, MatchOption}
 use Rattle.std.proofs.Common.{append_assoc, inl, inr, length, arith, Result, Ok, Err, IfErr}
 use Rattle.std.specs.Prelude.{count_by}
 use Rattle.std.proofs.lemmas.List.{length-append}
 use Rattle.std.proofs.lemmas.List.Splits.{length-slice_split, slice_split_none}
 use Rattle.cnf_text.specs.Tokens.{is_line_end}
-use Rattle.case_core.specs.Bundle.{lines_of, is_label, labelled, labels_of, text_before}
+use Rattle.case_core.specs.Bundle.{lines_of, is_label, labelled, labels_of}
 use Rattle.case_core.specs.Bundle.{BeginsWithLabel}
 use Rattle.case_core.specs.Outline.{AreWholeLines}
 use Rattle.case_core.specs.Reading.{IsFirstLabel}
@@ -14,11 +14,10 @@ use Rattle.case_core.specs.Scan.{HasScanned, IsBehindLine, ScanOf}
 use Rattle.case_core.specs.Sections.{IsFaultOf}
 use Rattle.case_core.specs.declared.fault.CaseFault.{CaseFault}
 use Rattle.case_core.specs.declared.fault.CaseFault.TheVariants.{Memory}
-use Rattle.case_core.specs.Inner.Bundle.{HasNoLabel, IsCutAtLine}
-use Rattle.case_core.specs.Inner.Reading.{IsLabelIn}
+use Rattle.case_core.specs.Inner.Bundle.{HasNoLabel}
 use Rattle.case_core.specs.Inner.Scan.{IsScannedTo}
 use Rattle.case_core.proofs.BundleMore.{lines_more}
-use Rattle.case_core.proofs.OutlineLines.{HasNoEnd, empty_line, first_no_end, front_plain}
+use Rattle.case_core.proofs.OutlineLines.{HasNoEnd, empty_line, first_no_end}
 use Rattle.case_core.proofs.OutlineLines.{labels_plain, whole_lines, with_more}
 use Rattle.case_core.proofs.ScanPassed.{none_labelled}
 
@@ -52,7 +51,7 @@ IsSplit text line below =
     MatchOption below (lines_of text ≡ line ∷ []) (λ rest. lines_of text ≡ line ∷ lines_of rest.now)
     × MatchOption below (line ≡ text) (λ rest. text ≡ line ++ 10 ∷ rest.now)
 
-not_whole : (text line : List ℕ) → BeginsWithLabel text → lines_of text ≡ line ∷ [] →
+pub not_whole : (text line : List ℕ) → BeginsWithLabel text → lines_of text ≡ line ∷ [] →
     AreWholeLines text → ⊥
 not_whole text line begins one (inl none) = not_empty text begins none
 not_whole text line begins one (inr (lines, is)) =
@@ -69,78 +68,30 @@ line_alone : (text line : List ℕ) (below : Option (Bor (List ℕ))) → IsSpli
 line_alone text line None split = first_no_end text line [] split.0
 line_alone text line (Some below) split = first_no_end text line (lines_of below.now) split.0
 
--- its first line is a label line
+-- its first line is a label line, and has no other
 pub line_begins : (text line : List ℕ) (below : Option (Bor (List ℕ))) → BeginsWithLabel text
-    → IsSplit text line below → BeginsWithLabel line
+    → IsSplit text line below → (lines_of line ≡ line ∷ []) × (is_label line ≡ true)
 line_begins text line below begins split =
-    let first : line ≡ begins.line = first_of below split in record {
-      line = line;
-      others = [];
-      lines = slice_split_none is_line_end line (line_alone text line below split);
-      is = ap is_label first ∙ begins.is;
-    }
+    (slice_split_none is_line_end line (line_alone text line below split), is below split)
   where
-    first_of : (b : Option (Bor (List ℕ))) → IsSplit text line b → line ≡ begins.line
-    first_of None split =
-        let same : line ∷ [] ≡ begins.line ∷ begins.others = sym split.0 ∙ begins.lines in cc
-    first_of (Some below) split =
+    is : (b : Option (Bor (List ℕ))) → IsSplit text line b → is_label line ≡ true
+    is None split =
+        let same : line ∷ [] ≡ begins.line ∷ begins.others = sym split.0 ∙ begins.lines in
+        let first : line ≡ begins.line = cc in ap is_label first ∙ begins.is
+    is (Some below) split =
         let same : line ∷ lines_of below.now ≡ begins.line ∷ begins.others =
-        sym split.0 ∙ begins.lines in cc
+        sym split.0 ∙ begins.lines in
+        let first : line ≡ begins.line = cc in ap is_label first ∙ begins.is
 
--- ---- a block
+-- ---- whole lines
 
-whole_behind : (front back : List ℕ) → AreWholeLines (front ++ back) → AreWholeLines back
+pub whole_behind : (front back : List ℕ) → AreWholeLines (front ++ back) → AreWholeLines back
 whole_behind [] back whole = whole
 whole_behind (x ∷ front) back (inl none) = absurd (cc)
 whole_behind (x ∷ front) back (inr ([], is)) =
     whole_behind front back (inl (cc))
 whole_behind (x ∷ front) back (inr (y ∷ lines, is)) =
     whole_behind front back (inr (lines, (cc)))
-
--- its first label line
-pub labelled_in : (block before label line : List ℕ) (below : Option (Bor (List ℕ)))
-    (count lines : ℕ) → before ≡ text_before (lines_of block) → IsCutAtLine block before label
-    → BeginsWithLabel label → IsSplit label line below
-    → lines ≡ count + count_by is_line_end before → IsLabelIn block count line lines
-labelled_in block before label line below count lines front at begins split sum =
-    by_split below split
-  where
-    plain : HasNoLabel before
-    plain = subst HasNoLabel (sym front) (front_plain block)
-
-    by_split : (b : Option (Bor (List ℕ))) → IsSplit label line b → IsLabelIn block count line lines
-    by_split None split = record {
-      own = count_by is_line_end before;
-      first = record {
-        is = line_begins label line None begins split;
-        before = before;
-        after = [];
-        parts = at.parts
-            ∙ ap (λ (l : List ℕ). before ++ l) (sym split.1 ∙ sym (append-nil line));
-        at_line = at.at_line;
-        none = plain 1;
-        counted = refl;
-        behind = inl refl;
-      };
-      sum = sum;
-      ended = λ whole _. not_whole label line begins split.0
-          (whole_behind before label (subst AreWholeLines at.parts whole));
-    }
-    by_split (Some below) split = record {
-      own = count_by is_line_end before;
-      first = record {
-        is = line_begins label line (Some below) begins split;
-        before = before;
-        after = 10 ∷ below.now;
-        parts = at.parts ∙ ap (λ (l : List ℕ). before ++ l) split.1;
-        at_line = at.at_line;
-        none = plain 1;
-        counted = refl;
-        behind = inr (below.now, refl);
-      };
-      sum = sum;
-      ended = λ whole e. cc;
-    }
 
 -- ---- its fault
 

@@ -22,7 +22,10 @@ mod TargetHas
 mod OutlineCase
 mod ScanPassed
 mod LabelFirst
-mod ReadingBlocks
+mod LabelledBlocks
+pub mod LabelledParts
+pub mod SectionsMore
+mod ReadingProofs
 pub use Rattle.cnf_text.proofs.DimacsFormula
 pub use Rattle.cnf_text.proofs.DimacsLine
 pub use Rattle.cnf_text.proofs.DimacsUnique

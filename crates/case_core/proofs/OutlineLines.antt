@@ -62,7 +62,7 @@ onto_some : (line : List ℕ) (lines : List (List ℕ)) (text : List ℕ) → (l
 onto_some line [] text some = absurd (some refl)
 onto_some line (next ∷ lines) text some = refl
 
-abbrev join : List (List ℕ) → List ℕ
+abbrev pub join : List (List ℕ) → List ℕ
 join [] = []
 join (line ∷ lines) = line_onto line lines (join lines)
 
@@ -76,7 +76,7 @@ join_onto : (b : ℕ) (lines : List (List ℕ)) → (lines ≡ [] → ⊥) →
 join_onto b [] some = absurd (some refl)
 join_onto b (line ∷ lines) some = onto_join b line lines (join lines)
 
-join_lines : (text : List ℕ) → join (lines_of text) ≡ text
+pub join_lines : (text : List ℕ) → join (lines_of text) ≡ text
 join_lines [] = refl
 join_lines (b ∷ text) = elim (cases_Bool (is_line_end b)) [
   | inl e ↦

@@ -1,5 +1,5 @@
 -- A proof that is judged while it is read.
-use Rattle.std.proofs.Common.{◌≡◌, ◌≢◌, ◌∙◌, sym, ap, refl, ℕ, List, ◌++◌}
+use Rattle.std.proofs.Common.{◌≡◌, ◌∙◌, sym, ap, ℕ, List, ◌++◌}
 use Rattle.std.proofs.Common.{Option, Some, None}
 use Rattle.std.proofs.Common.{append-nil}
 use Rattle.std.specs.Io.KnownBytes.{Consumes, IsAtEnd}
@@ -13,10 +13,7 @@ use Rattle.hint_check.proofs.JudgementSound.{judgement-refutes}
 use Rattle.split_tree.specs.Leaves.{IsPathOf}
 use Rattle.split_tree.specs.declared.node.Target.{Target}
 use Rattle.case_core.specs.Case.{CaseOf}
-use Rattle.lrat_binary.specs.Form.{proof_left}
-use Rattle.lrat_binary.specs.declared.form.ProofForm.{ProofForm}
-use Rattle.lrat_binary.specs.declared.form.ProofForm.TheVariants.{Unread, Text, Binary}
-use Rattle.case_core.specs.Inner.Reading.{IsBegun, SaysByText, says_by}
+use Rattle.case_core.specs.Inner.Reading.{IsBegun}
 
 -- a judging that has begun with a target's path
 pub begun : (case : CaseOf) (target : Target) (formula : List (List Literal)) (path : List Literal)
@@ -35,25 +32,6 @@ begun case target formula path j same of told text =
           (sym (told text proof known.1 ∙ ap (λ (f : List (List Literal)). judgement f path proof)
           same) ∙ refuted);
     }
-
--- before the first byte
-pub said : (j : JudgingOf) (form : ProofForm) (rest : List ℕ) → SaysByText j →
-    says_by form j rest ≡ says j (proof_left form rest)
-said j Unread rest by_text = refl
-said j Text rest by_text = refl
-said j Binary rest by_text = by_text rest
-
--- the form of a proof is known by its first byte
-pub still_said : (form turned : ProofForm) (j : JudgingOf) (bytes : List ℕ) →
-    (form ≡ Unread → SaysByText j) → (form ≢ Unread → turned ≡ form) →
-    proof_left turned bytes ≡ proof_left form bytes → says_by turned j bytes ≡ says_by form j bytes
-still_said Unread Unread j bytes by_text kept left = refl
-still_said Unread Text j bytes by_text kept left = ap (says j) left
-still_said Unread Binary j bytes by_text kept left = by_text refl bytes ∙ ap (says j) left
-still_said Text turned j bytes by_text kept left =
-    ap (λ (f : ProofForm). says_by f j bytes) (kept (λ e. cc))
-still_said Binary turned j bytes by_text kept left =
-    ap (λ (f : ProofForm). says_by f j bytes) (kept (λ e. cc))
 
 pub all_left : (first now : Option (List ℕ)) (read : List ℕ) → Consumes first now read → IsAtEnd now →
     IsLeft first read

@@ -7,3 +7,4 @@ pub mod Sections
 pub mod Scan
 pub mod Outline
 pub mod Reading
+pub mod Labelled

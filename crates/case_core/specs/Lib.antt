@@ -10,6 +10,7 @@ pub mod Laws
 pub mod Scan
 pub mod Outline
 pub mod Reading
+pub mod Labelled
 pub mod Inner
 pub use Rattle.cnf_text.specs.Dimacs
 pub use Rattle.cnf_text.specs.Formula

@@ -1,5 +1,5 @@
 -- A proof that is read, and the label line that ends it.
-use Rattle.std.specs.Prelude.{◌≡◌, ℕ, List, [], ◌++◌, length, count_by}
+use Rattle.std.specs.Prelude.{◌≡◌, ℕ, List, [], ◌++◌, length, count_by, Option}
 use Rattle.cnf_text.specs.Tokens.{is_line_end}
 use Rattle.lrat_binary.specs.Form.{proof_left}
 use Rattle.lrat_binary.specs.declared.form.ProofForm.{ProofForm}
@@ -9,6 +9,8 @@ use Rattle.case_core.specs.Case.{CaseOf}
 use Rattle.case_core.specs.Finding.{IsFoundBy, target_of}
 use Rattle.case_core.specs.Outline.{AreWholeLines}
 use Rattle.case_core.specs.Scan.{IsBehindLine}
+use Rattle.case_core.specs.Labelled.{IsPart, LabelledOf}
+use Rattle.case_core.specs.declared.examiner.ReadFinding.{ReadFinding}
 use Rattle.case_core.specs.declared.examiner.ReadProof.{ReadProof}
 use Rattle.case_core.specs.declared.examiner.ReadProof.TheVariants.{Found, Labelled}
 
@@ -32,3 +34,13 @@ IsReadProof case target opened bytes (Found read) =
     × IsFoundBy case target (proof_left opened bytes) read.finding.judged
 IsReadProof case target opened bytes (Labelled label) =
     (proof_left opened bytes ≡ bytes) × IsFirstLabel bytes label.line.items label.lines
+
+-- what is found of a target by a part of a text: all up to the text's next label line, or its end
+pub record IsPartRead (case : CaseOf) (target : Target) (old new : LabelledOf)
+    (before after : Option (List ℕ)) (read : ReadFinding) : Type 0 where
+  pub bytes : List ℕ
+  pub part : IsPart old new before after bytes
+  pub long : length bytes ≡ read.length
+  pub of_case : read.finding.case.now ≡ case
+  pub of_target : target_of read.finding.leaf read.finding.node ≡ target
+  pub found : IsFoundBy case target bytes read.finding.judged

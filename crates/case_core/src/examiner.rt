@@ -10,13 +10,14 @@ ghost use Rattle.case_core.specs.Bundle.{labels_of};
 ghost use Rattle.case_core.specs.Case.{proof_for};
 ghost use Rattle.case_core.specs.Finding.{IsFinding, HasSection, IsFoundBy, IsSoundFinding};
 ghost use Rattle.case_core.specs.Finding.{target_of};
-ghost use Rattle.case_core.specs.Reading.{IsReadProof};
+ghost use Rattle.case_core.specs.Reading.{IsPartRead, IsReadProof};
 ghost use Rattle.case_core.specs.Inner.Finding.{IsJudgement};
 
 use crate::case::Case;
 use crate::finding::Finding;
 use crate::label_line::LabelLine;
-use crate::reading::{ReadText, begin_proof, read_proof};
+use crate::labelled::LabelledText;
+use crate::reading::{ReadText, begin_proof, read_lines, read_proof};
 use byte_flow::{DeviceFault, Source};
 use hint_check::{Judged, Judging};
 use lrat_binary::ProofForm;
@@ -153,6 +154,40 @@ impl<'c> Examiner<'c> {
             finding: finding_beside(self.case, target, read.judged),
             length: read.length,
         }))
+    }
+
+    /// Judges a part of a text as the proof of a target of the case's tree that has no section
+    /// there: up to the text's next label line, or up to its end. There the text stands then. It is
+    /// judged as a text, and never as a binary proof.
+    ///
+    /// `Device` where a read failed, `Memory` where a growth was refused, or the lines are too many
+    /// to be counted.
+    pub fn examine_part<S: Source>(
+        &mut self,
+        alloc: Global,
+        target: Target,
+        text: &mut LabelledText,
+        source: &mut S,
+    ) -> Result<ReadFinding<'c>, DeviceFault>
+        requires target { HasTarget self.old.tree target }
+        requires none { proof_for self.old.sections target ≡ None }
+        // One more failed read can be counted.
+        requires count { S.failures source.old < 2 ^ 64 - 1 }
+        // It is what is found by that part, behind which the text goes on.
+        ensures read { IfOk result (IsPartRead self.old target text.old text.new
+            (S.remaining source.old) (S.remaining source.new)) }
+        ensures same { self.new ≡ self.old }
+        ensures ok { OnOk result (S.failures source.new ≡ S.failures source.old) }
+        ensures err { IfErr result
+            (λ fault. IsDeviceFault (S.failures source.old) (S.failures source.new) fault) }
+    {
+        let asked = target;
+        begin_proof(alloc, self.case, &mut self.judging, asked)?;
+        let read = read_lines(alloc, &mut self.judging, text, source)?;
+        Ok(ReadFinding {
+            finding: finding_beside(self.case, target, read.judged),
+            length: read.length,
+        })
     }
 
     /// What is said of the target's proof, if it has one.

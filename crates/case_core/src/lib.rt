@@ -9,6 +9,7 @@ mod fault;
 mod finding;
 mod label;
 mod label_line;
+mod labelled;
 mod laws;
 mod outline;
 mod reading;
@@ -27,6 +28,7 @@ pub use fault::CaseFault;
 pub use finding::Finding;
 pub use hint_check::{Judged, Reason};
 pub use label_line::LabelLine;
+pub use labelled::LabelledText;
 pub use laws::{
     case_or_a_fault, no_fault_beside_a_case, no_label_in_a_binary_proof, one_case, one_fault,
 };

@@ -2,3 +2,4 @@
 pub mod Order
 pub mod Crew
 pub mod Apart
+pub mod One

@@ -19,7 +19,7 @@ pub use crew::conquer;
 pub use elsewhere::conquer_elsewhere;
 pub use fault::CrewFault;
 pub use gate::{Elsewhere, Found, Gate, NoGate};
-pub use one::conquer_one;
+pub use one::OneWorker;
 pub use settings::Settings;
 pub use target_proofs::TargetProofs;
 pub use targets::Examined;

@@ -1,10 +1,13 @@
 -- What a run says of the bundle that is asked for.
 use Rattle.std.proofs.Common.{◌≡◌, ◌∙◌, ◌++◌, sym, refl, subst, ℕ, Bool}
-use Rattle.std.proofs.Common.{List, Option, None, Some, Result, Ok, Err, IfOk, true}
+use Rattle.std.proofs.Common.{List, Option, None, Some, Result, Ok, Err, IfOk, true, inl}
 use Rattle.std.specs.Prelude.{IfSome, is_some}
 use Rattle.bundle_files.specs.Outline.{IsOutlineOf}
 use Rattle.bundle_files.specs.Files.{Held, IsJudgedOf, lies_in}
-use Rattle.bundle_files.specs.Formula.{IsBundleBy, IsReadBy, IsReadFrom}
+use Rattle.bundle_files.specs.Formula.{IsBundleBy, IsBundleOf, IsReadBy, IsReadFrom}
+use Rattle.bundle_files.specs.WhileRead.{IsRefusedBy, IsRunBehind}
+use Rattle.cube_report.specs.Device.{IsLeft}
+use Rattle.cube_command.specs.Program.{IsRefusedFrom}
 use Rattle.bundle_files.specs.Outlined.{IsOutlinedBy, IsRefutedBy, IsRunBy}
 use Rattle.bundle_files.specs.declared.outlined.BundleOutline.{BundleOutline}
 use Rattle.bundle_files.proofs.LawsFormula.{judged_unsatisfiable}
@@ -19,7 +22,7 @@ use Rattle.cube_command.specs.Headline.{IsFormulaRefuted, IsRefutedFrom}
 use Rattle.cube_command.specs.Record.{digest_line, record_text}
 use Rattle.cube_command.specs.Sources.{sources_of}
 use Rattle.cube_command.specs.Words.{Asked}
-use Rattle.cube_command.specs.Inner.Recorded.{IsRecordedFrom, IsRunRecorded}
+use Rattle.cube_command.specs.Inner.Recorded.{IsInputRefuted, IsRecordedFrom, IsRunRecorded}
 use Rattle.cube_command.specs.declared.program.Recorded.{Recorded}
 use Rattle.cube_command.proofs.ProgramRuns.{bundle_of, whole_record}
 
@@ -94,6 +97,74 @@ made_by_section (Ok (Some recorded)) held asked path file folder made = λ input
   outcome = made.outcome;
   recorded = made.recorded;
 }
+
+-- ---- of the input, which was judged while it was read
+
+input_read : (asked : Asked) (input : Option (List ℕ)) → asked.formula ≡ None
+    → asked.file ≡ None → (has : List ℕ → List ℕ → Type 0) (bundle : List ℕ)
+    → IsLeft input bundle → IsBundleBy has asked.formula asked.file input bundle
+input_read asked input formula file has bundle given =
+    subst (λ (f : Option (List ℕ)). IsBundleBy has f asked.file input bundle) (sym formula)
+    (subst (λ (f : Option (List ℕ)). IsBundleBy has None f input bundle) (sym file) given)
+
+pub input_refuted : (asked : Asked) (input : Option (List ℕ)) (draws : Bool)
+    (report map icnf : List ℕ) (answer : Bool) → asked.formula ≡ None → asked.file ≡ None
+    → IsRunBehind (IsLeft input) icnf draws report map answer → answer ≡ true
+    → IsInputRefuted asked input
+input_refuted asked input draws report map icnf answer formula file run says = record {
+  formula = formula;
+  file = file;
+  bundle = run.bundle;
+  given = run.given;
+  none = run.outcome.correct.sound says;
+}
+
+pub input_handed : (hands : List ℕ → List ℕ → Type 0) (asked : Asked)
+    (input : Option (List ℕ)) → IsInputRefuted asked input → IsRefutedFrom hands asked input
+input_handed hands asked input is = record {
+  read = is.bundle;
+  handed = input_read asked input is.formula is.file hands is.bundle is.given;
+  none = is.none;
+  formula =
+      subst (λ (f : Option (List ℕ)). IfSome f (IsFormulaRefuted hands)) (sym is.formula) tt;
+}
+
+module _ (held : Held) (asked : Asked) (input : Option (List ℕ)) (formula : asked.formula ≡ None)
+    (file : asked.file ≡ None) (folder : asked.folder ≡ None) where
+  input_bundle : (bundle : List ℕ) → IsLeft input bundle
+      → IsBundleOf held (sources_of asked) asked.folder input bundle bundle
+  input_bundle bundle given =
+      bundle_of held asked input bundle bundle
+      (input_read asked input formula file (lies_in held) bundle given)
+      (file_judged held asked.folder bundle folder)
+
+  pub input_recorded : (draws : Bool) (report map icnf : List ℕ) (answer : Bool)
+      (begun ended made text : List ℕ)
+      → IsRunBehind (IsLeft input) icnf draws report map answer → draws ≡ is_some asked.picture
+      → text ≡ report → made ≡ ended
+      → ((at : List ℕ) → asked.out ≡ Some at → begun ≡ digest_line icnf)
+      → ((at : List ℕ) → asked.out ≡ Some at → ended ≡ begun ++ text)
+      → IsRecordedFrom held asked input report map answer made
+  input_recorded draws report map icnf answer begun ended made text run drawn same ends first
+      last = record {
+        read = run.bundle;
+        whole = run.bundle;
+        bundle = input_bundle run.bundle run.given;
+        outcome =
+            subst (λ (d : Bool). IsOutcome run.bundle d report map answer) drawn run.outcome;
+        recorded =
+            whole_record asked.out run.bundle report icnf text begun ended made (sym run.front)
+            same ends first last;
+      }
+
+  pub input_refused : (fault : Fault) → IsRefusedBy (IsLeft input) fault
+      → IsRefusedFrom held asked input fault
+  input_refused fault is = inl (record {
+    read = is.0;
+    whole = is.0;
+    bundle = input_bundle is.0 is.1;
+    first = is.2;
+  })
 
 -- ---- what readings handed over
 

@@ -5,6 +5,7 @@ mod asked;
 mod laws;
 mod one_proof;
 mod open;
+mod piped;
 // `command` stands here: a module can't have the name of an item beside it.
 mod program;
 mod record;

@@ -26,6 +26,7 @@ ghost use Rattle.command_words.specs.Request.{asked_in};
 use crate::asked::{Telling, asked_in, fault_in, file_of};
 use crate::one_proof::{Given, judge_proof, text_of_one};
 use crate::open::{names_asked, shown};
+use crate::piped::judge_input;
 use crate::record::{begin_record, end_record};
 use crate::telling::{tell_refused, tell_run};
 use bundle_files::{
@@ -474,8 +475,8 @@ where
 }
 
 /// The same with cubes and their proofs. Where the bundle is a file's, no folder adds proofs to it
-/// and nothing is told of it, its proofs are read one by one from their places; else all of it is
-/// read first.
+/// and nothing is told of it, its proofs are read one by one from their places; that of the input
+/// is judged by one worker while it is read; else all of it is read first.
 fn judge_cubes<R, D, I, G, X>(
     rt: &R,
     store: &mut D,
@@ -508,6 +509,9 @@ where
         (D.failures store.new + I.failures input.new)) }
 {
     if let Some(made) = judge_file(rt, store, request, gate)? {
+        return Ok(made);
+    }
+    if let Some(made) = judge_input(rt, request, input, gate)? {
         return Ok(made);
     }
     judge_read(rt, store, request, input, gate, telling, bundle)

@@ -11,6 +11,7 @@ pub use Rattle.case_core.specs.Dimacs
 pub use Rattle.case_core.specs.Formula
 pub use Rattle.case_core.specs.Literal
 pub use Rattle.check_crew.specs.Halls
+pub use Rattle.check_crew.specs.One
 pub use Rattle.check_crew.specs.Seen
 pub use Rattle.mark_board.specs.declared.mark.Mark
 pub use Rattle.split_tree.specs.Leaves

@@ -34,8 +34,9 @@ struct Part {
 /// how many, how many of their bytes, of how many, how many are refuted and rejected, and how much
 /// of the tree's weight is still open. It tells that at most once a second while the workers are at
 /// work, and once when they have ended; a run that is made anew counts anew. As a meter it tells,
-/// once a second at most, how much was read so far: before the workers start, while a proof is
-/// judged whose length nobody knows, and again where all proofs are read before they are judged.
+/// once a second at most, how much was read so far: before the workers start, while proofs are
+/// judged of which nobody knows how long they are, or how many, and again where all proofs are read
+/// before they are judged. Of so many as nobody knows it tells how many are judged.
 /// What it can't write is left out.
 #[derive(Drop)]
 pub struct Progress<'a, R> {
@@ -211,12 +212,12 @@ impl<'a, R: Clock> Progress<'a, R> {
 impl<'a, R: Eprint> Progress<'a, R> {
     /// Writes how far the run is; the last line is ended also on a terminal.
     fn tell(&self, is_last: bool) {
-        let proofs = self.proofs.load(Ordering::SeqCst);
         let done = self.bytes_judged.load(Ordering::SeqCst);
         let bytes = self.bytes.load(Ordering::SeqCst).max(done);
         let refuted = self.refuted.load(Ordering::SeqCst);
         let rejected = self.rejected.load(Ordering::SeqCst);
         let judged = refuted.saturating_add(rejected);
+        let proofs = self.proofs.load(Ordering::SeqCst).max(judged);
         let share = share_of(self.open_weight(), self.total.load(Ordering::SeqCst));
         let (percent, rest) = (share / 1000, share % 1000);
         let (front, back) = self.around(is_last);
@@ -314,7 +315,8 @@ impl<'a, R: Clock + Eprint> Gate for Progress<'a, R> {
         cut: u32,
         elsewhere: Elsewhere,
     ) -> Result<(), AllocError> {
-        let is_unknown = elsewhere.proofs > 0 && elsewhere.bytes == 0;
+        let is_unknown = elsewhere.bytes == 0
+            && (elsewhere.proofs > 0 || case.sections().is_empty());
         self.is_reading.store(is_unknown, Ordering::SeqCst);
         let tree = case.tree();
         let roots = tree.parts(alloc, cut)?;

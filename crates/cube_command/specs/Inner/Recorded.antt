@@ -1,9 +1,10 @@
 -- What is said of the bundle that is asked for, before it is written.
-use Rattle.std.specs.Prelude.{◌≡◌, ℕ, Bool, List, ◌++◌, codes, Option, Some, is_some}
+use Rattle.std.specs.Prelude.{◌≡◌, ℕ, Bool, List, ◌++◌, codes, Option, None, Some, is_some}
 use Rattle.case_core.specs.Binary.{proof_text}
 use Rattle.bundle_files.specs.Files.{Held}
 use Rattle.bundle_files.specs.Formula.{IsBundleOf, IsReadBy}
-use Rattle.cube_report.specs.Correct.{IsOutcome}
+use Rattle.cube_report.specs.Correct.{IsOutcome, IsUnsatisfiable}
+use Rattle.cube_report.specs.Device.{IsLeft}
 use Rattle.cube_command.specs.Program.{IsBundleFor}
 use Rattle.cube_command.specs.Record.{record_text}
 use Rattle.cube_command.specs.Sources.{sources_of}
@@ -38,6 +39,14 @@ pub record IsRecordedWith (gives : List ℕ → Type 0) (asked : Asked) (bundle 
       (is_some asked.picture) report map answer
   pub recorded : (out : List ℕ) → asked.out ≡ Some out
       → made ≡ record_text (bundle ++ (codes "\nl 1\n" ++ proof_text bytes)) report
+
+-- the input alone is asked for, and no assignment makes all clauses true of what it had left
+pub record IsInputRefuted (asked : Asked) (input : Option (List ℕ)) : Type 0 where
+  pub formula : asked.formula ≡ None
+  pub file : asked.file ≡ None
+  pub bundle : List ℕ
+  pub given : IsLeft input bundle
+  pub none : IsUnsatisfiable bundle
 
 -- of the bundle of a file and of a formula's: report, picture and answer are what a run on it
 -- promises, and so is the record where one is asked for

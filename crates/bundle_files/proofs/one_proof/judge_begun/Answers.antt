@@ -1,23 +1,23 @@
 use Rattle.cube_report.specs.Device.{IsLeft}
-use Rattle.bundle_files.proofs.OneProof.{first_node, refused_with, run_with}
+use Rattle.bundle_files.proofs.OneProof.{posted_alone, refused_with}
 use Rattle.bundle_files.proofs.one_proof.judge_begun.Goals as goal
 
-pub returns-in-Labelled-clause-fault : goal.returns-in-Labelled-clause-fault
-returns-in-Labelled-clause-fault g c =
-    let read = rw c.in-Labelled.is at c.in_ok-read.ensures.read in
-    refused_with (IsLeft (g.S.Source.remaining c.args.source.now)) c.args.bundle.now read.0
-    c.in-Labelled.label.line.items c.in-Labelled.label.lines c.fault_below.result c.from.result
-    c.from.ensures read.1 read.2.0 read.2.1 c.fault_below.ensures
+pub returns-in_ok-written_by-in-None-clause-outcome :
+    goal.returns-in_ok-written_by-in-None-clause-outcome
+returns-in_ok-written_by-in-None-clause-outcome g c =
+    let posted = rw c.in-None.is at c.in_ok-read_proof.ensures.posted in
+    posted_alone (IsLeft (g.S.Source.remaining c.args.source.now)) c.args.bundle.now
+    c.args.case.now posted.0 c.in_ok-worker.worker c.read_proof.new.self c.into_boards.result
+    c.args.draws c.in_ok-written_by-in-None.field-0.text.items
+    c.in_ok-written_by-in-None.field-0.map.items c.in_ok-written_by-in-None.field-0.refuted
+    c.requires.one posted.1 c.requires.case c.requires.free posted.2.0
+    c.in_ok-worker.ensures.case.0 c.in_ok-worker.ensures.marks
+    c.in_ok-read_proof.ensures.same.0 c.into_boards.ensures posted.2.1
+    c.in_ok-written_by-in-None.ensures
 
-pub written_of-requires-clause-node : goal.written_of-requires-clause-node
-written_of-requires-clause-node g c =
-    let read = rw (c.in-Found.is, c.in_ok-examiner.ensures) at c.in_ok-read.ensures.read in
-    first_node c.args.case.now.tree c.in-Found.read.finding.node _ c.requires.one read.2.1
-    (rw read.2.0 at c.in-Found.read.finding.here)
-
-pub returns-clause-outcome : goal.returns-clause-outcome
-returns-clause-outcome g c =
-    let read = rw (c.in-Found.is, c.in_ok-examiner.ensures) at c.in_ok-read.ensures.read in
-    run_with (IsLeft (g.S.Source.remaining c.args.source.now)) c.args.bundle.now c.args.case.now
-    read.0 c.in-Found.read.finding.judged c.args.draws c.written_of.result c.requires.one read.1
-    c.requires.case c.requires.free read.2.2 read.2.4 c.written_of.ensures.written
+pub returns-in-Some-clause-fault : goal.returns-in-Some-clause-fault
+returns-in-Some-clause-fault g c =
+    let posted = rw c.in-Some.is at c.in_ok-read_proof.ensures.posted in
+    refused_with (IsLeft (g.S.Source.remaining c.args.source.now)) c.args.bundle.now posted.0
+    c.in-Some.label.line.items c.in-Some.label.lines c.fault_below.result c.from.result
+    c.from.ensures posted.1 posted.2.0 posted.2.1 c.fault_below.ensures

@@ -1,7 +1,4 @@
-use Rattle.std.proofs.Common.{◌≡◌, ◌-◌, ◌^◌, [], List, Option, length, ℕ}
-use Rattle.hint_check.specs.Judging.{JudgingOf}
-use Rattle.lrat_binary.specs.declared.form.ProofForm.{ProofForm}
-use Rattle.lrat_binary.specs.declared.form.ProofForm.TheVariants.{Binary}
+use Rattle.std.proofs.Common.{◌≡◌, ◌-◌, ◌^◌, length}
 use Rattle.case_core.specs.Inner.Reading.{HasHanded}
 use Rattle.case_core.proofs.reading.read_bytes.Given as goal
 
@@ -10,10 +7,8 @@ invariant-loop-count g l = record {
   same : l.judging.formula ≡ l.initial.judging.formula;
   count : g.S.Source.failures l.source ≡ g.S.Source.failures l.initial.source;
   room : length l.buffer ≡ 65536;
-  read : (opened : ProofForm) (first : Option (List ℕ)) (begun : JudgingOf)
-      → HasHanded opened Binary first (g.S.Source.remaining l.initial.source) begun
-      l.initial.judging [] 0 l.initial.length
-      → HasHanded opened Binary first (g.S.Source.remaining l.source) begun l.judging [] 0 l.length;
+  read : HasHanded (g.S.Source.remaining l.initial.source) (g.S.Source.remaining l.source)
+      l.initial.judging l.judging l.initial.length l.length;
 }
 
 abbrev pub decreases-loop-count : goal.decreases-loop-count

@@ -1,19 +1,14 @@
-use Rattle.std.proofs.Common.{◌≡◌, ◌≤◌, ◌-◌, ◌^◌, List, Option, ℕ}
-use Rattle.hint_check.specs.Judging.{JudgingOf}
-use Rattle.case_core.specs.Inner.Reading.{HasHanded}
+use Rattle.std.proofs.Common.{◌≡◌, ◌+◌, ◌-◌, ◌^◌, length}
+use Rattle.case_core.specs.Inner.Reading.{HasFrontJudged}
 use Rattle.case_core.proofs.reading.read_lines.Given as goal
 
-abbrev pub invariant-loop-buffer : goal.invariant-loop-buffer
-invariant-loop-buffer g l = record {
+abbrev pub invariant-loop-longer : goal.invariant-loop-longer
+invariant-loop-longer g l = record {
   same : l.judging.formula ≡ l.initial.judging.formula;
   count : g.S.Source.failures l.source ≡ g.S.Source.failures l.initial.source;
-  few : l.lines ≤ l.length;
-  read : (first : Option (List ℕ)) (fresh : JudgingOf)
-      → HasHanded l.initial.form l.initial.form first (g.S.Source.remaining l.initial.source) fresh
-      l.initial.judging l.initial.buffer.begun 0 0
-      → HasHanded l.initial.form l.form first (g.S.Source.remaining l.source) fresh l.judging
-      l.buffer.begun l.lines l.length;
+  read : HasFrontJudged l.initial.text l.text (g.S.Source.remaining l.initial.source)
+      (g.S.Source.remaining l.source) l.initial.judging l.judging l.length;
 }
 
-abbrev pub decreases-loop-buffer : goal.decreases-loop-buffer
-decreases-loop-buffer g l = 2 ^ 64 - l.length
+abbrev pub decreases-loop-longer : goal.decreases-loop-longer
+decreases-loop-longer g l = 2 ^ 65 - (l.length + length l.text.ready)

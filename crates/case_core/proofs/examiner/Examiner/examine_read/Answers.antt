@@ -1,4 +1,4 @@
-use Rattle.case_core.proofs.ReadingBlocks.{judged_text, label_read, read_found}
+use Rattle.case_core.proofs.ReadingProofs.{judged_text, labelled_read, read_found}
 use Rattle.case_core.proofs.examiner.Examiner.examine_read.Goals as goal
 
 pub finding_beside-requires-clause-judged : goal.finding_beside-requires-clause-judged
@@ -8,7 +8,7 @@ finding_beside-requires-clause-judged g c =
 
 pub returns-in-Labelled-clause-read : goal.returns-in-Labelled-clause-read
 returns-in-Labelled-clause-read g c =
-    label_read c.args.self.now c.args.target c.args.opened _ _ _
+    labelled_read c.args.self.now c.args.target c.args.opened _ _ _
     (rw c.in-Labelled.is at c.in_ok-read.ensures.read)
 
 pub returns-clause-read : goal.returns-clause-read

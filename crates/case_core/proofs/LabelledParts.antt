@@ -1,0 +1,92 @@
+-- The parts of a text that stands at its label lines.
+use Rattle.std.proofs.Common.{◌≡◌, ◌∙◌, sym, ap, refl, ℕ, ◌+◌, true, false, List, []}
+use Rattle.std.proofs.Common.{◌++◌, Option, None, Some, append-nil, append_assoc, inl, inr, arith}
+use Rattle.std.specs.Prelude.{count_by}
+use Rattle.std.specs.Io.KnownBytes.{Consumes}
+use Rattle.std.proofs.KnownBytes.{Consumes-nil, Consumes-trans}
+use Rattle.std.proofs.lemmas.List.Sums.{sum_by-append}
+use Rattle.cnf_text.specs.Tokens.{is_line_end}
+use Rattle.case_core.specs.Inner.Bundle.{HasNoLabel}
+use Rattle.case_core.specs.Inner.Labelled.{HasAdvanced, HasFront}
+use Rattle.case_core.specs.Labelled.{HasPassed, IsPart, LabelledOf, Stands, left_of}
+use Rattle.case_core.proofs.LabelFirst.{no_label, plain_both}
+use Rattle.case_core.proofs.OutlineLines.{whole_both}
+
+-- what is passed are the next bytes of all that was left
+pub left_passed : (old new : LabelledOf) (before after : Option (List ℕ)) (bytes : List ℕ)
+    → HasPassed old new before after bytes
+    → Consumes (left_of old before) (left_of new after) bytes
+left_passed old new None after bytes passed = tt
+left_passed old new (Some known) None bytes passed = absurd passed.lost
+left_passed old new (Some known) (Some more) bytes passed =
+    ap (λ (k : List ℕ). (old.ready ++ old.behind) ++ k) passed.lost
+    ∙ sym (append_assoc (old.ready ++ old.behind) passed.read more)
+    ∙ ap (λ (t : List ℕ). t ++ more) passed.parts
+    ∙ append_assoc bytes (new.ready ++ new.behind) more
+
+pub passed_both : (old now new : LabelledOf) (first before after : Option (List ℕ))
+    (bytes more : List ℕ) → HasPassed old now first before bytes
+    → HasPassed now new before after more → HasPassed old new first after (bytes ++ more)
+passed_both old now new first before after bytes more was next = record {
+  read = was.read ++ next.read;
+  lost = Consumes-trans first before after was.read next.read was.lost next.lost;
+  parts = sym (append_assoc (old.ready ++ old.behind) was.read next.read)
+      ∙ ap (λ (t : List ℕ). t ++ next.read) was.parts
+      ∙ append_assoc bytes (now.ready ++ now.behind) next.read
+      ∙ ap (λ (t : List ℕ). bytes ++ t) next.parts
+      ∙ sym (append_assoc bytes more (new.ready ++ new.behind));
+  lines = next.lines
+      ∙ added old.lines now.lines (count_by is_line_end bytes) (count_by is_line_end more)
+      was.lines
+      ∙ ap (λ (n : ℕ). old.lines + n) (sym (sum_by-append _ bytes more));
+  over = λ over. next.over (was.over over);
+  last = λ last.
+      let one = was.last last in
+      let two = next.last one.1 in
+      (ap (λ (r : List ℕ). r ++ next.read) one.0 ∙ two.0, two.1);
+}
+  where
+    added : (a b c d : ℕ) → b ≡ a + c → b + d ≡ a + (c + d)
+    added a b c d e = omega arith
+
+pub front_none : (text : LabelledOf) (left : Option (List ℕ)) → HasFront text text left left []
+front_none text left = record {
+  passed = record {
+    read = [];
+    lost = Consumes-nil left;
+    parts = append-nil (text.ready ++ text.behind);
+    lines = none text.lines;
+    over = λ over. over;
+    last = λ last. (refl, last);
+  };
+  plain = no_label;
+  whole = inl refl;
+}
+  where
+    none : (n : ℕ) → n ≡ n + 0
+    none n = omega arith
+
+pub front_more : (old now new : LabelledOf) (first before after : Option (List ℕ))
+    (bytes : List ℕ) → HasFront old now first before bytes
+    → HasAdvanced now new before after true → HasNoLabel now.ready
+    → HasFront old new first after (bytes ++ now.ready)
+front_more old now new first before after bytes was next plain = record {
+  passed = passed_both old now new first before after bytes now.ready was.passed next.passed;
+  plain = plain_both bytes now.ready was.whole was.plain plain;
+  whole = whole_both bytes now.ready was.whole (next.whole refl);
+}
+
+pub part_done : (old now new : LabelledOf) (first before after : Option (List ℕ))
+    (bytes : List ℕ) → HasFront old now first before bytes
+    → HasAdvanced now new before after false → HasNoLabel now.ready
+    → IsPart old new first after (bytes ++ now.ready)
+part_done old now new first before after bytes was next plain = record {
+  passed = passed_both old now new first before after bytes now.ready was.passed next.passed;
+  plain = plain_both bytes now.ready was.whole was.plain plain 1;
+  ready = next.none refl;
+  stands = stands (next.stands refl);
+}
+  where
+    stands : Stands now.ready new → Stands (bytes ++ now.ready) new
+    stands (inl end) = inl end
+    stands (inr label) = inr (whole_both bytes now.ready was.whole label.0, label.1, label.2)

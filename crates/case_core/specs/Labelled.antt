@@ -1,0 +1,99 @@
+-- A text that is read once, and stands at its label lines.
+use Rattle.std.specs.Prelude.{◌≡◌, ◌⊎◌, ℕ, ◌+◌, Bool, true, false, List, [], ◌∷◌, ◌++◌, Option}
+use Rattle.std.specs.Prelude.{count_by, refl}
+use Rattle.std.specs.Coded.{Coded, code_by, coded×, coded_ℕ, coded_bool, coded_list}
+use Rattle.std.specs.Io.KnownBytes.{Consumes, IsAtEnd, prepend_known}
+use Rattle.cnf_text.specs.Tokens.{is_line_end}
+use Rattle.case_core.specs.Bundle.{is_label, labels_of, lines_of}
+use Rattle.case_core.specs.Outline.{AreWholeLines}
+
+-- A text from where it stands: lines that are ready, none of which is a label line, and what was
+-- read behind them; whether that begins with a label line that is read whole, whether no more is to
+-- be read, and how many lines of the text ended so far.
+pub record LabelledOf : Type 0 where
+  pub ready : List ℕ
+  pub behind : List ℕ
+  pub at_label : Bool
+  pub is_last : Bool
+  pub lines : ℕ
+
+abbrev pub labelled_code : Coded LabelledOf
+labelled_code =
+    code_by (List ℕ × (List ℕ × (Bool × (Bool × ℕ))))
+    (coded× (coded_list coded_ℕ) (coded× (coded_list coded_ℕ)
+    (coded× coded_bool (coded× coded_bool coded_ℕ))))
+    (λ t. (t.ready, (t.behind, (t.at_label, (t.is_last, t.lines)))))
+    (λ p. record {
+      ready = p.0;
+      behind = p.1.0;
+      at_label = p.1.1.0;
+      is_last = p.1.1.1.0;
+      lines = p.1.1.1.1;
+    }) (λ _. refl)
+
+-- a text of which nothing is passed, and these bytes are read
+abbrev pub fresh_text : List ℕ → LabelledOf
+fresh_text begun = record {
+  ready = [];
+  behind = begun;
+  at_label = false;
+  is_last = false;
+  lines = 0;
+}
+
+-- all that is left of a text, where its source has this left
+abbrev pub left_of : LabelledOf → Option (List ℕ) → Option (List ℕ)
+left_of text left = prepend_known (text.ready ++ text.behind) left
+
+-- where no more is to be read of a text, its source is at its end
+abbrev pub IsOverWith : LabelledOf → Option (List ℕ) → Type 0
+IsOverWith text left = text.is_last ≡ true → IsAtEnd left
+
+-- A text went on behind these bytes: the next ones of what was in memory, and of what its source lost
+-- meanwhile, which is nothing where no more was to be read. So they are the next ones of all that was
+-- left of the text (`left_passed`).
+pub record HasPassed (old new : LabelledOf) (before after : Option (List ℕ)) (bytes : List ℕ)
+    : Type 0 where
+  pub read : List ℕ
+  pub lost : Consumes before after read
+  pub parts : (old.ready ++ old.behind) ++ read ≡ bytes ++ (new.ready ++ new.behind)
+  pub lines : new.lines ≡ old.lines + count_by is_line_end bytes
+  pub over : IsOverWith old before → IsOverWith new after
+  pub last : old.is_last ≡ true → (read ≡ []) × (new.is_last ≡ true)
+
+-- a text begins with this label line, and this follows it
+pub record IsBehindLabel (text line rest : List ℕ) : Type 0 where
+  pub alone : lines_of line ≡ line ∷ []
+  pub is : is_label line ≡ true
+  pub parts : (text ≡ line ++ 10 ∷ rest) ⊎ ((text ≡ line) × (rest ≡ []))
+
+-- it stands at a label line, which ends in memory or is the text's last line
+pub record IsAtLabel (text : LabelledOf) : Type 0 where
+  pub line : List ℕ
+  pub below : List ℕ
+  pub begins : IsBehindLabel text.behind line below
+  pub whole : text.behind ≡ line → text.is_last ≡ true
+
+-- where a text stands behind these bytes of it: at its end, or at a label line
+abbrev pub Stands : List ℕ → LabelledOf → Type 0
+Stands bytes new =
+    ((new.behind ≡ []) × (new.at_label ≡ false) × (new.is_last ≡ true))
+    ⊎ (AreWholeLines bytes × (new.at_label ≡ true) × IsAtLabel new)
+
+-- these bytes of a text are all up to its next label line, or up to its end; there it stands
+pub record IsPart (old new : LabelledOf) (before after : Option (List ℕ)) (bytes : List ℕ)
+    : Type 0 where
+  pub passed : HasPassed old new before after bytes
+  pub plain : labels_of bytes ≡ []
+  pub ready : new.ready ≡ []
+  pub stands : Stands bytes new
+
+-- a text went on behind the label line at which it stood; where no line end stands behind that, the
+-- text is over
+pub record IsLabelTaken (old new : LabelledOf) (line : List ℕ) (lines : ℕ) : Type 0 where
+  pub stood : old.at_label ≡ true
+  pub behind : IsBehindLabel old.behind line (new.ready ++ new.behind)
+  pub last : old.behind ≡ line → new.is_last ≡ true
+  pub same : new.is_last ≡ old.is_last
+  pub before : lines ≡ old.lines
+  pub counted : new.lines ≡ old.lines + 1

@@ -1,0 +1,48 @@
+use Rattle.std.proofs.Common.{Bor, List, ℕ, refl}
+use Rattle.bundle_files.specs.Files.{Held}
+use Rattle.command_words.proofs.WordsRequests.{handed_on}
+use Rattle.command_words.specs.Request.{asked_in}
+use Rattle.cube_report.specs.Faults.{IsInputFault}
+use Rattle.cube_command.specs.Program.{IsRefusedFrom}
+use Rattle.cube_command.proofs.ProgramMade.{input_recorded, input_refused, input_refuted}
+use Rattle.cube_command.proofs.ProgramRuns.{some_mapped}
+use Rattle.cube_command.proofs.piped.judge_once.Goals as goal
+
+pub judge_while_read-requires-clause-front : goal.judge_while_read-requires-clause-front
+judge_while_read-requires-clause-front g c =
+    (g.I.Source.remaining c.args.input.now, c.in_ok-front.ensures.front)
+
+pub returns-in_err-outcome-clause-fault : goal.returns-in_err-outcome-clause-fault
+returns-in_err-outcome-clause-fault g c =
+    handed_on c.from_residual-in_err-outcome.result
+    (λ fault. IsInputFault fault → (held : Held) → IsRefusedFrom held
+    (asked_in c.args.request.now) (g.I.Source.remaining c.args.input.now) fault)
+    c.in_err-outcome.field-0.0
+    (λ of_input held.
+    input_refused held (asked_in c.args.request.now) (g.I.Source.remaining c.args.input.now)
+    c.requires.alone.0 c.requires.alone.1 c.requires.alone.2 c.in_err-outcome.field-0.0
+    (c.in_err-outcome.ensures.fault (g.I.Source.remaining c.args.input.now)
+    c.in_ok-front.ensures.front of_input)) c.from_residual-in_err-outcome.ensures.1
+
+pub returns-clause-made : goal.returns-clause-made
+returns-clause-made g c = λ held.
+    input_recorded held (asked_in c.args.request.now) (g.I.Source.remaining c.args.input.now)
+    c.requires.alone.0 c.requires.alone.1 c.requires.alone.2 c.is_some-draws.result
+    c.in_ok-outcome.outcome.text.items c.in_ok-outcome.outcome.map.items
+    c.in_ok-front.front.icnf.items c.in_ok-outcome.outcome.refuted c.in_ok-bytes.bytes.items
+    c.end_record.new.begun.items c.end_record.new.begun.items c.deref.result.now
+    (c.in_ok-outcome.ensures.outcome (g.I.Source.remaining c.args.input.now)
+    c.in_ok-front.ensures.front)
+    (some_mapped (λ (text : Bor (List ℕ)). text.now) c.args.request.now.map
+    c.is_some-draws.result c.is_some-draws.ensures)
+    c.deref.ensures.value refl (rw c.icnf.ensures at c.in_ok-bytes.ensures)
+    c.in_ok-end_record.ensures
+
+pub returns-clause-handed : goal.returns-clause-handed
+returns-clause-handed g c = λ says.
+    input_refuted (asked_in c.args.request.now) (g.I.Source.remaining c.args.input.now)
+    c.is_some-draws.result c.in_ok-outcome.outcome.text.items
+    c.in_ok-outcome.outcome.map.items c.in_ok-front.front.icnf.items
+    c.in_ok-outcome.outcome.refuted c.requires.alone.0 c.requires.alone.1
+    (c.in_ok-outcome.ensures.outcome (g.I.Source.remaining c.args.input.now)
+    c.in_ok-front.ensures.front) says
