@@ -1,8 +1,9 @@
 #!/bin/bash
 # by_call.sh PROGRAM
 # Runs PROGRAM with four workers on the same 32 proofs of 1.9 MB in one file by calls with other
-# words, and says how much memory each took. The status is 1 if a report isn't that all is refuted,
-# or if a call that reads the proofs from their places took more than 1.2 times what the plain one did.
+# words, and with one worker by a pipe, and says how much memory each took. The status is 1 if a
+# report isn't that all is refuted, or if a call that judges the proofs while it reads them took more
+# than 1.2 times what the plain one did.
 # What is made is in TMPDIR (/tmp), 190 MB, and removed.
 set -eu
 program=$(realpath "${1:?a program}")
@@ -44,11 +45,11 @@ cat "$folder/case.icnf" "$folder/sections" > "$folder/bundle"
 
 failed=0
 plain=0
-# A run on these words, which is named so; by its places where the first word says so.
+# A run on these words, which is named so; while it reads where the first word says so.
 measure() {
     is_placed=$1 name=$2
     shift 2
-    read -r wall processor kilobytes status <<< "$(bin/measure "$folder/out" "$program" --workers 4 "$@")"
+    read -r wall processor kilobytes status <<< "$(bin/measure -i "$folder/out" "$program" --workers "${workers:-4}" "$@")"
     [ "$plain" -ne 0 ] || plain=$kilobytes
     echo "$name: $((kilobytes * 1024 / 100000 / 10)).$((kilobytes * 1024 / 100000 % 10)) MB, $((processor / 1000)) ms of processor time"
     if [ "$status" -ne 0 ] || [ "$(tail -n 1 "$folder/out")" != "s REFUTED" ]; then
@@ -67,6 +68,8 @@ measure places "FILE with --formula and --record" --formula "$folder/formula.cnf
 measure places "FILE with --map, --log and --record" --map "$folder/map" --log "$folder/log" --record "$folder/record" "$folder/bundle"
 measure places "FILE with a proof for an inner node" "$folder/inner"
 measure places "--proofs DIR" --proofs "$folder/proofs" "$folder/case.icnf"
+workers=1 measure places "standard input, one worker" < <(cat "$folder/bundle")
+measure whole "standard input" < <(cat "$folder/bundle")
 measure whole "FILE as a named pipe" <(cat "$folder/bundle")
 measure whole "FILE with --explain" --explain "$folder/bundle"
 exit "$failed"

@@ -1,8 +1,9 @@
 #!/bin/bash
 # large_folder.sh PROGRAM [GIGABYTES=2] [PROOFS=4096] [rising]
 # Runs PROGRAM with four workers on a folder of so many proofs, a power of two, that are so many
-# gigabytes in all, and then on one bundle of the same proofs in a file, and says how much memory each
-# took; on one proof also by `--formula` and `--proof`, from a file and through a pipe. With
+# gigabytes in all, then on one bundle of the same proofs in a file, and with one worker on that bundle
+# through a pipe, and says how much memory each took; on one proof also by `--formula` and `--proof`,
+# from a file and through a pipe. With
 # `rising` the ids of a proof rise, beside old clauses that stay. The status is 1 if a run took more
 # than 16 MB and a thousand bytes for each leaf, or if a report isn't that all leaves are refuted.
 # What is made is in TMPDIR (/tmp), where there has to be room for twice the proofs, and removed.
@@ -33,7 +34,7 @@ failed=0
 measure() {
     name=$1
     shift
-    told=$(bin/measure -i "$folder/out" "$program" --workers 4 "$@")
+    told=$(bin/measure -i "$folder/out" "$program" --workers "${workers:-4}" "$@")
     read -r wall processor kilobytes status <<< "$told"
     awk -v name="$name" -v bytes="$bytes" -v proofs="$proofs" -v wall="$wall" -v processor="$processor" -v kilobytes="$kilobytes" 'BEGIN {
         printf "%s of %d proofs, %.3f GB: %.2f s, %.2f s of processor time, %.1f MB in memory\n",
@@ -60,6 +61,7 @@ measure "a folder" --proofs "$folder/proofs" "$folder/case.icnf" < /dev/null
     done
 } > "$folder/bundle.icnf"
 measure "a file" "$folder/bundle.icnf" < /dev/null
+workers=1 measure "standard input, one worker," < <(cat "$folder/bundle.icnf")
 if [ "$proofs" -eq 1 ]; then
     awk '/^[ap]/ {next}
         {text = text $0 "\n"; ++clauses; for (i = 1; i < NF; ++i) {v = $i < 0 ? -$i : $i; if (v > most) most = v}}

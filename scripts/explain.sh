@@ -32,6 +32,13 @@ is_plain() {
         cmp -s "$here/status" "$here/plain.status"
 }
 
+# The lines of a log in a folder in one order: those of a bundle that is judged while it is read stand
+# in the bundle's. If the bundle has a fault, there may be lines of what stands above it.
+order_log() {
+    [ ! -f "$1/told.log" ] || sort -o "$1/told.log" "$1/told.log"
+    [ "$(cat "$here/status")" -ne 3 ] || rm -f "$1/told.log"
+}
+
 # Each row, with a record, a picture, and, with one worker, a log.
 for input in "$root"/tests/rows/*.in; do
     base=${input%.in}
@@ -44,6 +51,8 @@ for input in "$root"/tests/rows/*.in; do
     mv "$here/run" "$here/plain"
     lay_out "$base"
     with_words "$base" run "$input" "$@" --explain
+    order_log "$here/run"
+    order_log "$here/plain"
     is_plain && diff -r "$here/run" "$here/plain" > "$here/files" &&
         cmp -s "$here/out" "$base.out" && cmp -s "$here/rest" "$base.err" &&
         cmp -s "$here/status" "$base.status"

@@ -1,7 +1,7 @@
 #!/bin/sh
 # Runs the built program on one proof of a formula that comes through a pipe: `--proof -` behind a
-# pipe, and `--proof` with a named pipe. All that is wanted is made here, by docs/FORMATS.md, and
-# never by the program:
+# pipe, and `--proof` with a named pipe; and on bundles that come through a pipe, with one worker.
+# All that is wanted of a proof is made here, by docs/FORMATS.md, and never by the program:
 # - proofs that are right, text and binary, and the same cut behind each of their bytes, as the same
 #   bytes in a file;
 # - writers that write a byte at a time, that stop for a second in the midst, and that are killed;
@@ -12,6 +12,8 @@
 #   needs a C compiler: where there is none, that is skipped, or fails where CI is set;
 # - the record, the picture and the log of such a run;
 # - proofs of 100 MB: the program takes 64 MB of memory at most.
+# So it is with bundles: what is wanted of them is what four workers say of the same bytes in a file,
+# which they read in another way; tests/rows have what that has to be.
 # Above each part stands which wrong programs it is there to refuse. A run that hasn't ended after a
 # minute is ended, and fails. The last line counts.
 root=$(CDPATH= cd -- "$(dirname -- "$0")/.." && pwd) || exit 1
@@ -634,4 +636,165 @@ that_rises() {
 }
 writer=that_rises
 large "a text of 100 MB whose ids rise" by_pipe
+
+# Bundles. Refused are programs that judge a section before it is whole, that take it for one of the
+# label line before or behind it, that lose or double a byte where two blocks meet, that count lines
+# block by block, that pass over a label line or a fault, that write a report where there is one, and
+# that hold a bundle.
+
+# What four workers say of the bundle in $here/bundle as a file: further words.
+as_a_file() {
+    cp "$here/bundle" "$here/run/bundle.icnf"
+    run "$here/none" "$@" bundle.icnf
+    for it in out err status; do cp "$here/$it" "$here/wanted.$it"; done
+}
+# The bundle by a pipe, with one worker: its name, and further words.
+bundle() {
+    what=$1
+    shift
+    as_a_file "$@"
+    feed=$writer
+    run "$here/bundle" --workers 1 "$@"
+    feed=
+    compares "$what"
+}
+# (what there is of a bundle has to be refuted, or nothing would be tried by it)
+refuted_bundle() {
+    bundle "$@"
+    [ "$(tail -n 1 "$here/out")" = "s REFUTED" ]
+    count "$1 is refuted" $?
+}
+writer=cat
+{ printf 'p inccnf\n' && tail -n +2 "$here/formula" && printf 'a 1 0\na -1 0\n'; } > "$here/case"
+printf '6 0 5 3 4 0\n' > "$here/first"
+printf '6 0 5 1 2 0\n' > "$here/second"
+{ cat "$here/case" && echo 'l 1' && cat "$here/first" && echo 'l 2' && cat "$here/second"; } > "$here/bundle"
+refuted_bundle "a bundle"
+# (an inner node, a missing leaf, a rejected proof, an empty section, comments and a last line without
+# an end)
+{
+    printf 'p inccnf\n' && tail -n +2 "$here/formula"
+    printf 'a 1 2 0\nc a cube\na 1 -2 0\nl n 1 0\nc so\n6 0 5 3 4 0\n\nl 2\nl 1\n7 0 5 0\n l m1\r\n6 0\n5 1 2 0'
+} > "$here/bundle"
+refuted_bundle "a bundle with an inner node and a missing leaf"
+bundle "the open leaves of that bundle" --list-open
+cp "$here/bundle" "$here/whole"
+length=0
+while [ "$length" -le "$(wc -c < "$here/whole")" ]; do
+    head -c "$length" "$here/whole" > "$here/bundle"
+    bundle "a bundle cut behind byte $length"
+    length=$((length + 1))
+done
+cp "$here/whole" "$here/bundle"
+writer=by_bytes
+refuted_bundle "a bundle, byte by byte"
+writer=with_a_pause
+for pause in 20 60 75 90; do refuted_bundle "a bundle that stops behind byte $pause"; done
+writer=cat
+# Each form of a label line, above the sections, between them and at the end.
+while IFS= read -r form; do
+    line=${form%\\n*}
+    { cat "$here/case" && printf "$line\n" && echo 'l 1' && cat "$here/first"; } > "$here/bundle"
+    bundle "the label line '$line' above a section"
+    { cat "$here/case" && echo 'l 1' && printf "$line\n" && echo 'l 2' && cat "$here/second"; } > "$here/bundle"
+    bundle "the label line '$line' between two sections"
+    { cat "$here/case" && echo 'l 1' && cat "$here/first" && printf "$line"; } > "$here/bundle"
+    bundle "the label line '$line' at the end of a bundle"
+done << FORMS
+$forms
+FORMS
+# Faults of the formula and of the cubes, with sections below them.
+for lines in 'p cnf 2 4' '1 x 0' 'a 1 0' 'a 2 0' 'a 0' '1 2'; do
+    { cat "$here/case" && echo "$lines" && echo 'l 1' && cat "$here/first" && echo 'l x'; } > "$here/bundle"
+    bundle "the line '$lines' above the sections"
+done
+{ echo 'l 1' && cat "$here/first"; } > "$here/bundle"
+bundle "a bundle that is a section alone"
+# A label line at each place about a block's end, and sections of several blocks.
+above=$(cat "$here/case" "$here/first" | wc -c)
+for at in $(seq 65526 65540) $(seq 131068 131074); do
+    {
+        cat "$here/case" && echo 'l 1' && printf c && letters $((at - above - 6)) && echo
+        cat "$here/first" && echo 'l 2' && cat "$here/second"
+    } > "$here/bundle"
+    refuted_bundle "a label line behind $at bytes"
+    sed 's/^l 2$/l 3/' "$here/bundle" > "$here/other"
+    mv "$here/other" "$here/bundle"
+    bundle "a faulty label line behind $at bytes"
+done
+for lines in 3000 10000; do
+    {
+        cat "$here/case" && echo 'l 2'
+        awk -v lines="$lines" 'BEGIN { while (lines-- > 0) print "6 2 0 5 1 0\n6 d 6 0" }'
+        cat "$here/second" && echo 'l 1'
+        awk -v lines="$lines" 'BEGIN { while (lines-- > 0) print "6 2 0 5 3 0\n6 d 6 0" }'
+        cat "$here/first"
+    } > "$here/bundle"
+    refuted_bundle "sections of $lines additions"
+done
+# The record, the picture and the log.
+cp "$here/whole" "$here/bundle"
+cp "$here/bundle" "$here/run/bundle.icnf"
+run "$here/none" --record f.record --map f.svg --log f.log bundle.icnf
+feed=cat
+run "$here/bundle" --workers 1 --record a.record --map a.svg --log a.log
+feed=
+for file in record svg; do
+    cmp -s "$here/run/a.$file" "$here/run/f.$file"
+    count "the $file of a bundle" $?
+done
+sort "$here/run/f.log" > "$here/lines"
+[ -s "$here/lines" ] && sort "$here/run/a.log" | cmp -s - "$here/lines"
+count "the log of a bundle" $?
+rm -f "$here"/run/[af].*
+# Each read that fails in turn.
+if preload device "the reads of a bundle that are short or fail"; then
+    for size in 1 7; do
+        as_a_file
+        for it in out err status; do cp "$here/wanted.$it" "$here/right.$it"; done
+        n=1
+        while [ "$n" -le 1000 ]; do
+            rm -f "$here/mark"
+            feed=cat
+            note "$here/bundle" env READ_SHORT="$size" READ_FAILS="$n" WRITE_FILE=-1 WRITE_MARK="$here/mark" \
+                LD_PRELOAD="$here/device.so" "$program" --workers 1 --record a.record
+            feed=
+            [ -f "$here/mark" ] || break
+            faulty "F13 device" 5
+            compares "a bundle, read $n of $size bytes fails"
+            [ ! -e "$here/run/a.record" ]
+            count "a bundle, no record where read $n of $size bytes fails" $?
+            n=$((n + 1))
+        done
+        compare "a bundle by $((n - 1)) reads of $size bytes" "$here/right.out" "$here/right.err" "$here/right.status"
+        [ $((n - 1)) -ge $((($(wc -c < "$here/bundle") + size - 1) / size + 1)) ]
+        count "a bundle, each of the reads of $size bytes fails once" $?
+        rm -f "$here/run/a.record"
+    done
+fi
+# Memory: a section of 100 MB between two others, a fault behind it, and many sections.
+awk 'BEGIN { for (i = 0; i < 50000; i++) print "6 2 0 5 3 0\n6 d 6 0" }' > "$here/part"
+with_parts() {
+    cat "$here/case" && echo 'l 2' && cat "$here/second" && echo 'l 1'
+    for part in $(seq 100); do cat "$here/part" || return; done
+    cat "$1"
+}
+large_bundle() {
+    echo none > "$here/peak"
+    program=$here/measured
+    feed=$writer
+    run "$here/proof" --workers 1
+    feed=
+    program=$built
+    [ "$(tail -n 1 "$here/out" "$here/err" | grep -c -x -e "$2")" -eq 1 ]
+    count "$1: $2" $?
+    [ "$(cat "$here/peak")" -le 64 ] 2> /dev/null
+    count "$1: at most 64 MB in memory, and not $(cat "$here/peak")" $?
+}
+writer=with_parts
+cp "$here/first" "$here/proof"
+large_bundle "a bundle of 100 MB" "s REFUTED"
+{ cat "$here/first" && echo 'l 1'; } > "$here/proof"
+large_bundle "a bundle of 100 MB with a label line at its end" "cubeboard: F12 second proof, line 10000012"
+writer=cat
 finish

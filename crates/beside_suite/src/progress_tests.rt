@@ -121,11 +121,12 @@ fn tells<R: AllocGlobal + Abort + Threads + Wait + Sync>(
 const FOUR_REFUTED: Ending<'static> = (0, FOUR_CUBES_REPORT, b"");
 
 // One worker, and a clock that moves by 600 milliseconds: a line is due at every second section.
-// Each of the four leaves is a quarter of the weight.
+// Each of the four leaves is a quarter of the weight. Nobody knows how many sections the input has,
+// so the line has as many as are judged.
 #[test]
 fn a_line_each_second(rt: HostRuntime) {
     let words = ["--workers", "1", "--progress"];
-    let told = "cubeboard: 2 of 4 judged, 24 of 48 bytes, 2 refuted, 0 rejected, 50.000 % open\n\
+    let told = "cubeboard: 2 of 2 judged, 24 of 24 bytes, 2 refuted, 0 rejected, 50.000 % open\n\
                 cubeboard: 4 of 4 judged, 48 of 48 bytes, 4 refuted, 0 rejected, 0.000 % open\n\
                 cubeboard: 4 of 4 judged, 48 of 48 bytes, 4 refuted, 0 rejected, 0.000 % open\n";
     let kind = (600, false, false);
@@ -136,7 +137,7 @@ fn a_line_each_second(rt: HostRuntime) {
 #[test]
 fn over_the_line_before(rt: HostRuntime) {
     let words = ["--progress", "--workers=1"];
-    let told = "\rcubeboard: 2 of 4 judged, 24 of 48 bytes, 2 refuted, 0 rejected, \
+    let told = "\rcubeboard: 2 of 2 judged, 24 of 24 bytes, 2 refuted, 0 rejected, \
                 50.000 % open\x1b[K\
                 \rcubeboard: 4 of 4 judged, 48 of 48 bytes, 4 refuted, 0 rejected, \
                 0.000 % open\x1b[K\
