@@ -1,9 +1,9 @@
 #!/bin/bash
 # by_call.sh PROGRAM
 # Runs PROGRAM with four workers on the same 32 proofs of 1.9 MB in one file by calls with other
-# words, and with one worker by a pipe, and says how much memory each took. The status is 1 if a
-# report isn't that all is refuted, or if a call that judges the proofs while it reads them took more
-# than 1.2 times what the plain one did.
+# words, and by a pipe with one worker, too, and says how much memory each took. The status is 1 if a
+# report isn't that all is refuted, or if a call that judges each proof where it reads it took more
+# than 1.2 times what the plain one did. (By a pipe four workers have copies of short proofs.)
 # What is made is in TMPDIR (/tmp), 190 MB, and removed.
 set -eu
 program=$(realpath "${1:?a program}")
@@ -68,8 +68,8 @@ measure places "FILE with --formula and --record" --formula "$folder/formula.cnf
 measure places "FILE with --map, --log and --record" --map "$folder/map" --log "$folder/log" --record "$folder/record" "$folder/bundle"
 measure places "FILE with a proof for an inner node" "$folder/inner"
 measure places "--proofs DIR" --proofs "$folder/proofs" "$folder/case.icnf"
+measure copies "standard input" < <(cat "$folder/bundle")
 workers=1 measure places "standard input, one worker" < <(cat "$folder/bundle")
-measure whole "standard input" < <(cat "$folder/bundle")
 measure whole "FILE as a named pipe" <(cat "$folder/bundle")
 measure whole "FILE with --explain" --explain "$folder/bundle"
 exit "$failed"

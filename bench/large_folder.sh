@@ -61,6 +61,7 @@ measure "a folder" --proofs "$folder/proofs" "$folder/case.icnf" < /dev/null
     done
 } > "$folder/bundle.icnf"
 measure "a file" "$folder/bundle.icnf" < /dev/null
+measure "standard input" < <(cat "$folder/bundle.icnf")
 workers=1 measure "standard input, one worker," < <(cat "$folder/bundle.icnf")
 if [ "$proofs" -eq 1 ]; then
     awk '/^[ap]/ {next}

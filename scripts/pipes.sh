@@ -40,6 +40,8 @@ faulty() {
     echo "${2:-3}" > "$here/wanted.status"
 }
 compares() { compare "$1" "$here/wanted.out" "$here/wanted.err" "$here/wanted.status"; }
+# What is wanted is kept as what is right.
+keeps() { for it in out err status; do cp "$here/wanted.$it" "$here/right.$it"; done; }
 
 # The three ways of a proof into the program: a file with its bytes, and further words.
 by_file() {
@@ -47,12 +49,15 @@ by_file() {
     shift
     run "$here/none" --formula formula.cnf --proof proof.lrat "$@"
 }
+fed() {
+    feed=$writer
+    run "$@"
+    feed=
+}
 by_pipe() {
     proof=$1
     shift
-    feed=$writer
-    run "$proof" --formula formula.cnf --proof - "$@"
-    feed=
+    fed "$proof" --formula formula.cnf --proof - "$@"
 }
 # (what waits for the program at the named pipe goes on when the program has ended)
 by_fifo() {
@@ -136,9 +141,7 @@ cp "$here/right" "$here/proof"
 mkfifo "$here/run/formula.pipe"
 cat "$here/formula" > "$here/run/formula.pipe" &
 judged refuted
-feed=cat
-run "$here/proof" --formula formula.pipe --proof -
-feed=
+fed "$here/proof" --formula formula.pipe --proof -
 : <> "$here/run/formula.pipe"
 wait $!
 compares "a formula by a named pipe and its proof by a pipe"
@@ -520,29 +523,36 @@ for signal in "as it is" ignored; do
         compares "nobody reads the report on $input, the signal $signal"
     done
 done
-# Each read that fails in turn, by reads of at most so many bytes, until there are no more: the last
-# one says that the pipe has ended. So it is behind the step that refutes, too.
+# Each read of a file's bytes that fails in turn, by reads of at most so many bytes, until there are
+# no more: the last one says that the pipe has ended. So it is behind the step that refutes, too.
+# Wanted where none fails is $here/right.out, .err and .status.
 each_read_fails() {
-    n=1
+    what=$1 size=$2 input=$3 n=1
+    shift 3
     while [ "$n" -le 1000 ]; do
         rm -f "$here/mark"
         feed=cat
-        note "$here/proof" env READ_SHORT="$2" READ_FAILS="$n" WRITE_FILE=-1 WRITE_MARK="$here/mark" \
-            LD_PRELOAD="$here/device.so" "$program" --formula formula.cnf --proof - --record a.record
+        note "$input" env READ_SHORT="$size" READ_FAILS="$n" WRITE_FILE=-1 WRITE_MARK="$here/mark" \
+            LD_PRELOAD="$here/device.so" "$program" "$@" --record a.record
         feed=
         [ -f "$here/mark" ] || break
         faulty "F13 device" 5
-        compares "$1, read $n of $2 bytes fails"
+        compares "$what, read $n of $size bytes fails"
         [ ! -e "$here/run/a.record" ]
-        count "$1, no record where read $n of $2 bytes fails" $?
+        count "$what, no record where read $n of $size bytes fails" $?
         n=$((n + 1))
     done
-    judged refuted
-    compares "$1 by $((n - 1)) reads of $2 bytes"
+    compare "$what by $((n - 1)) reads of $size bytes" "$here/right.out" "$here/right.err" "$here/right.status"
     # (of a pipe a read may give less)
-    [ $((n - 1)) -ge $((($(wc -c < "$here/proof") + $2 - 1) / $2 + 1)) ]
-    count "$1, each of the reads of $2 bytes fails once" $?
+    [ $((n - 1)) -ge $((($(wc -c < "$input") + size - 1) / size + 1)) ]
+    count "$what, each of the reads of $size bytes fails once" $?
     rm -f "$here/run/a.record"
+}
+# The same of the proof in $here/proof, which refutes.
+each_read_of_a_proof() {
+    judged refuted
+    keeps
+    each_read_fails "$1" "$2" "$here/proof" --formula formula.cnf --proof -
 }
 # The proof in $here/proof, with what is wanted made before, by reads of at most so many bytes.
 by_short_reads() {
@@ -565,12 +575,12 @@ if preload device "the reads that are short or fail"; then
     judged refuted
     by_short_reads "a long binary proof"
     { cat "$here/right" && echo 'c behind it'; } > "$here/proof"
-    each_read_fails "a text" 1
-    each_read_fails "a text" 7
+    each_read_of_a_proof "a text" 1
+    each_read_of_a_proof "a text" 7
     cp "$here/binary" "$here/proof"
-    each_read_fails "a binary proof" 1
+    each_read_of_a_proof "a binary proof" 1
     { rounds 200000 && cat "$here/right"; } > "$here/proof"
-    each_read_fails "a long text" 40000
+    each_read_of_a_proof "a long text" 40000
 fi
 
 # Memory. Refused are programs that hold the proof, its text if it is binary, its lines, or something
@@ -637,31 +647,29 @@ that_rises() {
 writer=that_rises
 large "a text of 100 MB whose ids rise" by_pipe
 
-# Bundles. Refused are programs that judge a section before it is whole, that take it for one of the
-# label line before or behind it, that lose or double a byte where two blocks meet, that count lines
-# block by block, that pass over a label line or a fault, that write a report where there is one, and
-# that hold a bundle.
+# Bundles. Refused are programs that judge a section before it is whole, or as another label line's,
+# that lose or double a byte where two blocks meet, that count lines block by block, that pass over a
+# label line or a fault, that write a report where there is one, that lose what another worker finds,
+# and that hold a bundle.
 
 # What four workers say of the bundle in $here/bundle as a file: further words.
 as_a_file() {
-    cp "$here/bundle" "$here/run/bundle.icnf"
-    run "$here/none" "$@" bundle.icnf
+    cp "$here/bundle" "$here/run/bundle.icnf" && run "$here/none" "$@" bundle.icnf
     for it in out err status; do cp "$here/$it" "$here/wanted.$it"; done
 }
-# The bundle by a pipe, with one worker: its name, and further words.
+# The bundle by a pipe, with one worker and with four: its name, and further words.
 bundle() {
     what=$1
     shift
     as_a_file "$@"
-    feed=$writer
-    run "$here/bundle" --workers 1 "$@"
-    feed=
-    compares "$what"
+    for workers in 1 4; do
+        fed "$here/bundle" --workers "$workers" "$@"
+        compares "$what, $workers workers"
+    done
 }
 # (what there is of a bundle has to be refuted, or nothing would be tried by it)
 refuted_bundle() {
-    bundle "$@"
-    [ "$(tail -n 1 "$here/out")" = "s REFUTED" ]
+    bundle "$@" && [ "$(tail -n 1 "$here/out")" = "s REFUTED" ]
     count "$1 is refuted" $?
 }
 writer=cat
@@ -718,8 +726,7 @@ for at in $(seq 65526 65540) $(seq 131068 131074); do
         cat "$here/first" && echo 'l 2' && cat "$here/second"
     } > "$here/bundle"
     refuted_bundle "a label line behind $at bytes"
-    sed 's/^l 2$/l 3/' "$here/bundle" > "$here/other"
-    mv "$here/other" "$here/bundle"
+    sed 's/^l 2$/l 3/' "$here/bundle" > "$here/other" && mv "$here/other" "$here/bundle"
     bundle "a faulty label line behind $at bytes"
 done
 for lines in 3000 10000; do
@@ -733,44 +740,25 @@ for lines in 3000 10000; do
     refuted_bundle "sections of $lines additions"
 done
 # The record, the picture and the log.
-cp "$here/whole" "$here/bundle"
-cp "$here/bundle" "$here/run/bundle.icnf"
+cp "$here/whole" "$here/bundle" && cp "$here/bundle" "$here/run/bundle.icnf"
 run "$here/none" --record f.record --map f.svg --log f.log bundle.icnf
-feed=cat
-run "$here/bundle" --workers 1 --record a.record --map a.svg --log a.log
-feed=
-for file in record svg; do
-    cmp -s "$here/run/a.$file" "$here/run/f.$file"
-    count "the $file of a bundle" $?
-done
 sort "$here/run/f.log" > "$here/lines"
-[ -s "$here/lines" ] && sort "$here/run/a.log" | cmp -s - "$here/lines"
-count "the log of a bundle" $?
+for workers in 1 4; do
+    fed "$here/bundle" --workers "$workers" --record a.record --map a.svg --log a.log
+    for file in record svg; do
+        cmp -s "$here/run/a.$file" "$here/run/f.$file"
+        count "the $file of a bundle, $workers workers" $?
+    done
+    [ -s "$here/lines" ] && sort "$here/run/a.log" | cmp -s - "$here/lines"
+    count "the log of a bundle, $workers workers" $?
+done
 rm -f "$here"/run/[af].*
 # Each read that fails in turn.
 if preload device "the reads of a bundle that are short or fail"; then
-    for size in 1 7; do
-        as_a_file
-        for it in out err status; do cp "$here/wanted.$it" "$here/right.$it"; done
-        n=1
-        while [ "$n" -le 1000 ]; do
-            rm -f "$here/mark"
-            feed=cat
-            note "$here/bundle" env READ_SHORT="$size" READ_FAILS="$n" WRITE_FILE=-1 WRITE_MARK="$here/mark" \
-                LD_PRELOAD="$here/device.so" "$program" --workers 1 --record a.record
-            feed=
-            [ -f "$here/mark" ] || break
-            faulty "F13 device" 5
-            compares "a bundle, read $n of $size bytes fails"
-            [ ! -e "$here/run/a.record" ]
-            count "a bundle, no record where read $n of $size bytes fails" $?
-            n=$((n + 1))
-        done
-        compare "a bundle by $((n - 1)) reads of $size bytes" "$here/right.out" "$here/right.err" "$here/right.status"
-        [ $((n - 1)) -ge $((($(wc -c < "$here/bundle") + size - 1) / size + 1)) ]
-        count "a bundle, each of the reads of $size bytes fails once" $?
-        rm -f "$here/run/a.record"
-    done
+    as_a_file
+    keeps
+    each_read_fails "a bundle" 1 "$here/bundle" --workers 1
+    each_read_fails "a bundle, by four workers" 7 "$here/bundle" --workers 4
 fi
 # Memory: a section of 100 MB between two others, a fault behind it, and many sections.
 awk 'BEGIN { for (i = 0; i < 50000; i++) print "6 2 0 5 3 0\n6 d 6 0" }' > "$here/part"
@@ -780,21 +768,33 @@ with_parts() {
     cat "$1"
 }
 large_bundle() {
-    echo none > "$here/peak"
-    program=$here/measured
-    feed=$writer
-    run "$here/proof" --workers 1
-    feed=
-    program=$built
-    [ "$(tail -n 1 "$here/out" "$here/err" | grep -c -x -e "$2")" -eq 1 ]
-    count "$1: $2" $?
-    [ "$(cat "$here/peak")" -le 64 ] 2> /dev/null
-    count "$1: at most 64 MB in memory, and not $(cat "$here/peak")" $?
+    for workers in 1 4; do
+        echo none > "$here/peak"
+        program=$here/measured
+        fed "$here/proof" --workers "$workers"
+        program=$built
+        [ "$(tail -n 1 "$here/out" "$here/err" | grep -c -x -e "$2")" -eq 1 ]
+        count "$1, $workers workers: $2" $?
+        [ "$(cat "$here/peak")" -le 64 ] 2> /dev/null
+        count "$1, $workers workers: at most 64 MB in memory, and not $(cat "$here/peak")" $?
+    done
+}
+# (the leaves of seven variables that the formula hasn't got, each with a section of 1 MB)
+of_many() {
+    head -n 5 "$here/case" && awk 'BEGIN { for (i = 0; i < 128; i++) {
+        line = "a"
+        for (v = 3 + 0 * (k = i); v < 10; v++) { line = line (k % 2 ? " -" : " ") v; k = int(k / 2) }
+        print line " 0"
+    } }' && for leaf in $(seq 128); do echo "l $leaf" && cat "$here/part" "$1" || return; done
 }
 writer=with_parts
 cp "$here/first" "$here/proof"
 large_bundle "a bundle of 100 MB" "s REFUTED"
 { cat "$here/first" && echo 'l 1'; } > "$here/proof"
 large_bundle "a bundle of 100 MB with a label line at its end" "cubeboard: F12 second proof, line 10000012"
+awk 'BEGIN { for (i = 0; i < 40000; i++) print "12 1 0 1 2 0\n12 d 12 0" }' > "$here/part"
+printf '12 1 0 1 2 0\n13 0 12 3 4 0\n' > "$here/proof"
+writer=of_many
+large_bundle "a bundle of 128 sections of 1 MB" "s REFUTED"
 writer=cat
 finish

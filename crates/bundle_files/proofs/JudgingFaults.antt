@@ -14,7 +14,7 @@ no_input : (fault : DeviceFault) → IsInputFault (fault_of_device fault) → �
 no_input flow.Memory input = input.0 refl
 no_input flow.Device input = input.1 refl
 
-judging : (fault : DeviceFault) (before after : ℕ) → IsDeviceFault before after fault
+pub judging : (fault : DeviceFault) (before after : ℕ) → IsDeviceFault before after fault
     → IsJudgingFault before after (fault_of_device fault)
 judging flow.Memory before after (inl memory) = inl (λ e. cc, memory.1)
 judging flow.Memory before after (inr device) = absurd cc

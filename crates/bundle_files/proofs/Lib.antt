@@ -12,5 +12,4 @@ mod OutlinedBehind
 mod OutlinedFronts
 mod SectionsHead
 mod SectionsJudged
-mod WhileReadMarks
 mod WhileRead

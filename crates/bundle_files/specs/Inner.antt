@@ -3,4 +3,3 @@ pub mod Faults
 pub mod Formula
 pub mod Outlined
 pub mod Proof
-pub mod WhileRead

@@ -7,9 +7,9 @@ use Rattle.std.proofs.KnownBytes.{Consumes-nil, Consumes-trans}
 use Rattle.std.proofs.lemmas.List.Sums.{sum_by-append}
 use Rattle.cnf_text.specs.Tokens.{is_line_end}
 use Rattle.case_core.specs.Inner.Bundle.{HasNoLabel}
-use Rattle.case_core.specs.Inner.Labelled.{HasAdvanced, HasFront}
-use Rattle.case_core.specs.Labelled.{HasPassed, IsPart, LabelledOf, Stands, left_of}
-use Rattle.case_core.proofs.LabelFirst.{no_label, plain_both}
+use Rattle.case_core.specs.Inner.Labelled.{HasAdvanced}
+use Rattle.case_core.specs.Labelled.{HasFront, HasPassed, IsPart, LabelledOf, Stands, left_of}
+use Rattle.case_core.proofs.LabelFirst.{no_label, plain_both, plain_of}
 use Rattle.case_core.proofs.OutlineLines.{whole_both}
 
 -- what is passed are the next bytes of all that was left
@@ -59,7 +59,7 @@ front_none text left = record {
     over = λ over. over;
     last = λ last. (refl, last);
   };
-  plain = no_label;
+  plain = no_label 1;
   whole = inl refl;
 }
   where
@@ -72,21 +72,34 @@ pub front_more : (old now new : LabelledOf) (first before after : Option (List �
     → HasFront old new first after (bytes ++ now.ready)
 front_more old now new first before after bytes was next plain = record {
   passed = passed_both old now new first before after bytes now.ready was.passed next.passed;
-  plain = plain_both bytes now.ready was.whole was.plain plain;
+  plain = plain_both bytes now.ready was.whole (plain_of bytes was.plain) plain 1;
   whole = whole_both bytes now.ready was.whole (next.whole refl);
 }
+
+-- whole lines of a text, and the part of it behind them, are one part
+pub part_behind : (old now new : LabelledOf) (first before after : Option (List ℕ))
+    (front bytes : List ℕ) → HasFront old now first before front
+    → IsPart now new before after bytes → IsPart old new first after (front ++ bytes)
+part_behind old now new first before after front bytes was part = record {
+  passed = passed_both old now new first before after front bytes was.passed part.passed;
+  plain =
+      plain_both front bytes was.whole (plain_of front was.plain) (plain_of bytes part.plain) 1;
+  ready = part.ready;
+  stands = stands part.stands;
+}
+  where
+    stands : Stands bytes new → Stands (front ++ bytes) new
+    stands (inl end) = inl end
+    stands (inr label) = inr (whole_both front bytes was.whole label.0, label.1, label.2)
 
 pub part_done : (old now new : LabelledOf) (first before after : Option (List ℕ))
     (bytes : List ℕ) → HasFront old now first before bytes
     → HasAdvanced now new before after false → HasNoLabel now.ready
     → IsPart old new first after (bytes ++ now.ready)
-part_done old now new first before after bytes was next plain = record {
-  passed = passed_both old now new first before after bytes now.ready was.passed next.passed;
-  plain = plain_both bytes now.ready was.whole was.plain plain 1;
-  ready = next.none refl;
-  stands = stands (next.stands refl);
-}
-  where
-    stands : Stands now.ready new → Stands (bytes ++ now.ready) new
-    stands (inl end) = inl end
-    stands (inr label) = inr (whole_both bytes now.ready was.whole label.0, label.1, label.2)
+part_done old now new first before after bytes was next plain =
+    part_behind old now new first before after bytes now.ready was record {
+      passed = next.passed;
+      plain = plain 1;
+      ready = next.none refl;
+      stands = next.stands refl;
+    }

@@ -328,44 +328,63 @@ label_read opened first now after begun text end behind j read label opens lost 
         (inr ((behind.ready ++ behind.behind) ++ rest, refl))
     by_parts (inr is) = first_label [] (is.0 ∙ sym (append-nil line)) (inl (over is.0))
 
+-- ---- what is found of a text
+
+-- in the case that an examiner keeps
+found_in : (case here : CaseOf) (target : Target) (text : List ℕ) (judged : Judgement)
+    (finding : Finding) → here ≡ case → finding.judged ≡ judged
+    → ((text : List ℕ) → IsJudgement here target text judged → IsFoundBy here target text judged)
+    → IsJudgement here target text judged → IsFoundBy case target text finding.judged
+found_in case here target text judged finding same told by is =
+    subst (λ (c : CaseOf). IsFoundBy c target text finding.judged) same
+    (subst (λ (j : Judgement). IsFoundBy here target text j) (sym told) (by text is))
+
 -- ---- what is found of a part
 
-part_judged : (case : CaseOf) (target : Target) (old new : LabelledOf)
-    (before after : Option (List ℕ)) (begun : JudgingOf) (read : JudgedText)
-    → IsBegun case target begun → (part : IsPartJudged old new before after begun read)
-    → IsJudgement case target part.bytes read.judged
-part_judged case target old new before after begun read is part =
-    subst (λ (j : Judgement). IsJudgement case target part.bytes j) (sym part.judged)
-    (is part.bytes)
+-- behind lines that were handed over before it
+part_judged : (case : CaseOf) (target : Target) (front : List ℕ) (old new : LabelledOf)
+    (before after : Option (List ℕ)) (begun j : JudgingOf) (read : JudgedText)
+    → IsBegun case target begun → ((rest : List ℕ) → says j rest ≡ says begun (front ++ rest))
+    → (part : IsPartJudged old new before after j read)
+    → IsJudgement case target (front ++ part.bytes) read.judged
+part_judged case target front old new before after begun j read is told part =
+    subst (λ (j : Judgement). IsJudgement case target (front ++ part.bytes) j)
+    (sym (part.judged ∙ told part.bytes)) (is (front ++ part.bytes))
 
-pub part_text : (case : CaseOf) (target : Target) (old new : LabelledOf)
-    (before after : Option (List ℕ)) (begun : JudgingOf) (read : JudgedText)
-    → IsBegun case target begun → IsPartJudged old new before after begun read
+pub part_text : (case : CaseOf) (target : Target) (front : List ℕ) (old new : LabelledOf)
+    (before after : Option (List ℕ)) (begun j : JudgingOf) (read : JudgedText)
+    → IsBegun case target begun → ((rest : List ℕ) → says j rest ≡ says begun (front ++ rest))
+    → IsPartJudged old new before after j read
     → (text : List ℕ) × IsJudgement case target text read.judged
-part_text case target old new before after begun read is part =
-    (part.bytes, part_judged case target old new before after begun read is part)
+part_text case target front old new before after begun j read is told part = (
+  front ++ part.bytes,
+  part_judged case target front old new before after begun j read is told part,
+)
 
-pub part_found : (case here : CaseOf) (target : Target) (old new : LabelledOf)
-    (before after : Option (List ℕ)) (begun : JudgingOf) (read : JudgedText) (finding : Finding)
-    → here ≡ case → IsBegun here target begun → IsPartJudged old new before after begun read
-    → finding.case.now ≡ here → target_of finding.leaf finding.node ≡ target
-    → finding.judged ≡ read.judged
+pub part_found : (case here : CaseOf) (target : Target) (front : List ℕ) (old new : LabelledOf)
+    (before after : Option (List ℕ)) (begun j : JudgingOf) (read : JudgedText)
+    (finding : Finding) (long : ℕ) → here ≡ case → IsBegun here target begun
+    → ((rest : List ℕ) → says j rest ≡ says begun (front ++ rest))
+    → IsPartJudged old new before after j read → finding.case.now ≡ here
+    → target_of finding.leaf finding.node ≡ target → finding.judged ≡ read.judged
     → ((text : List ℕ) → IsJudgement here target text read.judged
     → IsFoundBy here target text read.judged)
-    → IsPartRead case target old new before after
-    (record { finding = finding; length = read.length })
-part_found case here target old new before after begun read finding same is part of_case of_target
-    judged by =
+    → long ≡ read.length + length front
+    → IsPartRead case target front old new before after
+    (record { finding = finding; length = long })
+part_found case here target front old new before after begun j read finding long same is told part
+    of_case of_target judged by sum =
     record {
       bytes = part.bytes;
       part = part.part;
-      long = sym part.long;
+      long =
+          let both = length-append front part.bytes in
+          let was = part.long in omega (arith, both, was, sum);
       of_case = of_case ∙ same;
       of_target = of_target;
       found =
-          subst (λ (c : CaseOf). IsFoundBy c target part.bytes finding.judged) same
-          (subst (λ (j : Judgement). IsFoundBy here target part.bytes j) (sym judged)
-          (by part.bytes (part_judged here target old new before after begun read is part)));
+          found_in case here target (front ++ part.bytes) read.judged finding same judged by
+          (part_judged here target front old new before after begun j read is told part);
     }
 
 -- ---- what is found of a proof
@@ -406,12 +425,8 @@ read_found case here target opened left begun read finding same is is_read of_ca
         of_target,
         is_read.is.0,
         is_read.is.1,
-        subst (λ (c : CaseOf). IsFoundBy c target (proof_left opened is_read.bytes)
-            finding.judged) same
-            (subst (λ (j : Judgement). IsFoundBy here target (proof_left opened is_read.bytes) j)
-            (sym judged)
-            (by (proof_left opened is_read.bytes)
-            (text_judged here target opened left begun read is is_read))),
+        found_in case here target (proof_left opened is_read.bytes) read.judged finding same
+            judged by (text_judged here target opened left begun read is is_read),
       ),
     )
 

@@ -1,6 +1,6 @@
 -- A text that is read once, and stands at its label lines.
-use Rattle.std.specs.Prelude.{◌≡◌, ◌⊎◌, ℕ, ◌+◌, Bool, true, false, List, [], ◌∷◌, ◌++◌, Option}
-use Rattle.std.specs.Prelude.{count_by, refl}
+use Rattle.std.specs.Prelude.{◌≡◌, ◌⊎◌, ℕ, ◌+◌, ◌<◌, Bool, true, false, List, [], ◌∷◌, ◌++◌}
+use Rattle.std.specs.Prelude.{MatchBool, Option, count_by, length, refl}
 use Rattle.std.specs.Coded.{Coded, code_by, coded×, coded_ℕ, coded_bool, coded_list}
 use Rattle.std.specs.Io.KnownBytes.{Consumes, IsAtEnd, prepend_known}
 use Rattle.cnf_text.specs.Tokens.{is_line_end}
@@ -87,6 +87,21 @@ pub record IsPart (old new : LabelledOf) (before after : Option (List ℕ)) (byt
   pub plain : labels_of bytes ≡ []
   pub ready : new.ready ≡ []
   pub stands : Stands bytes new
+
+-- a text went on behind these bytes, which are whole lines, and none of them is a label line
+pub record HasFront (old new : LabelledOf) (before after : Option (List ℕ)) (bytes : List ℕ)
+    : Type 0 where
+  pub passed : HasPassed old new before after bytes
+  pub plain : labels_of bytes ≡ []
+  pub whole : AreWholeLines bytes
+
+-- these bytes of a text are all up to its next label line, or up to its end; or they are whole lines
+-- of it, more than so many bytes, and the text goes on behind them
+abbrev pub IsFront : LabelledOf → LabelledOf → Option (List ℕ) → Option (List ℕ) → ℕ → List ℕ
+    → Bool → Type 0
+IsFront old new before after most bytes is_part =
+    MatchBool is_part (IsPart old new before after bytes)
+    (HasFront old new before after bytes × (most < length bytes))
 
 -- a text went on behind the label line at which it stood; where no line end stands behind that, the
 -- text is over

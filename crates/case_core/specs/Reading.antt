@@ -35,12 +35,13 @@ IsReadProof case target opened bytes (Found read) =
 IsReadProof case target opened bytes (Labelled label) =
     (proof_left opened bytes ≡ bytes) × IsFirstLabel bytes label.line.items label.lines
 
--- what is found of a target by a part of a text: all up to the text's next label line, or its end
-pub record IsPartRead (case : CaseOf) (target : Target) (old new : LabelledOf)
+-- what is found of a target by these lines and, behind them, a part of a text: all up to the text's
+-- next label line, or its end
+pub record IsPartRead (case : CaseOf) (target : Target) (front : List ℕ) (old new : LabelledOf)
     (before after : Option (List ℕ)) (read : ReadFinding) : Type 0 where
   pub bytes : List ℕ
   pub part : IsPart old new before after bytes
-  pub long : length bytes ≡ read.length
+  pub long : length (front ++ bytes) ≡ read.length
   pub of_case : read.finding.case.now ≡ case
   pub of_target : target_of read.finding.leaf read.finding.node ≡ target
-  pub found : IsFoundBy case target bytes read.finding.judged
+  pub found : IsFoundBy case target (front ++ bytes) read.finding.judged

@@ -43,12 +43,12 @@ impl<'c> Drop for Examiner<'c> {
     }
 }
 
-/// What is found by a proof that was read, and how many bytes were read.
+/// What is found by a proof that was read, and how many bytes it has.
 #[derive(Drop)]
 pub struct ReadFinding<'c> {
     /// What is found of the target.
     pub finding: Finding<'c>,
-    /// How many bytes the source gave: those of a binary proof, and not of its text.
+    /// How many bytes were judged: those of a binary proof, and not of its text.
     pub length: usize,
 }
 
@@ -157,15 +157,17 @@ impl<'c> Examiner<'c> {
     }
 
     /// Judges a part of a text as the proof of a target of the case's tree that has no section
-    /// there: up to the text's next label line, or up to its end. There the text stands then. It is
-    /// judged as a text, and never as a binary proof.
+    /// there: lines that were taken of it before, and what is behind them up to the text's next
+    /// label line, or up to its end. There the text stands then. It is judged as a text, and never
+    /// as a binary proof.
     ///
-    /// `Device` where a read failed, `Memory` where a growth was refused, or the lines are too many
-    /// to be counted.
+    /// `Device` where a read failed, `Memory` where a growth was refused, or the bytes or lines are
+    /// too many to be counted.
     pub fn examine_part<S: Source>(
         &mut self,
         alloc: Global,
         target: Target,
+        front: &[u8],
         text: &mut LabelledText,
         source: &mut S,
     ) -> Result<ReadFinding<'c>, DeviceFault>
@@ -173,8 +175,8 @@ impl<'c> Examiner<'c> {
         requires none { proof_for self.old.sections target ≡ None }
         // One more failed read can be counted.
         requires count { S.failures source.old < 2 ^ 64 - 1 }
-        // It is what is found by that part, behind which the text goes on.
-        ensures read { IfOk result (IsPartRead self.old target text.old text.new
+        // It is what is found by those lines and that part, behind which the text goes on.
+        ensures read { IfOk result (IsPartRead self.old target front.now text.old text.new
             (S.remaining source.old) (S.remaining source.new)) }
         ensures same { self.new ≡ self.old }
         ensures ok { OnOk result (S.failures source.new ≡ S.failures source.old) }
@@ -183,10 +185,39 @@ impl<'c> Examiner<'c> {
     {
         let asked = target;
         begin_proof(alloc, self.case, &mut self.judging, asked)?;
+        self.judging.more(alloc, front)?;
         let read = read_lines(alloc, &mut self.judging, text, source)?;
+        let Some(length) = read.length.checked_add(front.len()) else {
+            return Err(DeviceFault::Memory);
+        };
         Ok(ReadFinding {
             finding: finding_beside(self.case, target, read.judged),
-            length: read.length,
+            length,
+        })
+    }
+
+    /// Judges a text in memory as the proof of a target of the case's tree that has no section
+    /// there, and never as a binary proof. `AllocError` where a growth was refused.
+    pub fn examine_text(
+        &mut self,
+        alloc: Global,
+        target: Target,
+        text: &[u8],
+    ) -> Result<ReadFinding<'c>, AllocError>
+        requires target { HasTarget self.old.tree target }
+        requires none { proof_for self.old.sections target ≡ None }
+        // It is what is found by that text.
+        ensures read { IfOk result (λ read. (read.finding.case.now ≡ self.old)
+            × (target_of read.finding.leaf read.finding.node ≡ target)
+            × (length text.now ≡ read.length)
+            × IsFoundBy self.old target text.now read.finding.judged) }
+        ensures same { self.new ≡ self.old }
+    {
+        let asked = target;
+        let judged = self.judge_proof(alloc, asked, text)?;
+        Ok(ReadFinding {
+            finding: finding_beside(self.case, target, judged),
+            length: text.len(),
         })
     }
 

@@ -10,6 +10,15 @@ use cnf_text::tokens::split_line;
 use std::alloc::{AllocError, Global};
 use std::marker::Model;
 
+/// Lines that were taken of a text.
+#[derive(Drop)]
+pub struct TakenLines {
+    /// The lines.
+    pub lines: Vec<u8>,
+    /// They are all up to the text's next label line, or up to its end.
+    pub is_part: bool,
+}
+
 /// A text that is read once, in blocks of whole lines, and stands at its label lines. A caller hands
 /// the source to each call.
 pub struct LabelledText {
@@ -56,7 +65,7 @@ impl LabelledText {
     ghost use Rattle.byte_flow.specs.Device.{IsDeviceFault};
     ghost use Rattle.case_core.specs.Inner.Bundle.{HasNoLabel};
     ghost use Rattle.case_core.specs.Inner.Labelled.{HasAdvanced};
-    ghost use Rattle.case_core.specs.Labelled.{IsLabelTaken, IsPart, fresh_text};
+    ghost use Rattle.case_core.specs.Labelled.{IsFront, IsLabelTaken, IsPart, fresh_text};
 
     /// A text of which nothing was read yet. An error is a refused growth.
     pub fn new(alloc: Global) -> Result<LabelledText, AllocError>
@@ -169,11 +178,47 @@ impl LabelledText {
         ensures err { IfErr result
             (λ fault. IsDeviceFault (S.failures source.old) (S.failures source.new) fault) }
     {
-        let mut front = Vec::new(alloc);
+        let TakenLines { lines, is_part } = self.front_within(alloc, source, usize::MAX)?;
+        // (no lines in memory are more than so many bytes)
+        if !is_part {
+            unreachable!()
+        }
+        Ok(lines)
+    }
+
+    /// The lines of the text up to its next label line, or up to its end: there it stands then. If
+    /// they don't end with the block that makes them more than `most` bytes, it is only what they
+    /// begin with, up to that block's end, and the text goes on behind it.
+    ///
+    /// `Device` where a read failed, `Memory` where a growth was refused, or the lines are too many
+    /// to be counted.
+    pub fn front_within<S: Source>(
+        &mut self,
+        alloc: Global,
+        source: &mut S,
+        most: usize,
+    ) -> Result<TakenLines, DeviceFault>
+        requires { S.failures source.old < 2 ^ 64 - 1 }
+        ensures taken { IfOk result (λ taken. IsFront self.old self.new (S.remaining source.old)
+            (S.remaining source.new) most taken.lines.items taken.is_part) }
+        ensures ok { OnOk result (S.failures source.new ≡ S.failures source.old) }
+        ensures err { IfErr result
+            (λ fault. IsDeviceFault (S.failures source.old) (S.failures source.new) fault) }
+    {
+        let mut lines = Vec::new(alloc);
         loop {
-            front.extend_from_slice(self.ready())?;
+            lines.extend_from_slice(self.ready())?;
             if !self.advance(source)? {
-                return Ok(front);
+                return Ok(TakenLines {
+                    lines,
+                    is_part: true,
+                });
+            }
+            if lines.len() > most {
+                return Ok(TakenLines {
+                    lines,
+                    is_part: false,
+                });
             }
         }
     }

@@ -28,7 +28,7 @@ pub use fault::CaseFault;
 pub use finding::Finding;
 pub use hint_check::{Judged, Reason};
 pub use label_line::LabelLine;
-pub use labelled::LabelledText;
+pub use labelled::{LabelledText, TakenLines};
 pub use laws::{
     case_or_a_fault, no_fault_beside_a_case, no_label_in_a_binary_proof, one_case, one_fault,
 };

@@ -1,13 +1,12 @@
 -- What a worker without a crew begins with, and what it posts.
-use Rattle.std.proofs.Common.{◌≡◌, ◌∙◌, ℕ, List, Option, None, ap, subst, sym}
+use Rattle.std.proofs.Common.{◌≡◌, ◌∙◌, ℕ, List, None, ap, subst, sym}
 use Rattle.std.specs.Prelude.{slice_set}
 use Rattle.case_core.specs.Case.{CaseOf}
 use Rattle.case_core.specs.Finding.{IsFoundBy, target_of}
 use Rattle.case_core.specs.Form.{proof_left}
-use Rattle.case_core.specs.Labelled.{LabelledOf}
 use Rattle.case_core.specs.Leaves.{IsTargetAt}
 use Rattle.case_core.specs.ProofForm.{ProofForm}
-use Rattle.case_core.specs.Reading.{IsPartRead, IsReadProof}
+use Rattle.case_core.specs.Reading.{IsReadProof}
 use Rattle.case_core.specs.Target.{Target}
 use Rattle.case_core.specs.declared.examiner.ReadFinding.{ReadFinding}
 use Rattle.case_core.specs.declared.examiner.ReadProof.TheVariants.{Found}
@@ -22,7 +21,7 @@ use Rattle.board_hall.specs.declared.pass.Pass.{Pass}
 use Rattle.board_hall.specs.declared.view.CutCase.{CutCase}
 use Rattle.board_hall.specs.declared.view.Proofs.TheVariants.{Elsewhere}
 use Rattle.board_hall.specs.declared.view.View.{View}
-use Rattle.check_crew.specs.One.{IsFoundOn, IsPartPosted, IsProofPosted}
+use Rattle.check_crew.specs.One.{IsFoundOn, IsProofPosted}
 use Rattle.check_crew.specs.Inner.One.{IsAtWork}
 
 pub new_at_work : (case : CaseOf) (cut : ℕ) (examiner : CaseOf) (boards : BoardsOf) (hall : Hall)
@@ -61,20 +60,6 @@ found_on old new target text finding of_case of_target found marks = record {
       (sym of_case)
       (subst (λ (t : Target). IsTargetAt old.case.tree other t) (sym of_target) at));
   marks = marks;
-}
-
-pub part_posted : (old new : BoardsOf) (examiner : CaseOf) (target : Target)
-    (before after : LabelledOf) (left rest : Option (List ℕ)) (read : ReadFinding)
-    → IsPartRead examiner target before after left rest read → examiner ≡ old.case
-    → new.marks ≡ slice_set old.marks read.finding.node (mark_as read.finding.judged)
-    → IsPartPosted old new target before after left rest
-part_posted old new examiner target before after left rest read is same marks = record {
-  bytes = is.bytes;
-  part = is.part;
-  found =
-      found_on old new target is.bytes read.finding (is.of_case ∙ same) is.of_target
-      (subst (λ (k : CaseOf). IsFoundBy k target is.bytes read.finding.judged) same is.found)
-      marks;
 }
 
 pub proof_posted : (old new : BoardsOf) (examiner : CaseOf) (target : Target)

@@ -3,3 +3,5 @@ pub mod Order
 pub mod Crew
 pub mod Apart
 pub mod One
+pub mod Handed
+pub mod WhileRead

@@ -4,7 +4,6 @@ use Rattle.case_core.specs.Bundle.{labels_of}
 use Rattle.case_core.specs.Finding.{IsFoundBy}
 use Rattle.case_core.specs.Form.{proof_left}
 use Rattle.case_core.specs.Judged.{Judged}
-use Rattle.case_core.specs.Labelled.{IsPart, LabelledOf}
 use Rattle.case_core.specs.Leaves.{IsTargetAt}
 use Rattle.case_core.specs.Reading.{IsFirstLabel}
 use Rattle.case_core.specs.Target.{Target}
@@ -21,13 +20,6 @@ pub record IsFoundOn (old new : BoardsOf) (target : Target) (text : List ℕ) : 
   pub here : IsTargetAt old.case.tree node target
   pub only : (other : ℕ) → IsTargetAt old.case.tree other target → other ≡ node
   pub marks : new.marks ≡ slice_set old.marks node (mark_as judged)
-
--- so it is by a part of a text: all up to its next label line, or up to its end
-pub record IsPartPosted (old new : BoardsOf) (target : Target) (before after : LabelledOf)
-    (left rest : Option (List ℕ)) : Type 0 where
-  pub bytes : List ℕ
-  pub part : IsPart before after left rest bytes
-  pub found : IsFoundOn old new target bytes
 
 -- so it is by a whole proof with these bytes, in which no line is a label line; or it has label
 -- lines, this is the first of them, and nothing is posted

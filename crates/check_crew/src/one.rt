@@ -8,7 +8,7 @@ ghost use Rattle.case_core.specs.Leaves.{HasTarget, IsTargetAt};
 ghost use Rattle.case_core.specs.SplitTree.{size};
 ghost use Rattle.mark_board.specs.Marking.{mark_at};
 ghost use Rattle.mark_board.specs.declared.mark.Mark.TheVariants.{Open};
-ghost use Rattle.check_crew.specs.One.{IsPartPosted, IsProofPosted};
+ghost use Rattle.check_crew.specs.One.{IsProofPosted};
 ghost use Rattle.check_crew.specs.Inner.One.{IsPosted};
 
 use crate::gate::Gate;
@@ -16,9 +16,7 @@ use crate::settings::Settings;
 use crate::worker::{JudgedProof, post, tell};
 use board_hall::{Hall, Pass};
 use byte_flow::{DeviceFault, Source};
-use case_core::{
-    Case, Examiner, LabelLine, LabelledText, ProofForm, ReadFinding, ReadProof, Target,
-};
+use case_core::{Case, Examiner, LabelLine, ProofForm, ReadFinding, ReadProof, Target};
 use mark_board::{Boards, Mark};
 use std::alloc::{AllocError, Global};
 use std::marker::Model;
@@ -99,42 +97,6 @@ impl<'c> OneWorker<'c> {
             → IsTrue result ↔ (mark_at self.now.marks node ≡ Open) }
     {
         matches!(self.boards.mark_of(target), Mark::Open)
-    }
-
-    /// Judges the part of a text up to its next label line, or its end, as the proof of a target
-    /// that has no section in the case, and of which nothing is posted; and posts what is found.
-    /// `gate` is called before and after it, as by worker 0.
-    ///
-    /// `Device` where a read failed, `Memory` where a growth was refused. Then nothing is posted.
-    pub fn read_part<R: Wait, G: Gate, S: Source>(
-        &mut self,
-        rt: &R,
-        alloc: Global,
-        gate: &G,
-        target: Target,
-        text: &mut LabelledText,
-        source: &mut S,
-    ) -> Result<(), DeviceFault>
-        requires target { HasTarget self.old.case.tree target }
-        requires none { proof_for self.old.case.sections target ≡ None }
-        requires open { (node : ℕ) → IsTargetAt self.old.case.tree node target
-            → mark_at self.old.marks node ≡ Open }
-        // One more failed read can be counted.
-        requires count { S.failures source.old < 2 ^ 64 - 1 }
-        // The target has the mark of that part's judgement, and each other one the mark that it had.
-        ensures posted { OnOk result (IsPartPosted self.old self.new target text.old text.new
-            (S.remaining source.old) (S.remaining source.new)) }
-        // They stay the boards of that case and cut.
-        ensures same { (self.new.case ≡ self.old.case) × (self.new.cut ≡ self.old.cut) }
-        ensures ok { OnOk result (S.failures source.new ≡ S.failures source.old) }
-        ensures err { IfErr result
-            (λ fault. IsDeviceFault (S.failures source.old) (S.failures source.new) fault) }
-    {
-        let announced = target;
-        gate.before(0, announced);
-        let read = self.examiner.examine_part(alloc, target, text, source)?;
-        self.post(rt, gate, read);
-        Ok(())
     }
 
     /// Judges the proof that a source gives up to its end, as `Examiner::examine_read` does, for a

@@ -7,7 +7,7 @@ use Rattle.case_core.specs.Binary.{proof_text}
 use Rattle.case_core.specs.Case.{CaseOf}
 use Rattle.case_core.specs.Sections.{IsCaseOf}
 use Rattle.cube_report.specs.Bundle.{icnf_text}
-use Rattle.cube_report.specs.Correct.{IsOutcome, IsUnsatisfiable}
+use Rattle.cube_report.specs.Correct.{IsUnsatisfiable}
 use Rattle.cube_report.specs.Faults.{IsInputFault}
 use Rattle.cube_report.specs.declared.fault.Fault.{Fault}
 use Rattle.bundle_files.specs.Files.{Held, IsTextAt, lies_in}

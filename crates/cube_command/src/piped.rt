@@ -1,14 +1,14 @@
 //! The bundle of the program's input, which is judged while it is read.
 
 ghost use Rattle.std.specs.Prelude.{◌≡◌, ◌<◌, ◌^◌, ◌-◌, IfOk, IfErr, IfSome, OnOk, None};
-ghost use Rattle.std.specs.Prelude.{true};
+ghost use Rattle.std.specs.Prelude.{true, false};
 ghost use Rattle.std.specs.Bool.{OnTrue};
 ghost use Rattle.command_words.specs.Request.{asked_in};
 ghost use Rattle.cube_report.specs.Faults.{IsInputFault};
 ghost use Rattle.bundle_files.specs.Files.{Held};
 ghost use Rattle.bundle_files.specs.Judging.{IsJudgingFault};
 ghost use Rattle.cube_command.specs.Program.{IsRefusedFrom};
-ghost use Rattle.cube_command.specs.Inner.Recorded.{IsInputRefuted, IsRecordedFrom};
+ghost use Rattle.cube_command.specs.Inner.Recorded.{IsInputHeld, IsInputRefuted, IsRecordedFrom};
 
 use crate::program::Recorded;
 use crate::record::{begin_record, end_record};
@@ -17,11 +17,11 @@ use command_words::Request;
 use cube_report::{Fault, Gate, Source};
 use std::alloc::Global;
 use std::sync::Wait;
+use std::thread::Threads;
 
 /// What is said of the bundle of the input, and the record of it where a file for that is asked
-/// for: it is judged while it is read, by the one worker. `None` where there are several workers,
-/// or it isn't the input alone that is judged, or its text is kept to tell of it. Then nothing was
-/// read of it.
+/// for: it is judged while it is read. `None` where it isn't the input alone that is judged, or its
+/// text is kept to tell of it. Then nothing was read of it.
 pub(crate) fn judge_input<R, I, G>(
     rt: &R,
     request: &Request<'_>,
@@ -29,9 +29,9 @@ pub(crate) fn judge_input<R, I, G>(
     gate: &G,
 ) -> Result<Option<Recorded>, Fault>
 where
-    R: AllocGlobal + Wait,
+    R: AllocGlobal + Threads + Wait + Sync,
     I: Source,
-    G: Gate,
+    G: Gate + Sync,
     requires count { I.failures input.old < 2 ^ 64 - 1 }
     ensures made { IfOk result (λ some. IfSome some (λ made. (held : Held) → IsRecordedFrom held
         (asked_in request.now) (I.remaining input.old) made.outcome.text.items
@@ -41,6 +41,7 @@ where
     ensures fault { IfErr result (λ fault. IsInputFault fault → (held : Held)
         → IsRefusedFrom held (asked_in request.now) (I.remaining input.old) fault) }
     ensures unread { IfOk result (λ some. some ≡ None → input.new ≡ input.old) }
+    ensures none { IfOk result (λ some. some ≡ None → IsInputHeld request.now) }
     ensures ok { OnOk result (I.failures input.new ≡ I.failures input.old) }
     ensures err { IfErr result (IsJudgingFault (I.failures input.old) (I.failures input.new)) }
 {
@@ -50,13 +51,13 @@ where
     Ok(Some(judge_once(rt, request, input, gate)?))
 }
 
-/// Whether the input alone is judged, by one worker, and nothing is told for which its text is kept.
+/// Whether the input alone is judged, and nothing is told for which its text is kept.
 fn is_read_once(request: &Request<'_>) -> bool
-    ensures { OnTrue result (((asked_in request.now).formula ≡ None)
+    ensures held { result ≡ false → IsInputHeld request.now }
+    ensures alone { OnTrue result (((asked_in request.now).formula ≡ None)
         × ((asked_in request.now).file ≡ None) × ((asked_in request.now).folder ≡ None)) }
 {
-    request.settings.workers() == 1
-        && !request.explain
+    !request.explain
         && request.formula.is_none()
         && request.file.is_none()
         && request.proofs.is_none()
@@ -70,9 +71,9 @@ fn judge_once<R, I, G>(
     gate: &G,
 ) -> Result<Recorded, Fault>
 where
-    R: AllocGlobal + Wait,
+    R: AllocGlobal + Threads + Wait + Sync,
     I: Source,
-    G: Gate,
+    G: Gate + Sync,
     requires count { I.failures input.old < 2 ^ 64 - 1 }
     requires alone { ((asked_in request.now).formula ≡ None)
         × ((asked_in request.now).file ≡ None) × ((asked_in request.now).folder ≡ None) }

@@ -45,7 +45,8 @@ use std::thread::Threads;
 /// CNF] [--proof LRAT] [--proofs DIR] [--progress] [--explain] [--list-open] [--map SVG] [--record
 /// OUT] [--log LOG] [FILE]`. It reads a bundle from FILE, or from `input` where there is none, and
 /// writes the report to `output` or, where there is no report, one line to `errors`. Files are
-/// found by `store`. Both writers have to write at once, without a buffer of their own.
+/// found by `store`. Both writers have to write at once, without a buffer of their own. A bundle of
+/// `input` is judged while it is read, unless `--formula`, `--proofs` or `--explain` is there.
 ///
 /// With `--formula CNF` the clauses come from that file, a DIMACS text, and FILE adds cubes and
 /// sections, and no clause: the bundle is that text with its problem line overwritten by `p inccnf`
@@ -476,7 +477,7 @@ where
 
 /// The same with cubes and their proofs. Where the bundle is a file's, no folder adds proofs to it
 /// and nothing is told of it, its proofs are read one by one from their places; that of the input
-/// is judged by one worker while it is read; else all of it is read first.
+/// is judged while it is read; else all of it is read first.
 fn judge_cubes<R, D, I, G, X>(
     rt: &R,
     store: &mut D,

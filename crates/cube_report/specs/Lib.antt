@@ -13,6 +13,8 @@ pub use Rattle.case_core.specs.Literal
 pub use Rattle.check_crew.specs.Halls
 pub use Rattle.check_crew.specs.One
 pub use Rattle.check_crew.specs.Seen
+pub use Rattle.check_crew.specs.WhileRead
+pub use Rattle.check_crew.specs.declared.fault.ReadFault
 pub use Rattle.mark_board.specs.declared.mark.Mark
 pub use Rattle.split_tree.specs.Leaves
 pub use Rattle.split_tree.specs.Parts

@@ -2,7 +2,7 @@
 
 use byte_flow::DeviceFault;
 use case_core::{CaseFault, DimacsFault};
-use check_crew::CrewFault;
+use check_crew::{CrewFault, ReadFault};
 use std::alloc::{AllocError, AllocFailed};
 use std::error::Error;
 use std::fmt;
@@ -252,6 +252,21 @@ impl From<CrewFault> for Fault {
         match fault {
             CrewFault::Memory => Fault::Memory,
             CrewFault::Thread => Fault::Thread,
+        }
+    }
+}
+
+impl From<ReadFault> for Fault {
+    ghost use Rattle.std.specs.Prelude.{◌≡◌};
+    ghost use Rattle.cube_report.specs.Faults.{fault_of_read};
+
+    ghost from_gives = { λ fault told. told ≡ fault_of_read fault };
+
+    fn from(fault: ReadFault) -> Fault {
+        match fault {
+            ReadFault::Case(fault) => Fault::from(fault),
+            ReadFault::Device(fault) => Fault::from(fault),
+            ReadFault::Thread => Fault::Thread,
         }
     }
 }

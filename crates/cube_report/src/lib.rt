@@ -10,7 +10,8 @@ mod report;
 pub use byte_flow::{Counted, DeviceFault, Sink, Source, read_all, read_to_end, write_all};
 pub use case_core::{Case, Judged, Leaf, NodeId, Target, Tree, icnf_part};
 pub use check_crew::{
-    Elsewhere, Found, Gate, NoGate, OneWorker, Settings, TargetProofs, conquer_elsewhere,
+    Elsewhere, Found, Gate, NoGate, OneWorker, ReadFault, Settings, TargetProofs,
+    conquer_elsewhere, conquer_while_read,
 };
 pub use engine::{
     Outcome, judge_apart, judge_bundle, run, run_io, run_one, write_report, written_by,

@@ -20,6 +20,8 @@ mod judging_tests;
 #[cfg(test)]
 mod label_line_tests;
 #[cfg(test)]
+mod labelled_tests;
+#[cfg(test)]
 mod literals;
 #[cfg(test)]
 mod lrat_text_tests;

@@ -49,10 +49,3 @@ pub record HasAdvanced (old new : LabelledOf) (before after : Option (List ℕ))
   pub some : more ≡ true → new.ready ≢ []
   pub none : more ≡ false → new.ready ≡ []
   pub stands : more ≡ false → Stands old.ready new
-
--- a text went on behind these bytes, which are whole lines, and none of them is a label line
-pub record HasFront (old new : LabelledOf) (before after : Option (List ℕ)) (bytes : List ℕ)
-    : Type 0 where
-  pub passed : HasPassed old new before after bytes
-  pub plain : HasNoLabel bytes
-  pub whole : AreWholeLines bytes

@@ -9,10 +9,9 @@ use Rattle.lrat_binary.specs.declared.form.ProofForm.{ProofForm}
 use Rattle.split_tree.specs.declared.node.Target.{Target}
 use Rattle.case_core.specs.Bundle.{labels_of}
 use Rattle.case_core.specs.Case.{CaseOf}
-use Rattle.case_core.specs.Labelled.{IsPart, LabelledOf}
+use Rattle.case_core.specs.Labelled.{HasFront, IsPart, LabelledOf}
 use Rattle.case_core.specs.Reading.{IsFirstLabel}
 use Rattle.case_core.specs.Inner.Finding.{IsJudgement}
-use Rattle.case_core.specs.Inner.Labelled.{HasFront}
 use Rattle.case_core.specs.declared.reading.JudgedText.{JudgedText}
 use Rattle.case_core.specs.declared.reading.ReadText.{ReadText}
 use Rattle.case_core.specs.declared.reading.ReadText.TheVariants.{Judged, Labelled}

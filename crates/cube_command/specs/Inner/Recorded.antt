@@ -1,5 +1,8 @@
 -- What is said of the bundle that is asked for, before it is written.
-use Rattle.std.specs.Prelude.{◌≡◌, ℕ, Bool, List, ◌++◌, codes, Option, None, Some, is_some}
+use Rattle.std.specs.Prelude.{◌≡◌, ◌≢◌, ◌⊎◌, ℕ, Bool, true, List, ◌++◌, codes, Option, None, Some}
+use Rattle.std.specs.Prelude.{is_some}
+use Rattle.command_words.specs.Request.{asked_in}
+use Rattle.command_words.specs.declared.words.Request.{Request}
 use Rattle.case_core.specs.Binary.{proof_text}
 use Rattle.bundle_files.specs.Files.{Held}
 use Rattle.bundle_files.specs.Formula.{IsBundleOf, IsReadBy}
@@ -39,6 +42,13 @@ pub record IsRecordedWith (gives : List ℕ → Type 0) (asked : Asked) (bundle 
       (is_some asked.picture) report map answer
   pub recorded : (out : List ℕ) → asked.out ≡ Some out
       → made ≡ record_text (bundle ++ (codes "\nl 1\n" ++ proof_text bytes)) report
+
+-- the text of the input is kept: another text is judged, too, or in its place, or something is told
+-- of what was read
+abbrev pub IsInputHeld : Request → Type 0
+IsInputHeld request =
+    (request.explain ≡ true) ⊎ ((asked_in request).formula ≢ None)
+    ⊎ ((asked_in request).file ≢ None) ⊎ ((asked_in request).folder ≢ None)
 
 -- the input alone is asked for, and no assignment makes all clauses true of what it had left
 pub record IsInputRefuted (asked : Asked) (input : Option (List ℕ)) : Type 0 where

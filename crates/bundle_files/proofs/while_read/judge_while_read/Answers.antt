@@ -1,10 +1,11 @@
 use Rattle.std.proofs.Common.{refl}
 use Rattle.cube_report.specs.Device.{IsLeft}
-use Rattle.cube_report.specs.Faults.{IsInputFault, fault_of_case}
+use Rattle.cube_report.specs.Faults.{IsInputFault, fault_of_case, fault_of_read}
 use Rattle.cube_report.proofs.CorrectReports.{told}
+use Rattle.bundle_files.specs.Judging.{IsJudgingFault}
 use Rattle.bundle_files.specs.WhileRead.{IsRefusedBy}
 use Rattle.bundle_files.proofs.JudgingFaults.{told_memory}
-use Rattle.bundle_files.proofs.WhileRead.{front_refused, run_behind}
+use Rattle.bundle_files.proofs.WhileRead.{front_refused, read_judging, read_refused, run_behind}
 use Rattle.bundle_files.proofs.while_read.judge_while_read.Goals as goal
 
 pub returns-in_err-case-clause-fault : goal.returns-in_err-case-clause-fault
@@ -17,10 +18,22 @@ returns-in_err-case-clause-fault g c = λ given front.
 
 pub returns-in_err-boards-clause-fault : goal.returns-in_err-boards-clause-fault
 returns-in_err-boards-clause-fault g c = λ given front.
+    let kind = c.in_err-boards.field-0.0 in
     told c.from_residual-in_err-boards.result
-    (λ fault. IsInputFault fault → IsRefusedBy (IsLeft given) fault) c.in_err-boards.field-0.0
+    (λ fault. IsInputFault fault → IsRefusedBy (IsLeft given) fault) (fault_of_read kind)
     c.from_residual-in_err-boards.ensures.1
-    (c.in_err-boards.ensures.fault given c.args.front.icnf.items c.in_ok-case.ensures.ok front)
+    (read_refused given kind
+    (c.in_err-boards.ensures.refused c.args.front.icnf.items given c.in_ok-case.ensures.ok front))
+
+pub returns-in_err-boards-clause-err : goal.returns-in_err-boards-clause-err
+returns-in_err-boards-clause-err g c =
+    let kind = c.in_err-boards.field-0.0 in
+    told c.from_residual-in_err-boards.result
+    (IsJudgingFault (g.S.Source.failures c.args.source.now)
+    (g.S.Source.failures c.conquer_while_read.new.source)) (fault_of_read kind)
+    c.from_residual-in_err-boards.ensures.1
+    (read_judging kind (g.S.Source.failures c.args.source.now)
+    (g.S.Source.failures c.conquer_while_read.new.source) c.in_err-boards.ensures.err)
 
 pub returns-in_err-written_by-clause-fault : goal.returns-in_err-written_by-clause-fault
 returns-in_err-written_by-clause-fault g c = λ given front.
@@ -32,5 +45,5 @@ returns-clause-outcome g c = λ given front.
     run_behind c.in_ok-boards.boards c.args.front.icnf.items given c.args.draws
     c.in_ok-written_by.field-0.text.items c.in_ok-written_by.field-0.map.items
     c.in_ok-written_by.field-0.refuted
-    (c.in_ok-boards.ensures.boards given c.args.front.icnf.items c.in_ok-case.ensures.ok front)
+    (c.in_ok-boards.ensures.boards c.args.front.icnf.items given c.in_ok-case.ensures.ok front)
     c.in_ok-written_by.ensures

@@ -9,7 +9,7 @@ use Rattle.cube_command.proofs.ProgramRuns.{some_mapped}
 use Rattle.cube_command.proofs.piped.judge_once.Goals as goal
 
 pub judge_while_read-requires-clause-front : goal.judge_while_read-requires-clause-front
-judge_while_read-requires-clause-front g c =
+judge_while_read-requires-clause-front g c = λ κs within.
     (g.I.Source.remaining c.args.input.now, c.in_ok-front.ensures.front)
 
 pub returns-in_err-outcome-clause-fault : goal.returns-in_err-outcome-clause-fault

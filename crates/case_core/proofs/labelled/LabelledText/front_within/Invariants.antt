@@ -1,0 +1,13 @@
+use Rattle.std.proofs.Common.{◌≡◌, ◌+◌, ◌-◌, ◌^◌, length}
+use Rattle.case_core.specs.Labelled.{HasFront}
+use Rattle.case_core.proofs.labelled.LabelledText.front_within.Given as goal
+
+abbrev pub invariant-loop-lines : goal.invariant-loop-lines
+invariant-loop-lines g l = record {
+  count : g.S.Source.failures l.source ≡ g.S.Source.failures l.initial.source;
+  read : HasFront l.initial.self l.self (g.S.Source.remaining l.initial.source)
+      (g.S.Source.remaining l.source) l.lines.items;
+}
+
+abbrev pub decreases-loop-lines : goal.decreases-loop-lines
+decreases-loop-lines g l = 2 ^ 65 - (length l.lines.items + length l.self.ready)

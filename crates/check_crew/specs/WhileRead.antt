@@ -1,0 +1,38 @@
+-- What a run over a bundle that is read once promises.
+use Rattle.std.specs.Prelude.{◌≡◌, ◌≢◌, ℕ, List, Option}
+use Rattle.byte_flow.specs.Device.{IsDeviceFault, IsLeft}
+use Rattle.byte_flow.specs.declared.fault.DeviceFault.TheVariants as flow
+use Rattle.case_core.specs.Bundle.{icnf_text}
+use Rattle.case_core.specs.Sections.{IsFaultOf}
+use Rattle.case_core.specs.declared.fault.CaseFault.TheVariants.{Memory}
+use Rattle.mark_board.specs.Boards.{BoardsOf}
+use Rattle.proof_folder.specs.Given.{IsJudgedAs}
+use Rattle.check_crew.specs.declared.fault.CrewFault.{CrewFault}
+use Rattle.check_crew.specs.declared.fault.CrewFault.TheVariants as crew
+use Rattle.check_crew.specs.declared.fault.ReadFault.{ReadFault}
+use Rattle.check_crew.specs.declared.fault.ReadFault.TheVariants.{Case, Device, Thread}
+
+-- the boards have the marks of the bundle that was given, which has this iCNF text
+pub record IsAllRead (boards : BoardsOf) (icnf : List ℕ) (given : Option (List ℕ)) : Type 0 where
+  pub bundle : List ℕ
+  pub is_given : IsLeft given bundle
+  pub front : icnf_text bundle ≡ icnf
+  pub judged : IsJudgedAs bundle boards.case boards.marks
+
+-- a fault of the crew, as one of such a run
+abbrev pub read_fault : CrewFault → ReadFault
+read_fault crew.Memory = Device flow.Memory
+read_fault crew.Thread = Thread
+
+-- a fault of a label line is the first one of the bundle that was given
+abbrev pub IsReadRefused : Option (List ℕ) → ReadFault → Type 0
+IsReadRefused given (Case fault) =
+    (bundle : List ℕ) × IsLeft given bundle × (fault ≢ Memory → IsFaultOf bundle fault)
+IsReadRefused given (Device fault) = Unit {0}
+IsReadRefused given Thread = Unit {0}
+
+-- the device is at fault with one more failed read, and each other fault comes without
+abbrev pub IsReadFault : ℕ → ℕ → ReadFault → Type 0
+IsReadFault before after (Case fault) = after ≡ before
+IsReadFault before after (Device fault) = IsDeviceFault before after fault
+IsReadFault before after Thread = after ≡ before
