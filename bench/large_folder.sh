@@ -1,11 +1,11 @@
 #!/bin/bash
 # large_folder.sh PROGRAM [GIGABYTES=2] [PROOFS=4096] [rising]
 # Runs PROGRAM with four workers on a folder of so many proofs, a power of two, that are so many
-# gigabytes in all, then on one bundle of the same proofs in a file, and with one worker on that bundle
-# through a pipe, and says how much memory each took; on one proof also by `--formula` and `--proof`,
-# from a file and through a pipe. With
-# `rising` the ids of a proof rise, beside old clauses that stay. The status is 1 if a run took more
-# than 16 MB and a thousand bytes for each leaf, or if a report isn't that all leaves are refuted.
+# gigabytes in all, then on one bundle of the same proofs in a file, and on that bundle through a pipe,
+# with four workers and with one, and says how much memory each took; on one proof also by `--formula`
+# and `--proof`, from a file and through a pipe. With `rising` the ids of a proof rise, beside old
+# clauses that stay. The status is 1 if a run took more than 16 MB and a thousand bytes for each leaf,
+# or more than 64 MB with four workers through a pipe, or if a report isn't that all leaves are refuted.
 # What is made is in TMPDIR (/tmp), where there has to be room for twice the proofs, and removed.
 set -eu
 program=$(realpath "${1:?a program}")
@@ -61,7 +61,7 @@ measure "a folder" --proofs "$folder/proofs" "$folder/case.icnf" < /dev/null
     done
 } > "$folder/bundle.icnf"
 measure "a file" "$folder/bundle.icnf" < /dev/null
-measure "standard input" < <(cat "$folder/bundle.icnf")
+limit=64 measure "standard input" < <(cat "$folder/bundle.icnf")
 workers=1 measure "standard input, one worker," < <(cat "$folder/bundle.icnf")
 if [ "$proofs" -eq 1 ]; then
     awk '/^[ap]/ {next}

@@ -46,12 +46,11 @@ Let the program end with status 0. Then the formula that it has by one reading o
 The same holds of the DIMACS text that one reading of CNF gave (`handed`). The clauses above say this of files of which
 it is known what they hold. This one needs no such knowledge, and a path may hold another text at each reading. `hands`
 is a relation of the store: which texts the readings of a path hand over. `command` is proved for each store and each
-such relation that holds of what `read` and `outline` answer. The code of a store does not depend on it. So take for it,
-for the built program and one call, exactly the texts that its readings of each path gave. Proofs of leaves have no part
+such relation that holds of what the files that it opens give up to their ends. The code of a store does not depend on
+it. So take for it, for the built program and one call, exactly the texts that its readings of each path gave. Proofs of leaves have no part
 in it: they may be read at any time, and are trusted for nothing.""",
      ["cube_command/program.rt command handed",
-      "file_store/store.rt Store::read handed",
-      "file_store/store.rt Store::outline handed"]),
+      "file_store/store.rt Store::open handed"]),
     ("With `--formula` the formula of a published file has no model", """
 Let the program end with status 0, and let `--formula CNF` be asked for. Then the text of that file is a DIMACS text of
 a formula of which no assignment makes all clauses true. What a bundle is, how the file and FILE become one, and what a
@@ -122,7 +121,7 @@ for that. After a report nothing is known to be allowed. That the program's own 
       "cube_report/engine.rt run_io allowed",
       "cube_report/engine.rt write_report allowed",
       "byte_flow/device.rt Sink::write allowed rest",
-      "file_store/store.rt Store::read allowed",
+      "file_store/store.rt Store::open allowed",
       "file_store/store.rt Store::write allowed beside",
       "file_store/store.rt Store::write_counted allowed beside"]),
     ("Reports of several runs, joined: `s REFUTED` means that the formula has no model", """
@@ -160,7 +159,10 @@ run on this bundle promises.""",
       "bundle_files/one_proof.rt judge_proof_of outcome fault unread ok err",
       "bundle_files/one_proof.rt judge_with_proof held outcome fault ok err",
       "file_store/folder.rt add_proofs held whole ok err",
-      "file_store/store.rt Store::read held read ok err",
+      "file_store/store.rt Store::open held lies none ok err",
+      "file_store/store.rt Store::close held failures",
+      "file_store/source.rt append_file held read handed ok err",
+      "file_store/blocks.rt outline_file held outline handed ok err",
       "file_store/store.rt Store::write written elsewhere nothing ok err",
       "file_store/store.rt Store::write_counted written elsewhere ok err failed",
       "file_store/store.rt Store::reader held binary none",

@@ -1,6 +1,7 @@
 #!/bin/sh
 # Runs the built program on one proof of a formula that comes through a pipe: `--proof -` behind a
-# pipe, and `--proof` with a named pipe; and on bundles that come through a pipe, with one worker.
+# pipe, and `--proof` with a named pipe; and on bundles that come through a pipe, with four workers,
+# and through a named pipe in FILE's place, with one.
 # All that is wanted of a proof is made here, by docs/FORMATS.md, and never by the program:
 # - proofs that are right, text and binary, and the same cut behind each of their bytes, as the same
 #   bytes in a file;
@@ -54,22 +55,19 @@ fed() {
     run "$@"
     feed=
 }
-by_pipe() {
-    proof=$1
-    shift
-    fed "$proof" --formula formula.cnf --proof - "$@"
-}
+by_pipe() { fed "$@" --formula formula.cnf --proof -; }
 # (what waits for the program at the named pipe goes on when the program has ended)
-by_fifo() {
-    proof=$1
+named() {
+    text=$1
     shift
-    rm -f "$here/run/proof.pipe"
-    mkfifo "$here/run/proof.pipe"
-    { "$writer" "$proof" > "$here/run/proof.pipe"; } 2> /dev/null &
-    run "$here/none" --formula formula.cnf --proof proof.pipe "$@"
-    : <> "$here/run/proof.pipe"
+    rm -f "$here/run/text.pipe"
+    mkfifo "$here/run/text.pipe"
+    { "$writer" "$text" > "$here/run/text.pipe"; } 2> /dev/null &
+    run "$here/none" "$@"
+    : <> "$here/run/text.pipe"
     wait $!
 }
+by_fifo() { named "$@" --formula formula.cnf --proof text.pipe; }
 
 # The proof in $here/proof by a pipe and by a named pipe, with what is wanted made before: its name,
 # and further words.
@@ -657,15 +655,15 @@ as_a_file() {
     cp "$here/bundle" "$here/run/bundle.icnf" && run "$here/none" "$@" bundle.icnf
     for it in out err status; do cp "$here/$it" "$here/wanted.$it"; done
 }
-# The bundle by a pipe, with one worker and with four: its name, and further words.
+# The bundle by a pipe, and by a named pipe with one worker: its name, and further words.
 bundle() {
     what=$1
     shift
     as_a_file "$@"
-    for workers in 1 4; do
-        fed "$here/bundle" --workers "$workers" "$@"
-        compares "$what, $workers workers"
-    done
+    fed "$here/bundle" "$@"
+    compares "$what, by a pipe"
+    named "$here/bundle" --workers 1 "$@" text.pipe
+    compares "$what, by a named pipe"
 }
 # (what there is of a bundle has to be refuted, or nothing would be tried by it)
 refuted_bundle() {
@@ -743,14 +741,15 @@ done
 cp "$here/whole" "$here/bundle" && cp "$here/bundle" "$here/run/bundle.icnf"
 run "$here/none" --record f.record --map f.svg --log f.log bundle.icnf
 sort "$here/run/f.log" > "$here/lines"
-for workers in 1 4; do
-    fed "$here/bundle" --workers "$workers" --record a.record --map a.svg --log a.log
+for way in fed named; do
+    [ "$way" = fed ] && file= || file=text.pipe
+    "$way" "$here/bundle" --record a.record --map a.svg --log a.log $file
     for file in record svg; do
         cmp -s "$here/run/a.$file" "$here/run/f.$file"
-        count "the $file of a bundle, $workers workers" $?
+        count "the $file of a bundle, $way" $?
     done
     [ -s "$here/lines" ] && sort "$here/run/a.log" | cmp -s - "$here/lines"
-    count "the log of a bundle, $workers workers" $?
+    count "the log of a bundle, $way" $?
 done
 rm -f "$here"/run/[af].*
 # Each read that fails in turn.
@@ -771,7 +770,7 @@ large_bundle() {
     for workers in 1 4; do
         echo none > "$here/peak"
         program=$here/measured
-        fed "$here/proof" --workers "$workers"
+        if [ "$workers" -eq 4 ]; then fed "$here/proof"; else named "$here/proof" --workers 1 text.pipe; fi
         program=$built
         [ "$(tail -n 1 "$here/out" "$here/err" | grep -c -x -e "$2")" -eq 1 ]
         count "$1, $workers workers: $2" $?

@@ -11,8 +11,9 @@ use Rattle.case_core.specs.Sections.{InCubes, InLabels, InText, IsFaultOf}
 use Rattle.case_core.specs.declared.fault.CaseFault.{CaseFault}
 use Rattle.case_core.specs.declared.fault.CaseFault.TheVariants as case
 use Rattle.case_core.specs.declared.fault.CaseFault.TheVariants.{Memory}
+use Rattle.case_core.proofs.ReadingParts.{all_left, left_over, none_over}
 use Rattle.case_core.proofs.SectionsMore.{icnf_same}
-use Rattle.check_crew.proofs.WhileRead.{all_given, left_over, memory_on, none_over}
+use Rattle.check_crew.proofs.WhileRead.{memory_on}
 use Rattle.cube_report.specs.Device.{IsLeft}
 use Rattle.cube_report.specs.DeviceFault.TheVariants as flow
 use Rattle.cube_report.specs.ReadFault.{ReadFault}
@@ -106,7 +107,7 @@ front_refused given left text icnf kind fault part same faulty of_input = by_sta
     by_stands : Stands icnf text → IsRefusedBy (IsLeft given) fault
     by_stands (inl end) =
         refused_by given icnf kind fault same
-        (all_given given left icnf
+        (all_left given left icnf
         (subst (Consumes given left)
         (ap (λ (t : List ℕ). icnf ++ t) end.0 ∙ append-nil icnf) lost) (over end.2)) faulty
         of_input

@@ -25,7 +25,7 @@ use case_core::{
     read_problem, split_line,
 };
 use cube_report::{Fault, Source};
-use file_store::{Store, append_given, read_given};
+use file_store::{Store, append_file, append_given, read_given};
 use std::alloc::Global;
 
 /// A bundle that was read, and its case where that was made on the way.
@@ -110,7 +110,7 @@ pub(crate) fn read_formula<D: Store>(
     ensures err { IfErr result (IsJudgingFault (D.failures store.old) (D.failures store.new)) }
 {
     let mut text = Vec::new(alloc);
-    store.read(path, &mut text)?;
+    append_file(store, path, &mut text)?;
     let problem = read_problem(&text)?;
     overwrite_header(&mut text);
     Ok((text, problem))

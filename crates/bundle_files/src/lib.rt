@@ -14,8 +14,8 @@ mod while_read;
 pub use by_section::judge_by_section;
 pub use file_store::{
     DeviceFault, FileId, FileStore, Inputs, Opener, Outline, OutlinedCase, Part, ProofReader,
-    SectionReader, Spared, Store, Stretch, SystemFiles, TargetProofs, add_proofs, append_given,
-    make_anew, read_given,
+    SectionReader, Spared, Store, Stretch, SystemFiles, TargetProofs, add_proofs, append_file,
+    append_given, make_anew, read_given,
 };
 pub use formula::{ReadBundle, read_from};
 pub use judge::judge_given;

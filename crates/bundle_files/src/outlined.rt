@@ -15,7 +15,7 @@ ghost use Rattle.bundle_files.specs.Inner.Outlined.{IsBegunBy, IsCounted};
 use crate::formula::{check_formula, read_formula};
 use case_core::{Formula, Outline, Problem};
 use cube_report::Fault;
-use file_store::Store;
+use file_store::{Store, outline_file};
 use std::alloc::Global;
 
 /// The outline of the bundle in a file, in which the text of a formula's file may stand before the
@@ -37,8 +37,8 @@ pub struct BundleOutline {
 /// A bundle has to be read whole whose file isn't there, or has no length that can be told, as a
 /// pipe. So it has where the formula's file is like that, or no DIMACS text.
 ///
-/// `Device` where a file is there and can't be read, or the formula's isn't there any more;
-/// `Memory` where a growth was refused.
+/// `Device` where a file that was there can't be read, or isn't there any more; `Memory` where a
+/// growth was refused.
 pub fn outline_bundle<D: Store>(
     alloc: Global,
     store: &mut D,
@@ -67,10 +67,10 @@ pub fn outline_bundle<D: Store>(
     }
     match formula {
         Some(cnf) => match begin_below(alloc, store, cnf)? {
-            Some(begun) => go_on(alloc, store, path, begun),
+            Some(begun) => Ok(Some(go_on(alloc, store, path, begun)?)),
             None => Ok(None),
         },
-        None => go_on(alloc, store, path, BundleOutline::new(alloc)),
+        None => Ok(Some(go_on(alloc, store, path, BundleOutline::new(alloc))?)),
     }
 }
 
@@ -161,21 +161,20 @@ pub fn told_whole<T>(fault: Fault) -> Result<Option<T>, Fault>
     }
 }
 
-/// The outline goes on with the file at this path; `None` where there is none.
+/// The outline goes on with the file at this path, which has to be there.
 fn go_on<D: Store>(
     alloc: Global,
     store: &mut D,
     path: &str,
     begun: BundleOutline,
-) -> Result<Option<BundleOutline>, Fault>
+) -> Result<BundleOutline, Fault>
     requires { D.failures store.old < 2 ^ 64 - 1 }
     ensures held { D.held store.new ≡ D.held store.old }
     ensures allowed { StaysAllowed (D.allows store.old) (D.allows store.new) }
     ensures read { (formula : Option (List ℕ)) → IsBegunBy (lies_in (D.held store.old)) formula begun
-        → IfOk result (λ some. IfSome some
-        (IsOutlinedBy (lies_in (D.held store.old)) formula path.now)) }
+        → IfOk result (IsOutlinedBy (lies_in (D.held store.old)) formula path.now) }
     ensures handed { (formula : Option (List ℕ)) → IsBegunBy D.hands formula begun
-        → IfOk result (λ some. IfSome some (IsOutlinedBy D.hands formula path.now)) }
+        → IfOk result (IsOutlinedBy D.hands formula path.now) }
     ensures fault { IfErr result (λ fault. ¬ IsInputFault fault) }
     ensures ok { OnOk result (D.failures store.new ≡ D.failures store.old) }
     ensures err { IfErr result (IsJudgingFault (D.failures store.old) (D.failures store.new)) }
@@ -185,14 +184,12 @@ fn go_on<D: Store>(
         before,
         said,
     } = begun;
-    match store.outline(alloc, path, outline)? {
-        Some(outline) => Ok(Some(BundleOutline {
-            outline,
-            before,
-            said,
-        })),
-        None => Ok(None),
-    }
+    let outline = outline_file(alloc, store, path, outline)?;
+    Ok(BundleOutline {
+        outline,
+        before,
+        said,
+    })
 }
 
 /// Whether a formula has as many clauses as a problem line says, where there is one.

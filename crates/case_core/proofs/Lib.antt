@@ -9,7 +9,7 @@ pub mod SectionsUniqueCase
 mod SectionsUniqueFault
 mod SectionsTotal
 mod BundleLetters
-mod ReadingParts
+pub mod ReadingParts
 mod BinaryLines
 pub mod BundleMore
 mod ScanLabels

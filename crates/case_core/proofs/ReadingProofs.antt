@@ -35,7 +35,7 @@ use Rattle.case_core.specs.declared.reading.ReadText.TheVariants.{Judged, Labell
 use Rattle.case_core.proofs.BinaryLines.{no_label_in_binary}
 use Rattle.case_core.proofs.LabelFirst.{no_label}
 use Rattle.case_core.proofs.LabelledParts.{front_more, front_none, part_done}
-use Rattle.case_core.proofs.ReadingParts.{all_left}
+use Rattle.case_core.proofs.ReadingParts.{all_left, left_over, none_over}
 
 -- ---- the lines of a text
 
@@ -188,18 +188,7 @@ binary_read opened form first now begun old j handed read left binary lost some 
     same =
         sym (ap (λ (f : ProofForm). proof_left f (begun ++ rest.bytes)) binary) ∙ left rest.bytes
 
--- it is a text: what was read of it, and what its source has left
-left_over : (first now : Option (List ℕ)) (read : List ℕ) → Consumes first now read
-    → IsLeft first (read ++ unwrap_or now [])
-left_over None now read lost = tt
-left_over (Some xs) None read lost = absurd lost
-left_over (Some xs) (Some ys) read lost = sym lost
-
-none_over : (now : Option (List ℕ)) → IsAtEnd now → unwrap_or now [] ≡ []
-none_over None end = refl
-none_over (Some xs) end = end
-
--- it has no label line
+-- it is a text without a label line
 pub text_read : (opened : ProofForm) (first now after : Option (List ℕ)) (begun : List ℕ)
     (text end : LabelledOf) (j : JudgingOf) (read : JudgedText)
     → IsOpenedText opened begun → Consumes first now begun → text ≡ fresh_text begun

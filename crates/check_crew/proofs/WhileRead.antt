@@ -23,6 +23,7 @@ use Rattle.case_core.specs.Tokens.{is_line_end, words}
 use Rattle.case_core.specs.declared.fault.CaseFault.{CaseFault}
 use Rattle.case_core.specs.declared.fault.CaseFault.TheVariants.{Memory}
 use Rattle.case_core.proofs.OutlineLines.{empty_line, plain_text, whole_both}
+use Rattle.case_core.proofs.ReadingParts.{all_left, left_over, none_over}
 use Rattle.case_core.proofs.SectionsMore.{icnf_same}
 use Rattle.mark_board.specs.Boards.{BoardsOf}
 use Rattle.mark_board.specs.declared.mark.Mark.TheVariants.{Open}
@@ -32,24 +33,6 @@ use Rattle.check_crew.specs.Inner.WhileRead.{IsPartPosted, IsPutOut, IsReadOn, K
 use Rattle.check_crew.specs.WhileRead.{IsReadRefused}
 use Rattle.check_crew.specs.declared.fault.ReadFault.TheVariants.{Case}
 use Rattle.check_crew.proofs.WhileReadMarks.{nothing_marked, section_marked, section_out}
-
--- ---- what was given
-
-pub left_over : (given left : Option (List ℕ)) (read : List ℕ) → Consumes given left read
-    → IsLeft given (read ++ unwrap_or left [])
-left_over None left read lost = tt
-left_over (Some xs) None read lost = absurd lost
-left_over (Some xs) (Some ys) read lost = sym lost
-
-pub none_over : (left : Option (List ℕ)) → IsAtEnd left → unwrap_or left [] ≡ []
-none_over None end = refl
-none_over (Some xs) end = end
-
-pub all_given : (given left : Option (List ℕ)) (read : List ℕ) → Consumes given left read
-    → IsAtEnd left → IsLeft given read
-all_given given left read lost end =
-    subst (IsLeft given) (ap (λ (t : List ℕ). read ++ t) (none_over left end) ∙ append-nil read)
-    (left_over given left read lost)
 
 -- ---- label lines
 
@@ -433,7 +416,7 @@ all_read boards out icnf given left text read none = at_end read.stands
     at_end (inl end) = record {
       bundle = read.done;
       is_given =
-          all_given given left read.done
+          all_left given left read.done
           (subst (Consumes given left)
           (ap (λ (t : List ℕ). read.done ++ t) end.0 ∙ append-nil read.done) read.lost)
           (read.over end.2);

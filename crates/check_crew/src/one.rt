@@ -12,8 +12,8 @@ ghost use Rattle.check_crew.specs.One.{IsProofPosted};
 ghost use Rattle.check_crew.specs.Inner.One.{IsPosted};
 
 use crate::gate::Gate;
+use crate::reader::{ReadingSite, post_read};
 use crate::settings::Settings;
-use crate::worker::{JudgedProof, post, tell};
 use board_hall::{Hall, Pass};
 use byte_flow::{DeviceFault, Source};
 use case_core::{Case, Examiner, LabelLine, ProofForm, ReadFinding, ReadProof, Target};
@@ -134,7 +134,7 @@ impl<'c> OneWorker<'c> {
         gate.before(0, announced);
         match self.examiner.examine_read(alloc, target, opened, source)? {
             ReadProof::Found(read) => {
-                self.post(rt, gate, read);
+                self.post(rt, alloc, gate, read);
                 Ok(None)
             }
             ReadProof::Labelled(label) => Ok(Some(label)),
@@ -142,24 +142,22 @@ impl<'c> OneWorker<'c> {
     }
 
     /// Posts what was found of a target of which nothing is posted, and tells the gate.
-    fn post<R: Wait, G: Gate>(&mut self, rt: &R, gate: &G, read: ReadFinding<'c>)
+    fn post<R: Wait, G: Gate>(&mut self, rt: &R, alloc: Global, gate: &G, read: ReadFinding<'c>)
         requires case { read.finding.case.now ≡ self.old.case }
         requires open { mark_at self.old.marks read.finding.node ≡ Open }
         ensures posted { IsPosted self.old self.new read.entry.finding.node
             read.entry.finding.judged }
         ensures same { (self.new.case ≡ self.old.case) × (self.new.cut ≡ self.old.cut) }
     {
-        let ReadFinding { finding, length } = read;
         let case = self.case();
-        let _ = self.boards.post(finding.again());
-        let proof = JudgedProof {
-            target: finding.target(),
-            node: finding.node(),
-            length,
-            judged: finding.judged(),
+        let _ = self.boards.post(read.finding.again());
+        let site = ReadingSite {
+            rt,
+            alloc,
+            case,
+            core: self.hall.core(),
+            gate,
         };
-        if post(rt, case, self.hall.core(), &mut self.pass, finding) {
-            tell(case, self.hall.core(), gate, 0, &mut self.pass, proof);
-        }
+        post_read(site, 0, &mut self.pass, read);
     }
 }

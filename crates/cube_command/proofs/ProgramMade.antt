@@ -22,7 +22,7 @@ use Rattle.cube_command.specs.Headline.{IsFormulaRefuted, IsRefutedFrom}
 use Rattle.cube_command.specs.Record.{digest_line, record_text}
 use Rattle.cube_command.specs.Sources.{sources_of}
 use Rattle.cube_command.specs.Words.{Asked}
-use Rattle.cube_command.specs.Inner.Recorded.{IsInputRefuted, IsRecordedFrom, IsRunRecorded}
+use Rattle.cube_command.specs.Inner.Recorded.{IsRecordedFrom, IsRunRecorded}
 use Rattle.cube_command.specs.declared.program.Recorded.{Recorded}
 use Rattle.cube_command.proofs.ProgramRuns.{bundle_of, whole_record}
 
@@ -54,6 +54,11 @@ pub file_judged : (held : Held) (folder : Option (List ℕ)) (bundle : List ℕ)
 file_judged held folder bundle none =
     subst (λ (f : Option (List ℕ)). IsJudgedOf held f bundle bundle) (sym none) refl
 
+-- the bundle of a file and of a formula's
+abbrev pub reads_at : Held → Option (List ℕ) → List ℕ → List ℕ → Type 0
+reads_at held formula path bundle =
+    (input : Option (List ℕ)) → IsReadBy held formula (Some path) input bundle
+
 -- what is asked for, where the record is that of the bundle
 pub run_recorded : (held : Held) (formula : Option (List ℕ)) (path : List ℕ)
     (outlined : BundleOutline) (asked : Asked) (draws : Bool) (report map icnf : List ℕ)
@@ -64,11 +69,11 @@ pub run_recorded : (held : Held) (formula : Option (List ℕ)) (path : List ℕ)
     → text ≡ report → made ≡ ended
     → ((at : List ℕ) → asked.out ≡ Some at → begun ≡ digest_line icnf)
     → ((at : List ℕ) → asked.out ≡ Some at → ended ≡ begun ++ text)
-    → IsRunRecorded held formula path asked report map answer made
+    → IsRunRecorded (reads_at held formula path) asked report map answer made
 run_recorded held formula path outlined asked draws report map icnf answer begun ended made text run
     by drawn icnf_is same ends first last = record {
       bundle = run.bundle;
-      read = run.read;
+      given = run.read;
       outcome =
           subst (λ (d : Bool). IsOutcome run.bundle d report map answer) drawn run.outcome;
       recorded =
@@ -77,94 +82,105 @@ run_recorded held formula path outlined asked draws report map icnf answer begun
           ∙ sym (run.icnf (by.front ++ by.text) by.outline)) same ends first last;
     }
 
+-- ---- of a bundle that was given so
+
+pub behind_recorded : (gives : List ℕ → Type 0) (asked : Asked) (draws : Bool)
+    (report map icnf : List ℕ) (answer : Bool) (begun ended made text : List ℕ)
+    → IsRunBehind gives icnf draws report map answer → draws ≡ is_some asked.picture
+    → text ≡ report → made ≡ ended
+    → ((at : List ℕ) → asked.out ≡ Some at → begun ≡ digest_line icnf)
+    → ((at : List ℕ) → asked.out ≡ Some at → ended ≡ begun ++ text)
+    → IsRunRecorded gives asked report map answer made
+behind_recorded gives asked draws report map icnf answer begun ended made text run drawn same ends
+    first last = record {
+      bundle = run.bundle;
+      given = run.given;
+      outcome =
+          subst (λ (d : Bool). IsOutcome run.bundle d report map answer) drawn run.outcome;
+      recorded =
+          whole_record asked.out run.bundle report icnf text begun ended made (sym run.front)
+          same ends first last;
+    }
+
+module _ (gives : List ℕ → Type 0) (held : Held) (asked : Asked) (input : Option (List ℕ))
+    (folder : asked.folder ≡ None)
+    (reads : (bundle : List ℕ) → gives bundle
+    → IsBundleBy (lies_in held) asked.formula asked.file input bundle) where
+  read_alone : (bundle : List ℕ) → gives bundle
+      → IsBundleOf held (sources_of asked) asked.folder input bundle bundle
+  read_alone bundle given =
+      bundle_of held asked input bundle bundle (reads bundle given)
+      (file_judged held asked.folder bundle folder)
+
+  pub recorded_alone : (report map : List ℕ) (answer : Bool) (made : List ℕ)
+      → IsRunRecorded gives asked report map answer made
+      → IsRecordedFrom held asked input report map answer made
+  recorded_alone report map answer made run = record {
+    read = run.bundle;
+    whole = run.bundle;
+    bundle = read_alone run.bundle run.given;
+    outcome = run.outcome;
+    recorded = run.recorded;
+  }
+
+  pub refused_alone : (fault : Fault) → IsRefusedBy gives fault
+      → IsRefusedFrom held asked input fault
+  refused_alone fault is = inl (record {
+    read = is.0;
+    whole = is.0;
+    bundle = read_alone is.0 is.1;
+    first = is.2;
+  })
+
+pub handed_alone : (gives : List ℕ → Type 0) (hands : List ℕ → List ℕ → Type 0) (asked : Asked)
+    (input : Option (List ℕ)) (report map : List ℕ) (answer : Bool) (made : List ℕ)
+    → asked.formula ≡ None
+    → ((bundle : List ℕ) → gives bundle
+    → IsBundleBy hands asked.formula asked.file input bundle)
+    → IsRunRecorded gives asked report map answer made → answer ≡ true
+    → IsRefutedFrom hands asked input
+handed_alone gives hands asked input report map answer made formula reads run says = record {
+  read = run.bundle;
+  handed = reads run.bundle run.given;
+  none = run.outcome.correct.sound says;
+  formula =
+      subst (λ (f : Option (List ℕ)). IfSome f (IsFormulaRefuted hands)) (sym formula) tt;
+}
+
 pub made_by_section : (run : Result (Option Recorded) Fault) (held : Held) (asked : Asked)
     (path : List ℕ) → asked.file ≡ Some path → asked.folder ≡ None
-    → IfOk run (λ some. IfSome some (λ made. IsRunRecorded held asked.formula path asked
+    → IfOk run (λ some. IfSome some (λ made. IsRunRecorded (reads_at held asked.formula path) asked
     made.outcome.text.items made.outcome.map.items made.outcome.refuted made.bytes.items))
     → IfOk run (λ some. IfSome some (λ made. (input : Option (List ℕ))
     → IsRecordedFrom held asked input made.outcome.text.items made.outcome.map.items
     made.outcome.refuted made.bytes.items))
 made_by_section (Err fault) held asked path file folder made = tt
 made_by_section (Ok None) held asked path file folder made = tt
-made_by_section (Ok (Some recorded)) held asked path file folder made = λ input. record {
-  read = made.bundle;
-  whole = made.bundle;
-  bundle =
-      bundle_of held asked input made.bundle made.bundle
-      (subst (λ (f : Option (List ℕ)). IsReadBy held asked.formula f input made.bundle) (sym file)
-      (made.read input))
-      (file_judged held asked.folder made.bundle folder);
-  outcome = made.outcome;
-  recorded = made.recorded;
-}
+made_by_section (Ok (Some recorded)) held asked path file folder made = λ input.
+    recorded_alone (reads_at held asked.formula path) held asked input folder
+    (λ bundle given.
+    subst (λ (f : Option (List ℕ)). IsReadBy held asked.formula f input bundle) (sym file)
+    (given input)) recorded.outcome.text.items recorded.outcome.map.items
+    recorded.outcome.refuted recorded.bytes.items made
 
--- ---- of the input, which was judged while it was read
+-- ---- what one text is, of the input or of a file
 
-input_read : (asked : Asked) (input : Option (List ℕ)) → asked.formula ≡ None
-    → asked.file ≡ None → (has : List ℕ → List ℕ → Type 0) (bundle : List ℕ)
-    → IsLeft input bundle → IsBundleBy has asked.formula asked.file input bundle
-input_read asked input formula file has bundle given =
-    subst (λ (f : Option (List ℕ)). IsBundleBy has f asked.file input bundle) (sym formula)
-    (subst (λ (f : Option (List ℕ)). IsBundleBy has None f input bundle) (sym file) given)
+module _ (has : List ℕ → List ℕ → Type 0) (asked : Asked) (input : Option (List ℕ))
+    (formula : asked.formula ≡ None) (bundle : List ℕ) where
+  without_formula : (file : Option (List ℕ)) → asked.file ≡ file
+      → IsBundleBy has None file input bundle
+      → IsBundleBy has asked.formula asked.file input bundle
+  without_formula file same is =
+      subst (λ (f : Option (List ℕ)). IsBundleBy has f asked.file input bundle) (sym formula)
+      (subst (λ (f : Option (List ℕ)). IsBundleBy has None f input bundle) (sym same) is)
 
-pub input_refuted : (asked : Asked) (input : Option (List ℕ)) (draws : Bool)
-    (report map icnf : List ℕ) (answer : Bool) → asked.formula ≡ None → asked.file ≡ None
-    → IsRunBehind (IsLeft input) icnf draws report map answer → answer ≡ true
-    → IsInputRefuted asked input
-input_refuted asked input draws report map icnf answer formula file run says = record {
-  formula = formula;
-  file = file;
-  bundle = run.bundle;
-  given = run.given;
-  none = run.outcome.correct.sound says;
-}
+  pub input_read : asked.file ≡ None → IsLeft input bundle
+      → IsBundleBy has asked.formula asked.file input bundle
+  input_read none given = without_formula None none given
 
-pub input_handed : (hands : List ℕ → List ℕ → Type 0) (asked : Asked)
-    (input : Option (List ℕ)) → IsInputRefuted asked input → IsRefutedFrom hands asked input
-input_handed hands asked input is = record {
-  read = is.bundle;
-  handed = input_read asked input is.formula is.file hands is.bundle is.given;
-  none = is.none;
-  formula =
-      subst (λ (f : Option (List ℕ)). IfSome f (IsFormulaRefuted hands)) (sym is.formula) tt;
-}
-
-module _ (held : Held) (asked : Asked) (input : Option (List ℕ)) (formula : asked.formula ≡ None)
-    (file : asked.file ≡ None) (folder : asked.folder ≡ None) where
-  input_bundle : (bundle : List ℕ) → IsLeft input bundle
-      → IsBundleOf held (sources_of asked) asked.folder input bundle bundle
-  input_bundle bundle given =
-      bundle_of held asked input bundle bundle
-      (input_read asked input formula file (lies_in held) bundle given)
-      (file_judged held asked.folder bundle folder)
-
-  pub input_recorded : (draws : Bool) (report map icnf : List ℕ) (answer : Bool)
-      (begun ended made text : List ℕ)
-      → IsRunBehind (IsLeft input) icnf draws report map answer → draws ≡ is_some asked.picture
-      → text ≡ report → made ≡ ended
-      → ((at : List ℕ) → asked.out ≡ Some at → begun ≡ digest_line icnf)
-      → ((at : List ℕ) → asked.out ≡ Some at → ended ≡ begun ++ text)
-      → IsRecordedFrom held asked input report map answer made
-  input_recorded draws report map icnf answer begun ended made text run drawn same ends first
-      last = record {
-        read = run.bundle;
-        whole = run.bundle;
-        bundle = input_bundle run.bundle run.given;
-        outcome =
-            subst (λ (d : Bool). IsOutcome run.bundle d report map answer) drawn run.outcome;
-        recorded =
-            whole_record asked.out run.bundle report icnf text begun ended made (sym run.front)
-            same ends first last;
-      }
-
-  pub input_refused : (fault : Fault) → IsRefusedBy (IsLeft input) fault
-      → IsRefusedFrom held asked input fault
-  input_refused fault is = inl (record {
-    read = is.0;
-    whole = is.0;
-    bundle = input_bundle is.0 is.1;
-    first = is.2;
-  })
+  pub file_read : (path : List ℕ) → asked.file ≡ Some path → has path bundle
+      → IsBundleBy has asked.formula asked.file input bundle
+  file_read path same given = without_formula (Some path) same given
 
 -- ---- what readings handed over
 

@@ -5,11 +5,11 @@ mod asked;
 mod laws;
 mod one_proof;
 mod open;
-mod piped;
 // `command` stands here: a module can't have the name of an item beside it.
 mod program;
 mod record;
 mod telling;
+mod while_read;
 
 pub use bundle_files::{FileId, FileStore, Inputs, Opener, Spared, Store, SystemFiles};
 pub use command_words::is_given;

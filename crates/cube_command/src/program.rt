@@ -6,6 +6,7 @@ ghost use Rattle.std.specs.Prelude.{IsErrOf, IfSome, [], Option};
 ghost use Rattle.std.specs.Io.KnownBytes.{Appends, Keeps};
 ghost use Rattle.cube_report.specs.Device.{AppendsBeginning, IsDeviceFault};
 ghost use Rattle.bundle_files.specs.Files.{StaysAllowed, lies_in};
+ghost use Rattle.bundle_files.specs.Formula.{IsReadBy};
 ghost use Rattle.bundle_files.specs.Judging.{IsOutcomeOf, IsRefusedOf, IsJudgingFault};
 ghost use Rattle.bundle_files.specs.Outlined.{IsOutlinedBy, IsRefutedBy};
 ghost use Rattle.bundle_files.specs.Sections.{IsCaseOf};
@@ -26,9 +27,9 @@ ghost use Rattle.command_words.specs.Request.{asked_in};
 use crate::asked::{Telling, asked_in, fault_in, file_of};
 use crate::one_proof::{Given, judge_proof, text_of_one};
 use crate::open::{names_asked, shown};
-use crate::piped::judge_input;
 use crate::record::{begin_record, end_record};
 use crate::telling::{tell_refused, tell_run};
+use crate::while_read::judge_alone;
 use bundle_files::{
     BundleOutline, Inputs, ReadBundle, Spared, Store, judge_by_section, judge_given,
     outline_bundle, read_from,
@@ -46,7 +47,8 @@ use std::thread::Threads;
 /// OUT] [--log LOG] [FILE]`. It reads a bundle from FILE, or from `input` where there is none, and
 /// writes the report to `output` or, where there is no report, one line to `errors`. Files are
 /// found by `store`. Both writers have to write at once, without a buffer of their own. A bundle of
-/// `input` is judged while it is read, unless `--formula`, `--proofs` or `--explain` is there.
+/// `input`, or of a FILE that can't be read at places, as a pipe, is judged while it is read, unless
+/// `--formula`, `--proofs` or `--explain` is there.
 ///
 /// With `--formula CNF` the clauses come from that file, a DIMACS text, and FILE adds cubes and
 /// sections, and no clause: the bundle is that text with its problem line overwritten by `p inccnf`
@@ -476,8 +478,9 @@ where
 }
 
 /// The same with cubes and their proofs. Where the bundle is a file's, no folder adds proofs to it
-/// and nothing is told of it, its proofs are read one by one from their places; that of the input
-/// is judged while it is read; else all of it is read first.
+/// and nothing is told of it, its proofs are read one by one from their places. Where that can't be,
+/// or the bundle is the input's, it is judged while it is read. It is read whole first only where a
+/// formula's own file or a folder's proofs go with it, or something is told of it.
 fn judge_cubes<R, D, I, G, X>(
     rt: &R,
     store: &mut D,
@@ -512,7 +515,7 @@ where
     if let Some(made) = judge_file(rt, store, request, gate)? {
         return Ok(made);
     }
-    if let Some(made) = judge_input(rt, request, input, gate)? {
+    if let Some(made) = judge_alone(rt, store, request, input, gate)? {
         return Ok(made);
     }
     judge_read(rt, store, request, input, gate, telling, bundle)
@@ -569,8 +572,10 @@ where
     ensures allowed { StaysAllowed (D.allows store.old) (D.allows store.new) }
     ensures run { (formula : Option (List ℕ))
         → IsOutlinedBy (lies_in (D.held store.old)) formula path.now outlined
-        → IfOk result (λ some. IfSome some (λ made. IsRunRecorded (D.held store.old) formula
-        path.now (asked_in request.now) made.outcome.text.items made.outcome.map.items
+        → IfOk result (λ some. IfSome some (λ made. IsRunRecorded (λ bundle.
+        (input : Option (List ℕ))
+        → IsReadBy (D.held store.old) formula (Some path.now) input bundle)
+        (asked_in request.now) made.outcome.text.items made.outcome.map.items
         made.outcome.refuted made.bytes.items)) }
     ensures handed { (formula : Option (List ℕ))
         → IsOutlinedBy (lies_in (D.held store.old)) formula path.now outlined

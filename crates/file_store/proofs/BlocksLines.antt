@@ -6,7 +6,7 @@ use Rattle.std.proofs.KnownBytes.{Consumes-nil, Consumes-trans}
 use Rattle.std.specs.Io.KnownBytes.{Consumes, IsAtEnd}
 use Rattle.byte_flow.specs.Lines.{LinesOf, IsNextBlock}
 use Rattle.case_core.specs.Outline.{OutlineOf, IsOutlineOf, AreWholeLines}
-use Rattle.check_crew.specs.TargetProofs.{IsLeftOf}
+use Rattle.file_store.specs.Files.{GivesOneOf}
 use Rattle.file_store.specs.Parts.{GoesOnWith}
 
 -- ---- a source that is read to its end
@@ -100,20 +100,10 @@ module _ (first now next : Option (List ℕ)) (front old new : OutlineOf)
 
 -- ---- the file of which the source is
 
--- what was read of a file that was opened is what is known to lie there
-pub file_outlined : (known : Option (Option (List ℕ))) (remaining : Option (List ℕ))
-    (front outline : OutlineOf) → IsLeftOf known remaining
-    → GoesOnWith (λ text. IfSome remaining (λ left. text ≡ left)) front outline
-    → GoesOnWith (λ text. IfSome known (λ lies. Some text ≡ lies)) front outline
-file_outlined None remaining front outline left on = (on.0, tt, on.2)
-file_outlined (Some lies) remaining front outline left on =
-    let is : on.0 ≡ left.0 = rw left.2 at on.1 in
-    (on.0, ap (λ (t : List ℕ). Some t) is ∙ sym left.1, on.2)
-
--- of what a reading hands over where that isn't known, a text is all that is said
-pub any_outlined : {E : Type 0} (run : Result (Option OutlineOf) E) (texts : List ℕ → Type 0)
-    (front : OutlineOf) → IfOk run (λ some. IfSome some (GoesOnWith texts front))
-    → IfOk run (λ some. IfSome some (GoesOnWith (λ _. Unit {0}) front))
-any_outlined (Ok (Some outline)) texts front on = (on.0, tt, on.2)
-any_outlined (Ok None) texts front on = tt
-any_outlined (Err error) texts front on = tt
+-- what a file gives that was opened is one of these texts
+pub given_outlined : {E : Type 0} (run : Result OutlineOf E) (texts : List ℕ → Type 0)
+    (left : Option (List ℕ)) (front : OutlineOf) → GivesOneOf texts left
+    → IfOk run (GoesOnWith (λ text. IfSome left (λ known. text ≡ known)) front)
+    → IfOk run (GoesOnWith texts front)
+given_outlined (Ok outline) texts left front gives on = (on.0, gives on.0 on.1, on.2)
+given_outlined (Err error) texts left front gives on = tt

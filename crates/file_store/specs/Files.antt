@@ -6,6 +6,7 @@ use Rattle.std.specs.Prelude.{true, false, codes, drop, if◌then◌else◌}
 use Rattle.std.specs.Prelude.{option_map}
 use Rattle.std.specs.List.{All, flat_map}
 use Rattle.std.specs.String.{string_bytes}
+use Rattle.byte_flow.specs.Device.{IsLeft}
 use Rattle.case_core.specs.Binary.{proof_text}
 use Rattle.case_core.specs.SplitTree.{SplitTree}
 use Rattle.case_core.specs.Target.{Target}
@@ -115,6 +116,10 @@ held_at held (Folder folder) target = held_for held (string_bytes folder) target
 held_at held (File path) target = held_for_one held (string_bytes path) target
 
 -- ---- what single calls do
+
+-- what is left to be read is one of these texts
+abbrev pub GivesOneOf : (List ℕ → Type 0) → Option (List ℕ) → Type 0
+GivesOneOf texts left = (text : List ℕ) → IsLeft left text → texts text
 
 -- bytes grew by one of these texts
 abbrev pub GrewBy : (List ℕ → Type 0) → List ℕ → List ℕ → Type 0

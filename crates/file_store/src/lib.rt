@@ -13,6 +13,7 @@ mod source;
 mod store;
 mod system;
 
+pub use blocks::outline_file;
 pub use byte_flow::DeviceFault;
 pub use case_core::{Outline, OutlinedCase, Stretch};
 pub use check_crew::TargetProofs;
@@ -22,6 +23,6 @@ pub use opener::{Opener, SystemFiles};
 pub use part::Part;
 pub use reader::{ProofPlace, ProofReader};
 pub use sections::SectionReader;
-pub use source::{append_given, read_given};
+pub use source::{append_file, append_given, read_given};
 pub use store::{FileStore, Store};
 pub use system::make_anew;

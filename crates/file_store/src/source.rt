@@ -1,9 +1,9 @@
-//! The bundle that is read: that of a file or of the program's input.
+//! What is read whole: a file, or the program's input.
 ghost use Rattle.std.specs.Prelude.{◌≡◌, ◌<◌, ◌^◌, ◌-◌, ◌+◌, option_map, IfSome, IfOk};
 ghost use Rattle.std.specs.Prelude.{IfErr, OnOk};
 ghost use Rattle.byte_flow.specs.Device.{IsDeviceFault};
 ghost use Rattle.file_store.specs.Files.{IsRead, IsTextAt, StaysAllowed, lies_in};
-ghost use Rattle.file_store.specs.Files.{IsAppended};
+ghost use Rattle.file_store.specs.Files.{GrewBy, IsAppended};
 
 use crate::store::Store;
 use byte_flow::{DeviceFault, Source, read_to_end};
@@ -68,6 +68,35 @@ pub fn append_given<D: Store, I: Source>(
 {
     match file {
         None => read_to_end(input, bytes),
-        Some(path) => store.read(path, bytes),
+        Some(path) => append_file(store, path, bytes),
     }
+}
+
+/// Appends the bytes of the file at this path, which has to be there.
+///
+/// `Device` where no file is there, or it can't be opened or read; `Memory` where a growth was
+/// refused.
+pub fn append_file<D: Store>(
+    store: &mut D,
+    path: &str,
+    bytes: &mut Vec<u8>,
+) -> Result<(), DeviceFault>
+    // One more failed call can be counted.
+    requires { D.failures store.old < 2 ^ 64 - 1 }
+    // The store holds what it held.
+    ensures held { D.held store.new ≡ D.held store.old }
+    ensures allowed { StaysAllowed (D.allows store.old) (D.allows store.new) }
+    // They are the file's, and what a reading handed over.
+    ensures read { OnOk result
+        (GrewBy (lies_in (D.held store.old) path.now) bytes.old.items bytes.new.items) }
+    ensures handed { OnOk result (GrewBy (D.hands path.now) bytes.old.items bytes.new.items) }
+    // The device is at fault exactly where a call failed.
+    ensures ok { OnOk result (D.failures store.new ≡ D.failures store.old) }
+    ensures err { IfErr result
+        (λ fault. IsDeviceFault (D.failures store.old) (D.failures store.new) fault) }
+{
+    let mut file = store.open(path)?;
+    let read = read_to_end(&mut file, bytes);
+    store.close(file);
+    read
 }

@@ -4,20 +4,19 @@ ghost use Rattle.std.specs.Prelude.{IfOk, IfErr, IfSome, OnOk, OnErr, true, opti
 ghost use Rattle.case_core.specs.Target.{Target};
 ghost use Rattle.byte_flow.specs.Device.{IsDeviceFault};
 ghost use Rattle.check_crew.specs.TargetProofs.{IsOpenedOf};
-ghost use Rattle.file_store.specs.Files.{Gives, GrewBy, IsFound, IsOpenedAt, StaysAllowed, lies_in};
+ghost use Rattle.file_store.specs.Files.{Gives, GivesOneOf, IsFound, IsOpenedAt, StaysAllowed, lies_in};
 ghost use Rattle.file_store.specs.Files.{StaysAllowedBeside};
 ghost use Rattle.file_store.specs.Files.{as_proofs, held_if};
 ghost use Rattle.case_core.specs.Binary.{proof_text};
 ghost use Rattle.file_store.specs.Files.{held_at};
-ghost use Rattle.file_store.specs.Parts.{GoesOnWith, held_in};
+ghost use Rattle.file_store.specs.Parts.{held_in};
 
-use crate::blocks::outline_of;
 use crate::inputs::{Inputs, Spared, is_clash, is_none_written};
 use crate::opener::Opener;
 use crate::reader::{ProofPlace, ProofReader};
 use crate::sections::SectionReader;
-use byte_flow::{Counted, DeviceFault, read_to_end, write_all};
-use case_core::{Outline, OutlinedCase, turn_from};
+use byte_flow::{Counted, DeviceFault, Source, read_to_end, write_all};
+use case_core::{OutlinedCase, turn_from};
 use check_crew::TargetProofs;
 use std::alloc::{AllocError, Global};
 use std::io::ErrorKind;
@@ -43,21 +42,34 @@ pub trait Store {
     /// What a worker reads proofs by that lie in files of their own.
     type Reader: TargetProofs + Send + Drop;
 
-    /// Appends the bytes of the file at this path, which has to be there.
+    /// What a file is read by that is read once, from its beginning to its end.
+    type Opened: Source + Drop;
+
+    /// Opens the file at this path, which has to be there, with no failed read yet. It may be a
+    /// pipe.
     ///
-    /// `Device` where no file is there, or it can't be opened or read; `Memory` where a growth was
-    /// refused. The count of failed calls, which has to be below its greatest value, rises by one
-    /// exactly with `Device`.
-    fn read(&mut self, path: &str, bytes: &mut Vec<u8>) -> Result<(), DeviceFault>
+    /// `Device` where no file is there, or it can't be opened; `Memory` where memory was refused.
+    /// The count of failed calls, which has to be below its greatest value, rises by one exactly
+    /// with `Device`.
+    fn open(&mut self, path: &str) -> Result<Self::Opened, DeviceFault>
         requires { failures self.old < 2 ^ 64 - 1 }
         ensures held { held self.new ≡ held self.old }
         ensures allowed { StaysAllowed (allows self.old) (allows self.new) }
-        ensures read { OnOk result
-            (GrewBy (lies_in (held self.old) path.now) bytes.old.items bytes.new.items) }
-        ensures handed { OnOk result (GrewBy (hands path.now) bytes.old.items bytes.new.items) }
+        ensures lies { IfOk result (λ file.
+            GivesOneOf (lies_in (held self.old) path.now) (Self.Opened.remaining file)) }
+        ensures handed { IfOk result
+            (λ file. GivesOneOf (hands path.now) (Self.Opened.remaining file)) }
+        ensures none { IfOk result (λ file. Self.Opened.failures file ≡ 0) }
         ensures ok { OnOk result (failures self.new ≡ failures self.old) }
         ensures err { IfErr result
             (λ fault. IsDeviceFault (failures self.old) (failures self.new) fault) };
+
+    /// Takes such a file back: its failed reads count as failed calls of the store's.
+    fn close(&mut self, file: Self::Opened)
+        requires { failures self.old + Self.Opened.failures file < 2 ^ 64 }
+        ensures held { held self.new ≡ held self.old }
+        ensures allowed { StaysAllowed (allows self.old) (allows self.new) }
+        ensures failures { failures self.new ≡ failures self.old + Self.Opened.failures file };
 
     /// Appends the text of the proof at this path, and answers whether a file is there; where there
     /// is none, nothing changes. If its first byte says that a proof is binary, its text is the one
@@ -158,29 +170,6 @@ pub trait Store {
 
     /// What a worker reads the proofs of a case by that are parts of one file.
     type Sections: TargetProofs + Send + Drop;
-
-    /// The outline goes on with the file at this path; `None` where there is none. The file is read
-    /// once, a block at a time.
-    ///
-    /// `Device` where a file is there and can't be opened or read, `Memory` where a growth was
-    /// refused. The count of failed calls, which has to be below its greatest value, rises by one
-    /// exactly with `Device`.
-    fn outline(
-        &mut self,
-        alloc: Global,
-        path: &str,
-        front: Outline,
-    ) -> Result<Option<Outline>, DeviceFault>
-        requires { failures self.old < 2 ^ 64 - 1 }
-        ensures held { held self.new ≡ held self.old }
-        ensures allowed { StaysAllowed (allows self.old) (allows self.new) }
-        ensures outline { IfOk result
-            (λ some. IfSome some (GoesOnWith (lies_in (held self.old) path.now) front)) }
-        ensures handed { IfOk result
-            (λ some. IfSome some (GoesOnWith (hands path.now) front)) }
-        ensures ok { OnOk result (failures self.new ≡ failures self.old) }
-        ensures err { IfErr result
-            (λ fault. IsDeviceFault (failures self.old) (failures self.new) fault) };
 
     /// A reader of the proofs of a case that are parts of the file at this path, for one worker,
     /// with no failed read yet. In the text of the case so many bytes stand before the file's.
@@ -366,32 +355,6 @@ impl<F: Opener> FileStore<F> {
         Ok(true)
     }
 
-    /// The outline goes on with the file at this path, as `Store::outline` owes it.
-    fn outline_file(
-        &mut self,
-        alloc: Global,
-        path: &str,
-        front: Outline,
-    ) -> Result<Option<Outline>, DeviceFault>
-        requires { self.old.failed < 2 ^ 64 - 1 }
-        ensures knows { F.knows self.new.opener ≡ F.knows self.old.opener }
-        ensures files { F.files self.new.opener ≡ F.files self.old.opener }
-        ensures outline { IfOk result (λ some. IfSome some (GoesOnWith (λ text. IfSome
-            (held_if (F.knows self.old.opener) (F.files self.old.opener path.now))
-            (λ lies. Some text ≡ lies)) front)) }
-        ensures ok { OnOk result (self.new.failed ≡ self.old.failed) }
-        ensures err { IfErr result (λ fault. IsDeviceFault self.old.failed self.new.failed fault) }
-    {
-        let Some(mut file) = self.open_file(path)? else {
-            return Ok(None);
-        };
-        match outline_of(alloc, front, &mut file) {
-            Ok(outline) => Ok(Some(outline)),
-            Err(DeviceFault::Memory) => Err(DeviceFault::Memory),
-            Err(_) => Err(self.broken()),
-        }
-    }
-
     /// How long the file at this path is, where that can be told.
     pub(crate) fn file_length(&self, path: &str) -> Option<u64> {
         self.opener.length(path)
@@ -402,6 +365,8 @@ impl<F: Opener + Send + Drop> Store for FileStore<F>
 where
     F::Opened: Send,
 {
+    type Opened = Counted<F::Opened>;
+
     type Reader = ProofReader<F>;
 
     type Sections = SectionReader<F>;
@@ -414,11 +379,15 @@ where
 
     ghost hands = { λ _ _. Unit {0} };
 
-    fn read(&mut self, path: &str, bytes: &mut Vec<u8>) -> Result<(), DeviceFault> {
-        if self.read_file(path, bytes)? {
-            return Ok(());
+    fn open(&mut self, path: &str) -> Result<Counted<F::Opened>, DeviceFault> {
+        match self.open_file(path)? {
+            Some(file) => Ok(file),
+            None => Err(self.broken()),
         }
-        Err(self.broken())
+    }
+
+    fn close(&mut self, file: Counted<F::Opened>) {
+        self.failed += file.failed();
     }
 
     fn read_proof(
@@ -484,15 +453,6 @@ where
 
     fn length(&self, path: &str) -> Option<u64> {
         self.file_length(path)
-    }
-
-    fn outline(
-        &mut self,
-        alloc: Global,
-        path: &str,
-        front: Outline,
-    ) -> Result<Option<Outline>, DeviceFault> {
-        self.outline_file(alloc, path, front)
     }
 
     fn sections(

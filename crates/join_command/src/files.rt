@@ -13,7 +13,7 @@ ghost use Rattle.join_command.specs.Inner.Files.{AreNotAdded, IsNotAdded, IsUnre
 ghost use Rattle.join_command.specs.Inner.Files.{lies_handed};
 
 use crate::fault::JoinFault;
-use bundle_files::{Store, read_from};
+use bundle_files::{Store, append_file, read_from};
 use cube_command::digest_line_of;
 use cube_join::Join;
 use cube_report::{Counted, DeviceFault, Fault};
@@ -76,7 +76,7 @@ pub(crate) fn read_whole<D: Store>(
     ensures err { IfErr result (IsDeviceFault (D.failures store.old) (D.failures store.new)) }
 {
     let mut text = Vec::new(alloc);
-    store.read(path, &mut text)?;
+    append_file(store, path, &mut text)?;
     Ok(text)
 }
 

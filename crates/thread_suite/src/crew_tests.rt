@@ -26,13 +26,13 @@ const LENGTHS: &str = four!(
 );
 
 /// The report on `ROOT_AND_LEAVES`.
-const ROOT_AND_LEAVES_REPORT: &[u8] = b"t 2 0 1152921504606846976\n\
+pub(crate) const ROOT_AND_LEAVES_REPORT: &[u8] = b"t 2 0 1152921504606846976\n\
 a 1 refuted\na 2 refuted\nn 0 refuted\nw 0\ns REFUTED\n";
 
 /// No clause, no cube and no proof.
 const NOTHING: &str = "p inccnf\n";
 
-fn settings(rt: &impl Abort, workers: u32, cut: u32) -> Settings {
+pub(crate) fn settings(rt: &impl Abort, workers: u32, cut: u32) -> Settings {
     Settings::new(workers, cut).expect(rt, "no settings")
 }
 
@@ -79,8 +79,8 @@ fn reaches(count: &AtomicU64, wanted: u64) -> bool {
 pub(crate) struct Crossing {
     second_posted: AtomicU64,
     pub(crate) seen: AtomicU64,
-    first_weight: AtomicU64,
-    second_weight: AtomicU64,
+    pub(crate) first_weight: AtomicU64,
+    pub(crate) second_weight: AtomicU64,
 }
 
 impl Crossing {

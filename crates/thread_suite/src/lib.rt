@@ -15,3 +15,5 @@ mod hall_thread_tests;
 mod jobs_tests;
 #[cfg(test)]
 mod leaves_tests;
+#[cfg(test)]
+mod while_read_tests;

@@ -43,26 +43,17 @@ pub record IsRecordedWith (gives : List ℕ → Type 0) (asked : Asked) (bundle 
   pub recorded : (out : List ℕ) → asked.out ≡ Some out
       → made ≡ record_text (bundle ++ (codes "\nl 1\n" ++ proof_text bytes)) report
 
--- the text of the input is kept: another text is judged, too, or in its place, or something is told
--- of what was read
-abbrev pub IsInputHeld : Request → Type 0
-IsInputHeld request =
+-- the text that is read is kept: another text is judged, too, or something is told of what was read
+abbrev pub IsTextKept : Request → Type 0
+IsTextKept request =
     (request.explain ≡ true) ⊎ ((asked_in request).formula ≢ None)
-    ⊎ ((asked_in request).file ≢ None) ⊎ ((asked_in request).folder ≢ None)
+    ⊎ ((asked_in request).folder ≢ None)
 
--- the input alone is asked for, and no assignment makes all clauses true of what it had left
-pub record IsInputRefuted (asked : Asked) (input : Option (List ℕ)) : Type 0 where
-  pub formula : asked.formula ≡ None
-  pub file : asked.file ≡ None
+-- of a bundle that was given so: report, picture and answer are what a run on it promises, and so is
+-- the record where one is asked for
+pub record IsRunRecorded (gives : List ℕ → Type 0) (asked : Asked) (report map : List ℕ)
+    (answer : Bool) (made : List ℕ) : Type 0 where
   pub bundle : List ℕ
-  pub given : IsLeft input bundle
-  pub none : IsUnsatisfiable bundle
-
--- of the bundle of a file and of a formula's: report, picture and answer are what a run on it
--- promises, and so is the record where one is asked for
-pub record IsRunRecorded (held : Held) (formula : Option (List ℕ)) (path : List ℕ) (asked : Asked)
-    (report map : List ℕ) (answer : Bool) (made : List ℕ) : Type 0 where
-  pub bundle : List ℕ
-  pub read : (input : Option (List ℕ)) → IsReadBy held formula (Some path) input bundle
+  pub given : gives bundle
   pub outcome : IsOutcome bundle (is_some asked.picture) report map answer
   pub recorded : (out : List ℕ) → asked.out ≡ Some out → made ≡ record_text bundle report
