@@ -200,7 +200,8 @@ keeps that a refuted target has no model with the formula.""",
       "case_core/bundle.rt icnf_part -",
       "case_core/scan.rt LabelScan::new -",
       "case_core/scan.rt LabelScan::add ok err",
-      "case_core/label_line.rt LabelLine::fault -",
+      "case_core/label_line.rt LabelLine::target has named fault",
+      "case_core/label_line.rt LabelLine::twice -",
       "case_core/finding.rt Finding here only is sound"]),
     ("mark_board: marks, open weight and open branches", """
 A post marks the node of its finding and no other. Marks, open weight and open branches are the definition's, by all

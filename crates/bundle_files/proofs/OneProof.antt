@@ -1,13 +1,13 @@
 -- A bundle whose tree is cube 1 alone, with one proof that was judged while it was read.
-use Rattle.std.proofs.Common.{◌≡◌, ◌≢◌, ◌∙◌, ◌+◌, sym, ap, refl, subst, ℕ, ◌<◌, Bool, true}
+use Rattle.std.proofs.Common.{◌≡◌, ◌≢◌, ◌∙◌, ◌+◌, sym, ap, refl, subst, ℕ, ◌<◌, Bool}
 use Rattle.std.proofs.Common.{List, [], ◌∷◌, ◌++◌, codes, append-nil, append_assoc, arith, decimal}
-use Rattle.std.proofs.Common.{Option, None, Some, Result, Ok, Err, IfOk, IfErr, inl, inr}
-use Rattle.std.specs.Prelude.{IfSome, replicate, slice_set}
-use Rattle.std.proofs.lemmas.Bool.{cases_Bool}
+use Rattle.std.proofs.Common.{Option, None, Some, Result, Ok, Err, IfOk, IfErr, inr}
+use Rattle.std.specs.Prelude.{IfSome, count_by, replicate, slice_set}
+use Rattle.std.proofs.lemmas.List.Sums.{sum_by-append}
 use Rattle.std.specs.Fmt.{digits}
 use Rattle.std.specs.Option.{option_map}
 use Rattle.cube_report.specs.Device.{IsLeft}
-use Rattle.case_core.proofs.BundleMore.{lines_more}
+use Rattle.case_core.proofs.OutlineLines.{whole_both}
 use Rattle.case_core.proofs.NodesCoding.{subtree-root}
 use Rattle.case_core.specs.Binary.{proof_text}
 use Rattle.case_core.specs.Judged.{Judged}
@@ -17,12 +17,16 @@ use Rattle.case_core.specs.Proof.{Proof, IsProofOf}
 use Rattle.case_core.specs.SplitTree.{SplitTree, IsSplit, cube, size, subtree_at}
 use Rattle.case_core.specs.Leaf.{Leaf}
 use Rattle.case_core.specs.Leaf.TheVariants.{Cube, Missing}
-use Rattle.case_core.specs.Leaves.{IsLeafAt, IsPathOf, IsTargetAt}
+use Rattle.case_core.specs.Leaves.{HasLeaf, HasTarget, IsLeafAt, IsPathOf, IsTargetAt}
 use Rattle.case_core.specs.Target.{Target}
 use Rattle.case_core.specs.Target.TheVariants.{Leaf as Named, Node}
-use Rattle.case_core.specs.Bundle.{BeginsWithLabel, is_label, labelled, labels_of, lines_of}
+use Rattle.case_core.specs.Bundle.{labels_of}
 use Rattle.case_core.specs.Case.{CaseOf, SectionOf, proof_for}
 use Rattle.case_core.specs.Finding.{HasSection, IsFoundBy}
+use Rattle.case_core.specs.Label.{IsTargetOf, label_name}
+use Rattle.case_core.specs.Labelled.{IsBehindLabel}
+use Rattle.case_core.specs.Outline.{AreWholeLines}
+use Rattle.case_core.specs.Tokens.{is_line_end, words}
 use Rattle.case_core.specs.Sections.{IsCaseOf, IsFaultOf}
 use Rattle.case_core.specs.Reading.{IsFirstLabel}
 use Rattle.case_core.specs.declared.fault.CaseFault.{CaseFault}
@@ -41,12 +45,12 @@ use Rattle.cube_report.specs.declared.engine.Outcome.{Outcome}
 use Rattle.cube_report.specs.declared.fault.Fault.{Fault}
 use Rattle.proof_folder.specs.Added.{section_text}
 use Rattle.proof_folder.specs.Given.{Given, AreMarksBy, HasFewLeaves, IsJudgedAs, MayBeGiven}
+use Rattle.proof_folder.proofs.GivenCase.{IsCaseWhere, leaf_given}
 use Rattle.proof_folder.proofs.GivenLeaves.{cubes_of_case}
 use Rattle.proof_folder.proofs.GivenFindings.{judged_with_given}
 use Rattle.file_store.specs.Files.{Held, held_for_one, lies_in}
 use Rattle.bundle_files.specs.Judging.{IsOutcomeWith, IsRefusedWith}
 use Rattle.bundle_files.specs.Inner.Proof.{IsGivenBy}
-use Rattle.bundle_files.proofs.LawsFormula.{first_label}
 
 -- ---- bytes of a proof
 
@@ -272,33 +276,92 @@ one_cube tree node one inside is =
 
 -- ---- a label line below that of cube 1
 
-pub one_begins : BeginsWithLabel (codes "l 1")
-one_begins =
-    let first = first_label (49 ∷ []) (lines_of (49 ∷ [])) refl in
-    record { line = first.0; others = first.1; lines = first.2; is = first.3 }
+-- A bundle goes on with the label line of cube 1 and below it with a text, the first of whose label
+-- lines is this one: what stands above that is so many whole lines, and stands for a case with that
+-- tree, in which cube 1 has a section.
+pub record IsBelowCube (bundle text line : List ℕ) (tree : SplitTree) (lines : ℕ) : Type 0 where
+  pub done : List ℕ
+  pub from : List ℕ
+  pub below : List ℕ
+  pub parts : done ++ from ≡ bundle ++ (codes "\nl 1\n" ++ text)
+  pub made : IsCaseWhere done tree (Named (Cube 1))
+  pub at_line : AreWholeLines done
+  pub counted : lines ≡ count_by is_line_end done
+  pub label : IsBehindLabel from line below
 
-label_last : (number : ℕ) (lines more : List (List ℕ)) (label : List ℕ) → is_label label ≡ true
-    → labelled number (lines ++ label ∷ more) ≢ []
-label_last number [] more label is none = let some = rw is at none in cc
-label_last number (line ∷ lines) more label is none = elim (cases_Bool (is_label line)) [
-  | inl here ↦ let some = rw here at none in absurd (cc)
-  | inr other ↦ label_last (number + 1) lines more label is (rw other at none)
-]
+has_cube : (tree : SplitTree) → tree ≡ cube 1 → HasLeaf tree (Cube 1)
+has_cube tree one =
+    subst (λ (t : SplitTree). HasLeaf t (Cube 1)) (sym one) (0, (omega arith, refl))
 
-pub label_below : (bundle : List ℕ) → labels_of (bundle ++ codes "\nl 1") ≢ []
-label_below bundle none =
-    let begins = one_begins in
-    label_last 1 (lines_of bundle) begins.others begins.line begins.is
-    (ap (labelled 1)
-    (sym (lines_more bundle (codes "l 1")
-    ∙ ap (λ (l : List (List ℕ)). lines_of bundle ++ l) begins.lines)) ∙ none)
+lines_above : (bundle before : List ℕ) (lines ends all : ℕ)
+    → lines ≡ count_by is_line_end before → ends ≡ count_by is_line_end bundle
+    → all ≡ lines + (ends + 2)
+    → all ≡ count_by is_line_end (bundle ++ (codes "\nl 1\n" ++ before))
+lines_above bundle before lines ends all counted above sum =
+    let both : count_by is_line_end (bundle ++ (codes "\nl 1\n" ++ before))
+    ≡ count_by is_line_end bundle + count_by is_line_end (codes "\nl 1\n" ++ before) =
+    sum_by-append _ bundle (codes "\nl 1\n" ++ before) in
+    let next : count_by is_line_end (codes "\nl 1\n" ++ before)
+    ≡ count_by is_line_end (codes "\nl 1\n") + count_by is_line_end before =
+    sum_by-append _ (codes "\nl 1\n") before in
+    let two : count_by is_line_end (codes "\nl 1\n") ≡ 2 = refl in
+    omega (arith, both, next, two, counted, above, sum)
 
--- the text goes on below it
-pub fault_of_text : (bundle text : List ℕ) (fault : CaseFault)
-    → IsFaultOf ((bundle ++ codes "\nl 1") ++ 10 ∷ text) fault
-    → IsFaultOf (bundle ++ (codes "\nl 1\n" ++ text)) fault
-fault_of_text bundle text fault =
-    subst (λ (t : List ℕ). IsFaultOf t fault) (append_assoc bundle (codes "\nl 1") (10 ∷ text))
+module _ (bundle text line : List ℕ) (lines ends all : ℕ) (case : CaseOf) (kind : CaseFault)
+    (is : IsCaseOf bundle case) (one : case.tree ≡ cube 1)
+    (free : proof_for case.sections (Named (Cube 1)) ≡ None)
+    (above : ends ≡ count_by is_line_end bundle) (sum : all ≡ lines + (ends + 2)) where
+  below_cube : IsFirstLabel text line lines → IsBelowCube bundle text line case.tree all
+  below_cube first = record {
+    done = bundle ++ (codes "\nl 1\n" ++ first.before);
+    from = first.from;
+    below = first.below;
+    parts =
+        append_assoc bundle (codes "\nl 1\n" ++ first.before) first.from
+        ∙ ap (λ (t : List ℕ). bundle ++ (codes "\nl 1\n" ++ t)) (sym first.parts);
+    made =
+        subst (λ (name : List ℕ). IsCaseWhere (bundle ++ section_text name (Some first.before))
+        case.tree (Named (Cube 1))) one_is
+        (leaf_given bundle first.before case (Cube 1) is (omega arith) (has_cube case.tree one)
+        free first.none);
+    at_line =
+        subst (λ (t : List ℕ). AreWholeLines t)
+        (append_assoc bundle (codes "\nl 1\n") first.before)
+        (whole_both (bundle ++ codes "\nl 1\n") first.before
+        (inr (bundle ++ codes "\nl 1", sym (append_assoc bundle (codes "\nl 1") (10 ∷ []))))
+        first.at_line);
+    counted = lines_above bundle first.before lines ends all first.counted above sum;
+    label = first.label;
+  }
+
+  -- a fault of the label line is that of the bundle
+  pub faulty_below : ((done text below : List ℕ) (whole : CaseOf) → IsCaseOf done whole
+      → whole.tree ≡ case.tree → AreWholeLines done → all ≡ count_by is_line_end done
+      → IsBehindLabel text line below → IsFaultOf (done ++ text) kind)
+      → IsFirstLabel text line lines → IsFaultOf (bundle ++ (codes "\nl 1\n" ++ text)) kind
+  faulty_below faulty first =
+      let at = below_cube first in
+      subst (λ (t : List ℕ). IsFaultOf t kind) at.parts
+      (faulty at.done at.from at.below at.made.whole at.made.is at.made.tree_is at.at_line
+      at.counted at.label)
+
+  -- so it is where the line names a target, which has a section
+  pub twice_below : (target : Target) → HasTarget case.tree target
+      → IsTargetOf case.tree (label_name (words line)) target
+      → ((done text below : List ℕ) (whole : CaseOf) (target : Target) → IsCaseOf done whole
+      → AreWholeLines done → all ≡ count_by is_line_end done → IsBehindLabel text line below
+      → IsTargetOf whole.tree (label_name (words line)) target → HasSection whole target
+      → IsFaultOf (done ++ text) kind)
+      → IsFirstLabel text line lines → IsFaultOf (bundle ++ (codes "\nl 1\n" ++ text)) kind
+  twice_below target has named faulty first =
+      let at = below_cube first in
+      let cube_is : target ≡ Named (Cube 1) =
+      only_target has.0 target
+      (subst (λ (t : SplitTree). IsTargetAt t has.0 target) one has.1) in
+      subst (λ (t : List ℕ). IsFaultOf t kind) at.parts
+      (faulty at.done at.from at.below at.made.whole target at.made.is at.at_line at.counted
+      at.label (rw at.made.tree_is named)
+      (subst (λ (t : Target). HasSection at.made.whole t) (sym cube_is) at.made.has))
 
 -- the fault of that line
 pub refused_with : (gives : List ℕ → Type 0) (bundle bytes line : List ℕ) (lines : ℕ)

@@ -11,9 +11,9 @@ use Rattle.case_core.specs.Sections.{InCubes, InLabels, InText, IsFaultOf}
 use Rattle.case_core.specs.declared.fault.CaseFault.{CaseFault}
 use Rattle.case_core.specs.declared.fault.CaseFault.TheVariants as case
 use Rattle.case_core.specs.declared.fault.CaseFault.TheVariants.{Memory}
+use Rattle.case_core.proofs.LabelledParts.{memory_on}
 use Rattle.case_core.proofs.ReadingParts.{all_left, left_over, none_over}
 use Rattle.case_core.proofs.SectionsMore.{icnf_same}
-use Rattle.check_crew.proofs.WhileRead.{memory_on}
 use Rattle.cube_report.specs.Device.{IsLeft}
 use Rattle.cube_report.specs.DeviceFault.TheVariants as flow
 use Rattle.cube_report.specs.ReadFault.{ReadFault}

@@ -5,11 +5,9 @@ ghost use Rattle.std.specs.Prelude.{◌≡◌, ◌≢◌, ◌<◌, ◌^◌, ◌-
 ghost use Rattle.std.specs.Prelude.{OnOk, None, codes, true};
 ghost use Rattle.std.specs.Bool.{OnTrue};
 ghost use Rattle.cube_report.specs.Device.{IsLeft};
-ghost use Rattle.case_core.specs.Bundle.{BeginsWithLabel};
 ghost use Rattle.case_core.specs.Case.{proof_for};
 ghost use Rattle.case_core.specs.Leaf.TheVariants.{Cube};
 ghost use Rattle.case_core.specs.Reading.{IsFirstLabel};
-ghost use Rattle.case_core.specs.Scan.{HasScanned};
 ghost use Rattle.case_core.specs.Sections.{IsCaseOf, IsFaultOf};
 ghost use Rattle.case_core.specs.SplitTree.{cube, size};
 ghost use Rattle.case_core.specs.Target.TheVariants.{Leaf as Named};
@@ -18,7 +16,7 @@ ghost use Rattle.file_store.specs.Files.{StaysAllowed, lies_in};
 ghost use Rattle.bundle_files.specs.Judging.{IsJudgingFault, IsOutcomeWith, IsRefusedWith};
 ghost use Rattle.bundle_files.specs.Inner.Proof.{IsGivenBy};
 
-use case_core::{Case, CaseFault, LabelLine, LabelScan, Leaf, ProofForm, Target, has_target};
+use case_core::{Case, CaseFault, LabelLine, Leaf, ProofForm, Target, has_target, line_ends};
 use cube_report::{Elsewhere, Fault, Gate, OneWorker, Outcome, Settings, Source, written_by};
 use file_store::{ProofPlace, Store, TargetProofs};
 use std::alloc::Global;
@@ -244,36 +242,27 @@ where
     let cube = Target::Leaf(Leaf::Cube(1));
     match worker.read_proof(rt, rt.alloc(), gate, cube, ProofForm::Unread, source)? {
         None => Ok(written_by(rt.alloc(), &worker.into_boards(), draws)?),
-        Some(label) => Err(Fault::from(fault_below(rt.alloc(), bundle, case, &label))),
+        Some(label) => Err(Fault::from(fault_below(rt.alloc(), bundle, case, label))),
     }
 }
 
 /// The first fault of a bundle of this case that goes on with the label line of cube 1 and below it
-/// with a text whose first label line this is. `Memory` where a growth was refused, or where that
-/// line has no fault.
-fn fault_below(alloc: Global, bundle: &[u8], case: &Case, label: &LabelLine) -> CaseFault
+/// with a text whose first label line this is. `Memory` where a growth was refused, or where the
+/// lines are too many to be counted.
+fn fault_below(alloc: Global, bundle: &[u8], case: &Case, label: LabelLine) -> CaseFault
     requires case { IsCaseOf bundle.now case.now }
-    requires label { BeginsWithLabel label.now.line.items }
+    requires one { case.now.tree ≡ cube 1 }
+    requires free { proof_for case.now.sections (Named (Cube 1)) ≡ None }
     ensures { result ≢ CaseFault.Memory → (text : List ℕ)
-        → IsFirstLabel text label.now.line.items label.now.lines
+        → IsFirstLabel text label.line.items label.lines
         → IsFaultOf (bundle.now ++ (codes "\nl 1\n" ++ text)) result }
 {
-    match scan_below(alloc, bundle, case) {
-        Ok(scan) => label.fault(alloc, scan),
+    let above = line_ends(bundle) as u64 + 2;
+    let Ok(label) = label.below(above) else {
+        return CaseFault::Memory;
+    };
+    match label.target(alloc, case) {
+        Ok(_) => label.twice(),
         Err(fault) => fault,
     }
-}
-
-/// The scan of such a bundle up to the label line of cube 1.
-fn scan_below<'c>(alloc: Global, bundle: &[u8], case: &'c Case) -> Result<LabelScan<'c>, CaseFault>
-    requires { IsCaseOf bundle.now case.now }
-    ensures ok { IfOk result (λ scan. HasScanned scan (bundle.now ++ codes "\nl 1")) }
-    ensures err { IfErr result (λ fault. fault ≢ CaseFault.Memory → (text : List ℕ)
-        → IsFaultOf (bundle.now ++ (codes "\nl 1\n" ++ text)) fault) }
-{
-    let mut scan = LabelScan::new(alloc, case, bundle)?;
-    if let Err(fault) = scan.add(alloc, b"l 1") {
-        return Err(fault);
-    }
-    Ok(scan)
 }

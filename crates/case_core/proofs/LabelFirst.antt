@@ -1,25 +1,18 @@
 -- The first label line of a text.
-use Rattle.std.proofs.Common.{◌≡◌, ◌≢◌, ◌∙◌, sym, ap, subst, refl, ℕ, ◌+◌, true, List, []}
+use Rattle.std.proofs.Common.{◌≡◌, ◌≢◌, ◌∙◌, sym, ap, refl, ℕ, ◌+◌, true, List, []}
 use Rattle.std.proofs.Common.{◌∷◌, ◌++◌, Option, None, Some, Bor, MatchOption}
-use Rattle.std.proofs.Common.{append_assoc, inl, inr, length, arith, Result, Ok, Err, IfErr}
-use Rattle.std.specs.Prelude.{count_by}
+use Rattle.std.proofs.Common.{inl, inr, length, arith}
+use Rattle.std.proofs.lemmas.Bool.{cases_Bool}
 use Rattle.std.proofs.lemmas.List.{length-append}
 use Rattle.std.proofs.lemmas.List.Splits.{length-slice_split, slice_split_none}
 use Rattle.cnf_text.specs.Tokens.{is_line_end}
-use Rattle.case_core.specs.Bundle.{lines_of, is_label, labelled, labels_of}
+use Rattle.case_core.specs.Bundle.{lines_of, is_label, labelled}
 use Rattle.case_core.specs.Bundle.{BeginsWithLabel}
 use Rattle.case_core.specs.Outline.{AreWholeLines}
-use Rattle.case_core.specs.Reading.{IsFirstLabel}
-use Rattle.case_core.specs.Scan.{HasScanned, IsBehindLine, ScanOf}
-use Rattle.case_core.specs.Sections.{IsFaultOf}
-use Rattle.case_core.specs.declared.fault.CaseFault.{CaseFault}
-use Rattle.case_core.specs.declared.fault.CaseFault.TheVariants.{Memory}
 use Rattle.case_core.specs.Inner.Bundle.{HasNoLabel}
-use Rattle.case_core.specs.Inner.Scan.{IsScannedTo}
 use Rattle.case_core.proofs.BundleMore.{lines_more}
 use Rattle.case_core.proofs.OutlineLines.{HasNoEnd, empty_line, first_no_end}
 use Rattle.case_core.proofs.OutlineLines.{labels_plain, whole_lines, with_more}
-use Rattle.case_core.proofs.ScanPassed.{none_labelled}
 
 -- ---- lines without a label line, and more of them
 
@@ -32,6 +25,14 @@ plain_both text more whole none plain number =
 
 pub no_label : HasNoLabel []
 no_label number = rw empty_line refl
+
+none_labelled : (lines : List (List ℕ)) (number other : ℕ) → labelled number lines ≡ []
+    → labelled other lines ≡ []
+none_labelled [] number other none = refl
+none_labelled (line ∷ lines) number other none = elim (cases_Bool (is_label line)) [
+  | inl is ↦ let some = rw is at none in absurd (cc)
+  | inr plain ↦ rw plain (none_labelled lines (number + 1) (other + 1) (rw plain at none))
+]
 
 pub plain_of : (text : List ℕ) → labelled 1 (lines_of text) ≡ [] → HasNoLabel text
 plain_of text none number = none_labelled (lines_of text) 1 number none
@@ -92,36 +93,3 @@ whole_behind (x ∷ front) back (inr ([], is)) =
     whole_behind front back (inl (cc))
 whole_behind (x ∷ front) back (inr (y ∷ lines, is)) =
     whole_behind front back (inr (lines, (cc)))
-
--- ---- its fault
-
--- a fault on it, of whatever the scan goes on with, is one of the bundle with the text behind it
-fault_at : (scan after : ScanOf) (bundle line : List ℕ) (count : ℕ) (fault : CaseFault)
-    → ((bundle before : List ℕ) → HasScanned scan bundle → labels_of bundle ≢ []
-    → AreWholeLines before → HasNoLabel before
-    → count ≡ count_by is_line_end before → IsScannedTo after bundle before)
-    → ((text rest : List ℕ) → HasScanned after text → IsBehindLine rest
-    → IsFaultOf ((text ++ 10 ∷ line) ++ rest) fault)
-    → (text : List ℕ) → HasScanned scan bundle → labels_of bundle ≢ []
-    → IsFirstLabel text line count → IsFaultOf (bundle ++ 10 ∷ text) fault
-fault_at scan after bundle line count fault scanned faulty text has some label =
-    let to = scanned bundle label.before has some label.at_line (plain_of label.before label.none)
-    label.counted in
-    subst (λ (t : List ℕ). IsFaultOf t fault)
-    (append_assoc to.text (10 ∷ line) label.after
-    ∙ to.on (line ++ label.after)
-    ∙ ap (λ (w : List ℕ). bundle ++ 10 ∷ w) (sym label.parts))
-    (faulty to.text label.after to.has label.behind)
-
-pub fault_told : {T : Type 0} (result : Result T CaseFault) (scan after : ScanOf)
-    (line : List ℕ) (count : ℕ)
-    → ((bundle before : List ℕ) → HasScanned scan bundle → labels_of bundle ≢ []
-    → AreWholeLines before → HasNoLabel before
-    → count ≡ count_by is_line_end before → IsScannedTo after bundle before)
-    → IfErr result (λ fault. fault ≢ Memory → (text rest : List ℕ) → HasScanned after text
-    → IsBehindLine rest → IsFaultOf ((text ++ 10 ∷ line) ++ rest) fault)
-    → IfErr result (λ fault. fault ≢ Memory → (bundle text : List ℕ) → HasScanned scan bundle
-    → labels_of bundle ≢ [] → IsFirstLabel text line count → IsFaultOf (bundle ++ 10 ∷ text) fault)
-fault_told (Ok value) scan after line count scanned faulty = tt
-fault_told (Err fault) scan after line count scanned faulty =
-    λ some bundle. fault_at scan after bundle line count fault scanned (faulty some)

@@ -1,5 +1,5 @@
 -- The parts of a text that stands at its label lines.
-use Rattle.std.proofs.Common.{◌≡◌, ◌∙◌, sym, ap, refl, ℕ, ◌+◌, true, false, List, []}
+use Rattle.std.proofs.Common.{◌≡◌, ◌∙◌, sym, ap, refl, ℕ, ◌+◌, true, false, List, [], ◌∷◌}
 use Rattle.std.proofs.Common.{◌++◌, Option, None, Some, append-nil, append_assoc, inl, inr, arith}
 use Rattle.std.specs.Prelude.{count_by}
 use Rattle.std.specs.Io.KnownBytes.{Consumes}
@@ -8,7 +8,8 @@ use Rattle.std.proofs.lemmas.List.Sums.{sum_by-append}
 use Rattle.cnf_text.specs.Tokens.{is_line_end}
 use Rattle.case_core.specs.Inner.Bundle.{HasNoLabel}
 use Rattle.case_core.specs.Inner.Labelled.{HasAdvanced}
-use Rattle.case_core.specs.Labelled.{HasFront, HasPassed, IsPart, LabelledOf, Stands, left_of}
+use Rattle.case_core.specs.Labelled.{HasFront, HasPassed, IsBehindLabel, IsPart, LabelledOf, Stands}
+use Rattle.case_core.specs.Labelled.{left_of}
 use Rattle.case_core.proofs.LabelFirst.{no_label, plain_both, plain_of}
 use Rattle.case_core.proofs.OutlineLines.{whole_both}
 
@@ -103,3 +104,21 @@ part_done old now new first before after bytes was next plain =
       ready = next.none refl;
       stands = next.stands refl;
     }
+
+-- a label line that is in memory, and what stands behind it
+pub memory_on : (memory line below rest : List ℕ) → IsBehindLabel memory line below
+    → (memory ≡ line → rest ≡ []) → IsBehindLabel (memory ++ rest) line (below ++ rest)
+memory_on memory line below rest is last = record {
+  alone = is.alone;
+  is = is.is;
+  parts = elim is.parts [
+    | inl whole ↦ inl
+        (ap (λ (t : List ℕ). t ++ rest) whole ∙ append_assoc line (10 ∷ below) rest)
+    | inr both ↦
+        let none = last both.0 in
+        inr (
+          ap (λ (t : List ℕ). memory ++ t) none ∙ append-nil memory ∙ both.0,
+          ap (λ (t : List ℕ). below ++ t) none ∙ append-nil below ∙ both.1,
+        )
+  ];
+}

@@ -20,7 +20,6 @@ mod OutlineOnly
 mod OutlineSteps
 mod TargetHas
 mod OutlineCase
-mod ScanPassed
 mod LabelFirst
 mod LabelledBlocks
 pub mod LabelledParts

@@ -1,7 +1,6 @@
 -- A proof that is read once, as a text or as bytes.
 use Rattle.std.proofs.Common.{◌≡◌, ◌∙◌, sym, ap, subst, refl, ℕ, ◌+◌, true, false, List, []}
-use Rattle.std.proofs.Common.{◌∷◌, ◌++◌, Option, None, Some, append-nil, append_assoc, inl, inr}
-use Rattle.std.proofs.Common.{◌⊎◌}
+use Rattle.std.proofs.Common.{◌++◌, Option, None, Some, append-nil, append_assoc, inl, inr}
 use Rattle.std.proofs.Common.{length, length-append, arith}
 use Rattle.std.specs.Prelude.{unwrap_or, count_by}
 use Rattle.std.specs.Io.KnownBytes.{Consumes, IsAtEnd}
@@ -21,7 +20,6 @@ use Rattle.case_core.specs.Finding.{IsFoundBy, target_of}
 use Rattle.case_core.specs.Labelled.{IsLabelTaken, LabelledOf, Stands, fresh_text}
 use Rattle.case_core.specs.Outline.{AreWholeLines}
 use Rattle.case_core.specs.Reading.{IsFirstLabel, IsPartRead, IsReadProof}
-use Rattle.case_core.specs.Scan.{IsBehindLine}
 use Rattle.case_core.specs.Inner.Bundle.{HasNoLabel}
 use Rattle.case_core.specs.Inner.Finding.{IsJudgement}
 use Rattle.case_core.specs.Inner.Labelled.{HasAdvanced}
@@ -34,7 +32,7 @@ use Rattle.case_core.specs.declared.reading.JudgedText.{JudgedText}
 use Rattle.case_core.specs.declared.reading.ReadText.TheVariants.{Judged, Labelled}
 use Rattle.case_core.proofs.BinaryLines.{no_label_in_binary}
 use Rattle.case_core.proofs.LabelFirst.{no_label}
-use Rattle.case_core.proofs.LabelledParts.{front_more, front_none, part_done}
+use Rattle.case_core.proofs.LabelledParts.{front_more, front_none, memory_on, part_done}
 use Rattle.case_core.proofs.ReadingParts.{all_left, left_over, none_over}
 
 -- ---- the lines of a text
@@ -241,7 +239,7 @@ label_read opened first now after begun text end behind j read label opens lost 
       is_left =
           left_over first after (begun ++ part.part.passed.read)
           (Consumes-trans first now after begun part.part.passed.read lost part.part.passed.lost);
-      is = (as_text, by_parts taken.behind.parts);
+      is = (as_text, first_label);
     }
   where
     rest : List ℕ
@@ -279,26 +277,6 @@ label_read opened first now after begun text end behind j read label opens lost 
         none : (n : ℕ) → 0 + n ≡ n
         none n = omega arith
 
-    first_label : (more : List ℕ) → end.behind ≡ line ++ more → IsBehindLine (more ++ rest)
-        → IsFirstLabel bytes line label.lines
-    first_label more is follows = record {
-      is = record {
-        line = line;
-        others = [];
-        lines = taken.behind.alone;
-        is = taken.behind.is;
-      };
-      before = part.bytes;
-      after = more ++ rest;
-      parts = parts
-          ∙ ap (λ (b : List ℕ). part.bytes ++ (b ++ rest)) is
-          ∙ ap (λ (t : List ℕ). part.bytes ++ t) (append_assoc line more rest);
-      at_line = whole part.part.stands;
-      none = part.part.plain;
-      counted = counted;
-      behind = follows;
-    }
-
     going : false ≡ true → ⊥
     going e = cc
 
@@ -309,13 +287,17 @@ label_read opened first now after begun text end behind j read label opens lost 
         (λ last. absurd (going (ap (λ (t : LabelledOf). t.is_last) (sym fresh) ∙ last)))
         (sym taken.same ∙ taken.last is))
 
-    by_parts : (end.behind ≡ line ++ 10 ∷ (behind.ready ++ behind.behind))
-        ⊎ ((end.behind ≡ line) × (behind.ready ++ behind.behind ≡ []))
-        → IsFirstLabel bytes line label.lines
-    by_parts (inl is) =
-        first_label (10 ∷ (behind.ready ++ behind.behind)) is
-        (inr ((behind.ready ++ behind.behind) ++ rest, refl))
-    by_parts (inr is) = first_label [] (is.0 ∙ sym (append-nil line)) (inl (over is.0))
+    first_label : IsFirstLabel bytes line label.lines
+    first_label = record {
+      before = part.bytes;
+      from = end.behind ++ rest;
+      below = (behind.ready ++ behind.behind) ++ rest;
+      parts = parts;
+      at_line = whole part.part.stands;
+      none = part.part.plain;
+      counted = counted;
+      label = memory_on end.behind line (behind.ready ++ behind.behind) rest taken.behind over;
+    }
 
 -- ---- what is found of a text
 

@@ -4,26 +4,25 @@ use Rattle.cnf_text.specs.Tokens.{is_line_end}
 use Rattle.lrat_binary.specs.Form.{proof_left}
 use Rattle.lrat_binary.specs.declared.form.ProofForm.{ProofForm}
 use Rattle.split_tree.specs.declared.node.Target.{Target}
-use Rattle.case_core.specs.Bundle.{BeginsWithLabel, labels_of}
+use Rattle.case_core.specs.Bundle.{labels_of}
 use Rattle.case_core.specs.Case.{CaseOf}
 use Rattle.case_core.specs.Finding.{IsFoundBy, target_of}
 use Rattle.case_core.specs.Outline.{AreWholeLines}
-use Rattle.case_core.specs.Scan.{IsBehindLine}
-use Rattle.case_core.specs.Labelled.{IsPart, LabelledOf}
+use Rattle.case_core.specs.Labelled.{IsBehindLabel, IsPart, LabelledOf}
 use Rattle.case_core.specs.declared.examiner.ReadFinding.{ReadFinding}
 use Rattle.case_core.specs.declared.examiner.ReadProof.{ReadProof}
 use Rattle.case_core.specs.declared.examiner.ReadProof.TheVariants.{Found, Labelled}
 
 -- the first label line of a text: so many lines end before it, and none of these is one
 pub record IsFirstLabel (text line : List ℕ) (lines : ℕ) : Type 0 where
-  pub is : BeginsWithLabel line
   pub before : List ℕ
-  pub after : List ℕ
-  pub parts : text ≡ before ++ (line ++ after)
+  pub from : List ℕ
+  pub below : List ℕ
+  pub parts : text ≡ before ++ from
   pub at_line : AreWholeLines before
   pub none : labels_of before ≡ []
   pub counted : lines ≡ count_by is_line_end before
-  pub behind : IsBehindLine after
+  pub label : IsBehindLabel from line below
 
 -- what becomes of a target's proof with these bytes, which was opened in this form: no line of its
 -- text is a label line, and this is found by it; or it is a text, and this is its first label line

@@ -101,8 +101,9 @@ pub(crate) fn line_count(text: &[u8]) -> u64
 }
 
 /// How many lines end in a text.
-pub(crate) fn line_ends(text: &[u8]) -> usize
+pub fn line_ends(text: &[u8]) -> usize
     ensures value { result ≡ count_by is_line_end text.now }
+    // No more than its bytes.
     ensures within { result ≤ length text.now }
 {
     text.iter().filter(|byte| **byte == b'\n').count()

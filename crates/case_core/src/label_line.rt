@@ -3,9 +3,8 @@
 use crate::case::Case;
 use crate::fault::CaseFault;
 use crate::label::target_of;
-use crate::scan::{LabelScan, pass_lines};
 use split_tree::Target;
-use std::alloc::Global;
+use std::alloc::{AllocError, Global};
 
 /// The first label line of a text.
 #[derive(Drop)]
@@ -17,12 +16,9 @@ pub struct LabelLine {
 }
 
 impl LabelLine {
-    ghost use Rattle.std.specs.Prelude.{◌≢◌, ◌∷◌, ◌++◌, List, ℕ, IfErr, []};
-    ghost use Rattle.case_core.specs.Bundle.{BeginsWithLabel, labels_of};
-    ghost use Rattle.case_core.specs.Reading.{IsFirstLabel};
-    ghost use Rattle.case_core.specs.Scan.{HasScanned};
+    ghost use Rattle.std.specs.Prelude.{◌≡◌, ◌≢◌, ◌≤◌, ◌+◌, ◌^◌, ◌++◌, List, ℕ, IfOk, IfErr};
+    ghost use Rattle.std.specs.Prelude.{count_by};
     ghost use Rattle.case_core.specs.Sections.{IsCaseOf, IsFaultOf};
-    ghost use Rattle.std.specs.Prelude.{◌≡◌, IfOk, count_by};
     ghost use Rattle.cnf_text.specs.Tokens.{is_line_end, words};
     ghost use Rattle.split_tree.specs.Leaves.{HasTarget};
     ghost use Rattle.case_core.specs.Case.{CaseOf};
@@ -30,6 +26,25 @@ impl LabelLine {
     ghost use Rattle.case_core.specs.Label.{IsTargetOf, label_name};
     ghost use Rattle.case_core.specs.Outline.{AreWholeLines};
     ghost use Rattle.case_core.specs.Labelled.{IsBehindLabel};
+
+    /// The same line where so many lines stand above its text. `AllocError` where the lines are too
+    /// many to be counted.
+    pub fn below(self, lines: u64) -> Result<LabelLine, AllocError>
+        // The line is the same.
+        ensures line { IfOk result (λ label. label.line ≡ self.line) }
+        // The lines above it are added.
+        ensures sum { IfOk result (λ label. label.lines ≡ self.lines + lines) }
+        // An error is that the lines are too many.
+        ensures many { IfErr result (λ _. 2 ^ 64 ≤ self.lines + lines) }
+    {
+        let Some(lines) = self.lines.checked_add(lines) else {
+            return Err(AllocError);
+        };
+        Ok(LabelLine {
+            line: self.line,
+            lines,
+        })
+    }
 
     /// The target that this line names in a case's tree. `Memory` where a growth was refused, or
     /// where the lines are too many to be counted.
@@ -73,32 +88,5 @@ impl LabelLine {
             Some(line) => CaseFault::ProofTwice { line },
             None => CaseFault::Memory,
         }
-    }
-
-    /// The fault of this line, where a bundle that was scanned, and has a label line, goes on with a
-    /// line end and the text. `Memory` where a growth was refused, or where the line has no fault.
-    pub fn fault(&self, alloc: Global, scan: LabelScan<'_>) -> CaseFault
-        requires { BeginsWithLabel self.now.line.items }
-        // It is the first fault of that bundle.
-        ensures { result ≢ CaseFault.Memory → (bundle text : List ℕ) → HasScanned scan.entry bundle
-            → labels_of bundle ≢ [] → IsFirstLabel text self.now.line.items self.now.lines
-            → IsFaultOf (bundle ++ 10 ∷ text) result }
-    {
-        match self.add_to(alloc, scan) {
-            Ok(()) => CaseFault::Memory,
-            Err(fault) => fault,
-        }
-    }
-
-    /// The same, or `Ok` where the line has no fault.
-    fn add_to(&self, alloc: Global, scan: LabelScan<'_>) -> Result<(), CaseFault>
-        requires { BeginsWithLabel self.now.line.items }
-        ensures { IfErr result (λ fault. fault ≢ CaseFault.Memory → (bundle text : List ℕ)
-            → HasScanned scan.entry bundle → labels_of bundle ≢ []
-            → IsFirstLabel text self.now.line.items self.now.lines
-            → IsFaultOf (bundle ++ 10 ∷ text) fault) }
-    {
-        let mut scan = pass_lines(scan, self.lines)?;
-        scan.add(alloc, &self.line)
     }
 }

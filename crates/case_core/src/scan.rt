@@ -1,17 +1,14 @@
 //! The label lines of a bundle that is handed over part by part.
 
 ghost use Rattle.std.specs.Prelude.{◌≡◌, ◌≢◌, ◌+◌, ◌<◌, ◌^◌, ℕ, List, [], ◌∷◌, ◌++◌, length};
-ghost use Rattle.std.specs.Prelude.{OnOk, IfOk, IfErr, count_by, map};
+ghost use Rattle.std.specs.Prelude.{OnOk, IfOk, IfErr, map};
 ghost use Rattle.split_tree.specs.SplitTree.{size};
-ghost use Rattle.case_core.specs.Bundle.{labels_of, lines_of, Labelled, BeginsWithLabel};
+ghost use Rattle.case_core.specs.Bundle.{lines_of, Labelled, BeginsWithLabel};
 ghost use Rattle.case_core.specs.Sections.{IsCaseOf, IsFaultOf, IsLabelFault};
 ghost use Rattle.case_core.specs.Scan.{HasScanned, IsBehindLine};
 ghost use Rattle.case_core.specs.Inner.Bundle.{at_line};
 ghost use Rattle.case_core.specs.Inner.Label.{IsLimited, told};
-ghost use Rattle.case_core.specs.Inner.Bundle.{HasNoLabel};
-ghost use Rattle.case_core.specs.Inner.Scan.{HasTaken, IsScannedTo, bare_labels};
-ghost use Rattle.case_core.specs.Outline.{AreWholeLines};
-ghost use Rattle.cnf_text.specs.Tokens.{is_line_end};
+ghost use Rattle.case_core.specs.Inner.Scan.{HasTaken, bare_labels};
 ghost use Rattle.case_core.specs.Inner.Sections.{is_place};
 
 use crate::bundle::{first_part, line_at, line_count};
@@ -64,21 +61,6 @@ impl<'c> LabelScan<'c> {
         })
     }
 
-    /// The bundle, which has a label line, goes on with a line end and so many lines, none of which
-    /// is a label line: they belong to its last section. `AllocError` where the lines are too many
-    /// to be counted.
-    pub fn pass(&mut self, lines: u64) -> Result<(), AllocError>
-        ensures { OnOk result ((text plain : List ℕ) → HasScanned self.old text
-            → labels_of text ≢ [] → labels_of plain ≡ [] → lines ≡ length (lines_of plain)
-            → HasScanned self.new (text ++ 10 ∷ plain)) }
-    {
-        let Some(lines) = self.lines.checked_add(lines) else {
-            return Err(AllocError);
-        };
-        self.lines = lines;
-        Ok(())
-    }
-
     /// The bundle goes on with a line end and this section, which begins with its label line; or
     /// its first fault, which stands on one of the section's lines. `Memory` where a growth was
     /// refused, or where the lines are too many to be counted.
@@ -102,20 +84,6 @@ impl<'c> LabelScan<'c> {
         self.lines = lines;
         Ok(())
     }
-}
-
-/// A scan of a bundle, which has a label line, that goes on with a line end and so many lines, none
-/// of which is a label line. `AllocError` where the lines are too many to be counted.
-pub(crate) fn pass_lines(mut scan: LabelScan<'_>, lines: u64) -> Result<LabelScan<'_>, AllocError>
-    ensures { IfOk result (λ after. (bundle before : List ℕ) → HasScanned scan.entry bundle
-        → labels_of bundle ≢ [] → AreWholeLines before → HasNoLabel before
-        → lines ≡ count_by is_line_end before → IsScannedTo after bundle before) }
-{
-    if lines == 0 {
-        return Ok(scan);
-    }
-    scan.pass(lines)?;
-    Ok(scan)
 }
 
 /// Which nodes have a section, by the table of their places.

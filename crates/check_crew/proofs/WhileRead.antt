@@ -22,6 +22,7 @@ use Rattle.case_core.specs.Target.{Target}
 use Rattle.case_core.specs.Tokens.{is_line_end, words}
 use Rattle.case_core.specs.declared.fault.CaseFault.{CaseFault}
 use Rattle.case_core.specs.declared.fault.CaseFault.TheVariants.{Memory}
+use Rattle.case_core.proofs.LabelledParts.{memory_on}
 use Rattle.case_core.proofs.OutlineLines.{empty_line, plain_text, whole_both}
 use Rattle.case_core.proofs.ReadingParts.{all_left, left_over, none_over}
 use Rattle.case_core.proofs.SectionsMore.{icnf_same}
@@ -106,24 +107,6 @@ first_read boards out icnf given left text case is part same marks empty = recor
 }
 
 -- ---- one section more
-
--- a label line that is in memory, and what stands behind it
-pub memory_on : (memory line below rest : List ℕ) → IsBehindLabel memory line below
-    → (memory ≡ line → rest ≡ []) → IsBehindLabel (memory ++ rest) line (below ++ rest)
-memory_on memory line below rest is last = record {
-  alone = is.alone;
-  is = is.is;
-  parts = elim is.parts [
-    | inl whole ↦ inl
-        (ap (λ (t : List ℕ). t ++ rest) whole ∙ append_assoc line (10 ∷ below) rest)
-    | inr both ↦
-        let none = last both.0 in
-        inr (
-          ap (λ (t : List ℕ). memory ++ t) none ∙ append-nil memory ∙ both.0,
-          ap (λ (t : List ℕ). below ++ t) none ∙ append-nil below ∙ both.1,
-        )
-  ];
-}
 
 -- A label line and its section, of which the first may end the text: what of this is the section's.
 pub record Cut (whole line section behind : List ℕ) : Type 0 where

@@ -192,8 +192,8 @@ module _ (bundle label proof : List ℕ) (case : CaseOf) (target : Target) (is :
   }
 
 -- the bundle with a file stands for the case with its section
-one_added : (bundle name proof : List ℕ) (case : CaseOf) (target : Target) → IsCaseOf bundle case
-    → MayBeAdded case.tree case.sections name target proof
+pub one_added : (bundle name proof : List ℕ) (case : CaseOf) (target : Target)
+    → IsCaseOf bundle case → MayBeAdded case.tree case.sections name target proof
     → IsCaseWith (bundle ++ section_text name (Some proof)) case
     (record { target = target; proof = proof } ∷ [])
 one_added bundle name proof case target is may =

@@ -1,16 +1,23 @@
 -- The case of a bundle with the sections of the proofs that are given for leaves.
-use Rattle.std.proofs.Common.{◌≡◌, ◌∙◌, refl, ℕ, false, List, [], ◌∷◌}
+use Rattle.std.proofs.Common.{◌≡◌, ◌≢◌, ◌∙◌, ◌<◌, ◌^◌, refl, ℕ, false, List, [], ◌∷◌}
 use Rattle.std.proofs.Common.{◌++◌, map, Option, None, Some}
 use Rattle.std.specs.List.{AllByRecursion}
+use Rattle.case_core.specs.Bundle.{labels_of}
+use Rattle.case_core.specs.SplitTree.{SplitTree}
 use Rattle.case_core.specs.Leaf.{Leaf}
+use Rattle.case_core.specs.Leaves.{HasLeaf}
 use Rattle.case_core.specs.Target.{Target}
 use Rattle.case_core.specs.Target.TheVariants.{Leaf as Named}
 use Rattle.case_core.specs.Case.{CaseOf, SectionOf, proof_for, same_target}
+use Rattle.case_core.specs.Finding.{HasSection}
 use Rattle.case_core.specs.Sections.{IsCaseOf}
-use Rattle.proof_folder.specs.Added.{section_of, sections_of, texts_of, MayAllBeAdded, IsCaseWith}
+use Rattle.case_core.proofs.CaseTables.{proof_added}
+use Rattle.proof_folder.specs.Added.{AreAlmost, IsCaseWith, MayAllBeAdded, section_of}
+use Rattle.proof_folder.specs.Added.{section_text, sections_of, texts_of}
 use Rattle.proof_folder.specs.Given.{Given, file_of, files_of, leaves_of, MayBeGiven, HasFewLeaves}
-use Rattle.proof_folder.proofs.AddedCase.{all_added}
-use Rattle.proof_folder.proofs.AddedMarks.{proof_second}
+use Rattle.proof_folder.specs.Given.{name_of, number_of}
+use Rattle.proof_folder.proofs.AddedCase.{all_added, one_added}
+use Rattle.proof_folder.proofs.AddedMarks.{AlmostTexts, almost_for, proof_second}
 use Rattle.proof_folder.proofs.GivenNames.{one_line, leaf_named}
 use Rattle.proof_folder.proofs.GivenLeaves.{HasCubes, IsOfTree, IsOther, AreOthers, leaves_of_tree}
 use Rattle.proof_folder.proofs.GivenLeaves.{leaves_are_others}
@@ -71,3 +78,40 @@ module _ (case : CaseOf) (given : Given) (may : MayBeGiven case given) where
       all_added (files_of given case.tree) bundle case is
       (all_may case.sections (leaves_of case.tree) of_tree (leaves_are_others case.tree)
       (all_free (leaves_of case.tree) of_tree))
+
+-- ---- the proof of one leaf
+
+-- the text stands for a case with that tree, in which the target has a section
+pub record IsCaseWhere (text : List ℕ) (tree : SplitTree) (target : Target) : Type 0 where
+  pub whole : CaseOf
+  pub is : IsCaseOf text whole
+  pub tree_is : whole.tree ≡ tree
+  pub has : HasSection whole target
+
+still_has : (one other : List SectionOf) (target : Target) (text : List ℕ) → AreAlmost one other
+    → proof_for one target ≡ Some text → proof_for other target ≢ None
+still_has one other target text almost some none =
+    let texts : AlmostTexts (proof_for one target) (proof_for other target) =
+    almost_for one other target almost in rw (some, none) at texts
+
+pub leaf_given : (bundle proof : List ℕ) (case : CaseOf) (leaf : Leaf) → IsCaseOf bundle case
+    → number_of leaf < 2 ^ 64 → HasLeaf case.tree leaf
+    → proof_for case.sections (Named leaf) ≡ None → labels_of proof ≡ []
+    → IsCaseWhere (bundle ++ section_text (name_of leaf) (Some proof)) case.tree (Named leaf)
+leaf_given bundle proof case leaf is few has free plain =
+    let section : SectionOf = record { target = Named leaf; proof = proof } in
+    let made =
+    one_added bundle (name_of leaf) proof case (Named leaf) is (record {
+      one_line = one_line leaf few;
+      named = leaf_named case.tree leaf few has;
+      has = has;
+      free = free;
+      plain = plain;
+    }) in record {
+      whole = made.whole;
+      is = made.is;
+      tree_is = made.tree;
+      has =
+          still_has (case.sections ++ section ∷ []) made.whole.sections (Named leaf) proof
+          made.sections (proof_added case.sections section free);
+    }

@@ -4,7 +4,7 @@ mod AddedCase
 mod AddedMarks
 mod GivenNames
 pub mod GivenLeaves
-mod GivenCase
+pub mod GivenCase
 pub mod GivenFindings
 pub mod GivenFound
 pub mod GivenBelow

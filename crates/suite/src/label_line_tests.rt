@@ -4,7 +4,9 @@ ghost use Rattle.std.specs.Prelude.{◌≡◌};
 use crate::cases::case;
 use crate::reading_tests::Pieces;
 use byte_flow::DeviceFault;
-use case_core::{Case, Examiner, Judged, LabelLine, ProofForm, ReadFinding, ReadProof, Reason};
+use case_core::{
+    Case, Examiner, Judged, LabelLine, ProofForm, ReadFinding, ReadProof, Reason, line_ends,
+};
 use fixtures::targets::{cube, has_target};
 use std::alloc::Global;
 use std::process::Abort;
@@ -114,9 +116,13 @@ fn need_label(rt: &impl Abort, alloc: Global, labelled: &Case, one: &Labelled, s
     let first = label(rt, read);
     assert!(rt; first.line.as_slice() == *line, "{text:?}");
     assert!(rt; first.lines == *lines, "{text:?}");
+    let moved = first.below(7).expect(rt, "too many lines");
+    assert!(rt; moved.line.as_slice() == *line, "{text:?}");
+    assert!(rt; moved.lines - 7 == *lines, "{text:?}");
 }
 
 // Whatever the size of a read, the first label line is told, and how many lines end before it.
+// Lines above the text are added to these.
 #[test]
 fn label_lines(rt: HostRuntime) {
     let labelled = case(&rt, rt.alloc(), LABELLED);
@@ -141,4 +147,27 @@ fn a_read_of_the_source_fails(rt: HostRuntime) {
     for fails_at in 1..6u64 {
         need_failed(&rt, rt.alloc(), &labelled, fails_at);
     }
+}
+
+/// A label line before which so many lines of its text end.
+fn label_behind(alloc: Global, lines: u64) -> LabelLine {
+    LabelLine {
+        line: Vec::new(alloc),
+        lines,
+    }
+}
+
+// Lines above a text that are too many to be counted are an error.
+#[test]
+fn lines_above_a_text(rt: HostRuntime) {
+    assert!(rt; label_behind(rt.alloc(), 1).below(u64::MAX).is_err());
+    assert!(rt; label_behind(rt.alloc(), 1).below(u64::MAX - 1).is_ok());
+}
+
+// Each line end counts, whatever stands between them.
+#[test]
+fn line_ends_of_a_text(rt: HostRuntime) {
+    assert!(rt; line_ends(b"") == 0);
+    assert!(rt; line_ends(b"a\r\n\n l 1") == 2);
+    assert!(rt; line_ends(b"\nl 1\n") == 2);
 }

@@ -1,11 +1,11 @@
 -- What the scan of label lines keeps.
-use Rattle.std.specs.Prelude.{◌≡◌, ℕ, ◌+◌, Bool, List, [], ◌∷◌, ◌++◌, length, map}
+use Rattle.std.specs.Prelude.{◌≡◌, ℕ, ◌+◌, Bool, List, [], ◌++◌, length, map}
 use Rattle.split_tree.specs.SplitTree.{SplitTree, size}
 use Rattle.case_core.specs.Bundle.{lines_of, Labelled, labelled, BeginsWithLabel}
 use Rattle.case_core.specs.Case.{SectionOf}
 use Rattle.case_core.specs.Inner.Bundle.{EndsWith}
 use Rattle.case_core.specs.Inner.Label.{IsLimited}
-use Rattle.case_core.specs.Scan.{AreTaken, HasScanned, ScanOf}
+use Rattle.case_core.specs.Scan.{AreTaken}
 use Rattle.case_core.specs.Sections.{AreSectionsOf}
 
 -- a label line without what stands below it
@@ -40,9 +40,3 @@ pub record HasTakenTo (tree : SplitTree) (number : ℕ) (text : List ℕ) (first
 pub record IsScanKept (tree : SplitTree) (taken : List Bool) : Type 0 where
   pub limited : IsLimited tree
   pub long : length taken ≡ size tree
-
--- Scanned were a bundle and lines behind it: a text with which each rest goes on as behind them.
-pub record IsScannedTo (scan : ScanOf) (bundle before : List ℕ) : Type 0 where
-  pub text : List ℕ
-  pub has : HasScanned scan text
-  pub on : (rest : List ℕ) → text ++ 10 ∷ rest ≡ bundle ++ 10 ∷ (before ++ rest)

@@ -1,12 +1,17 @@
-use Rattle.std.proofs.Common.{◌++◌, codes}
-use Rattle.bundle_files.proofs.OneProof.{fault_of_text, label_below}
+use Rattle.bundle_files.proofs.OneProof.{faulty_below, twice_below}
 use Rattle.bundle_files.proofs.one_proof.fault_below.Goals as goal
 
-pub returns-in-Ok : goal.returns-in-Ok
-returns-in-Ok c = λ some text first.
-    fault_of_text c.args.bundle.now text c.fault.result
-    (c.fault.ensures some (c.args.bundle.now ++ codes "\nl 1") text c.in-Ok.ensures.ok
-    (label_below c.args.bundle.now) first)
+pub returns-in-Ok-target : goal.returns-in-Ok-target
+returns-in-Ok-target c = λ some text first.
+    twice_below c.args.bundle.now text c.in-Ok.label.line.items c.args.label.lines
+    c.line_ends.result c.in-Ok.label.lines c.args.case.now c.twice.result c.requires.case
+    c.requires.one c.requires.free c.line_ends.ensures.value c.in-Ok.ensures.sum
+    c.in-Ok-target.field-0 c.in-Ok-target.ensures.has c.in-Ok-target.ensures.named
+    (c.twice.ensures some) (rw c.in-Ok.ensures.line first)
 
-pub returns-in-Err : goal.returns-in-Err
-returns-in-Err c = λ some text first. c.in-Err.ensures.err some text
+pub returns : goal.returns
+returns c = λ some text first.
+    faulty_below c.args.bundle.now text c.in-Ok.label.line.items c.args.label.lines
+    c.line_ends.result c.in-Ok.label.lines c.args.case.now c.in-Err.fault c.requires.case
+    c.requires.one c.requires.free c.line_ends.ensures.value c.in-Ok.ensures.sum
+    (c.in-Err.ensures.fault some) (rw c.in-Ok.ensures.line first)
