@@ -5,9 +5,8 @@ use Rattle.command_words.specs.Request.{asked_in}
 use Rattle.command_words.specs.declared.words.Request.{Request}
 use Rattle.case_core.specs.Binary.{proof_text}
 use Rattle.bundle_files.specs.Files.{Held}
-use Rattle.bundle_files.specs.Formula.{IsBundleOf, IsReadBy}
-use Rattle.cube_report.specs.Correct.{IsOutcome, IsUnsatisfiable}
-use Rattle.cube_report.specs.Device.{IsLeft}
+use Rattle.bundle_files.specs.Formula.{IsBundleOf}
+use Rattle.cube_report.specs.Correct.{IsOutcome}
 use Rattle.cube_command.specs.Program.{IsBundleFor}
 use Rattle.cube_command.specs.Record.{record_text}
 use Rattle.cube_command.specs.Sources.{sources_of}
