@@ -4,8 +4,8 @@ ghost use Rattle.std.specs.Prelude.{IfOk, IfErr, IfSome, OnOk, OnErr, true, opti
 ghost use Rattle.case_core.specs.Target.{Target};
 ghost use Rattle.byte_flow.specs.Device.{IsDeviceFault};
 ghost use Rattle.check_crew.specs.TargetProofs.{IsOpenedOf};
-ghost use Rattle.file_store.specs.Files.{Gives, GivesOneOf, IsFound, IsOpenedAt, StaysAllowed, lies_in};
-ghost use Rattle.file_store.specs.Files.{StaysAllowedBeside};
+ghost use Rattle.file_store.specs.Files.{Gives, GivesOneOf, IsFound, IsOpenedAt, StaysAllowed};
+ghost use Rattle.file_store.specs.Files.{StaysAllowedBeside, lies_in};
 ghost use Rattle.file_store.specs.Files.{as_proofs, held_if};
 ghost use Rattle.case_core.specs.Binary.{proof_text};
 ghost use Rattle.file_store.specs.Files.{held_at};

@@ -15,9 +15,10 @@ returns-clause-read g c =
 
 pub returns-clause-handed : goal.returns-clause-handed
 returns-clause-handed g c =
-    formula_read g.D.Store.hands c.args.path.now c.new-text.result.items c.append_file.new.bytes.items
-    c.deref.result.now c.deref_mut.result.now c.overwrite_header.new.text _
-    c.in_ok-problem.problem c.in_ok-append_file.ensures.handed c.new-text.ensures.items
+    formula_read g.D.Store.hands c.args.path.now c.new-text.result.items
+    c.append_file.new.bytes.items c.deref.result.now c.deref_mut.result.now
+    c.overwrite_header.new.text _ c.in_ok-problem.problem c.in_ok-append_file.ensures.handed
+    c.new-text.ensures.items
     c.deref.ensures.value c.in_ok-problem.ensures.ok c.deref_mut.ensures.value
     c.overwrite_header.ensures
     (in_place c.overwrite_header.new.text _ _
