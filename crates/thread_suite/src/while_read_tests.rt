@@ -123,10 +123,28 @@ fn need_fault<R: Abort + Threads + Wait + Sync>(
 fn the_first_faulty_label_line_is_told(rt: HostRuntime) {
     for workers in [1, 4] {
         let twice = halves!("l 1\n6 0 5 3 4 0\nl 2\n6 0 5 1 2 0\nl 1\nl x\n");
-        need_fault(&rt, rt.alloc(), workers, twice, CaseFault::ProofTwice { line: 12 });
+        need_fault(
+            &rt,
+            rt.alloc(),
+            workers,
+            twice,
+            CaseFault::ProofTwice { line: 12 },
+        );
         let none = halves!("l 1\n6 0 5 3 4 0\nl 3\nl 1\n");
-        need_fault(&rt, rt.alloc(), workers, none, CaseFault::NoSuchLeaf { line: 10 });
+        need_fault(
+            &rt,
+            rt.alloc(),
+            workers,
+            none,
+            CaseFault::NoSuchLeaf { line: 10 },
+        );
         let bad = halves!("l x\n6 0 5 3 4 0\nl 3\n");
-        need_fault(&rt, rt.alloc(), workers, bad, CaseFault::BadLabel { line: 8 });
+        need_fault(
+            &rt,
+            rt.alloc(),
+            workers,
+            bad,
+            CaseFault::BadLabel { line: 8 },
+        );
     }
 }
