@@ -204,11 +204,11 @@ fn tells_of_file<R: AllocGlobal + Abort + Threads + Wait + Sync>(
     assert!(rt; device.has(text), "{words:?}");
 }
 
-// A clock that moves by 300 milliseconds, and 137 bytes: a line is due at every fourth read, and
-// then, as reading is over, at the fourth section.
+// A clock that moves by 300 milliseconds, and 137 bytes, which are read whole, since a folder is
+// asked for: a line is due at every fourth read, and then, as reading is over, at the fourth section.
 #[test]
 fn how_much_was_read(rt: HostRuntime) {
-    let words = ["--workers", "1", "--progress", "four.icnf"];
+    let words = ["--workers", "1", "--progress", "--proofs", "D", "four.icnf"];
     let told = "cubeboard: reading: 64 bytes so far\n\
                 cubeboard: reading: 128 bytes so far\n\
                 cubeboard: 4 of 4 judged, 48 of 48 bytes, 4 refuted, 0 rejected, 0.000 % open\n\
