@@ -69,6 +69,7 @@ measure places "FILE with --map, --log and --record" --map "$folder/map" --log "
 measure places "FILE with a proof for an inner node" "$folder/inner"
 measure places "--proofs DIR" --proofs "$folder/proofs" "$folder/case.icnf"
 measure copies "standard input" < <(cat "$folder/bundle")
+measure copies "standard input with --formula" --formula "$folder/formula.cnf" < <(cat "$folder/cubes")
 workers=1 measure places "standard input, one worker" < <(cat "$folder/bundle")
 measure whole "FILE as a named pipe" <(cat "$folder/bundle")
 measure whole "FILE with --explain" --explain "$folder/bundle"

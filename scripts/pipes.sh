@@ -752,12 +752,64 @@ for way in fed named; do
     count "the log of a bundle, $way" $?
 done
 rm -f "$here"/run/[af].*
+# Below a formula in a file of its own. Wanted is what is said of the bundle that both make, as one
+# file: so each fault has its line in all of it. Refused are programs that count lines from the pipe's
+# first one, that judge before the clauses are counted, and that hold what comes by the pipe.
+by_both_pipes() {
+    what=$1
+    shift
+    fed "$here/cubes" --formula formula.cnf "$@"
+    compares "$what below a formula, by a pipe"
+    named "$here/cubes" --workers 1 --formula formula.cnf "$@" text.pipe
+    compares "$what below a formula, by a named pipe"
+}
+below() {
+    { echo 'p inccnf' && tail -n +2 "$here/formula" && echo && cat "$here/cubes"; } > "$here/bundle"
+    as_a_file
+    by_both_pipes "$@"
+}
+{ printf 'a 1 0\na -1 0\nl 1\n' && cat "$here/first" && echo 'l 2' && cat "$here/second"; } > "$here/sections"
+length=0
+while [ "$length" -le "$(wc -c < "$here/sections")" ]; do
+    head -c "$length" "$here/sections" > "$here/cubes"
+    below "cubes and sections cut behind byte $length"
+    length=$((length + 1))
+done
+[ "$(tail -n 1 "$here/out")" = "s REFUTED" ]
+count "the whole of them is refuted" $?
+for lines in 'a 1 0' 'a x 0' 'a 2 0' 'a 0' 'a 1' 'l 3' 'l 1' 'l n 2 0' 'l'; do
+    { cat "$here/sections" && echo "$lines"; } > "$here/cubes"
+    below "the line '$lines' behind the sections"
+    { echo "$lines" && cat "$here/sections"; } > "$here/cubes"
+    below "the line '$lines' above the cubes"
+done
+# (clauses that the formula's file hasn't got are told before a fault of the cubes or of a label line)
+faulty "F17 the header says 2 variables and 4 clauses, there are 2 and 5"
+for lines in 'l 1' 'l x'; do
+    { echo '-2 0' && cat "$here/sections" && echo "$lines"; } > "$here/cubes"
+    by_both_pipes "a clause more and the line '$lines' behind the sections"
+done
+for lines in 'a 1 0' 'a 2 0'; do
+    { echo '-2 0' && echo "$lines" && cat "$here/sections"; } > "$here/cubes"
+    by_both_pipes "a clause more and the line '$lines' above the cubes"
+done
+cp "$here/sections" "$here/cubes"
+printf 'c no header\n' > "$here/run/formula.cnf"
+faulty "F16 no DIMACS header"
+by_both_pipes "no header"
+rm "$here/run/formula.cnf"
+faulty "F13 device" 5
+by_both_pipes "no file"
+cp "$here/formula" "$here/run/formula.cnf"
 # Each read that fails in turn.
 if preload device "the reads of a bundle that are short or fail"; then
     as_a_file
     keeps
     each_read_fails "a bundle" 1 "$here/bundle" --workers 1
     each_read_fails "a bundle, by four workers" 7 "$here/bundle" --workers 4
+    cp "$here/sections" "$here/cubes" && below "cubes and sections"
+    keeps
+    each_read_fails "cubes and sections below a formula" 7 "$here/cubes" --formula formula.cnf
 fi
 # Memory: a section of 100 MB between two others, a fault behind it, and many sections.
 awk 'BEGIN { for (i = 0; i < 50000; i++) print "6 2 0 5 3 0\n6 d 6 0" }' > "$here/part"
@@ -766,16 +818,19 @@ with_parts() {
     for part in $(seq 100); do cat "$here/part" || return; done
     cat "$1"
 }
+# (its name, the line that the report or the fault has, and further words)
 large_bundle() {
+    what=$1 line=$2
+    shift 2
     for workers in 1 4; do
         echo none > "$here/peak"
         program=$here/measured
-        if [ "$workers" -eq 4 ]; then fed "$here/proof"; else named "$here/proof" --workers 1 text.pipe; fi
+        if [ "$workers" -eq 4 ]; then fed "$here/proof" "$@"; else named "$here/proof" --workers 1 "$@" text.pipe; fi
         program=$built
-        [ "$(tail -n 1 "$here/out" "$here/err" | grep -c -x -e "$2")" -eq 1 ]
-        count "$1, $workers workers: $2" $?
+        [ "$(tail -n 1 "$here/out" "$here/err" | grep -c -x -e "$line")" -eq 1 ]
+        count "$what, $workers workers: $line" $?
         [ "$(cat "$here/peak")" -le 64 ] 2> /dev/null
-        count "$1, $workers workers: at most 64 MB in memory, and not $(cat "$here/peak")" $?
+        count "$what, $workers workers: at most 64 MB in memory, and not $(cat "$here/peak")" $?
     done
 }
 # (the leaves of seven variables that the formula hasn't got, each with a section of 1 MB)
@@ -789,6 +844,10 @@ of_many() {
 writer=with_parts
 cp "$here/first" "$here/proof"
 large_bundle "a bundle of 100 MB" "s REFUTED"
+cp "$here/case" "$here/both"
+grep '^a' "$here/both" > "$here/case"
+large_bundle "cubes and sections of 100 MB below a formula" "s REFUTED" --formula formula.cnf
+cp "$here/both" "$here/case"
 { cat "$here/first" && echo 'l 1'; } > "$here/proof"
 large_bundle "a bundle of 100 MB with a label line at its end" "cubeboard: F12 second proof, line 10000012"
 awk 'BEGIN { for (i = 0; i < 40000; i++) print "12 1 0 1 2 0\n12 d 12 0" }' > "$here/part"

@@ -1,7 +1,8 @@
 -- A formula's file that was read, and the bundle that it makes.
-use Rattle.std.proofs.Common.{◌≡◌, ◌≢◌, ◌∙◌, sym, ap, subst, ℕ}
+use Rattle.std.proofs.Common.{◌≡◌, ◌≢◌, ◌∙◌, sym, ap, refl, subst, false, ℕ, ◌+◌}
 use Rattle.std.proofs.Common.{List, [], ◌∷◌, ◌++◌, length, take, append_assoc, inl, inr, arith}
-use Rattle.std.proofs.Common.{Option, Some, Result, Ok, Err, OnOk, IfErr, IsErrAnd}
+use Rattle.std.proofs.Common.{Option, None, Some, Result, Ok, Err, OnOk, IfOk, IfErr, IsErrAnd}
+use Rattle.std.specs.List.{AllByRecursion}
 use Rattle.std.proofs.Math.Seq.{take-append_seam}
 use Rattle.case_core.specs.Literal.{Literal}
 use Rattle.case_core.specs.Icnf.{Item, StandsFor, clauses_of}
@@ -9,17 +10,22 @@ use Rattle.case_core.specs.Dimacs.{IsDimacs, KeepsLimits, told, told_problem, gr
 use Rattle.case_core.specs.Problem as code
 use Rattle.case_core.specs.TextFault.{TextFault}
 use Rattle.case_core.specs.TextFault.TheVariants as text
-use Rattle.case_core.specs.Bundle.{icnf_text}
+use Rattle.case_core.specs.Bundle.{icnf_text, is_label, labelled, lines_of}
 use Rattle.case_core.specs.Case.{CaseOf}
 use Rattle.case_core.specs.Sections.{IsCaseOf}
+use Rattle.case_core.proofs.BundleMore.{lines_more}
 use Rattle.case_core.proofs.IcnfUnique.{one_text}
+use Rattle.case_core.proofs.OutlineLines.{empty_line}
 use Rattle.cube_report.specs.declared.fault.Fault.{Fault}
 use Rattle.cube_report.specs.declared.fault.Fault.TheVariants.{Counts}
 use Rattle.cube_report.specs.Faults.{IsInputFault}
-use Rattle.file_store.specs.Files.{Held, GrewBy, IsAppended, IsRead, lies_in}
-use Rattle.bundle_files.specs.Formula.{IsOverwritten, IsUnder}
-use Rattle.bundle_files.specs.Formula.{IsFormulaFault, IsFormulaRead}
-use Rattle.bundle_files.specs.Inner.Formula.{IsOtherCount}
+use Rattle.file_store.specs.Files.{GrewBy, Held, IsRead, IsTextAt, lies_in}
+use Rattle.bundle_files.specs.Formula.{ArePlainLines, HasCount, HasOtherCount, IsBundleBy, IsFront}
+use Rattle.bundle_files.specs.Formula.{IsFormulaFault, IsFormulaRead, IsOverwritten}
+use Rattle.bundle_files.specs.Inner.Formula.{IsFaultyFormula, IsOtherCount}
+use Rattle.bundle_files.specs.Inner.Outlined.{IsCounted}
+use Rattle.bundle_files.specs.declared.formula.BegunBundle.{BegunBundle}
+use Rattle.bundle_files.proofs.FormulaText.{over_plain}
 
 -- what holds of an error holds of the result that hands it on
 pub handed_on : {T E : Type 0} (result : Result T E) (P : E → Type 0) (error : E) → P error
@@ -91,22 +97,69 @@ counted_by_case bundle case formula count is same counted items stands =
     (one_text (icnf_text bundle) items is.items stands is.text)
     ∙ ap length (sym (same ∙ is.formula)) ∙ counted
 
+-- so they are all where a problem line says that
+pub case_counted : (bundle : List ℕ) (case : CaseOf) (said : Option code.Problem)
+    → IsCaseOf bundle case → IsCounted said case.formula → HasCount said bundle
+case_counted bundle case None is counted = tt
+case_counted bundle case (Some said) is counted =
+    counted_by_case bundle case case.formula said.clauses is refl counted
+
 -- ---- the bundle
 
-whole_is : (over ended new bundle rest : List ℕ) → ended ≡ over ++ 10 ∷ []
-    → new ≡ ended ++ rest → bundle ≡ new → bundle ≡ over ++ 10 ∷ rest
-whole_is over ended new bundle rest first second third =
-    third ∙ second ∙ ap (λ (t : List ℕ). t ++ rest) first ∙ append_assoc over (10 ∷ []) rest
+over_end : (over ended : List ℕ) (rest bundle : List ℕ) → ended ≡ over ++ 10 ∷ []
+    → bundle ≡ ended ++ rest → bundle ≡ over ++ 10 ∷ rest
+over_end over ended rest bundle first second =
+    second ∙ ap (λ (t : List ℕ). t ++ rest) first ∙ append_assoc over (10 ∷ []) rest
 
--- it has as many clauses as the problem line says
-pub under_formula : (has : List ℕ → List ℕ → Type 0) (path : List ℕ)
-    (file input : Option (List ℕ)) (over ended new bundle : List ℕ) (said : code.Problem)
-    → IsFormulaRead has path over said → ended ≡ over ++ 10 ∷ []
-    → IsAppended has file input ended new → bundle ≡ new
-    → ((items : List Item) → StandsFor (icnf_text bundle) items
-    → length (clauses_of items) ≡ said.clauses)
-    → IsUnder has path file input bundle
-under_formula has path file input over ended new bundle said r ends appended is count =
+-- what stands before it is whole lines
+no_labels : (lines : List (List ℕ)) (number : ℕ)
+    → AllByRecursion (λ line. is_label line ≡ false) lines
+    → labelled number (lines ++ lines_of []) ≡ []
+no_labels [] number plain = rw empty_line refl
+no_labels (line ∷ lines) number plain = rw plain.0 (no_labels lines (number + 1) plain.1)
+
+pub front_plain : (has : List ℕ → List ℕ → Type 0) (formula : Option (List ℕ))
+    (said : Option code.Problem) (front : List ℕ) → IsFront has formula said front
+    → ArePlainLines front
+front_plain has None None front is =
+    subst ArePlainLines (sym is) (inl refl, rw empty_line refl)
+front_plain has None (Some said) front is = absurd is
+front_plain has (Some path) None front is = absurd is
+front_plain has (Some path) (Some said) front (over, read, is) =
+    subst ArePlainLines (sym is) (
+      inr (over, refl),
+      ap (labelled 1) (lines_more over [])
+          ∙ no_labels (lines_of over) 1
+          (over_plain read.text over read.formula read.dimacs read.overwritten),
+    )
+
+pub plain_if : (begun : Result BegunBundle Fault) (has : List ℕ → List ℕ → Type 0)
+    (formula : Option (List ℕ))
+    → IfOk begun (λ begun. IsFront has formula begun.said begun.text.items)
+    → IfOk begun (λ begun. ArePlainLines begun.text.items)
+plain_if (Ok begun) has formula is = front_plain has formula begun.said begun.text.items is
+plain_if (Err fault) has formula is = tt
+
+pub faulty_if : (begun : Result BegunBundle Fault) (held : Held) (path : List ℕ)
+    → IfErr begun (λ fault. IsInputFault fault → IsFaultyFormula held path fault)
+    → IfErr begun (λ fault. IsInputFault fault → (file input : Option (List ℕ))
+    → IsFormulaFault held (Some path) file input fault)
+faulty_if (Ok begun) held path faulty = tt
+faulty_if (Err fault) held path faulty = λ of_input file input.
+    let found = faulty of_input in (found.0, found.1, inl found.2)
+
+-- with a text behind it, it is the bundle that is read, where that has as many clauses as is said
+pub bundle_read : (has : List ℕ → List ℕ → Type 0) (formula : Option (List ℕ))
+    (said : Option code.Problem) (front bundle : List ℕ) (file input : Option (List ℕ))
+    → IsFront has formula said front → GrewBy (IsTextAt has file input) front bundle
+    → HasCount said bundle → IsBundleBy has formula file input bundle
+bundle_read has None None front bundle file input is (rest, given, whole) count =
+    subst (IsTextAt has file input)
+    (sym (whole ∙ ap (λ (f : List ℕ). f ++ rest) is)) given
+bundle_read has None (Some said) front bundle file input is grew count = absurd is
+bundle_read has (Some path) None front bundle file input is grew count = absurd is
+bundle_read has (Some path) (Some said) front bundle file input (over, r, ends) (rest, given, whole)
+    count =
     record {
       text = r.text;
       given = r.given;
@@ -114,9 +167,9 @@ under_formula has path file input over ended new bundle said r ends appended is 
       dimacs = r.dimacs;
       over = over;
       overwritten = r.overwritten;
-      rest = appended.0;
-      is_rest = appended.1;
-      whole = whole_is over ended new bundle appended.0 ends appended.2 is;
+      rest = rest;
+      is_rest = given;
+      whole = over_end over front rest bundle ends whole;
       no_clause_more = λ items stands.
           let many : length (clauses_of items) ≡ told r.dimacs.problem.clauses =
           count items stands ∙ ap (λ (p : code.Problem). p.clauses) r.said_is in
@@ -124,18 +177,16 @@ under_formula has path file input over ended new bundle said r ends appended is 
           let there = r.dimacs.clauses in omega arith;
     }
 
--- or it hasn't
-pub adds_clauses : (held after : Held) (path : List ℕ) (file input : Option (List ℕ))
-    (over ended new bundle : List ℕ) (said : code.Problem) (fault : Fault)
-    → IsFormulaRead (lies_in held) path over said → after ≡ held → ended ≡ over ++ 10 ∷ []
-    → IsAppended (lies_in after) file input ended new → bundle ≡ new
-    → IsOtherCount bundle said fault → IsInputFault fault
-    → IsFormulaFault held (Some path) file input fault
-adds_clauses held after path file input over ended new bundle said fault r same ends appended is
-    (inl memory) of_input = absurd (of_input.0 memory)
-adds_clauses held after path file input over ended new bundle said fault r same ends appended is
-    (inr other) of_input =
-    let whole = whole_is over ended new bundle appended.0 ends appended.2 is in
+-- or it has other clauses
+pub count_refused : (held : Held) (formula : Option (List ℕ)) (said : Option code.Problem)
+    (front bundle : List ℕ) (file input : Option (List ℕ)) (fault : Fault)
+    → IsFront (lies_in held) formula said front → GrewBy (IsRead held file input) front bundle
+    → HasOtherCount said bundle fault → IsFormulaFault held formula file input fault
+count_refused held None None front bundle file input fault is grew other = absurd other
+count_refused held None (Some said) front bundle file input fault is grew other = absurd is
+count_refused held (Some path) None front bundle file input fault is grew other = absurd other
+count_refused held (Some path) (Some said) front bundle file input fault (over, r, ends)
+    (rest, given, whole) other =
     let few = other.1.2.1.clauses in
     let there = r.dimacs.clauses in
     let said_clauses : said.clauses ≡ told r.dimacs.problem.clauses =
@@ -149,10 +200,12 @@ adds_clauses held after path file input over ended new bundle said fault r same 
         dimacs = r.dimacs;
         over = over;
         overwritten = r.overwritten;
-        rest = appended.0;
-        is_rest = subst (λ (h : Held). IsRead h file input appended.0) same appended.1;
+        rest = rest;
+        is_rest = given;
         items = other.0;
-        stands = subst (λ (t : List ℕ). StandsFor (icnf_text t) other.0) whole other.1;
+        stands =
+            subst (λ (t : List ℕ). StandsFor (icnf_text t) other.0)
+            (over_end over front rest bundle ends whole) other.1;
         more = λ equal. other.2 (omega arith);
         is = other.3
             ∙ ap (λ (v : ℕ). Counts v said.clauses (greatest_of (clauses_of other.0))
@@ -161,3 +214,9 @@ adds_clauses held after path file input over ended new bundle said fault r same 
             (greatest_of (clauses_of other.0)) (length (clauses_of other.0))) said_clauses;
       }),
     )
+
+-- a fault of the input isn't want of memory
+pub other_count : (said : Option code.Problem) (bundle : List ℕ) (fault : Fault)
+    → IsOtherCount said bundle fault → IsInputFault fault → HasOtherCount said bundle fault
+other_count said bundle fault (inl memory) of_input = absurd (of_input.0 memory)
+other_count said bundle fault (inr other) of_input = other

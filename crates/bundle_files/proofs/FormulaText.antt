@@ -131,7 +131,7 @@ unfolding token_lines
 by_lines f n text = refl
 
 -- no line of the text with the header over its problem line is a label line
-over_plain : (text over : List ℕ) (formula : List (List Literal)) → IsDimacs text formula
+pub over_plain : (text over : List ℕ) (formula : List (List Literal)) → IsDimacs text formula
     → IsOverwritten text over
     → AllByRecursion (λ other. is_label other ≡ false) (lines_of over)
 over_plain text over formula is made =

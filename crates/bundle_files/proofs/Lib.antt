@@ -2,7 +2,7 @@ pub mod LawsFormula
 mod FormulaLines
 pub mod FormulaText
 mod FormulaPlace
-mod FormulaReading
+pub mod FormulaReading
 mod LawsApart
 mod JudgingFaults
 mod JudgingRuns

@@ -1,17 +1,17 @@
 -- What stands in a bundle before the file's text, and the bundle that it makes with the text.
-use Rattle.std.proofs.Common.{◌≡◌, ◌∙◌, ap, sym, subst, refl, inl, inr, ℕ, ◌+◌, List, []}
-use Rattle.std.proofs.Common.{◌∷◌, ◌++◌, append_assoc, length, length-append, Option, None, Some}
+use Rattle.std.proofs.Common.{◌≡◌, ◌∙◌, ap, sym, subst, refl, ℕ, ◌+◌, List, []}
+use Rattle.std.proofs.Common.{◌∷◌, ◌++◌, append_assoc, length, Option, None, Some}
 use Rattle.case_core.specs.Bundle.{icnf_text}
 use Rattle.case_core.specs.Case.{CaseOf}
-use Rattle.case_core.specs.Outline.{IsOutlineOf}
+use Rattle.case_core.specs.Outline.{IsOutlineOf, OutlineOf}
 use Rattle.case_core.specs.Problem as code
 use Rattle.case_core.specs.Sections.{IsCaseOf}
 use Rattle.file_store.specs.Parts.{GoesOnWith}
-use Rattle.bundle_files.specs.Formula.{IsBundleBy, IsFormulaRead}
-use Rattle.bundle_files.specs.Outlined.{IsFront, IsOutlinedBy}
-use Rattle.bundle_files.specs.Inner.Outlined.{IsBegunBy, IsCounted}
+use Rattle.bundle_files.specs.Formula.{IsBundleBy, IsFront}
+use Rattle.bundle_files.specs.Outlined.{IsOutlinedBy}
+use Rattle.bundle_files.specs.Inner.Outlined.{IsCounted}
 use Rattle.bundle_files.specs.declared.outlined.BundleOutline.{BundleOutline}
-use Rattle.bundle_files.proofs.FormulaReading.{counted_by_case, under_formula}
+use Rattle.bundle_files.proofs.FormulaReading.{bundle_read, case_counted, front_plain}
 use Rattle.bundle_files.proofs.FormulaText.{over_first}
 
 -- it stands before the iCNF text, too
@@ -40,56 +40,21 @@ pub front_bundle : (has : List ℕ → List ℕ → Type 0) (formula : Option (L
     → IsFront has formula said front → has path rest → IsCaseOf (front ++ rest) case
     → IsCounted said case.formula → (input : Option (List ℕ))
     → IsBundleBy has formula (Some path) input (front ++ rest)
-front_bundle has None None front path rest case is given case_is counted input =
-    subst (λ (f : List ℕ). has path (f ++ rest)) (sym is) given
-front_bundle has None (Some said) front path rest case is given case_is counted input = absurd is
-front_bundle has (Some cnf) None front path rest case is given case_is counted input = absurd is
-front_bundle has (Some cnf) (Some said) front path rest case (over, read, is) given case_is counted
-    input =
-    under_formula has cnf (Some path) input over front (front ++ rest) (front ++ rest) said read is
-    (rest, given, refl) refl
-    (counted_by_case (front ++ rest) case case.formula said.clauses case_is refl counted)
+front_bundle has formula said front path rest case is given case_is counted input =
+    bundle_read has formula said front (front ++ rest) (Some path) input is (rest, given, refl)
+    (case_counted (front ++ rest) case said case_is counted)
 
--- ---- an outline that is begun
-
--- of nothing
-pub begun_plain : (has : List ℕ → List ℕ → Type 0) (begun : BundleOutline)
-    → IsOutlineOf begun.outline [] → begun.before ≡ 0 → begun.said ≡ None
-    → IsBegunBy has None begun
-begun_plain has begun is before said = record {
-  front = [];
-  is_front = subst (λ (s : Option code.Problem). IsFront has None s []) (sym said) refl;
+-- an outline of what stands before a file's text goes on with that
+pub outlined_below : (has : List ℕ → List ℕ → Type 0) (formula : Option (List ℕ))
+    (said : Option code.Problem) (front path : List ℕ) (begun : OutlineOf) (whole : BundleOutline)
+    → IsFront has formula said front → IsOutlineOf begun front
+    → GoesOnWith (has path) begun whole.outline → whole.before ≡ length front
+    → whole.said ≡ said → IsOutlinedBy has formula path whole
+outlined_below has formula said front path begun whole is of on before says = record {
+  front = front;
+  is_front = subst (λ (s : Option code.Problem). IsFront has formula s front) (sym says) is;
   long = sym before;
-  whole = inl refl;
-  outline = is;
-}
-
--- of the text of a formula's file
-pub begun_below : (has : List ℕ → List ℕ → Type 0) (path over : List ℕ) (said : code.Problem)
-    (begun : BundleOutline) → IsFormulaRead has path over said
-    → IsOutlineOf begun.outline (over ++ 10 ∷ []) → begun.before ≡ length over + 1
-    → begun.said ≡ Some said → IsBegunBy has (Some path) begun
-begun_below has path over said begun read is before says = record {
-  front = over ++ 10 ∷ [];
-  is_front =
-      subst (λ (s : Option code.Problem). IsFront has (Some path) s (over ++ 10 ∷ [])) (sym says)
-      (over, read, refl);
-  long = length-append over (10 ∷ []) ∙ sym before;
-  whole = inr (over, refl);
-  outline = is;
-}
-
--- it goes on with the file
-pub begun_goes_on : (has : List ℕ → List ℕ → Type 0) (formula : Option (List ℕ)) (path : List ℕ)
-    (begun whole : BundleOutline) → IsBegunBy has formula begun
-    → GoesOnWith (has path) begun.outline whole.outline → whole.before ≡ begun.before
-    → whole.said ≡ begun.said → IsOutlinedBy has formula path whole
-begun_goes_on has formula path begun whole is on before said = record {
-  front = is.front;
-  is_front =
-      subst (λ (s : Option code.Problem). IsFront has formula s is.front) (sym said) is.is_front;
-  long = is.long ∙ sym before;
   text = on.0;
   given = on.1;
-  outline = on.2 is.front is.whole is.outline;
+  outline = on.2 front (front_plain has formula said front is).0 of;
 }

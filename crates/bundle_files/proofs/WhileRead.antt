@@ -1,17 +1,21 @@
 -- A bundle that is judged while it is read.
 use Rattle.std.proofs.Common.{◌≡◌, ◌≢◌, ◌∙◌, sym, ap, subst, refl, ℕ, Bool, List, [], ◌∷◌, ◌++◌}
-use Rattle.std.proofs.Common.{Option, inl, inr, append-nil, append_assoc}
-use Rattle.std.specs.Io.KnownBytes.{Consumes}
+use Rattle.std.proofs.Common.{Option, None, Some, inl, inr, append-nil, append_assoc}
+use Rattle.std.specs.Io.KnownBytes.{Consumes, prepend_known}
 use Rattle.std.specs.Prelude.{unwrap_or}
-use Rattle.case_core.specs.Bundle.{Labelled, labels_of}
+use Rattle.std.proofs.lemmas.Bool.{cases_Bool}
+use Rattle.case_core.specs.Bundle.{Labelled, icnf_text, is_label, labels_of, lines_of, text_before}
+use Rattle.case_core.specs.Icnf.{StandsFor}
+use Rattle.case_core.specs.Problem as code
 use Rattle.case_core.specs.Labelled.{IsBehindLabel, IsOverWith, IsPart, LabelledOf}
-use Rattle.case_core.specs.Labelled.{Stands, fresh_text}
+use Rattle.case_core.specs.Labelled.{Stands, fresh_text, text_below}
 use Rattle.case_core.specs.Outline.{AreWholeLines}
 use Rattle.case_core.specs.Sections.{InCubes, InLabels, InText, IsFaultOf}
 use Rattle.case_core.specs.declared.fault.CaseFault.{CaseFault}
 use Rattle.case_core.specs.declared.fault.CaseFault.TheVariants as case
 use Rattle.case_core.specs.declared.fault.CaseFault.TheVariants.{Memory}
-use Rattle.case_core.proofs.LabelledParts.{memory_on}
+use Rattle.case_core.proofs.LabelledParts.{front_passed, memory_on, part_behind}
+use Rattle.case_core.proofs.OutlineLines.{plain_text}
 use Rattle.case_core.proofs.ReadingParts.{all_left, left_over, none_over}
 use Rattle.case_core.proofs.SectionsMore.{icnf_same}
 use Rattle.cube_report.specs.Device.{IsLeft}
@@ -27,50 +31,35 @@ use Rattle.cube_report.specs.declared.fault.Fault.TheVariants.{Device}
 use Rattle.cube_report.proofs.CorrectReports.{outcome}
 use Rattle.cube_report.proofs.ReportSame.{written_is_stated}
 use Rattle.bundle_files.specs.Judging.{IsJudgingFault}
-use Rattle.bundle_files.specs.WhileRead.{IsRefusedBy, IsRunBehind}
+use Rattle.file_store.specs.Files.{GrewBy}
+use Rattle.proof_folder.proofs.AddedLines.{text_is_lines, with_ends}
+use Rattle.bundle_files.specs.Formula.{ArePlainLines, HasCount, HasOtherCount}
+use Rattle.bundle_files.specs.WhileRead.{IsBundleBelow, IsFrontOf, IsRefusedBelow, IsRunBehind}
+use Rattle.bundle_files.specs.Inner.WhileRead.{IsFrontFault}
+use Rattle.bundle_files.specs.declared.formula.BegunBundle.{BegunBundle}
+use Rattle.bundle_files.specs.declared.while_read.BundleFront.{BundleFront}
 use Rattle.bundle_files.proofs.JudgingFaults.{judging}
 
 -- ---- faults
 
--- a fault of a case, as a fault of the run
-pub refused_by : (given : Option (List ℕ)) (bundle : List ℕ) (kind : CaseFault) (fault : Fault)
-    → fault ≡ fault_of_case kind → IsLeft given bundle → (kind ≢ Memory → IsFaultOf bundle kind)
-    → IsInputFault fault → IsRefusedBy (IsLeft given) fault
-refused_by given bundle kind fault same given_is faulty of_input =
-    let other : kind ≢ Memory =
-    λ memory. of_input.0 (same ∙ ap fault_of_case memory) in
-    (bundle, given_is, (kind, same, faulty other))
-
--- a fault of the run over the sections
-pub read_refused : (given : Option (List ℕ)) (kind : ReadFault) → IsReadRefused given kind
-    → IsInputFault (fault_of_read kind) → IsRefusedBy (IsLeft given) (fault_of_read kind)
-read_refused given (read.Case fault) refused of_input =
-    refused_by given refused.0 fault (fault_of_case fault) refl refused.1 refused.2 of_input
-read_refused given (read.Device flow.Memory) refused of_input = absurd (of_input.0 refl)
-read_refused given (read.Device flow.Device) refused of_input = absurd (of_input.1 refl)
-read_refused given read.Thread refused of_input = absurd (of_input.2 refl)
-
-case_judging : (fault : CaseFault) (before after : ℕ) → after ≡ before
-    → IsJudgingFault before after (fault_of_case fault)
-case_judging fault before after same = inl (no_device fault, same)
-  where
-    no_device : (fault : CaseFault) → fault_of_case fault ≢ Device
-    no_device case.Header e = cc
-    no_device (case.Token line) e = cc
-    no_device case.Unfinished e = cc
-    no_device (case.TooLarge line) e = cc
-    no_device case.Limit e = cc
-    no_device case.Memory e = cc
-    no_device (case.Repeats cube) e = cc
-    no_device (case.NotATree first second) e = cc
-    no_device (case.Overlap first second) e = cc
-    no_device (case.BadLabel line) e = cc
-    no_device (case.NoSuchLeaf line) e = cc
-    no_device (case.ProofTwice line) e = cc
+-- a fault of a case is none of the device
+pub no_device : (fault : CaseFault) → fault_of_case fault ≢ Device
+no_device case.Header e = cc
+no_device (case.Token line) e = cc
+no_device case.Unfinished e = cc
+no_device (case.TooLarge line) e = cc
+no_device case.Limit e = cc
+no_device case.Memory e = cc
+no_device (case.Repeats cube) e = cc
+no_device (case.NotATree first second) e = cc
+no_device (case.Overlap first second) e = cc
+no_device (case.BadLabel line) e = cc
+no_device (case.NoSuchLeaf line) e = cc
+no_device (case.ProofTwice line) e = cc
 
 pub read_judging : (kind : ReadFault) (before after : ℕ) → IsReadFault before after kind
     → IsJudgingFault before after (fault_of_read kind)
-read_judging (read.Case fault) before after same = case_judging fault before after same
+read_judging (read.Case fault) before after same = inl (no_device fault, same)
 read_judging (read.Device fault) before after is = judging fault before after is
 read_judging read.Thread before after same = inl (λ e. cc, same)
 
@@ -89,11 +78,79 @@ front_fault icnf rest line below kind whole is plain (InLabels items tree stands
     none [] e = cc
     none (l ∷ before) e = cc
 
-pub front_refused : (given left : Option (List ℕ)) (text : LabelledOf) (icnf : List ℕ)
-    (kind : CaseFault) (fault : Fault) → IsPart (fresh_text []) text given left icnf
-    → fault ≡ fault_of_case kind → (kind ≢ Memory → IsFaultOf icnf kind) → IsInputFault fault
-    → IsRefusedBy (IsLeft given) fault
-front_refused given left text icnf kind fault part same faulty of_input = by_stands part.stands
+-- ---- a bundle that was begun
+
+-- the iCNF text of a text stands at its front
+icnf_first : (lines : List (List ℕ)) → (more : List ℕ)
+    × (with_ends lines ≡ text_before lines ++ more)
+icnf_first [] = ([], refl)
+icnf_first (line ∷ []) = elim (cases_Bool (is_label line)) [
+  | inl is ↦ rw is (line, refl)
+  | inr other ↦ rw other ([], sym (append-nil line))
+]
+icnf_first (line ∷ next ∷ lines) = elim (cases_Bool (is_label line)) [
+  | inl is ↦ rw is (line ++ 10 ∷ with_ends (next ∷ lines), refl)
+  | inr other ↦
+      let found = icnf_first (next ∷ lines) in
+      rw other (
+        found.0,
+        ap (λ (t : List ℕ). line ++ 10 ∷ t) found.1
+            ∙ sym (append_assoc line (10 ∷ text_before (next ∷ lines)) found.0),
+      )
+]
+
+-- so a bundle with this iCNF text goes on behind what it begins with, also where it isn't known
+goes_on : (begin cubes icnf bundle : List ℕ) (given : Option (List ℕ)) → icnf ≡ begin ++ cubes
+    → icnf_text bundle ≡ icnf → IsLeft (prepend_known begin given) bundle
+    → GrewBy (IsLeft given) begin bundle
+goes_on begin cubes icnf bundle None is front left =
+    let more = icnf_first (lines_of bundle) in (
+      cubes ++ more.0,
+      tt,
+      sym (text_is_lines bundle) ∙ more.1 ∙ ap (λ (t : List ℕ). t ++ more.0) (front ∙ is)
+          ∙ append_assoc begin cubes more.0,
+    )
+goes_on begin cubes icnf bundle (Some known) is front left = (known, refl, left)
+
+count_of : (said : Option code.Problem) (icnf bundle : List ℕ) → icnf_text bundle ≡ icnf_text icnf
+    → HasCount said icnf → HasCount said bundle
+count_of None icnf bundle same counted = tt
+count_of (Some said) icnf bundle same counted = λ items stands.
+    counted items (subst (λ (t : List ℕ). StandsFor t items) same stands)
+
+other_of : (said : Option code.Problem) (icnf bundle : List ℕ) (fault : Fault)
+    → icnf_text bundle ≡ icnf_text icnf → HasOtherCount said icnf fault
+    → HasOtherCount said bundle fault
+other_of None icnf bundle fault same other = absurd other
+other_of (Some said) icnf bundle fault same other = (
+  other.0,
+  subst (λ (t : List ℕ). StandsFor t other.0) (sym same) other.1,
+  other.2,
+  other.3,
+)
+
+-- the iCNF text of a bundle that was begun is what it begins with, and what is behind that up to the
+-- next label line
+pub front_part : (begin cubes icnf : List ℕ) (before after : Option (List ℕ))
+    (text new : LabelledOf) → text ≡ text_below begin → ArePlainLines begin
+    → IsPart text new before after cubes → icnf ≡ begin ++ cubes
+    → IsPart (fresh_text []) new (prepend_known begin before) after icnf
+front_part begin cubes icnf before after text new same plain part is =
+    subst (IsPart (fresh_text []) new (prepend_known begin before) after) (sym is)
+    (part_behind (fresh_text []) (text_below begin) new (prepend_known begin before) before after
+    begin cubes (front_passed begin before plain.1 plain.0)
+    (subst (λ (t : LabelledOf). IsPart t new before after cubes) same part))
+
+-- all that was given, which has this iCNF text and each fault of it
+record IsWhole (given : Option (List ℕ)) (icnf : List ℕ) : Type 0 where
+  bundle : List ℕ
+  given_is : IsLeft given bundle
+  front : icnf_text bundle ≡ icnf
+  faulty : (kind : CaseFault) → IsFaultOf icnf kind → IsFaultOf bundle kind
+
+front_whole : (given left : Option (List ℕ)) (text : LabelledOf) (icnf : List ℕ)
+    → IsPart (fresh_text []) text given left icnf → IsWhole given icnf
+front_whole given left text icnf part = by_stands part.stands
   where
     lost : Consumes given left (icnf ++ text.behind)
     lost =
@@ -104,35 +161,106 @@ front_refused given left text icnf kind fault part same faulty of_input = by_sta
     over : IsOverWith text left
     over = part.passed.over (λ e. absurd (cc))
 
-    by_stands : Stands icnf text → IsRefusedBy (IsLeft given) fault
-    by_stands (inl end) =
-        refused_by given icnf kind fault same
-        (all_left given left icnf
-        (subst (Consumes given left)
-        (ap (λ (t : List ℕ). icnf ++ t) end.0 ∙ append-nil icnf) lost) (over end.2)) faulty
-        of_input
-    by_stands (inr at) =
-        refused_by given (icnf ++ (text.behind ++ unwrap_or left [])) kind fault same
-        (subst (IsLeft given) (append_assoc icnf text.behind (unwrap_or left []))
-        (left_over given left (icnf ++ text.behind) lost))
-        (λ some. front_fault icnf (text.behind ++ unwrap_or left []) at.2.line
-        (at.2.below ++ unwrap_or left []) kind at.0
-        (memory_on text.behind at.2.line at.2.below (unwrap_or left []) at.2.begins
-        (λ is. none_over left (over (at.2.whole is)))) part.plain (faulty some)) of_input
-
--- ---- what is written
-
-pub run_behind : (boards : BoardsOf) (icnf : List ℕ) (given : Option (List ℕ)) (draws : Bool)
-    (report map : List ℕ) (answer : Bool) → IsAllRead boards icnf given
-    → IsWrittenBy boards.case boards.marks draws report map answer
-    → IsRunBehind (IsLeft given) icnf draws report map answer
-run_behind boards icnf given draws report map answer all by =
-    let made = all.judged in record {
-      bundle = all.bundle;
-      given = all.is_given;
-      front = all.front;
-      outcome =
-          outcome all.bundle made.whole draws report map answer made.is
-          (written_is_stated made.whole boards.case boards.marks draws report map answer
-          made.formula made.tree made.findings by);
+    by_stands : Stands icnf text → IsWhole given icnf
+    by_stands (inl end) = record {
+      bundle = icnf;
+      given_is =
+          all_left given left icnf
+          (subst (Consumes given left)
+          (ap (λ (t : List ℕ). icnf ++ t) end.0 ∙ append-nil icnf) lost) (over end.2);
+      front = plain_text 1 icnf part.plain;
+      faulty = λ kind faulty. faulty;
     }
+    by_stands (inr at) =
+        let rest = text.behind ++ unwrap_or left [] in
+        let below = at.2.below ++ unwrap_or left [] in
+        let label : IsBehindLabel rest at.2.line below =
+        memory_on text.behind at.2.line at.2.below (unwrap_or left []) at.2.begins
+        (λ is. none_over left (over (at.2.whole is))) in
+        record {
+          bundle = icnf ++ rest;
+          given_is =
+              subst (IsLeft given) (append_assoc icnf text.behind (unwrap_or left []))
+              (left_over given left (icnf ++ text.behind) lost);
+          front =
+              icnf_same icnf rest at.2.line below at.0 label ∙ plain_text 1 icnf part.plain;
+          faulty = λ kind. front_fault icnf rest at.2.line below kind at.0 label part.plain;
+        }
+
+module _ (begun : BegunBundle) (given left : Option (List ℕ)) (front : BundleFront)
+    (is : IsFrontOf begun given left front) where
+  abbrev icnf : List ℕ
+  icnf = front.icnf.items
+
+  abbrev whole_given : Option (List ℕ)
+  whole_given = prepend_known begun.text.items given
+
+  plain : icnf_text icnf ≡ icnf
+  plain = plain_text 1 icnf is.part.plain
+
+  below : (bundle : List ℕ) → IsLeft whole_given bundle → icnf_text bundle ≡ icnf
+      → HasCount front.said icnf → IsBundleBelow begun (IsLeft given) bundle
+  below bundle given_is same counted = (
+    goes_on begun.text.items is.cubes icnf bundle given is.icnf same given_is,
+    subst (λ (s : Option code.Problem). HasCount s bundle) is.said
+        (count_of front.said icnf bundle (same ∙ sym plain) counted),
+  )
+
+  -- a fault of the iCNF text is that of the bundle
+  pub front_refused : (fault : Fault) → IsFrontFault front.said icnf fault
+      → IsRefusedBelow begun (IsLeft given) fault
+  front_refused fault (inl (faulty, counted)) =
+      let whole = front_whole whole_given left front.text icnf is.part in
+      inl (
+        whole.bundle,
+        below whole.bundle whole.given_is whole.front counted,
+        (faulty.0, faulty.1, whole.faulty faulty.0 faulty.2),
+      )
+  front_refused fault (inr other) =
+      let whole = front_whole whole_given left front.text icnf is.part in
+      inr (
+        whole.bundle,
+        goes_on begun.text.items is.cubes icnf whole.bundle given is.icnf whole.front
+            whole.given_is,
+        subst (λ (s : Option code.Problem). HasOtherCount s whole.bundle fault) is.said
+            (other_of front.said icnf whole.bundle fault (whole.front ∙ sym plain) other),
+      )
+
+  -- so is a fault of the run over the sections
+  pub read_refused : (kind : ReadFault) → IsReadRefused icnf whole_given kind
+      → HasCount front.said icnf → IsInputFault (fault_of_read kind)
+      → IsRefusedBelow begun (IsLeft given) (fault_of_read kind)
+  read_refused (read.Case fault) refused counted of_input =
+      inl (
+        refused.0,
+        below refused.0 refused.1 refused.2 counted,
+        (fault, refl, refused.3 (λ memory. of_input.0 (ap fault_of_case memory))),
+      )
+  read_refused (read.Device flow.Memory) refused counted of_input = absurd (of_input.0 refl)
+  read_refused (read.Device flow.Device) refused counted of_input = absurd (of_input.1 refl)
+  read_refused read.Thread refused counted of_input = absurd (of_input.2 refl)
+
+  -- what is written
+  pub run_behind : (boards : BoardsOf) (draws : Bool) (report map : List ℕ) (answer : Bool)
+      → IsAllRead boards icnf whole_given → HasCount front.said icnf
+      → IsWrittenBy boards.case boards.marks draws report map answer
+      → IsRunBehind (IsBundleBelow begun (IsLeft given)) icnf draws report map answer
+  run_behind boards draws report map answer all counted by =
+      let made = all.judged in record {
+        bundle = all.bundle;
+        given = below all.bundle all.is_given all.front counted;
+        front = all.front;
+        outcome =
+            outcome all.bundle made.whole draws report map answer made.is
+            (written_is_stated made.whole boards.case boards.marks draws report map answer
+            made.formula made.tree made.findings by);
+      }
+
+-- a fault of the iCNF text is one of its case, where it has no other clauses than is said
+pub case_refused : (said : Option code.Problem) (text : List ℕ) (kind : CaseFault) (fault : Fault)
+    → fault ≡ fault_of_case kind → (kind ≢ Memory → IsFaultOf text kind) → HasCount said text
+    → IsInputFault fault → IsFrontFault said text fault
+case_refused said text kind fault same faulty counted of_input =
+    let other : kind ≢ Memory =
+    λ memory. of_input.0 (same ∙ ap fault_of_case memory) in
+    inl ((kind, same, faulty other), counted)

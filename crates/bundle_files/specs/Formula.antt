@@ -9,7 +9,8 @@ use Rattle.case_core.specs.Icnf.{Item, StandsFor, clauses_of}
 use Rattle.case_core.specs.Dimacs.{greatest_of, told, told_problem, IsDimacs, IsDimacsFault}
 use Rattle.case_core.specs.DimacsFault.{DimacsFault}
 use Rattle.case_core.specs.Problem as code
-use Rattle.case_core.specs.Bundle.{lines_of, icnf_text}
+use Rattle.case_core.specs.Bundle.{icnf_text, labels_of, lines_of}
+use Rattle.case_core.specs.Outline.{AreWholeLines}
 use Rattle.cube_report.specs.declared.fault.Fault.{Fault}
 use Rattle.cube_report.specs.declared.fault.Fault.TheVariants.{Counts}
 use Rattle.cube_report.specs.Faults.{fault_of_dimacs}
@@ -38,6 +39,36 @@ pub record IsFormulaRead (has : List ℕ → List ℕ → Type 0) (path over : L
   pub dimacs : IsDimacs text formula
   pub said_is : said ≡ told_problem dimacs.problem
   pub overwritten : IsOverwritten text over
+
+-- What stands in a bundle before its own text, of those texts that a path has: nothing, or the text
+-- of the formula's file with a header over its problem line, which says this, and a line end.
+abbrev pub IsFront : (List ℕ → List ℕ → Type 0) → Option (List ℕ) → Option code.Problem →
+    List ℕ → Type 0
+IsFront has None None front = front ≡ []
+IsFront has None (Some said) front = ⊥
+IsFront has (Some path) None front = ⊥
+IsFront has (Some path) (Some said) front =
+    (over : List ℕ) × IsFormulaRead has path over said × (front ≡ over ++ 10 ∷ [])
+
+-- whole lines, none of which is a label line
+abbrev pub ArePlainLines : List ℕ → Type 0
+ArePlainLines text = AreWholeLines text × (labels_of text ≡ [])
+
+-- a bundle has as many clauses as a problem line says, where there is one
+abbrev pub HasCount : Option code.Problem → List ℕ → Type 0
+HasCount None bundle = Unit {0}
+HasCount (Some said) bundle =
+    (items : List Item) → StandsFor (icnf_text bundle) items
+    → length (clauses_of items) ≡ said.clauses
+
+-- it has another number, which is told with its greatest variable
+abbrev pub HasOtherCount : Option code.Problem → List ℕ → Fault → Type 0
+HasOtherCount None bundle fault = ⊥
+HasOtherCount (Some said) bundle fault =
+    (items : List Item) × StandsFor (icnf_text bundle) items
+    × (length (clauses_of items) ≢ said.clauses)
+    × (fault ≡ Counts said.variables said.clauses (greatest_of (clauses_of items))
+    (length (clauses_of items)))
 
 -- the bundle of a formula's file and of a text of cubes and proofs, of those texts that a path has:
 -- the file's text, which is a DIMACS text, with a header over its problem line, a line end, and the
@@ -73,9 +104,6 @@ IsBundleBy has None file input read = IsTextAt has file input read
 IsBundleBy has (Some path) file input read = IsUnder has path file input read
 
 -- the same of the texts that lie there, as far as is known
-abbrev pub IsUnderFormula : Held → List ℕ → Option (List ℕ) → Option (List ℕ) → List ℕ → Type 0
-IsUnderFormula held path file input read = IsUnder (lies_in held) path file input read
-
 abbrev pub IsReadBy : Held → Option (List ℕ) → Option (List ℕ) → Option (List ℕ) → List ℕ → Type 0
 IsReadBy held formula file input read = IsBundleBy (lies_in held) formula file input read
 

@@ -1,25 +1,14 @@
 -- The outline of the bundle in a file, below a formula's file where one is asked for, and what is
 -- said of that bundle.
-use Rattle.std.specs.Prelude.{◌≡◌, ℕ, Bool, List, [], ◌∷◌, ◌++◌, length, Option, None, Some}
+use Rattle.std.specs.Prelude.{◌≡◌, ℕ, Bool, List, ◌++◌, length, Option, Some}
 use Rattle.case_core.specs.Bundle.{icnf_text}
 use Rattle.case_core.specs.Case.{CaseOf}
 use Rattle.case_core.specs.Outline.{OutlineOf, IsOutlineOf}
-use Rattle.case_core.specs.Problem as code
 use Rattle.case_core.specs.Sections.{IsCaseOf}
 use Rattle.cube_report.specs.Correct.{IsOutcome, IsUnsatisfiable}
 use Rattle.file_store.specs.Files.{Held}
-use Rattle.bundle_files.specs.Formula.{IsBundleBy, IsFormulaRead, IsReadBy}
+use Rattle.bundle_files.specs.Formula.{IsBundleBy, IsFront, IsReadBy}
 use Rattle.bundle_files.specs.declared.outlined.BundleOutline.{BundleOutline}
-
--- What stands in a bundle before the file's text, of those texts that a path has: nothing, or the
--- text of the formula's file with a header over its problem line, which says this, and a line end.
-abbrev pub IsFront : (List ℕ → List ℕ → Type 0) → Option (List ℕ) → Option code.Problem →
-    List ℕ → Type 0
-IsFront has None None front = front ≡ []
-IsFront has None (Some said) front = ⊥
-IsFront has (Some path) None front = ⊥
-IsFront has (Some path) (Some said) front =
-    (over : List ℕ) × IsFormulaRead has path over said × (front ≡ over ++ 10 ∷ [])
 
 -- the outline is that of a file's text, with what stands before it
 pub record IsOutlinedBy (has : List ℕ → List ℕ → Type 0) (formula : Option (List ℕ))

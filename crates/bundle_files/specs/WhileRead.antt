@@ -1,14 +1,29 @@
 -- What is said of a bundle that is judged while it is read.
-use Rattle.std.specs.Prelude.{◌≡◌, ℕ, Bool, List, [], Option}
+use Rattle.std.specs.Prelude.{◌≡◌, ◌⊎◌, ℕ, Bool, List, [], ◌++◌, Option}
+use Rattle.std.specs.Io.KnownBytes.{prepend_known}
 use Rattle.case_core.specs.Bundle.{icnf_text}
 use Rattle.case_core.specs.Labelled.{IsPart, fresh_text}
 use Rattle.cube_report.specs.Correct.{IsFaultOn, IsOutcome}
 use Rattle.cube_report.specs.declared.fault.Fault.{Fault}
+use Rattle.file_store.specs.Files.{GrewBy}
+use Rattle.bundle_files.specs.Formula.{HasCount, HasOtherCount}
+use Rattle.bundle_files.specs.declared.formula.BegunBundle.{BegunBundle}
 use Rattle.bundle_files.specs.declared.while_read.BundleFront.{BundleFront}
 
--- the iCNF text was read of what a source had left before, of which it has this left after
-abbrev pub IsFrontOf : Option (List ℕ) → Option (List ℕ) → BundleFront → Type 0
-IsFrontOf before after front = IsPart (fresh_text []) front.text before after front.icnf.items
+-- the iCNF text was read of a bundle that was begun and goes on with what a source had left before,
+-- of which it has this left after
+pub record IsFrontOf (begun : BegunBundle) (before after : Option (List ℕ)) (front : BundleFront)
+    : Type 0 where
+  pub cubes : List ℕ
+  pub icnf : front.icnf.items ≡ begun.text.items ++ cubes
+  pub part : IsPart (fresh_text []) front.text (prepend_known begun.text.items before) after
+      front.icnf.items
+  pub said : front.said ≡ begun.said
+
+-- a bundle that was begun and goes on with a text that was given so has as many clauses as is said
+abbrev pub IsBundleBelow : BegunBundle → (List ℕ → Type 0) → List ℕ → Type 0
+IsBundleBelow begun gives bundle =
+    GrewBy gives begun.text.items bundle × HasCount begun.said bundle
 
 -- what is written is what a run promises on a bundle that was given so and has this iCNF text
 pub record IsRunBehind (gives : List ℕ → Type 0) (icnf : List ℕ) (draws : Bool)
@@ -21,3 +36,11 @@ pub record IsRunBehind (gives : List ℕ → Type 0) (icnf : List ℕ) (draws : 
 -- a bundle that was given so has this fault, its first
 abbrev pub IsRefusedBy : (List ℕ → Type 0) → Fault → Type 0
 IsRefusedBy gives fault = (bundle : List ℕ) × gives bundle × IsFaultOn bundle fault
+
+-- so has a bundle that was begun and goes on with a text that was given so; or it has other clauses
+-- than is said
+abbrev pub IsRefusedBelow : BegunBundle → (List ℕ → Type 0) → Fault → Type 0
+IsRefusedBelow begun gives fault =
+    IsRefusedBy (IsBundleBelow begun gives) fault
+    ⊎ ((bundle : List ℕ) × GrewBy gives begun.text.items bundle
+    × HasOtherCount begun.said bundle fault)

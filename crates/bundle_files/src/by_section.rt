@@ -23,11 +23,11 @@ use std::thread::Threads;
 
 /// What a run says of the bundle in the file at this path, of which this is the outline, by as many
 /// workers and at the cut that the settings say, and with a picture of the tree where `draws` asks
-/// for one; or `None` where the bundle has to be read whole. The gate is called as `judge_apart`
+/// for one; or `None` where the bundle has to be read in order. The gate is called as `judge_apart`
 /// says.
 ///
 /// Each proof is read from its place when a worker comes to its target, and judged while it is
-/// read. A bundle with a fault has to be read whole. So have one with other clauses than its
+/// read. A bundle with a fault has to be read in order. So have one with other clauses than its
 /// formula's file says, and one where a label line stands in a proof when it is read, since the
 /// file has changed meanwhile.
 ///

@@ -1,21 +1,17 @@
 //! A formula in a DIMACS file of its own: the bundle that it makes with a text of cubes and proofs.
 
-ghost use Rattle.std.specs.Prelude.{◌≡◌, ◌≢◌, ◌<◌, ◌≤◌, ◌^◌, ◌-◌, ◌+◌, ◌++◌, ◌∷◌, ℕ, List, []};
+ghost use Rattle.std.specs.Prelude.{◌≡◌, ◌≢◌, ◌<◌, ◌≤◌, ◌^◌, ◌-◌, ◌+◌, ◌++◌, ℕ, List, []};
 ghost use Rattle.std.specs.Prelude.{Some};
 ghost use Rattle.std.specs.Prelude.{None, OnOk, IfOk, IfErr, IfSome, option_map, length, take};
-ghost use Rattle.std.specs.Prelude.{drop};
+ghost use Rattle.std.specs.Prelude.{drop, Option};
 ghost use Rattle.std.specs.Bool.{OnTrue, OnFalse};
-ghost use Rattle.case_core.specs.Literal.{Literal};
 ghost use Rattle.case_core.specs.Tokens.{line_tokens};
-ghost use Rattle.case_core.specs.Icnf.{Item, StandsFor, clauses_of};
-ghost use Rattle.case_core.specs.Dimacs.{greatest_of, IsDimacs};
-ghost use Rattle.case_core.specs.Bundle.{icnf_text};
+ghost use Rattle.case_core.specs.Dimacs.{greatest_of};
 ghost use Rattle.case_core.specs.Sections.{IsCaseOf};
 ghost use Rattle.cube_report.specs.Faults.{IsInputFault};
 ghost use Rattle.file_store.specs.Files.{StaysAllowed, lies_in};
 ghost use Rattle.bundle_files.specs.Formula.{header_over, IsFormulaFault, IsOverwritten, IsReadBy};
-ghost use Rattle.bundle_files.specs.Formula.{IsBundleBy, IsUnder, IsUnderFormula};
-ghost use Rattle.bundle_files.specs.Formula.{IsFormulaRead};
+ghost use Rattle.bundle_files.specs.Formula.{ArePlainLines, HasCount, IsBundleBy, IsFront};
 ghost use Rattle.bundle_files.specs.Inner.Formula.{HasProblem, IsFirstLine};
 ghost use Rattle.bundle_files.specs.Inner.Formula.{IsFaultyFormula, IsOtherCount};
 ghost use Rattle.bundle_files.specs.Judging.{IsJudgingFault};
@@ -25,7 +21,7 @@ use case_core::{
     read_problem, split_line,
 };
 use cube_report::{Fault, Source};
-use file_store::{Store, append_file, append_given, read_given};
+use file_store::{Store, append_file, append_given};
 use std::alloc::Global;
 
 /// A bundle that was read, and its case where that was made on the way.
@@ -92,18 +88,63 @@ fn overwrite_header(text: &mut [u8])
     write_header_at(text, start, count);
 }
 
-/// The text of the file at this path, with a header over its problem line, and what that line says.
-pub(crate) fn read_formula<D: Store>(
+/// What stands in a bundle before its own text was read: nothing, or the text of a formula's file
+/// with a header over its problem line, and a line end.
+#[derive(Drop)]
+pub struct BegunBundle {
+    /// The bytes.
+    pub(crate) text: Vec<u8>,
+    /// What the problem line of the formula's file says.
+    pub(crate) said: Option<Problem>,
+}
+
+/// A bundle is begun: with the text of the file at this path, a DIMACS text, if there is one.
+///
+/// `Device` where the file can't be read or isn't there, `Memory` where a growth was refused. Any
+/// other fault is one of that file.
+pub fn begin_bundle<D: Store>(
     alloc: Global,
     store: &mut D,
-    path: &str,
-) -> Result<(Vec<u8>, Problem), Fault>
+    formula: Option<&str>,
+) -> Result<BegunBundle, Fault>
+    // One more failed read can be counted.
+    requires { D.failures store.old < 2 ^ 64 - 1 }
+    // The store holds what it held.
+    ensures held { D.held store.new ≡ D.held store.old }
+    ensures allowed { StaysAllowed (D.allows store.old) (D.allows store.new) }
+    // It is what stands before the bundle's own text, by what lies there and by what one reading of
+    // the file handed over.
+    ensures read { IfOk result (λ begun. IsFront (lies_in (D.held store.old))
+        (option_map (λ path. path.now) formula.entry) begun.said begun.text.items) }
+    ensures handed { IfOk result (λ begun. IsFront D.hands
+        (option_map (λ path. path.now) formula.entry) begun.said begun.text.items) }
+    ensures plain { IfOk result (λ begun. ArePlainLines begun.text.items) }
+    // A fault of the input is one of the formula's file.
+    ensures fault { IfErr result (λ fault. IsInputFault fault → (file input : Option (List ℕ))
+        → IsFormulaFault (D.held store.old) (option_map (λ path. path.now) formula.entry) file
+        input fault) }
+    // The device is at fault exactly where a read failed.
+    ensures ok { OnOk result (D.failures store.new ≡ D.failures store.old) }
+    ensures err { IfErr result (IsJudgingFault (D.failures store.old) (D.failures store.new)) }
+{
+    match formula {
+        Some(path) => read_formula(alloc, store, path),
+        None => Ok(BegunBundle {
+            text: Vec::new(alloc),
+            said: None,
+        }),
+    }
+}
+
+/// The same with the text of the file at this path.
+fn read_formula<D: Store>(alloc: Global, store: &mut D, path: &str) -> Result<BegunBundle, Fault>
     requires { D.failures store.old < 2 ^ 64 - 1 }
     ensures held { D.held store.new ≡ D.held store.old }
     ensures allowed { StaysAllowed (D.allows store.old) (D.allows store.new) }
-    ensures read { IfOk result (λ read. IsFormulaRead (lies_in (D.held store.old)) path.now
-        read.0.items read.1) }
-    ensures handed { IfOk result (λ read. IsFormulaRead D.hands path.now read.0.items read.1) }
+    ensures read { IfOk result (λ begun. IsFront (lies_in (D.held store.old)) (Some path.now)
+        begun.said begun.text.items) }
+    ensures handed { IfOk result (λ begun. IsFront D.hands (Some path.now) begun.said
+        begun.text.items) }
     ensures fault { IfErr result (λ fault. IsInputFault fault
         → IsFaultyFormula (D.held store.old) path.now fault) }
     ensures ok { OnOk result (D.failures store.new ≡ D.failures store.old) }
@@ -113,15 +154,18 @@ pub(crate) fn read_formula<D: Store>(
     append_file(store, path, &mut text)?;
     let problem = read_problem(&text)?;
     overwrite_header(&mut text);
-    Ok((text, problem))
+    text.push(b'\n')?;
+    Ok(BegunBundle {
+        text,
+        said: Some(problem),
+    })
 }
 
 /// Whether a bundle has as many clauses as a problem line says. A bundle with a fault has no
 /// clauses that could be counted, and the run tells the fault.
 fn check_count(alloc: Global, bundle: &[u8], said: Problem) -> Result<(), Fault>
-    ensures ok { OnOk result ((items : List Item) → StandsFor (icnf_text bundle.now) items
-        → length (clauses_of items) ≡ said.clauses) }
-    ensures err { IfErr result (IsOtherCount bundle.now said) }
+    ensures ok { OnOk result (HasCount (Some said) bundle.now) }
+    ensures err { IfErr result (IsOtherCount (Some said) bundle.now) }
 {
     match read_icnf(alloc, icnf_part(bundle)) {
         Ok(file) => check_formula(&file.formula, said),
@@ -162,10 +206,9 @@ pub(crate) fn check_formula(formula: &Formula, said: Problem) -> Result<(), Faul
 /// Whether a bundle has as many clauses as a problem line says: its case, where it is one. Where it
 /// isn't, the run tells why, unless the count is told.
 fn read_counted(alloc: Global, bundle: &[u8], said: Problem) -> Result<Option<Case>, Fault>
-    ensures ok { OnOk result ((items : List Item) → StandsFor (icnf_text bundle.now) items
-        → length (clauses_of items) ≡ said.clauses) }
+    ensures ok { OnOk result (HasCount (Some said) bundle.now) }
     ensures case { IfOk result (λ some. IfSome some (IsCaseOf bundle.now)) }
-    ensures err { IfErr result (IsOtherCount bundle.now said) }
+    ensures err { IfErr result (IsOtherCount (Some said) bundle.now) }
 {
     match read_bundle(alloc, bundle) {
         Ok(case) => {
@@ -179,58 +222,26 @@ fn read_counted(alloc: Global, bundle: &[u8], said: Problem) -> Result<Option<Ca
     }
 }
 
-/// The same, with the case only where it is wanted.
-fn count_or_read(
+/// The same where there may be no problem line, with the case only where it is wanted, and where
+/// there is one.
+pub(crate) fn count_or_read(
     alloc: Global,
     bundle: &[u8],
-    said: Problem,
+    said: Option<Problem>,
     wants_case: bool,
 ) -> Result<Option<Case>, Fault>
-    ensures ok { OnOk result ((items : List Item) → StandsFor (icnf_text bundle.now) items
-        → length (clauses_of items) ≡ said.clauses) }
+    ensures ok { OnOk result (HasCount said bundle.now) }
     ensures case { IfOk result (λ some. IfSome some (IsCaseOf bundle.now)) }
-    ensures err { IfErr result (IsOtherCount bundle.now said) }
+    ensures err { IfErr result (IsOtherCount said bundle.now) }
 {
+    let Some(said) = said else {
+        return Ok(None);
+    };
     if wants_case {
         return read_counted(alloc, bundle, said);
     }
     check_count(alloc, bundle, said)?;
     Ok(None)
-}
-
-/// The bundle of a formula's file and of the bytes of another, or of the input where there is none.
-fn read_under<D: Store, I: Source>(
-    alloc: Global,
-    store: &mut D,
-    input: &mut I,
-    path: &str,
-    file: Option<&str>,
-    wants_case: bool,
-) -> Result<ReadBundle, Fault>
-    requires store { D.failures store.old < 2 ^ 64 - 1 }
-    requires input { I.failures input.old < 2 ^ 64 - 1 }
-    ensures held { D.held store.new ≡ D.held store.old }
-    ensures allowed { StaysAllowed (D.allows store.old) (D.allows store.new) }
-    ensures bundle { IfOk result (λ read. IsUnderFormula (D.held store.old) path.now
-        (option_map (λ path. path.now) file.entry) (I.remaining input.old) read.bundle.items) }
-    ensures handed { IfOk result (λ read. IsUnder D.hands path.now
-        (option_map (λ path. path.now) file.entry) (I.remaining input.old) read.bundle.items) }
-    ensures case { IfOk result (λ read. IfSome read.case (IsCaseOf read.bundle.items)) }
-    ensures fault { IfErr result (λ fault. IsInputFault fault → IsFormulaFault (D.held store.old)
-        (Some path.now) (option_map (λ path. path.now) file.entry) (I.remaining input.old)
-        fault) }
-    ensures ok { OnOk result
-        ((D.failures store.new ≡ D.failures store.old) ×
-        (I.failures input.new ≡ I.failures input.old)) }
-    ensures err { IfErr result (IsJudgingFault (D.failures store.old + I.failures input.old)
-        (D.failures store.new + I.failures input.new)) }
-    ensures kept { IfSome file.entry (λ _. input.new ≡ input.old) }
-{
-    let (mut bundle, said) = read_formula(alloc, store, path)?;
-    bundle.push(b'\n')?;
-    append_given(store, input, file, &mut bundle)?;
-    let case = count_or_read(alloc, &bundle, said, wants_case)?;
-    Ok(ReadBundle { bundle, case })
 }
 
 /// The bundle that is read: the bytes of the file at this path, or those of the input where there
@@ -279,11 +290,9 @@ pub fn read_from<D: Store, I: Source>(
     // Where a file is asked for, the input isn't touched.
     ensures kept { IfSome file.entry (λ _. input.new ≡ input.old) }
 {
-    match formula {
-        Some(path) => read_under(alloc, store, input, path, file, wants_case),
-        None => {
-            let bundle = read_given(alloc, store, input, file)?;
-            Ok(ReadBundle { bundle, case: None })
-        }
-    }
+    let BegunBundle { text, said } = begin_bundle(alloc, store, formula)?;
+    let mut bundle = text;
+    append_given(store, input, file, &mut bundle)?;
+    let case = count_or_read(alloc, &bundle, said, wants_case)?;
+    Ok(ReadBundle { bundle, case })
 }

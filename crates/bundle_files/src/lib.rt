@@ -15,9 +15,9 @@ pub use by_section::judge_by_section;
 pub use file_store::{
     DeviceFault, FileId, FileStore, Inputs, Opener, Outline, OutlinedCase, Part, ProofReader,
     SectionReader, Spared, Store, Stretch, SystemFiles, TargetProofs, add_proofs, append_file,
-    append_given, make_anew, read_given,
+    append_given, make_anew,
 };
-pub use formula::{ReadBundle, read_from};
+pub use formula::{BegunBundle, ReadBundle, begin_bundle, read_from};
 pub use judge::judge_given;
 pub use laws::{proofs_judged_apart, proofs_keep_formula};
 pub use one_proof::{judge_proof_of, judge_with_proof};

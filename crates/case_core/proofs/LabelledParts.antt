@@ -2,14 +2,16 @@
 use Rattle.std.proofs.Common.{◌≡◌, ◌∙◌, sym, ap, refl, ℕ, ◌+◌, true, false, List, [], ◌∷◌}
 use Rattle.std.proofs.Common.{◌++◌, Option, None, Some, append-nil, append_assoc, inl, inr, arith}
 use Rattle.std.specs.Prelude.{count_by}
-use Rattle.std.specs.Io.KnownBytes.{Consumes}
+use Rattle.std.specs.Io.KnownBytes.{Consumes, prepend_known}
 use Rattle.std.proofs.KnownBytes.{Consumes-nil, Consumes-trans}
 use Rattle.std.proofs.lemmas.List.Sums.{sum_by-append}
 use Rattle.cnf_text.specs.Tokens.{is_line_end}
 use Rattle.case_core.specs.Inner.Bundle.{HasNoLabel}
 use Rattle.case_core.specs.Inner.Labelled.{HasAdvanced}
 use Rattle.case_core.specs.Labelled.{HasFront, HasPassed, IsBehindLabel, IsPart, LabelledOf, Stands}
-use Rattle.case_core.specs.Labelled.{left_of}
+use Rattle.case_core.specs.Bundle.{labels_of}
+use Rattle.case_core.specs.Labelled.{fresh_text, left_of, text_below}
+use Rattle.case_core.specs.Outline.{AreWholeLines}
 use Rattle.case_core.proofs.LabelFirst.{no_label, plain_both, plain_of}
 use Rattle.case_core.proofs.OutlineLines.{whole_both}
 
@@ -104,6 +106,30 @@ part_done old now new first before after bytes was next plain =
       ready = next.none refl;
       stands = next.stands refl;
     }
+
+-- a text below a front went on behind it, of the front and what is given below that
+pub front_passed : (front : List ℕ) (given : Option (List ℕ)) → labels_of front ≡ []
+    → AreWholeLines front
+    → HasFront (fresh_text []) (text_below front) (prepend_known front given) given front
+front_passed front given plain whole = record {
+  passed = record {
+    read = front;
+    lost = lost given;
+    parts = sym (append-nil front);
+    lines = none (count_by is_line_end front);
+    over = λ over last. absurd (cc);
+    last = λ last. absurd (cc);
+  };
+  plain = plain;
+  whole = whole;
+}
+  where
+    lost : (g : Option (List ℕ)) → Consumes (prepend_known front g) g front
+    lost None = tt
+    lost (Some known) = refl
+
+    none : (n : ℕ) → n ≡ 0 + n
+    none n = omega arith
 
 -- a label line that is in memory, and what stands behind it
 pub memory_on : (memory line below rest : List ℕ) → IsBehindLabel memory line below

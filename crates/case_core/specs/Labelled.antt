@@ -41,6 +41,16 @@ fresh_text begun = record {
   lines = 0;
 }
 
+-- a text of which nothing is read, below this front, whose lines are counted
+abbrev pub text_below : List ℕ → LabelledOf
+text_below front = record {
+  ready = [];
+  behind = [];
+  at_label = false;
+  is_last = false;
+  lines = count_by is_line_end front;
+}
+
 -- all that is left of a text, where its source has this left
 abbrev pub left_of : LabelledOf → Option (List ℕ) → Option (List ℕ)
 left_of text left = prepend_known (text.ready ++ text.behind) left

@@ -66,12 +66,16 @@ impl LabelledText {
     ghost use Rattle.case_core.specs.Inner.Bundle.{HasNoLabel};
     ghost use Rattle.case_core.specs.Inner.Labelled.{HasAdvanced};
     ghost use Rattle.case_core.specs.Labelled.{IsFront, IsLabelTaken, IsPart, fresh_text};
+    ghost use Rattle.case_core.specs.Labelled.{text_below};
 
-    /// A text of which nothing was read yet. An error is a refused growth.
-    pub fn new(alloc: Global) -> Result<LabelledText, AllocError>
-        ensures { IfOk result (λ text. text ≡ fresh_text []) }
+    /// A text below this front, of which nothing was read yet: its lines are counted from the front's
+    /// first one. An error is a refused growth.
+    pub fn below(alloc: Global, front: &[u8]) -> Result<LabelledText, AllocError>
+        ensures { IfOk result (λ text. text ≡ text_below front.now) }
     {
-        Ok(LabelledText::begun(LineBuffer::new(alloc)?))
+        let mut text = LabelledText::begun(LineBuffer::new(alloc)?);
+        text.lines = line_ends(front) as u64;
+        Ok(text)
     }
 
     /// A text of which this buffer has read the beginning, and no block yet.

@@ -329,13 +329,14 @@ pub label_refused : (boards : BoardsOf) (out : List (Option SectionOf)) (icnf : 
     → (kind ≢ Memory → (done text below : List ℕ) (whole : CaseOf) → IsCaseOf done whole
     → whole.tree ≡ boards.case.tree → AreWholeLines done → lines ≡ count_by is_line_end done
     → IsBehindLabel text line below → IsFaultOf (done ++ text) kind)
-    → IsReadRefused given (Case kind)
+    → IsReadRefused icnf given (Case kind)
 label_refused boards out icnf given left text line lines kind below faulty =
     let rest = with_rest boards out icnf given left text line lines below in
     let there = whole_there boards out icnf given left text line lines below in
     let marks = below.read.marks in (
       below.read.done ++ rest.text,
       rest.given_is,
+      icnf_same below.read.done rest.text line rest.below there.0 rest.label ∙ below.read.front,
       λ some. faulty some below.read.done rest.text rest.below marks.whole marks.is marks.tree
           there.0 there.1 rest.label,
     )
@@ -351,13 +352,14 @@ pub twice_refused : (boards : BoardsOf) (out : List (Option SectionOf)) (icnf : 
     → IsCaseOf done whole → AreWholeLines done → lines ≡ count_by is_line_end done
     → IsBehindLabel text line below → IsTargetOf whole.tree (label_name (words line)) target
     → HasSection whole target → IsFaultOf (done ++ text) kind)
-    → IsReadRefused given (Case kind)
+    → IsReadRefused icnf given (Case kind)
 twice_refused boards out icnf given left text line lines kind target below named has faulty =
     let rest = with_rest boards out icnf given left text line lines below in
     let there = whole_there boards out icnf given left text line lines below in
     let marks = below.read.marks in (
       below.read.done ++ rest.text,
       rest.given_is,
+      icnf_same below.read.done rest.text line rest.below there.0 rest.label ∙ below.read.front,
       λ some. faulty some below.read.done rest.text rest.below marks.whole target marks.is there.0
           there.1 rest.label (rw marks.tree named) has,
     )

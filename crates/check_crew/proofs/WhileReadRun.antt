@@ -30,10 +30,10 @@ new_free site pass new = record {
 }
 
 -- a fault of the crew says nothing of a label line
-crew_refused : (given : Option (List ℕ)) (fault : CrewFault)
-    → IsReadRefused given (read_fault fault)
-crew_refused given Memory = tt
-crew_refused given Thread = tt
+crew_refused : (icnf : List ℕ) (given : Option (List ℕ)) (fault : CrewFault)
+    → IsReadRefused icnf given (read_fault fault)
+crew_refused icnf given Memory = tt
+crew_refused icnf given Thread = tt
 
 module _ {J L : Type 0} (remaining : L → Option (List ℕ)) (failures : L → ℕ)
     (is_back : L → L → Type 0) (boards : BoardsOf) (out : List (Option SectionOf))
@@ -42,13 +42,13 @@ module _ {J L : Type 0} (remaining : L → Option (List ℕ)) (failures : L → 
     (icnf : List ℕ) (given : Option (List ℕ))
     (begins : IsReadOn boards out icnf given (remaining lent) text) where
   -- a fault of a label line is the first one
-  pub read_refused : (fault : ReadFault) → read.end ≡ Err fault → IsReadRefused given fault
+  pub read_refused : (fault : ReadFault) → read.end ≡ Err fault → IsReadRefused icnf given fault
   read_refused fault end = elim is [
     | inl done ↦ (rw end at done.refused) icnf given begins
     | inr none ↦
         let same : Err (read_fault none.2.0) ≡ Err fault = sym none.2.1 ∙ end in
         let e : read_fault none.2.0 ≡ fault = cc in
-        subst (IsReadRefused given) e (crew_refused given none.2.0)
+        subst (IsReadRefused icnf given) e (crew_refused icnf given none.2.0)
   ]
 
   -- what was given is read, but for proofs that others have
@@ -61,8 +61,8 @@ module _ {J L : Type 0} (remaining : L → Option (List ℕ)) (failures : L → 
   ]
 
 -- a fault that is handed on is the same one
-pub handed_on : {T : Type 0} (answer : Result T ReadFault) (fault : ReadFault)
+pub handed_on : {T : Type 0} (answer : Result T ReadFault) (fault : ReadFault) (icnf : List ℕ)
     (given : Option (List ℕ)) → IsErrAnd answer (λ (one : ReadFault). one ≡ fault)
-    → IsReadRefused given fault → IfErr answer (λ one. IsReadRefused given one)
-handed_on (Ok value) fault given is refused = tt
-handed_on (Err one) fault given is refused = subst (IsReadRefused given) (sym is) refused
+    → IsReadRefused icnf given fault → IfErr answer (λ one. IsReadRefused icnf given one)
+handed_on (Ok value) fault icnf given is refused = tt
+handed_on (Err one) fault icnf given is refused = subst (IsReadRefused icnf given) (sym is) refused

@@ -24,12 +24,13 @@ abbrev pub read_fault : CrewFault → ReadFault
 read_fault crew.Memory = Device flow.Memory
 read_fault crew.Thread = Thread
 
--- a fault of a label line is the first one of the bundle that was given
-abbrev pub IsReadRefused : Option (List ℕ) → ReadFault → Type 0
-IsReadRefused given (Case fault) =
-    (bundle : List ℕ) × IsLeft given bundle × (fault ≢ Memory → IsFaultOf bundle fault)
-IsReadRefused given (Device fault) = Unit {0}
-IsReadRefused given Thread = Unit {0}
+-- a fault of a label line is the first one of the bundle that was given, which has this iCNF text
+abbrev pub IsReadRefused : List ℕ → Option (List ℕ) → ReadFault → Type 0
+IsReadRefused icnf given (Case fault) =
+    (bundle : List ℕ) × IsLeft given bundle × (icnf_text bundle ≡ icnf)
+    × (fault ≢ Memory → IsFaultOf bundle fault)
+IsReadRefused icnf given (Device fault) = Unit {0}
+IsReadRefused icnf given Thread = Unit {0}
 
 -- the device is at fault with one more failed read, and each other fault comes without
 abbrev pub IsReadFault : ℕ → ℕ → ReadFault → Type 0

@@ -389,7 +389,7 @@ impl<'a, 'c, R: Wait, G: Gate, J: NamesCase> Reader<'a, 'c, R, G, J> {
         ensures refused { IfErr result (λ fault. (icnf : List ℕ) (given : Option (List ℕ))
             → IsBelowLabel self.old.kept.boards self.old.kept.given.items icnf given
             (S.remaining source.old) text.old label.now.line.items label.now.lines
-            → IsReadRefused given fault) }
+            → IsReadRefused icnf given fault) }
         ensures ok { OnOk result (S.failures source.new ≡ S.failures source.old) }
         ensures err { IfErr result
             (λ fault. IsReadFault (S.failures source.old) (S.failures source.new) fault) }
@@ -421,7 +421,7 @@ impl<'a, 'c, R: Wait, G: Gate, J: NamesCase> Reader<'a, 'c, R, G, J> {
         ensures refused { IfErr result (λ fault. (icnf : List ℕ) (given : Option (List ℕ))
             → IsReadOn self.old.kept.boards self.old.kept.given.items icnf given
             (S.remaining source.old) text.old
-            → IsReadRefused given fault) }
+            → IsReadRefused icnf given fault) }
         ensures ok { OnOk result (S.failures source.new ≡ S.failures source.old) }
         ensures err { IfErr result
             (λ fault. IsReadFault (S.failures source.old) (S.failures source.new) fault) }
@@ -455,7 +455,7 @@ impl<'a, 'c, R: Wait, G: Gate, J: NamesCase> Reader<'a, 'c, R, G, J> {
         ensures refused { IfErr result (λ fault. (icnf : List ℕ) (given : Option (List ℕ))
             → IsBelowLabel self.old.kept.boards self.old.kept.given.items icnf given
             (S.remaining source.old) text.old first.line.items first.lines
-            → IsReadRefused given fault) }
+            → IsReadRefused icnf given fault) }
         ensures ok { OnOk result (S.failures source.new ≡ S.failures source.old) }
         ensures err { IfErr result
             (λ fault. IsReadFault (S.failures source.old) (S.failures source.new) fault) }

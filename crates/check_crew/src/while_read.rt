@@ -441,7 +441,7 @@ where
     // A fault of a label line is the first one of that bundle.
     ensures refused { (icnf : List ℕ) (given : Option (List ℕ)) → IsCaseOf icnf case.now
         → IsPart (fresh_text []) text given (S.remaining source.old) icnf
-        → IfErr result (λ fault. IsReadRefused given fault) }
+        → IfErr result (λ fault. IsReadRefused icnf given fault) }
     // The device is at fault exactly where a read failed.
     ensures ok { OnOk result (S.failures source.new ≡ S.failures source.old) }
     ensures err { IfErr result
@@ -483,7 +483,7 @@ where
     ensures case { IfOk result (λ boards. (boards.case ≡ case.now) × (boards.cut ≡ settings.cut)) }
     ensures refused { (icnf : List ℕ) (given : Option (List ℕ)) → IsCaseOf icnf case.now
         → IsPart (fresh_text []) text given (S.remaining source.old) icnf
-        → IfErr result (λ fault. IsReadRefused given fault) }
+        → IfErr result (λ fault. IsReadRefused icnf given fault) }
     ensures ok { OnOk result (S.failures source.new ≡ S.failures source.old) }
     ensures err { IfErr result
         (λ fault. IsReadFault (S.failures source.old) (S.failures source.new) fault) }

@@ -1,11 +1,13 @@
 -- What a run says of the bundle that is asked for.
 use Rattle.std.proofs.Common.{◌≡◌, ◌∙◌, ◌++◌, sym, refl, subst, ℕ, Bool}
-use Rattle.std.proofs.Common.{List, Option, None, Some, Result, Ok, Err, IfOk, true, inl}
+use Rattle.std.proofs.Common.{List, Option, None, Some, Result, Ok, Err, IfErr, IfOk, true, inl, inr}
 use Rattle.std.specs.Prelude.{IfSome, is_some}
 use Rattle.bundle_files.specs.Outline.{IsOutlineOf}
-use Rattle.bundle_files.specs.Files.{Held, IsJudgedOf, lies_in}
-use Rattle.bundle_files.specs.Formula.{IsBundleBy, IsBundleOf, IsReadBy, IsReadFrom}
-use Rattle.bundle_files.specs.WhileRead.{IsRefusedBy, IsRunBehind}
+use Rattle.bundle_files.specs.Files.{Held, IsJudgedOf, IsTextAt, lies_in}
+use Rattle.bundle_files.specs.Formula.{IsBundleBy, IsBundleOf, IsFront, IsReadBy, IsReadFrom}
+use Rattle.bundle_files.specs.WhileRead.{IsBundleBelow, IsRefusedBelow, IsRefusedBy, IsRunBehind}
+use Rattle.bundle_files.specs.declared.formula.BegunBundle.{BegunBundle}
+use Rattle.bundle_files.proofs.FormulaReading.{bundle_read, count_refused}
 use Rattle.cube_report.specs.Device.{IsLeft}
 use Rattle.cube_command.specs.Program.{IsRefusedFrom}
 use Rattle.bundle_files.specs.Outlined.{IsOutlinedBy, IsRefutedBy, IsRunBy}
@@ -17,6 +19,7 @@ use Rattle.cube_report.specs.Bundle.{icnf_text}
 use Rattle.cube_report.specs.Case.{CaseOf}
 use Rattle.cube_report.specs.Correct.{IsOutcome, IsUnsatisfiable}
 use Rattle.bundle_files.specs.Sections.{IsCaseOf}
+use Rattle.cube_report.specs.Faults.{IsInputFault}
 use Rattle.cube_report.specs.declared.fault.Fault.{Fault}
 use Rattle.cube_command.specs.Headline.{IsFormulaRefuted, IsRefutedFrom}
 use Rattle.cube_command.specs.Record.{digest_line, record_text}
@@ -132,21 +135,6 @@ module _ (gives : List ℕ → Type 0) (held : Held) (asked : Asked) (input : Op
     first = is.2;
   })
 
-pub handed_alone : (gives : List ℕ → Type 0) (hands : List ℕ → List ℕ → Type 0) (asked : Asked)
-    (input : Option (List ℕ)) (report map : List ℕ) (answer : Bool) (made : List ℕ)
-    → asked.formula ≡ None
-    → ((bundle : List ℕ) → gives bundle
-    → IsBundleBy hands asked.formula asked.file input bundle)
-    → IsRunRecorded gives asked report map answer made → answer ≡ true
-    → IsRefutedFrom hands asked input
-handed_alone gives hands asked input report map answer made formula reads run says = record {
-  read = run.bundle;
-  handed = reads run.bundle run.given;
-  none = run.outcome.correct.sound says;
-  formula =
-      subst (λ (f : Option (List ℕ)). IfSome f (IsFormulaRefuted hands)) (sym formula) tt;
-}
-
 pub made_by_section : (run : Result (Option Recorded) Fault) (held : Held) (asked : Asked)
     (path : List ℕ) → asked.file ≡ Some path → asked.folder ≡ None
     → IfOk run (λ some. IfSome some (λ made. IsRunRecorded (reads_at held asked.formula path) asked
@@ -163,24 +151,62 @@ made_by_section (Ok (Some recorded)) held asked path file folder made = λ input
     (given input)) recorded.outcome.text.items recorded.outcome.map.items
     recorded.outcome.refuted recorded.bytes.items made
 
--- ---- what one text is, of the input or of a file
+-- ---- of a bundle that was begun, and goes on with a text of the input or of a file
+
+-- it is known of the text, too, what is known of what was given so
+refused_as : (begun : BegunBundle) (gives texts : List ℕ → Type 0) (fault : Fault)
+    → ((text : List ℕ) → gives text → texts text) → IsRefusedBelow begun gives fault
+    → IsRefusedBelow begun texts fault
+refused_as begun gives texts fault of (inl (bundle, ((text, given, whole), count), first)) =
+    inl (bundle, ((text, of text given, whole), count), first)
+refused_as begun gives texts fault of (inr (bundle, (text, given, whole), other)) =
+    inr (bundle, (text, of text given, whole), other)
+
+pub refused_if : (run : Result Recorded Fault) (begun : BegunBundle)
+    (gives texts : List ℕ → Type 0) → ((text : List ℕ) → gives text → texts text)
+    → IfErr run (λ fault. IsInputFault fault → IsRefusedBelow begun gives fault)
+    → IfErr run (λ fault. IsInputFault fault → IsRefusedBelow begun texts fault)
+refused_if (Ok made) begun gives texts of refused = tt
+refused_if (Err fault) begun gives texts of refused = λ of_input.
+    refused_as begun gives texts fault of (refused of_input)
 
 module _ (has : List ℕ → List ℕ → Type 0) (asked : Asked) (input : Option (List ℕ))
-    (formula : asked.formula ≡ None) (bundle : List ℕ) where
-  without_formula : (file : Option (List ℕ)) → asked.file ≡ file
-      → IsBundleBy has None file input bundle
+    (begun : BegunBundle) (gives : List ℕ → Type 0)
+    (is : IsFront has asked.formula begun.said begun.text.items)
+    (texts : (text : List ℕ) → gives text → IsTextAt has asked.file input text) where
+  pub below_read : (bundle : List ℕ) → IsBundleBelow begun gives bundle
       → IsBundleBy has asked.formula asked.file input bundle
-  without_formula file same is =
-      subst (λ (f : Option (List ℕ)). IsBundleBy has f asked.file input bundle) (sym formula)
-      (subst (λ (f : Option (List ℕ)). IsBundleBy has None f input bundle) (sym same) is)
+  below_read bundle ((text, given, whole), count) =
+      bundle_read has asked.formula begun.said begun.text.items bundle asked.file input is
+      (text, texts text given, whole) count
 
-  pub input_read : asked.file ≡ None → IsLeft input bundle
-      → IsBundleBy has asked.formula asked.file input bundle
-  input_read none given = without_formula None none given
+module _ (held : Held) (asked : Asked) (input : Option (List ℕ)) (begun : BegunBundle)
+    (gives : List ℕ → Type 0) (folder : asked.folder ≡ None)
+    (is : IsFront (lies_in held) asked.formula begun.said begun.text.items)
+    (texts : (text : List ℕ) → gives text → IsTextAt (lies_in held) asked.file input text) where
+  pub recorded_below : (report map : List ℕ) (answer : Bool) (made : List ℕ)
+      → IsRunRecorded (IsBundleBelow begun gives) asked report map answer made
+      → IsRecordedFrom held asked input report map answer made
+  recorded_below =
+      recorded_alone (IsBundleBelow begun gives) held asked input folder
+      (below_read (lies_in held) asked input begun gives is texts)
 
-  pub file_read : (path : List ℕ) → asked.file ≡ Some path → has path bundle
-      → IsBundleBy has asked.formula asked.file input bundle
-  file_read path same given = without_formula (Some path) same given
+  pub refused_below : (fault : Fault) → IsRefusedBelow begun gives fault
+      → IsRefusedFrom held asked input fault
+  refused_below fault (inl refused) =
+      refused_alone (IsBundleBelow begun gives) held asked input folder
+      (below_read (lies_in held) asked input begun gives is texts) fault refused
+  refused_below fault (inr (bundle, (text, given, whole), other)) =
+      inr (count_refused held asked.formula begun.said begun.text.items bundle asked.file input
+      fault is (text, texts text given, whole) other)
+
+module _ (has : List ℕ → List ℕ → Type 0) (file input : Option (List ℕ)) (text : List ℕ) where
+  pub of_input : file ≡ None → IsLeft input text → IsTextAt has file input text
+  of_input none given = subst (λ (f : Option (List ℕ)). IsTextAt has f input text) (sym none) given
+
+  pub of_file : (path : List ℕ) → file ≡ Some path → has path text → IsTextAt has file input text
+  of_file path same given =
+      subst (λ (f : Option (List ℕ)). IsTextAt has f input text) (sym same) given
 
 -- ---- what readings handed over
 
@@ -192,6 +218,25 @@ pub handed_formula : (hands : List ℕ → List ℕ → Type 0) (held : Held)
 handed_formula hands held None file input folder read whole case is judged case_is none = tt
 handed_formula hands held (Some path) file input folder read whole case is judged case_is none =
     published hands held path file input folder read whole case is judged case_is none
+
+-- of a bundle that was given so
+pub handed_alone : (gives : List ℕ → Type 0) (hands : List ℕ → List ℕ → Type 0) (asked : Asked)
+    (input : Option (List ℕ)) (report map : List ℕ) (answer : Bool) (made : List ℕ)
+    → ((bundle : List ℕ) → gives bundle
+    → IsBundleBy hands asked.formula asked.file input bundle)
+    → IsRunRecorded gives asked report map answer made → answer ≡ true
+    → IsRefutedFrom hands asked input
+handed_alone gives hands asked input report map answer made reads run says =
+    let none = run.outcome.correct.sound says in
+    let is = reads run.bundle run.given in
+    record {
+      read = run.bundle;
+      handed = is;
+      none = none;
+      formula =
+          handed_formula hands (λ _. None) asked.formula asked.file input None run.bundle run.bundle
+          run.outcome.correct.case is refl run.outcome.correct.judged.case_is none;
+    }
 
 -- of a bundle whose proofs were read one by one
 pub handed_section : (run : Result (Option Recorded) Fault) (hands : List ℕ → List ℕ → Type 0)

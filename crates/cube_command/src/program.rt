@@ -48,7 +48,7 @@ use std::thread::Threads;
 /// writes the report to `output` or, where there is no report, one line to `errors`. Files are
 /// found by `store`. Both writers have to write at once, without a buffer of their own. A bundle of
 /// `input`, or of a FILE that can't be read at places, as a pipe, is judged while it is read, unless
-/// `--formula`, `--proofs` or `--explain` is there.
+/// `--proofs` or `--explain` is there.
 ///
 /// With `--formula CNF` the clauses come from that file, a DIMACS text, and FILE adds cubes and
 /// sections, and no clause: the bundle is that text with its problem line overwritten by `p inccnf`
@@ -480,7 +480,7 @@ where
 /// The same with cubes and their proofs. Where the bundle is a file's, no folder adds proofs to it
 /// and nothing is told of it, its proofs are read one by one from their places. Where that can't be,
 /// or the bundle is the input's, it is judged while it is read. It is read whole first only where a
-/// formula's own file or a folder's proofs go with it, or something is told of it.
+/// folder's proofs go with it, or something is told of it.
 fn judge_cubes<R, D, I, G, X>(
     rt: &R,
     store: &mut D,
@@ -522,7 +522,7 @@ where
 }
 
 /// What is said of the bundle of a file whose proofs are read one by one; `None` where it has to be
-/// read whole.
+/// read in order.
 fn judge_file<R, D, G>(
     rt: &R,
     store: &mut D,

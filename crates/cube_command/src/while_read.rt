@@ -8,24 +8,25 @@ ghost use Rattle.cube_report.specs.Device.{IsLeft};
 ghost use Rattle.cube_report.specs.Faults.{IsInputFault};
 ghost use Rattle.bundle_files.specs.Files.{StaysAllowed, lies_in};
 ghost use Rattle.bundle_files.specs.Judging.{IsJudgingFault};
-ghost use Rattle.bundle_files.specs.WhileRead.{IsRefusedBy};
+ghost use Rattle.bundle_files.specs.Formula.{ArePlainLines};
+ghost use Rattle.bundle_files.specs.WhileRead.{IsBundleBelow, IsRefusedBelow};
 ghost use Rattle.cube_command.specs.Headline.{IsRefutedFrom};
 ghost use Rattle.cube_command.specs.Program.{IsRefusedFrom};
 ghost use Rattle.cube_command.specs.Inner.Recorded.{IsRecordedFrom, IsRunRecorded, IsTextKept};
 
 use crate::program::Recorded;
 use crate::record::{begin_record, end_record};
-use bundle_files::{Store, judge_while_read, read_front};
+use bundle_files::{BegunBundle, Store, begin_bundle, judge_while_read, read_front};
 use command_words::Request;
 use cube_report::{Fault, Gate, Source};
 use std::alloc::Global;
 use std::sync::Wait;
 use std::thread::Threads;
 
-/// What is said of the bundle of a file, or of the input where none is asked for, and the record of
-/// it where a file for that is asked for: it is judged while it is read. `None` where a formula's
-/// own file or a folder's proofs go with it, or its text is kept to tell of it. Then nothing was
-/// read.
+/// What is said of the bundle of a file, or of the input where none is asked for, below a formula's
+/// own file where there is one, and the record of it where a file for that is asked for: it is
+/// judged while it is read. `None` where a folder's proofs go with it, or its text is kept to tell
+/// of it. Then nothing was read.
 pub(crate) fn judge_alone<R, D, I, G>(
     rt: &R,
     store: &mut D,
@@ -59,26 +60,28 @@ where
     if !is_read_once(request) {
         return Ok(None);
     }
+    let begun = begin_bundle(rt.alloc(), store, request.formula)?;
     match request.file {
-        Some(path) => Ok(Some(judge_at(rt, store, request, path, gate)?)),
-        None => Ok(Some(judge_source(rt, request, input, gate)?)),
+        Some(path) => Ok(Some(judge_at(rt, store, request, begun, path, gate)?)),
+        None => Ok(Some(judge_source(rt, request, begun, input, gate)?)),
     }
 }
 
-/// Whether one text alone is judged, and nothing is told for which it is kept.
+/// Whether no folder adds proofs, and nothing is told for which the text is kept.
 fn is_read_once(request: &Request<'_>) -> bool
     ensures kept { result ≡ false → IsTextKept request.now }
-    ensures alone { OnTrue result
-        (((asked_in request.now).formula ≡ None) × ((asked_in request.now).folder ≡ None)) }
+    ensures alone { OnTrue result ((asked_in request.now).folder ≡ None) }
 {
-    !request.explain && request.formula.is_none() && request.proofs.is_none()
+    !request.explain && request.proofs.is_none()
 }
 
-/// The same of the file at this path, which is opened once.
+/// The same of a bundle that is begun so, and goes on with the file at this path, which is opened
+/// once.
 fn judge_at<R, D, G>(
     rt: &R,
     store: &mut D,
     request: &Request<'_>,
+    begun: BegunBundle,
     path: &str,
     gate: &G,
 ) -> Result<Recorded, Fault>
@@ -86,28 +89,30 @@ where
     R: AllocGlobal + Threads + Wait + Sync,
     D: Store,
     G: Gate + Sync,
-    requires { D.failures store.old < 2 ^ 64 - 1 }
+    requires count { D.failures store.old < 2 ^ 64 - 1 }
+    requires plain { ArePlainLines begun.text.items }
     ensures held { D.held store.new ≡ D.held store.old }
     ensures allowed { StaysAllowed (D.allows store.old) (D.allows store.new) }
-    ensures made { IfOk result (λ made. IsRunRecorded
-        (λ bundle. lies_in (D.held store.old) path.now bundle × D.hands path.now bundle)
+    ensures made { IfOk result (λ made. IsRunRecorded (IsBundleBelow begun
+        (λ text. lies_in (D.held store.old) path.now text × D.hands path.now text))
         (asked_in request.now) made.outcome.text.items made.outcome.map.items
         made.outcome.refuted made.bytes.items) }
     ensures fault { IfErr result (λ fault. IsInputFault fault
-        → IsRefusedBy (lies_in (D.held store.old) path.now) fault) }
+        → IsRefusedBelow begun (lies_in (D.held store.old) path.now) fault) }
     ensures ok { OnOk result (D.failures store.new ≡ D.failures store.old) }
     ensures err { IfErr result (IsJudgingFault (D.failures store.old) (D.failures store.new)) }
 {
     let mut file = store.open(path)?;
-    let made = judge_source(rt, request, &mut file, gate);
+    let made = judge_source(rt, request, begun, &mut file, gate);
     store.close(file);
     made
 }
 
-/// The same of what a source gives up to its end.
+/// The same of a bundle that is begun so, and goes on with what a source gives up to its end.
 fn judge_source<R, S, G>(
     rt: &R,
     request: &Request<'_>,
+    begun: BegunBundle,
     source: &mut S,
     gate: &G,
 ) -> Result<Recorded, Fault>
@@ -115,16 +120,18 @@ where
     R: AllocGlobal + Threads + Wait + Sync,
     S: Source,
     G: Gate + Sync,
-    requires { S.failures source.old < 2 ^ 64 - 1 }
-    ensures made { IfOk result (λ made. IsRunRecorded (IsLeft (S.remaining source.old))
+    requires count { S.failures source.old < 2 ^ 64 - 1 }
+    requires plain { ArePlainLines begun.text.items }
+    ensures made { IfOk result (λ made. IsRunRecorded
+        (IsBundleBelow begun (IsLeft (S.remaining source.old)))
         (asked_in request.now) made.outcome.text.items made.outcome.map.items
         made.outcome.refuted made.bytes.items) }
     ensures fault { IfErr result (λ fault. IsInputFault fault
-        → IsRefusedBy (IsLeft (S.remaining source.old)) fault) }
+        → IsRefusedBelow begun (IsLeft (S.remaining source.old)) fault) }
     ensures ok { OnOk result (S.failures source.new ≡ S.failures source.old) }
     ensures err { IfErr result (IsJudgingFault (S.failures source.old) (S.failures source.new)) }
 {
-    let front = read_front(rt.alloc(), source)?;
+    let front = read_front(rt.alloc(), begun, source)?;
     let mut bytes = begin_record(rt.alloc(), request.out, front.icnf())?;
     let draws = request.map.is_some();
     let outcome = judge_while_read(rt, front, source, request.settings, gate, draws)?;

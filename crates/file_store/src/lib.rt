@@ -23,6 +23,6 @@ pub use opener::{Opener, SystemFiles};
 pub use part::Part;
 pub use reader::{ProofPlace, ProofReader};
 pub use sections::SectionReader;
-pub use source::{append_file, append_given, read_given};
+pub use source::{append_file, append_given};
 pub use store::{FileStore, Store};
 pub use system::make_anew;

@@ -1,69 +1,42 @@
 //! What is read whole: a file, or the program's input.
-ghost use Rattle.std.specs.Prelude.{◌≡◌, ◌<◌, ◌^◌, ◌-◌, ◌+◌, option_map, IfSome, IfOk};
+ghost use Rattle.std.specs.Prelude.{◌≡◌, ◌<◌, ◌^◌, ◌-◌, ◌+◌, option_map, IfSome};
 ghost use Rattle.std.specs.Prelude.{IfErr, OnOk};
 ghost use Rattle.byte_flow.specs.Device.{IsDeviceFault};
-ghost use Rattle.file_store.specs.Files.{IsRead, IsTextAt, StaysAllowed, lies_in};
-ghost use Rattle.file_store.specs.Files.{GrewBy, IsAppended};
+ghost use Rattle.file_store.specs.Files.{GrewBy, IsAppended, StaysAllowed, lies_in};
 
 use crate::store::Store;
 use byte_flow::{DeviceFault, Source, read_to_end};
-use std::alloc::Global;
 
-/// The bytes of the file at this path, or those of the input where there is none.
+/// Appends the bytes of the file at this path, or those of the input where there is none.
 ///
 /// `Device` where a call failed, or no file is at the path, and `Memory` where a growth was
 /// refused.
-pub fn read_given<D: Store, I: Source>(
-    alloc: Global,
-    store: &mut D,
-    input: &mut I,
-    file: Option<&str>,
-) -> Result<Vec<u8>, DeviceFault>
-    requires store { D.failures store.old < 2 ^ 64 - 1 }
-    requires input { I.failures input.old < 2 ^ 64 - 1 }
-    ensures held { D.held store.new ≡ D.held store.old }
-    ensures allowed { StaysAllowed (D.allows store.old) (D.allows store.new) }
-    ensures bundle { IfOk result (λ bundle.
-        IsRead (D.held store.old) (option_map (λ path. path.now) file.entry)
-        (I.remaining input.old) bundle.items) }
-    // It is what one reading of the file handed over.
-    ensures handed { IfOk result (λ bundle. IsTextAt D.hands
-        (option_map (λ path. path.now) file.entry) (I.remaining input.old) bundle.items) }
-    ensures ok { OnOk result
-        ((D.failures store.new ≡ D.failures store.old) ×
-        (I.failures input.new ≡ I.failures input.old)) }
-    ensures err { IfErr result (IsDeviceFault (D.failures store.old + I.failures input.old)
-        (D.failures store.new + I.failures input.new)) }
-    // Where a file is asked for, the input isn't touched.
-    ensures kept { IfSome file.entry (λ _. input.new ≡ input.old) }
-{
-    let mut bundle = Vec::new(alloc);
-    append_given(store, input, file, &mut bundle)?;
-    Ok(bundle)
-}
-
-/// Appends the bytes of the file at this path, or those of the input where there is none.
 pub fn append_given<D: Store, I: Source>(
     store: &mut D,
     input: &mut I,
     file: Option<&str>,
     bytes: &mut Vec<u8>,
 ) -> Result<(), DeviceFault>
+    // One more failed call can be counted.
     requires store { D.failures store.old < 2 ^ 64 - 1 }
     requires input { I.failures input.old < 2 ^ 64 - 1 }
+    // The store holds what it held.
     ensures held { D.held store.new ≡ D.held store.old }
     ensures allowed { StaysAllowed (D.allows store.old) (D.allows store.new) }
+    // They are those of the file or of the input, and what one reading of the file handed over.
     ensures appended { OnOk result
         (IsAppended (lies_in (D.held store.old)) (option_map (λ path. path.now) file.entry)
         (I.remaining input.old) bytes.old.items bytes.new.items) }
     ensures handed { OnOk result
         (IsAppended D.hands (option_map (λ path. path.now) file.entry) (I.remaining input.old)
         bytes.old.items bytes.new.items) }
+    // The device is at fault exactly where a call failed.
     ensures ok { OnOk result
         ((D.failures store.new ≡ D.failures store.old) ×
         (I.failures input.new ≡ I.failures input.old)) }
     ensures err { IfErr result (IsDeviceFault (D.failures store.old + I.failures input.old)
         (D.failures store.new + I.failures input.new)) }
+    // Where a file is asked for, the input isn't touched.
     ensures kept { IfSome file.entry (λ _. input.new ≡ input.old) }
 {
     match file {

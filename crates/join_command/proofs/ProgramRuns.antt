@@ -13,7 +13,6 @@ use Rattle.case_core.specs.Sections.{IsCaseOf}
 use Rattle.case_core.proofs.IcnfUnique.{one_text_of, text_of}
 use Rattle.bundle_files.specs.Files.{Held, Gives, lies_in}
 use Rattle.bundle_files.specs.Formula.{IsBundleBy, IsHandedFrom, IsReadBy, IsUnder}
-use Rattle.bundle_files.specs.Formula.{IsUnderFormula}
 use Rattle.cube_join.specs.Joined.{IsJoined}
 use Rattle.bundle_files.proofs.FormulaText.{bundle_formula}
 use Rattle.cube_report.specs.declared.fault.Fault.{Fault}
@@ -176,7 +175,7 @@ published_by : (held : Held) (asked : Asked) (formula old new : Option (List ℕ
     IfSome formula (IsPublished held asked)
 published_by held asked None old new same join = tt
 published_by held asked (Some path) old new same join =
-    let under : IsUnderFormula held path (Some asked.file) None join.bundle =
+    let under : IsUnder (lies_in held) path (Some asked.file) None join.bundle =
     subst (λ (f : Option (List ℕ)). IsReadBy held f (Some asked.file) None join.bundle) same
     join.read.of_file in (
       join.bundle,

@@ -57,7 +57,7 @@ const AT_THEIR_PLACES: &[Sections] = &[
     (b"", (1, BARE_REPORT, b""), b"FILE\n"),
 ];
 
-/// A bundle with a proof of an inner node, which is read whole.
+/// A bundle with a proof of an inner node.
 const WHOLE: &[Sections] = &[(INNER, (1, INNER_REPORT, b""), b"FILE\nFILE\n")];
 
 /// A bundle all of which is read at once.
@@ -119,7 +119,7 @@ fn each_proof_at_its_place(rt: HostRuntime) {
     }
 }
 
-// A bundle with a fault, which is told, is read whole.
+// A bundle with a fault, which is told, is read in order behind its outline.
 #[test]
 fn faults(rt: HostRuntime) {
     for (bundle, line) in FAULTS {
@@ -206,7 +206,7 @@ const FORMULAS: &[(&[u8], &[u8], Ending<'static>, &[u8])] = &[
         (1, WITHOUT_M1_REPORT, b""),
         b"CNF\nFILE\nFILE\nFILE\nFILE\n",
     ),
-    // A fault is told where all is read whole: one of the formula's file before all others.
+    // A fault is told where all is read in order: one of the formula's file before all others.
     (
         b"c none\n",
         CUBES,
@@ -236,7 +236,7 @@ fn below_a_formula(rt: HostRuntime) {
     }
 }
 
-// A formula's file that isn't there, or has no length, is touched only where all is read whole.
+// A formula's file that isn't there, or has no length, is touched only where all is read in order.
 #[test]
 fn no_formula(rt: HostRuntime) {
     let files = [("FILE", CUBES)];

@@ -62,7 +62,7 @@ fn need_left(
 /// Ends the test where something else is taken, or left behind it.
 fn need_taken(rt: &impl Abort, alloc: Global, (size, most, wanted, rest): Taken) {
     let mut pieces = Pieces::new(TEXT, size, 0);
-    let mut text = LabelledText::new(alloc).expect(rt, "memory");
+    let mut text = LabelledText::below(alloc, b"").expect(rt, "memory");
     let first = taken(rt, alloc, &mut text, &mut pieces, most);
     assert!(rt; first.lines.as_slice() == wanted, "{most}");
     assert!(rt; first.is_part == rest.is_empty(), "{most}");
@@ -83,7 +83,7 @@ fn taken_by_bytes(rt: HostRuntime) {
 #[test]
 fn a_read_fails(rt: HostRuntime) {
     let mut pieces = Pieces::new(TEXT, 4, 3);
-    let mut text = LabelledText::new(rt.alloc()).expect(&rt, "memory");
+    let mut text = LabelledText::below(rt.alloc(), b"").expect(&rt, "memory");
     let taken = text.front_within(rt.alloc(), &mut pieces, 100);
     assert!(rt; matches!(taken, Err(DeviceFault::Device)));
 }
@@ -109,7 +109,7 @@ fn judged(
     assert!(rt; has_target(case.tree(), cube(1)));
     assert!(rt; case.proof_for(cube(1)).is_none());
     let mut pieces = Pieces::new(proof, 1, 0);
-    let mut text = LabelledText::new(alloc).expect(rt, "memory");
+    let mut text = LabelledText::below(alloc, b"").expect(rt, "memory");
     let first = taken(rt, alloc, &mut text, &mut pieces, most);
     let front = first.lines.as_slice();
     let whole = examiner.examine_text(alloc, cube(1), proof);

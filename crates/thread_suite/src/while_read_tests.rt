@@ -25,7 +25,7 @@ fn report_once<R: Abort + Threads + Wait + Sync, G: Gate + Sync>(
     gate: &G,
 ) -> Result<Vec<u8>, ReadFault> {
     let mut source = Counted::new(bundle.as_bytes());
-    let mut text = LabelledText::new(alloc).expect(rt, "no text");
+    let mut text = LabelledText::below(alloc, b"").expect(rt, "no text");
     let icnf = text.front(alloc, &mut source).expect(rt, "no front");
     let case = take_bundle(alloc, icnf).expect(rt, "no case");
     let boards = conquer_while_read(rt, alloc, &case, settings, gate, text, &mut source)?;

@@ -1,15 +1,14 @@
 -- Where in a text its first line with a token stands, and what reading a formula's file gives.
-use Rattle.std.specs.Prelude.{◌≡◌, ◌≢◌, ◌⊎◌, ℕ, ◌≤◌, List, [], ◌∷◌, ◌++◌, length, Some}
+use Rattle.std.specs.Prelude.{◌≡◌, ◌≢◌, ◌⊎◌, ℕ, ◌≤◌, List, [], ◌∷◌, ◌++◌, length, Option, Some}
 use Rattle.std.specs.List.{AllByRecursion}
 use Rattle.case_core.specs.Tokens.{Token, line_tokens, token_lines}
-use Rattle.case_core.specs.Dimacs.{Problem, after_problem, greatest_of}
+use Rattle.case_core.specs.Dimacs.{Problem, after_problem}
 use Rattle.case_core.specs.Problem as code
-use Rattle.case_core.specs.Icnf.{Item, StandsFor, clauses_of}
-use Rattle.case_core.specs.Bundle.{lines_of, icnf_text}
+use Rattle.case_core.specs.Bundle.{lines_of}
 use Rattle.cube_report.specs.declared.fault.Fault.{Fault}
-use Rattle.cube_report.specs.declared.fault.Fault.TheVariants.{Counts, Memory}
+use Rattle.cube_report.specs.declared.fault.Fault.TheVariants.{Memory}
 use Rattle.file_store.specs.Files.{Held, Gives}
-use Rattle.bundle_files.specs.Formula.{HasDimacsFault}
+use Rattle.bundle_files.specs.Formula.{HasDimacsFault, HasOtherCount}
 
 -- a problem line is there
 abbrev pub HasProblem : List ℕ → Type 0
@@ -40,10 +39,5 @@ IsFaultyFormula held path fault =
     (text : List ℕ) × Gives held path (Some text) × HasDimacsFault text fault
 
 -- the bundle has another number of clauses than a problem line says, or memory ran out
-abbrev pub IsOtherCount : List ℕ → code.Problem → Fault → Type 0
-IsOtherCount bundle said fault =
-    (fault ≡ Memory)
-    ⊎ ((items : List Item) × StandsFor (icnf_text bundle) items
-    × (length (clauses_of items) ≢ said.clauses)
-    × (fault ≡ Counts said.variables said.clauses (greatest_of (clauses_of items))
-    (length (clauses_of items))))
+abbrev pub IsOtherCount : Option code.Problem → List ℕ → Fault → Type 0
+IsOtherCount said bundle fault = (fault ≡ Memory) ⊎ HasOtherCount said bundle fault

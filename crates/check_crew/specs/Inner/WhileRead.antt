@@ -157,7 +157,7 @@ pub record IsReadBy {J L : Type 0} (remaining : L → Option (List ℕ)) (failur
       → IsReadOn boards out icnf given (remaining lent) text
       → IsAllBut read.kept.boards read.kept.given.items icnf given)
   pub refused : IfErr read.end (λ fault. (icnf : List ℕ) (given : Option (List ℕ))
-      → IsReadOn boards out icnf given (remaining lent) text → IsReadRefused given fault)
+      → IsReadOn boards out icnf given (remaining lent) text → IsReadRefused icnf given fault)
   pub ok : OnOk read.end (failures read.lent ≡ failures lent)
   pub err : IfErr read.end (IsReadFault (failures lent) (failures read.lent))
 

@@ -42,11 +42,9 @@ pub record IsRecordedWith (gives : List ℕ → Type 0) (asked : Asked) (bundle 
   pub recorded : (out : List ℕ) → asked.out ≡ Some out
       → made ≡ record_text (bundle ++ (codes "\nl 1\n" ++ proof_text bytes)) report
 
--- the text that is read is kept: another text is judged, too, or something is told of what was read
+-- the text that is read is kept: proofs are added to it, or something is told of what was read
 abbrev pub IsTextKept : Request → Type 0
-IsTextKept request =
-    (request.explain ≡ true) ⊎ ((asked_in request).formula ≢ None)
-    ⊎ ((asked_in request).folder ≢ None)
+IsTextKept request = (request.explain ≡ true) ⊎ ((asked_in request).folder ≢ None)
 
 -- of a bundle that was given so: report, picture and answer are what a run on it promises, and so is
 -- the record where one is asked for

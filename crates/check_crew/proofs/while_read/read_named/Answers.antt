@@ -11,7 +11,7 @@ returns-in_err-end-clause-refused g c = λ icnf given case_is part.
     first_read kept.boards kept.given.items icnf given (g.S.Source.remaining c.args.source.now)
     c.args.text g.J.NamesCase.case (subst (IsCaseOf icnf) c.requires.named case_is) part
     opened.reader.boards opened.marks opened.given in
-    handed_on c.from_residual-in_err-end.result c.in_err-end.field-0.0 given
+    handed_on c.from_residual-in_err-end.result c.in_err-end.field-0.0 icnf given
     c.from_residual-in_err-end.ensures.1
     (read_refused _ _ _ kept.boards kept.given.items c.args.text _ c.read_with-read.result.0
     c.read_with-read.ensures icnf given begins c.in_err-end.field-0.0 c.in_err-end.was)

@@ -26,7 +26,7 @@ returns-then-is_named-clause-refused g c = λ icnf given below.
     let tree : c.args.self.now.site.case.now.tree ≡ c.args.self.now.kept.boards.case.tree =
     ap (λ (k : CaseOf). k.tree)
     (c.requires.reader.site.of_case ∙ sym c.requires.reader.boards) in
-    subst (IsReadRefused given) (sym c.from.ensures)
+    subst (IsReadRefused icnf given) (sym c.from.ensures)
     (twice_refused c.args.self.now.kept.boards c.args.self.now.kept.given.items icnf given
     (g.S.Source.remaining c.args.source.now) c.args.text.now c.args.label.now.line.items
     c.args.label.now.lines c.twice.result c.in_ok-target.target below
