@@ -217,6 +217,24 @@ fn how_much_was_read(rt: HostRuntime) {
     tells_of_file(&rt, &words, file, 300, false, FOUR_REFUTED, told);
 }
 
+// The same clock, and the same file alone, of which no length is known: it is judged while it is
+// read. Four reads are 64 bytes, for which a line is due. The fifth has the first label line, and the
+// pause begins anew. Each of the next three ends a section with the label line of the next one. The
+// ninth has the rest of the last section, and the tenth says that the file is at its end. The clock
+// is looked at with each read, and with each section when it is judged. So a line is due at the
+// second section, the fourth look, and at the tenth read, the fourth from there. Nobody knows how
+// many sections there are, so a line has as many as are judged.
+#[test]
+fn judged_while_it_is_read(rt: HostRuntime) {
+    let words = ["--workers", "1", "--progress", "four.icnf"];
+    let told = "cubeboard: reading: 64 bytes so far\n\
+                cubeboard: 2 of 2 judged, 24 of 24 bytes, 2 refuted, 0 rejected, 50.000 % open\n\
+                cubeboard: reading: 137 bytes so far\n\
+                cubeboard: 4 of 4 judged, 48 of 48 bytes, 4 refuted, 0 rejected, 0.000 % open\n";
+    let file = ("four.icnf", FOUR_CUBES.as_bytes());
+    tells_of_file(&rt, &words, file, 300, false, FOUR_REFUTED, told);
+}
+
 // On a terminal the line on what was read is taken away before a fault is told. It is due at each
 // read, of which the second says that the file is at its end.
 #[test]
