@@ -428,6 +428,16 @@ proofs: files that are proofs of leaves: 1
 proof for 1: step 1 is rejected: proofs/1.lrat: can't be read again
 a hint names a clause that isn't live; look for *
 TOLD
+with_bundle "$tree"
+once "a label line in a pipe" proofs/1.lrat 'l 1\n' --proofs proofs case.icnf
+told "a label line in a pipe" 5 << 'TOLD'
+case.icnf: clauses: 3; *
+SHA-256 *
+case.icnf: cubes: 2; *
+proofs: files that are proofs of leaves: 1
+proofs/1.lrat: can't be read again
+no cause is seen: *
+TOLD
 with_bundle ''
 once "a bundle in a pipe" bundle "$tree"'l 1\n5 0 9 0\n' bundle
 told "a rejected proof in a bundle in a pipe" 1 << 'TOLD'

@@ -14,7 +14,8 @@
 # - the record, the picture and the log of such a run;
 # - proofs of 100 MB: the program takes 64 MB of memory at most.
 # So it is with bundles: what is wanted of them is what four workers say of the same bytes in a file,
-# which they read in another way; tests/rows have what that has to be.
+# which they read in another way; tests/rows have what that has to be. And so it is with folders that
+# have pipes.
 # Above each part stands which wrong programs it is there to refuse. A run that hasn't ended after a
 # minute is ended, and fails. The last line counts.
 root=$(CDPATH= cd -- "$(dirname -- "$0")/.." && pwd) || exit 1
@@ -855,4 +856,117 @@ printf '12 1 0 1 2 0\n13 0 12 3 4 0\n' > "$here/proof"
 writer=of_many
 large_bundle "a bundle of 128 sections of 1 MB" "s REFUTED"
 writer=cat
+
+# Folders. Refused are programs that open a pipe again if all proofs have to be read again, and so wait
+# for ever; that take it for a proof that isn't there; that report the label line all the same, or
+# judge what they had; that write a record or a picture; that refuse each pipe, or one that has been
+# taken away; and that tell a pipe by its own path alone, and not by where a link leads.
+
+# Lays out a folder of two cubes with their proofs in it, and a pipe to which no name in it leads yet.
+# A file $here/K.text is what is written into the pipe at proofs/K.lrat.
+two_leaves() {
+    rm -rf "$here/run" "$here"/*.text
+    mkdir "$here/run" "$here/run/proofs"
+    cp "$here/case" "$here/run/case.icnf"
+    cp "$here/first" "$here/run/proofs/1.lrat"
+    cp "$here/second" "$here/run/proofs/2.lrat"
+}
+# A pipe in the place of the proof of a leaf, which gets that proof and these lines behind it.
+pipe_for() {
+    { cat "$here/run/proofs/$1.lrat" && printf "$2"; } > "$here/$1.text"
+    rm "$here/run/proofs/$1.lrat"
+    mkfifo "$here/run/proofs/$1.lrat"
+}
+writes() { cat "$1" > "$2"; }
+# (what the program reads of it is behind the moment in which the pipe's name has gone)
+takes_away() { { rm "$2" && cat "$1"; } > "$2"; }
+# A run on that folder, with what is wanted made before, by one worker and by four: the claim. A writer
+# of each pipe is there before the program, and goes on when it has ended, also if nobody opened the pipe.
+pipes=writes
+in_folder() {
+    for workers in 1 4; do
+        writers=
+        rm -rf "$here/kept"
+        cp -a "$here/run" "$here/kept"
+        for text in "$here"/*.text; do
+            [ -f "$text" ] || continue
+            label=$(basename "$text" .text)
+            { "$pipes" "$text" "$here/run/proofs/$label.lrat"; } 2> /dev/null &
+            writers="$writers $!"
+        done
+        run "$here/none" --workers "$workers" --record a.record --map a.svg --proofs proofs case.icnf
+        for pipe in "$here"/run/proofs/*.lrat; do
+            [ ! -p "$pipe" ] || : <> "$pipe"
+        done
+        wait $writers
+        compares "$1, $workers workers"
+        if [ "$(cat "$here/wanted.status")" -eq 5 ]; then
+            [ ! -e "$here/run/a.record" ] && [ ! -e "$here/run/a.svg" ]
+        else
+            [ -s "$here/run/a.record" ] && [ -s "$here/run/a.svg" ]
+        fi
+        count "the record and the picture of $1, $workers workers" $?
+        rm -rf "$here/run"
+        mv "$here/kept" "$here/run"
+    done
+}
+# Without a label line each pipe is read once.
+refutes_two() {
+    : > "$here/wanted.err"
+    printf 't 2 0 %s\na 1 refuted\na 2 refuted\nw 0\ns REFUTED\n' "$weight" > "$here/wanted.out"
+    echo 0 > "$here/wanted.status"
+}
+refutes_two
+two_leaves
+pipe_for 1 ''
+pipe_for 2 ''
+in_folder "a folder of two pipes"
+two_leaves
+pipe_for 2 ''
+mv "$here/run/proofs/2.lrat" "$here/run/pipe"
+ln -s ../pipe "$here/run/proofs/2.lrat"
+in_folder "a link to a pipe"
+# A label line in a file beside a pipe: one that is a fault, and one that is none.
+faulty "F13 device" 5
+for line in 'l 1' 'l n 0'; do
+    two_leaves
+    pipe_for 2 ''
+    echo "$line" >> "$here/run/proofs/1.lrat"
+    in_folder "a pipe beside a file with the line '$line'"
+done
+two_leaves
+pipe_for 2 ''
+mv "$here/run/proofs/2.lrat" "$here/run/pipe"
+ln -s ../pipe "$here/run/proofs/2.lrat"
+echo 'l n 0' >> "$here/run/proofs/1.lrat"
+in_folder "a link to a pipe beside a file with a label line"
+# One in the pipe itself.
+for line in 'l 2' 'l n 0'; do
+    two_leaves
+    pipe_for 2 "$line\\n"
+    in_folder "a pipe with the line '$line'"
+done
+# A leaf that has a section of its own.
+two_leaves
+pipe_for 2 ''
+{ echo 'l 2' && cat "$here/second"; } >> "$here/run/case.icnf"
+in_folder "a pipe for a leaf with a section of its own"
+two_leaves
+pipe_for 2 ''
+{ echo 'l 1' && cat "$here/first"; } >> "$here/run/case.icnf"
+in_folder "a pipe beside a file for a leaf with a section of its own"
+# A device is read once, too.
+two_leaves
+ln -sf /dev/null "$here/run/proofs/2.lrat"
+echo 'l n 0' >> "$here/run/proofs/1.lrat"
+in_folder "a device beside a file with a label line"
+# A pipe that was taken away is no proof: here it goes before its proof comes.
+printf 't 2 0 %s\na 1 refuted\na 2 open\no -1 0\nw %s\ns OPEN\n' "$weight" $((weight / 2)) \
+    > "$here/wanted.out"
+: > "$here/wanted.err"
+echo 1 > "$here/wanted.status"
+two_leaves
+pipe_for 2 'l n 0\n'
+pipes=takes_away
+in_folder "a pipe with a label line that was taken away"
 finish

@@ -314,6 +314,10 @@ impl<'t> Opener for Shelf<'t> {
         }
     }
 
+    fn is_read_once(&self, _path: &str) -> bool {
+        false
+    }
+
     fn file_at(&self, _path: &str) -> Option<FileId> {
         None
     }

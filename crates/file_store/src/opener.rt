@@ -6,7 +6,7 @@ ghost use Rattle.std.specs.IoError.{error_kind};
 ghost use Rattle.file_store.specs.Files.{IsOpened, IsOpenedAt};
 
 use crate::inputs::{FileId, Inputs, Spared};
-use crate::system::{file_at, files_to_spare, is_one, make_anew};
+use crate::system::{file_at, files_to_spare, is_one, is_read_once, make_anew};
 use std::alloc::{AllocError, Global};
 use std::io::{ErrorKind, Read, Seek, SeekFrom, Write};
 use std::rt::Files;
@@ -80,6 +80,10 @@ pub trait Opener {
     /// the length to the file's bytes.
     fn length(&self, path: &str) -> Option<u64>;
 
+    /// Whether what this path names is there and is no plain file, so that it may be read but once,
+    /// as a pipe. Links are followed. No clause ties the answer to what lies there.
+    fn is_read_once(&self, path: &str) -> bool;
+
     /// Which plain file this path names; `None` where it names none, or where that can't be told.
     /// Links are followed. What names a file is known to no contract.
     fn file_at(&self, path: &str) -> Option<FileId>;
@@ -145,6 +149,10 @@ impl<'a, R: Files + AllocGlobal + Clone + Drop> Opener for SystemFiles<'a, R> {
         fs::metadata(self.files, path)
             .ok()
             .map(|metadata| metadata.len())
+    }
+
+    fn is_read_once(&self, path: &str) -> bool {
+        is_read_once(self.files, path)
     }
 
     fn file_at(&self, path: &str) -> Option<FileId> {

@@ -71,13 +71,14 @@ pub trait Store {
         ensures allowed { StaysAllowed (allows self.old) (allows self.new) }
         ensures failures { failures self.new ≡ failures self.old + Self.Opened.failures file };
 
-    /// Appends the text of the proof at this path, and answers whether a file is there; where there
-    /// is none, nothing changes. If its first byte says that a proof is binary, its text is the one
-    /// that it stands for.
+    /// Reads the proof at this path again: appends its text, and answers whether a file is there;
+    /// where there is none, nothing changes. If its first byte says that a proof is binary, its text
+    /// is the one that it stands for. What can be read but once, as a pipe, isn't opened, also if
+    /// nobody has read it yet.
     ///
-    /// `Device` where a file is there and can't be opened or read, `Memory` where a growth was
-    /// refused. The count of failed calls, which has to be below its greatest value, rises by one
-    /// exactly with `Device`.
+    /// `Device` where a file is there and can't be opened or read, or can be read but once. `Memory`
+    /// where a growth was refused. The count of failed calls, which has to be below its greatest
+    /// value, rises by one exactly with `Device`.
     fn read_proof(
         &mut self,
         alloc: Global,
@@ -330,7 +331,7 @@ impl<F: Opener> FileStore<F> {
     }
 
     /// Appends the text of the proof at this path, and answers whether there is one, as
-    /// `Store::read_proof` owes it.
+    /// `Store::read_proof` owes it. What can be read but once isn't opened.
     pub(crate) fn read_proof_file(
         &mut self,
         alloc: Global,
@@ -347,6 +348,9 @@ impl<F: Opener> FileStore<F> {
         ensures ok { OnOk result (self.new.failed ≡ self.old.failed) }
         ensures err { IfErr result (λ fault. IsDeviceFault self.old.failed self.new.failed fault) }
     {
+        if self.opener.is_read_once(path) {
+            return Err(self.broken());
+        }
         let begin = text.len();
         if !self.read_file(path, text)? {
             return Ok(false);

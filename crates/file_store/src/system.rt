@@ -36,6 +36,14 @@ pub(crate) fn file_at<R: Files>(files: &R, path: &str) -> Option<FileId> {
     }
 }
 
+/// Whether what a path names, links followed, is there and is no plain file.
+pub(crate) fn is_read_once<R: Files>(files: &R, path: &str) -> bool {
+    match fs::metadata(files, path) {
+        Ok(found) => !found.is_file(),
+        Err(_) => false,
+    }
+}
+
 /// Whether two paths name one plain file, be it there or not: the same file; or none is there yet,
 /// and they lead to the same name in one folder. Where memory is refused for that, they may.
 pub(crate) fn is_one<R: Files + AllocGlobal>(files: &R, one: &str, other: &str) -> bool {

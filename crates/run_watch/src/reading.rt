@@ -108,6 +108,10 @@ impl<'a, F: Opener, M: Meter> Opener for MeteredFiles<'a, F, M> {
         self.files.length(path)
     }
 
+    fn is_read_once(&self, path: &str) -> bool {
+        self.files.is_read_once(path)
+    }
+
     fn file_at(&self, path: &str) -> Option<FileId> {
         self.files.file_at(path)
     }
