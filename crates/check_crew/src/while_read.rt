@@ -30,7 +30,7 @@ use std::thread;
 use std::thread::{JoinHandle, Scope, Threads};
 
 /// So many bytes of proofs others may have at a time, for each worker of the run.
-const HANDED: usize = 6 << 20;
+const HANDED: usize = 5 << 20;
 
 /// A worker that judges what is handed to it.
 #[derive(Drop)]
