@@ -804,7 +804,7 @@ by_both_pipes "no file"
 cp "$here/formula" "$here/run/formula.cnf"
 # Each read that fails in turn.
 if preload device "the reads of a bundle that are short or fail"; then
-    as_a_file
+    cp "$here/whole" "$here/bundle" && as_a_file
     keeps
     each_read_fails "a bundle" 1 "$here/bundle" --workers 1
     each_read_fails "a bundle, by four workers" 7 "$here/bundle" --workers 4
