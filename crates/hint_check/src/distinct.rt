@@ -1,5 +1,7 @@
 //! The literals of clauses that repeat some, each once.
-ghost use Rattle.std.specs.Prelude.{◌≡◌, IfOk, OnOk};
+ghost use Rattle.std.specs.Prelude.{◌≡◌, ◌≤◌, ◌↔◌, IfOk, OnOk, false, length};
+ghost use Rattle.std.specs.List.{IsDistinct};
+ghost use Rattle.cnf_text.specs.Literal.{same};
 ghost use Rattle.hint_check.specs.Literals.{has};
 ghost use Rattle.hint_check.specs.Inner.Alike.{SameLiterals};
 
@@ -13,12 +15,19 @@ use std::alloc::AllocError;
 /// Whether a clause may hold a literal more than once. Literals are compared with each other where
 /// they are few, and with none where they are many.
 #[inline(always)]
-pub fn may_repeat(clause: &[Lit]) -> bool {
+pub fn may_repeat(clause: &[Lit]) -> bool
+    // If it may not, no literal of the clause comes again.
+    ensures apart { result ≡ false → IsDistinct same clause.now }
+    // Of few literals it is told.
+    ensures few { length clause.now ≤ 8 → IsDistinct same clause.now → result ≡ false }
+{
     clause.len() > SHORT || repeats(clause)
 }
 
 /// Whether a clause holds a literal more than once, by comparing all of its literals.
-fn repeats(clause: &[Lit]) -> bool {
+fn repeats(clause: &[Lit]) -> bool
+    ensures { (result ≡ false) ↔ IsDistinct same clause.now }
+{
     for place in 0..clause.len() {
         if holds(&clause[..place], clause[place]) {
             return true;

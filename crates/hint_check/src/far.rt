@@ -108,7 +108,7 @@ impl Far {
         (&self.known, &self.map)
     }
 
-    /// How many seats there are.
+    /// How many seats there are. It says what a look at all of them costs, and nothing of the ids.
     pub fn places(&self) -> usize {
         self.known.len()
     }

@@ -1,4 +1,8 @@
 //! What judgements write on.
+ghost use Rattle.std.specs.Prelude.{◌≡◌, []};
+ghost use Rattle.lrat_text.specs.Buffer.{no_parts};
+ghost use Rattle.hint_check.specs.Addition.{no_literals};
+ghost use Rattle.hint_check.specs.Inner.Assignment.{set_of};
 
 use crate::assignment::Assignment;
 use cnf_text::literal::Lit;
@@ -16,7 +20,10 @@ pub struct ClauseScratch {
 
 impl ClauseScratch {
     /// With room for nothing. It takes no memory yet.
-    pub fn new(alloc: Global) -> ClauseScratch {
+    pub fn new(alloc: Global) -> ClauseScratch
+        ensures lits { result.lits.items ≡ [] }
+        ensures set { set_of result.set ≡ no_literals }
+    {
         ClauseScratch {
             lits: Vec::new(alloc),
             set: Assignment::new(alloc),
@@ -35,7 +42,11 @@ pub struct Candidates {
 
 impl Candidates {
     /// With room for nothing. It takes no memory yet.
-    fn new(alloc: Global) -> Candidates {
+    fn new(alloc: Global) -> Candidates
+        ensures ids { result.ids.items ≡ [] }
+        ensures lits { result.clause.lits.items ≡ [] }
+        ensures set { set_of result.clause.set ≡ no_literals }
+    {
         Candidates {
             ids: Vec::new(alloc),
             clause: ClauseScratch::new(alloc),
@@ -55,7 +66,13 @@ pub struct Scratch {
 
 impl Scratch {
     /// With room for nothing. It takes no memory yet.
-    pub fn new(alloc: Global) -> Scratch {
+    pub fn new(alloc: Global) -> Scratch
+        ensures step { result.step ≡ no_parts }
+        ensures reached { set_of result.reached ≡ no_literals }
+        ensures ids { result.candidates.ids.items ≡ [] }
+        ensures lits { result.candidates.clause.lits.items ≡ [] }
+        ensures set { set_of result.candidates.clause.set ≡ no_literals }
+    {
         Scratch {
             step: StepBuffer::new(alloc),
             reached: Assignment::new(alloc),

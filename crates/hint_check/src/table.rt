@@ -315,8 +315,9 @@ impl<'t> Model for TableView<'t> {
 }
 
 impl<'t> TableView<'t> {
-    ghost use Rattle.std.specs.Prelude.{◌≡◌};
+    ghost use Rattle.std.specs.Prelude.{◌≡◌, ℕ, IfSome};
     ghost use Rattle.std.specs.FinMap as map;
+    ghost use Rattle.hint_check.specs.Inner.Blocks.{ClauseWithin};
 
     /// The clause of an id.
     #[inline(always)]
@@ -331,7 +332,9 @@ impl<'t> TableView<'t> {
 
     /// A number that no falsifier of its clauses is above.
     #[inline(always)]
-    pub fn reach(&self) -> u32 {
+    pub fn reach(&self) -> u32
+        ensures { (id : ℕ) → IfSome (map.get self.now id) (λ clause. ClauseWithin clause result) }
+    {
         self.blocks.reach
     }
 }

@@ -4,7 +4,7 @@ use Rattle.std.specs.Prelude.{◌≡◌, ℕ, ◌≤◌, ◌/◌, ◌%◌, ◌==
 use Rattle.std.specs.Prelude.{Some}
 use Rattle.std.specs.List.{All}
 use Rattle.std.specs.Prelude.{List, [], ◌∷◌, ◌++◌}
-use Rattle.cnf_text.specs.Literal.{Literal, negation}
+use Rattle.cnf_text.specs.Literal.{Literal, literal_number, negation}
 use Rattle.hint_check.specs.declared.block.Falsifier.{Falsifier}
 use Rattle.hint_check.specs.declared.block.Block.{Block}
 
@@ -45,6 +45,10 @@ BlockWithin b reach =
 -- none of these blocks has one with a greater number
 abbrev pub Within : List Block → ℕ → Type 0
 Within blocks reach = All (λ block. BlockWithin block reach) blocks
+
+-- no literal of the clause is falsified by a greater number
+abbrev pub ClauseWithin : List Literal → ℕ → Type 0
+ClauseWithin clause reach = All (λ l. literal_number (negation l) ≤ reach) clause
 
 -- the later blocks are the earlier ones and, behind them, blocks with this property
 abbrev pub Grows : List Block → List Block → (List Block → Type 0) → Type 0
