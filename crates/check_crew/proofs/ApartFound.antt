@@ -13,7 +13,7 @@ use Rattle.proof_folder.specs.Given.{AreFoundApart, IsGivenFor}
 use Rattle.board_hall.specs.declared.pass.Pass.{Pass}
 use Rattle.board_hall.specs.Halls.{HallOf, IsPassOf}
 use Rattle.board_hall.specs.Clauses.{Gathers}
-use Rattle.check_crew.specs.TargetProofs.{IsGiven, Known}
+use Rattle.proof_folder.specs.TargetProofs.{IsGiven, Known}
 use Rattle.check_crew.specs.Seen.{HaveSeenSections}
 use Rattle.check_crew.specs.Inner.Apart.{AreAbsent, IsRightAt}
 use Rattle.check_crew.proofs.SeenFindings.{section_mark}

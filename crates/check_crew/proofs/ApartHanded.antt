@@ -10,7 +10,8 @@ use Rattle.board_hall.specs.declared.view.CutCase.{CutCase}
 use Rattle.board_hall.specs.declared.view.View.{View}
 use Rattle.board_hall.specs.Clauses.{Stays}
 use Rattle.board_hall.specs.Halls.{HallOf, IsPassOf, view_of}
-use Rattle.check_crew.specs.TargetProofs.{Known, IsExamined}
+use Rattle.proof_folder.specs.TargetProofs.{Known}
+use Rattle.check_crew.specs.Examined.{IsExamined}
 use Rattle.byte_flow.specs.Device.{IsDeviceFault}
 use Rattle.check_crew.specs.declared.crew.Crew.{Crew}
 use Rattle.check_crew.specs.declared.worker.Shift.{Shift}

@@ -20,8 +20,10 @@ use Rattle.case_core.specs.declared.examiner.ReadProof.{ReadProof}
 use Rattle.case_core.specs.declared.examiner.ReadProof.TheVariants.{Found as FoundBy, Labelled}
 use Rattle.case_core.specs.Form.{proof_left}
 use Rattle.case_core.specs.ProofForm.{ProofForm}
-use Rattle.check_crew.specs.TargetProofs.{IsGiven, IsLeftOf, IsOpenedOf, HasSeenAs, IsFoundAt}
-use Rattle.check_crew.specs.TargetProofs.{IsExamined, Known, left_text, text_by}
+use Rattle.proof_folder.specs.TargetProofs.{IsGiven, IsLeftOf, IsOpenedOf}
+use Rattle.check_crew.specs.Examined.{HasSeenAs, IsFoundAt}
+use Rattle.proof_folder.specs.TargetProofs.{Known, left_text, text_by}
+use Rattle.check_crew.specs.Examined.{IsExamined}
 use Rattle.check_crew.specs.Inner.Apart.{IsFoundOf, found_in}
 use Rattle.check_crew.specs.declared.targets.ExaminedTarget.{ExaminedTarget}
 use Rattle.check_crew.specs.declared.targets.Examined.{Examined}

@@ -172,7 +172,8 @@ lines_on done line section text after lines alone ended one more (inl end) at =
 lines_on done line section text after lines alone ended one more (inr stands) at =
     more ∙ ap (λ (n : ℕ). n + count_by is_line_end section) one
     ∙ sym (counted done line section alone)
-    ∙ ap (λ (t : List ℕ). count_by is_line_end (done ++ t)) (sym (ended (some_behind after stands.2)))
+    ∙ ap (λ (t : List ℕ). count_by is_line_end (done ++ t))
+    (sym (ended (some_behind after stands.2)))
 
 module _ (old : BoardsOf) (out : List (Option SectionOf)) (icnf : List ℕ)
     (given left rest : Option (List ℕ)) (text after : LabelledOf) (line : List ℕ) (lines : ℕ)

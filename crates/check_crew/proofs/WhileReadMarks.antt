@@ -339,8 +339,8 @@ module _ (boards new : BoardsOf) (out : List (Option SectionOf)) (place : ℕ) (
         → IsMarkedOrOut marks.whole now proof.target
         (mark_at (marks_with b boards.marks finding.node (mark_as finding.judged)) finding.node)
     marked_now true is_true =
-        let set : mark_at (slice_set boards.marks finding.node (mark_as finding.judged)) finding.node
-        ≡ mark_as finding.judged =
+        let set : mark_at (slice_set boards.marks finding.node (mark_as finding.judged))
+        finding.node ≡ mark_as finding.judged =
         get_or-set_same boards.marks finding.node (mark_as finding.judged) Open
         (subst (λ (n : ℕ). finding.node < n) (sym marks.long)
         (target_inside boards.case.tree finding.node proof.target at_node)) in inl (
@@ -452,7 +452,8 @@ part_posted case old new target front before after left rest read finding posted
           found_on old new target (front ++ is.bytes) finding (of_case ∙ sym of) of_target
           (rw (of, judged) is.found)
           (marks
-          ∙ ap (λ (b : Bool). marks_with b old.marks finding.node (mark_as finding.judged)) posted_it);
+          ∙ ap (λ (b : Bool). marks_with b old.marks finding.node (mark_as finding.judged))
+          posted_it);
     }
   where
     of_case : finding.case.now ≡ case
@@ -470,7 +471,8 @@ part_posted case old new target front before after left rest read finding posted
     posted_it : posted ≡ true
     posted_it = post (is_open finding.node at)
 
-pub keeps_none : (boards : BoardsOf) (out : List (Option SectionOf)) → KeepsMarks boards boards out out
+pub keeps_none : (boards : BoardsOf) (out : List (Option SectionOf))
+    → KeepsMarks boards boards out out
 keeps_none boards out = record { case = refl; cut = refl; marks = λ bundle marks. marks }
 
 pub keeps_both : (first second third : BoardsOf) (out middle last : List (Option SectionOf))

@@ -8,7 +8,8 @@ ghost use Rattle.mark_board.specs.Findings.{mark_as};
 ghost use Rattle.mark_board.specs.Marking.{mark_at};
 ghost use Rattle.proof_folder.specs.Given.{IsGivenFor};
 ghost use Rattle.board_hall.specs.declared.view.View.{View};
-ghost use Rattle.check_crew.specs.TargetProofs.{Known, IsExamined, IsGiven};
+ghost use Rattle.proof_folder.specs.TargetProofs.{Known, IsGiven};
+ghost use Rattle.check_crew.specs.Examined.{IsExamined};
 ghost use Rattle.check_crew.specs.Inner.Apart.{AreAbsent, IsListOf, IsRightAt, AreRightAt};
 
 use crate::targets::{Examined, ExaminedTarget};

@@ -8,7 +8,7 @@ ghost use Rattle.cube_jobs.specs.Jobs.{new_pass};
 ghost use Rattle.board_hall.specs.Halls.{core_of, hall_of, shared_of, view_of, IsPassOf, IsNewPass};
 ghost use Rattle.board_hall.specs.declared.view.Proofs.TheVariants.{Elsewhere as AnyElsewhere};
 ghost use Rattle.mark_board.specs.Findings.{AreFindings};
-ghost use Rattle.check_crew.specs.TargetProofs.{Known};
+ghost use Rattle.proof_folder.specs.TargetProofs.{Known};
 ghost use Rattle.check_crew.specs.Seen.{HaveSeenSections};
 ghost use Rattle.check_crew.specs.Inner.Apart.{IsListOf};
 ghost use Rattle.check_crew.specs.Inner.Crew.{IsReady, IsJobOf, IsDealtBy, IsShiftOf, IsHandedBy};
@@ -16,9 +16,9 @@ ghost use Rattle.check_crew.specs.Inner.Crew.{IsHandedIn, IsRunFault, AreClosed}
 
 use crate::fault::{CrewFault, RunFault};
 use crate::gate::{Elsewhere, Gate};
+use crate::no_proofs::NoProofs;
 use crate::order::long_proofs_first;
 use crate::settings::Settings;
-use crate::target_proofs::{NoProofs, TargetProofs};
 use crate::targets::{ExaminedTarget, end_targets};
 use crate::worker::{Job, Shift, Site, work};
 use board_hall::{Core, Hall, Pass};
@@ -26,6 +26,7 @@ use byte_flow::DeviceFault;
 use case_core::{Case, Target};
 use cube_jobs::{JobPass, Jobs};
 use mark_board::Boards;
+use proof_folder::TargetProofs;
 use std::alloc::{AllocError, Global};
 use std::snapshot::Snapshot;
 use std::sync::Wait;

@@ -4,7 +4,7 @@ ghost use Rattle.std.specs.Prelude.{◌≡◌, ◌<◌, ℕ, All, IfOk, IfErr, I
 ghost use Rattle.case_core.specs.SplitTree.{size};
 ghost use Rattle.case_core.specs.Target.{Target};
 ghost use Rattle.proof_folder.specs.Given.{AreFoundApart};
-ghost use Rattle.check_crew.specs.TargetProofs.{Known};
+ghost use Rattle.proof_folder.specs.TargetProofs.{Known};
 ghost use Rattle.check_crew.specs.Inner.Apart.{AreAbsent, IsListOf, IsRightAt};
 ghost use Rattle.check_crew.specs.Inner.Crew.{IsRunFault};
 
@@ -14,11 +14,11 @@ use crate::fault::{CrewFault, RunFault};
 use crate::gate::Gate;
 use crate::settings::Settings;
 use crate::target_order::{TargetOrder, targets_in_order};
-use crate::target_proofs::TargetProofs;
 use crate::targets::ExaminedTarget;
 use board_hall::Hall;
 use case_core::Case;
 use mark_board::Boards;
+use proof_folder::TargetProofs;
 use std::alloc::{AllocError, Global};
 use std::sync::Wait;
 use std::thread::Threads;

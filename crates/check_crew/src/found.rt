@@ -8,8 +8,8 @@ use case_core::{Examiner, Finding, ReadFinding};
 use std::alloc::{AllocError, Global};
 use std::marker::Model;
 
-/// A proof that was handed out, and what was found by it in the named case. To a contract it is that
-/// proof.
+/// A proof that was handed out, and what was found by it in the named case. To a contract it is
+/// that proof.
 #[derive(Drop)]
 pub(crate) struct FoundProof<'c, J: NamesCase> {
     read: ReadFinding<'c>,

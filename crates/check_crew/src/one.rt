@@ -1,4 +1,4 @@
-//! A worker without a crew: what it finds of proofs that the case doesn't hold, one after the other.
+//! A worker without a crew: what it finds, one after the other, of proofs that the case lacks.
 
 ghost use Rattle.std.specs.Prelude.{◌≡◌, ◌<◌, ◌^◌, ◌-◌, ◌↔◌, ℕ, IfOk, IfErr, OnOk, IsTrue, None};
 ghost use Rattle.std.specs.Prelude.{List, replicate};

@@ -73,8 +73,8 @@ pub(crate) fn post_read<'c, R: Wait, G: Gate>(
     }
 }
 
-/// The boards of a bundle that is read, on which all that was found so far stands, and the proofs that
-/// others have.
+/// The boards of a bundle that is read, on which all that was found so far stands, and the proofs
+/// that others have.
 #[derive(Drop)]
 pub(crate) struct Kept<'c, J: NamesCase> {
     pub(crate) boards: Boards<'c>,

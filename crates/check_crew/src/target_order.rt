@@ -2,12 +2,12 @@
 
 ghost use Rattle.std.specs.Prelude.{◌≡◌, ◌<◌, All, IfOk, OnOk, vec_len};
 ghost use Rattle.case_core.specs.SplitTree.{size};
-ghost use Rattle.check_crew.specs.TargetProofs.{Known};
+ghost use Rattle.proof_folder.specs.TargetProofs.{Known};
 ghost use Rattle.check_crew.specs.Inner.Apart.{AreAbsent};
 
 use crate::gate::Elsewhere;
-use crate::target_proofs::TargetProofs;
 use case_core::{Case, Leaf, NodeId, Target};
+use proof_folder::TargetProofs;
 use std::alloc::{AllocError, Global};
 use std::cmp::Reverse;
 

@@ -1,7 +1,8 @@
 //! A run over a bundle that is read once: it is judged while it is read.
 
 ghost use Rattle.std.specs.Prelude.{◌≡◌, ◌<◌, ◌≤◌, ◌^◌, ◌-◌, [], None, All, IfOk, IfErr, OnOk};
-ghost use Rattle.std.specs.Prelude.{get_or, replicate, ℕ, List, Option, vec_len, vec_capacity, true};
+ghost use Rattle.std.specs.Prelude.{get_or, replicate, ℕ, List, Option, vec_len, vec_capacity};
+ghost use Rattle.std.specs.Prelude.{true};
 ghost use Rattle.case_core.specs.Labelled.{IsPart, fresh_text};
 ghost use Rattle.case_core.specs.Sections.{IsCaseOf};
 ghost use Rattle.case_core.specs.SplitTree.{size};
@@ -50,8 +51,8 @@ struct ReadBundle<'c, J: NamesCase, L> {
     lent: L,
 }
 
-/// A source that is lent to a reader while others work. It is handed over as a type parameter, since
-/// a closure hands no reference back.
+/// A source that is lent to a reader while others work. It is handed over as a type parameter,
+/// since a closure hands no reference back.
 trait LendsSource: Drop {
     // What reads will give from here on, and how many calls have failed so far.
     ghost remaining: { Self → Option (List ℕ) };
@@ -219,8 +220,8 @@ fn join_all<R: Threads>(rt: &R, handles: Vec<JoinHandle<Result<(), AllocError>>>
     is_well
 }
 
-/// Starts the helpers, has the reader read, and joins all that were started; answers whether each of
-/// them ended well, too.
+/// Starts the helpers, has the reader read, and joins all that were started; answers whether each
+/// of them ended well, too.
 fn start_and_read<'s, 'e: 's, 'c: 'e, R, G, J, L>(
     scope: &'s Scope<'s, &'e ()>,
     site: ReadingSite<'e, 'c, R, G>,
@@ -406,13 +407,14 @@ fn no_proofs<J: NamesCase>(
     Ok(given)
 }
 
-/// The boards of `case` at the cut of `settings` with the marks of a bundle that is read once, whose
-/// iCNF text is the case's: a text that stands behind that, with its source. The calling thread is
-/// worker 0, and reads; each other worker has a thread of its own. A section is judged while it is
-/// read, or handed to another worker where that is short; all that others have at a time is bounded.
-/// The text is read no further where a label line has a fault.
+/// The boards of `case` at the cut of `settings` with the marks of a bundle that is read once,
+/// whose iCNF text is the case's: a text that stands behind that, with its source. The calling
+/// thread is worker 0, and reads; each other worker has a thread of its own. A section is judged
+/// while it is read, or handed to another worker where that is short; all that others have at a
+/// time is bounded. The text is read no further where a label line has a fault.
 ///
-/// The gate is called as `conquer` says. All workers that were started are joined before it answers.
+/// The gate is called as `conquer` says. All workers that were started are joined before it
+/// answers.
 pub fn conquer_while_read<'c, R, G, S>(
     rt: &R,
     alloc: Global,

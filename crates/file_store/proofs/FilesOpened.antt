@@ -3,7 +3,7 @@ use Rattle.std.proofs.Common.{◌≡◌, ◌∙◌, ap, List, ℕ, true, Option,
 use Rattle.std.proofs.Common.{Result, Ok, Err, OnOk}
 use Rattle.std.specs.Prelude.{option_map}
 use Rattle.case_core.specs.Binary.{proof_text}
-use Rattle.check_crew.specs.TargetProofs.{IsLeftOf, IsOpenedOf, left_text}
+use Rattle.proof_folder.specs.TargetProofs.{IsLeftOf, IsOpenedOf, left_text}
 use Rattle.byte_flow.specs.Device.{IsReadOf}
 use Rattle.file_store.specs.Files.{GivesOneOf, GrewBy, IsFound}
 

@@ -7,7 +7,7 @@ use Rattle.case_core.specs.Case.{part_in, section_in, proof_for}
 use Rattle.case_core.specs.Target.{Target}
 use Rattle.case_core.specs.declared.case.Section.{Section}
 use Rattle.case_core.specs.declared.outline.Stretch.{Stretch}
-use Rattle.check_crew.specs.TargetProofs.{IsLeftOf, left_text}
+use Rattle.proof_folder.specs.TargetProofs.{IsLeftOf, left_text}
 use Rattle.file_store.specs.Files.{held_if, IsOpenedAt}
 use Rattle.file_store.specs.Parts.{held_in}
 

@@ -9,7 +9,7 @@ use crate::opener::Opener;
 use crate::store::FileStore;
 use byte_flow::{Counted, DeviceFault};
 use case_core::{Leaf, ProofForm, Target};
-use check_crew::TargetProofs;
+use proof_folder::TargetProofs;
 use std::alloc::{AllocError, Global};
 
 /// Where proofs lie that are files of their own.

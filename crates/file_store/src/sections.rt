@@ -6,7 +6,7 @@ use crate::part::Part;
 use crate::store::FileStore;
 use byte_flow::DeviceFault;
 use case_core::{OutlinedCase, ProofForm, Target};
-use check_crew::TargetProofs;
+use proof_folder::TargetProofs;
 use std::sync::Arc;
 
 /// A reader of the proofs of a case that are parts of the file at a path, over an opener of its

@@ -3,7 +3,7 @@ ghost use Rattle.std.specs.Prelude.{◌≡◌, ◌≢◌, ℕ, List, Some, ◌<�
 ghost use Rattle.std.specs.Prelude.{IfOk, IfErr, IfSome, OnOk, OnErr, true, option_map};
 ghost use Rattle.case_core.specs.Target.{Target};
 ghost use Rattle.byte_flow.specs.Device.{IsDeviceFault};
-ghost use Rattle.check_crew.specs.TargetProofs.{IsOpenedOf};
+ghost use Rattle.proof_folder.specs.TargetProofs.{IsOpenedOf};
 ghost use Rattle.file_store.specs.Files.{Gives, GivesOneOf, IsFound, IsOpenedAt, StaysAllowed};
 ghost use Rattle.file_store.specs.Files.{StaysAllowedBeside, lies_in};
 ghost use Rattle.file_store.specs.Files.{as_proofs, held_if};
@@ -17,7 +17,7 @@ use crate::reader::{ProofPlace, ProofReader};
 use crate::sections::SectionReader;
 use byte_flow::{Counted, DeviceFault, Source, read_to_end, write_all};
 use case_core::{OutlinedCase, turn_from};
-use check_crew::TargetProofs;
+use proof_folder::TargetProofs;
 use std::alloc::{AllocError, Global};
 use std::io::ErrorKind;
 use std::sync::Arc;
@@ -72,13 +72,13 @@ pub trait Store {
         ensures failures { failures self.new ≡ failures self.old + Self.Opened.failures file };
 
     /// Reads the proof at this path again: appends its text, and answers whether a file is there;
-    /// where there is none, nothing changes. If its first byte says that a proof is binary, its text
-    /// is the one that it stands for. What can be read but once, as a pipe, isn't opened, also if
-    /// nobody has read it yet.
+    /// where there is none, nothing changes. If its first byte says that a proof is binary, its
+    /// text is the one that it stands for. What can be read but once, as a pipe, isn't opened, also
+    /// if nobody has read it yet.
     ///
-    /// `Device` where a file is there and can't be opened or read, or can be read but once. `Memory`
-    /// where a growth was refused. The count of failed calls, which has to be below its greatest
-    /// value, rises by one exactly with `Device`.
+    /// `Device` where a file is there and can't be opened or read, or can be read but once.
+    /// `Memory` where a growth was refused. The count of failed calls, which has to be below its
+    /// greatest value, rises by one exactly with `Device`.
     fn read_proof(
         &mut self,
         alloc: Global,

@@ -1,3 +1,4 @@
 pub mod Added
 pub mod Given
 pub mod Laws
+pub mod TargetProofs

@@ -15,7 +15,8 @@ use Rattle.mark_board.specs.declared.mark.Mark.{Mark}
 use Rattle.mark_board.specs.Marking.{mark_at}
 use Rattle.proof_folder.specs.Given.{IsGivenFor}
 use Rattle.board_hall.specs.declared.view.View.{View}
-use Rattle.check_crew.specs.TargetProofs.{Known, IsExamined, IsGiven}
+use Rattle.proof_folder.specs.TargetProofs.{Known, IsGiven}
+use Rattle.check_crew.specs.Examined.{IsExamined}
 use Rattle.check_crew.specs.declared.targets.ExaminedTarget.{ExaminedTarget}
 
 -- what is found by a proof that was read, and nothing where it has a label line

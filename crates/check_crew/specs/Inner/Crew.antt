@@ -21,7 +21,8 @@ use Rattle.check_crew.specs.declared.worker.Shift.{Shift}
 use Rattle.check_crew.specs.declared.worker.Site.{Site}
 use Rattle.check_crew.specs.Inner.Apart.{IsListOf}
 use Rattle.check_crew.specs.Inner.Order.{IsOrder}
-use Rattle.check_crew.specs.TargetProofs.{Known, IsExamined}
+use Rattle.proof_folder.specs.TargetProofs.{Known}
+use Rattle.check_crew.specs.Examined.{IsExamined}
 use Rattle.check_crew.specs.Seen.{HasSeenSection, HaveSeenSections}
 
 -- that of the section whose turn it is in this order

@@ -145,8 +145,8 @@ pub record IsAllBut (boards : BoardsOf) (out : List (Option SectionOf))
 
 -- ---- what the reader does while the others work
 
--- It hands back the boards of all that a source gave, or the first fault of that; and the source, of
--- which it tells whether a read failed.
+-- It hands back the boards of all that a source gave, or the first fault of that; and the source,
+-- of which it tells whether a read failed.
 pub record IsReadBy {J L : Type 0} (remaining : L → Option (List ℕ)) (failures : L → ℕ)
     (is_back : L → L → Type 0) (boards : BoardsOf) (out : List (Option SectionOf))
     (text : LabelledOf) (lent : L) (read : ReadBundle J L) : Type 0 where

@@ -1,5 +1,5 @@
 use Rattle.std.proofs.Common.{ℕ, ◌<◌}
-use Rattle.check_crew.specs.TargetProofs.{Known}
+use Rattle.proof_folder.specs.TargetProofs.{Known}
 use Rattle.check_crew.specs.Inner.Apart.{AreAbsent, AreRightAt, IsRightAt}
 use Rattle.check_crew.proofs.compare.has_each_node.Given as goal
 

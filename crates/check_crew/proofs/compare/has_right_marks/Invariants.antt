@@ -1,6 +1,6 @@
 use Rattle.std.proofs.Common.{◌≡◌, All, vec_len}
 use Rattle.case_core.specs.SplitTree.{size}
-use Rattle.check_crew.specs.TargetProofs.{Known}
+use Rattle.proof_folder.specs.TargetProofs.{Known}
 use Rattle.check_crew.specs.Inner.Apart.{IsListOf, AreRightAt}
 use Rattle.check_crew.proofs.compare.has_right_marks.Given as goal
 

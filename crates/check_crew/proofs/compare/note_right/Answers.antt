@@ -1,5 +1,5 @@
 use Rattle.std.proofs.Common.{◌∙◌, subst, sym}
-use Rattle.check_crew.specs.TargetProofs.{IsExamined}
+use Rattle.check_crew.specs.Examined.{IsExamined}
 use Rattle.check_crew.specs.declared.targets.ExaminedTarget.{ExaminedTarget}
 use Rattle.check_crew.proofs.compare.note_right.Goals as goal
 

@@ -1,5 +1,5 @@
 use Rattle.std.proofs.Common.{◌≡◌, vec_len}
-use Rattle.check_crew.specs.TargetProofs.{Known}
+use Rattle.proof_folder.specs.TargetProofs.{Known}
 use Rattle.check_crew.specs.Inner.Apart.{IsListOf, AreRightAt}
 use Rattle.check_crew.proofs.compare.note_right.Given as goal
 

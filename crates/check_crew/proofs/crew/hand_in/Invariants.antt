@@ -5,7 +5,7 @@ use Rattle.cube_jobs.specs.Jobs as queue
 use Rattle.cube_jobs.specs.Jobs.{JobPassOf}
 use Rattle.board_hall.specs.declared.pass.Pass.{Pass}
 use Rattle.board_hall.specs.Halls.{shared_of, view_of, IsPassOf}
-use Rattle.check_crew.specs.TargetProofs.{Known}
+use Rattle.proof_folder.specs.TargetProofs.{Known}
 use Rattle.check_crew.specs.Inner.Apart.{IsListOf}
 use Rattle.check_crew.specs.Inner.Crew.{IsHandedBy, HaveSeenClaims}
 use Rattle.check_crew.proofs.crew.hand_in.Given as goal

@@ -1,6 +1,6 @@
 use Rattle.std.proofs.Common.{◌≡◌, false, rules, sym, subst, ℕ, None}
 use Rattle.case_core.specs.Target.TheVariants.{Node}
-use Rattle.check_crew.specs.TargetProofs.{IsGiven}
+use Rattle.proof_folder.specs.TargetProofs.{IsGiven}
 use Rattle.check_crew.proofs.ApartRight.{noted_more}
 use Rattle.check_crew.proofs.target_order.add_node.Goals as goal
 

@@ -1,6 +1,6 @@
 use Rattle.std.proofs.Common.{◌≡◌, All}
 use Rattle.board_hall.specs.declared.view.View.{View}
-use Rattle.check_crew.specs.TargetProofs.{IsExamined}
+use Rattle.check_crew.specs.Examined.{IsExamined}
 use Rattle.check_crew.proofs.targets.next_proof.Given as goal
 
 abbrev pub invariant-loop : goal.invariant-loop

@@ -6,7 +6,7 @@ use Rattle.case_core.specs.Case.{CaseOf}
 use Rattle.case_core.specs.Finding.{IsFoundBy, target_of}
 use Rattle.board_hall.specs.declared.view.CutCase.{CutCase}
 use Rattle.board_hall.specs.Halls.{core_of, view_of}
-use Rattle.check_crew.specs.TargetProofs.{HasSeenAs}
+use Rattle.check_crew.specs.Examined.{HasSeenAs}
 use Rattle.check_crew.specs.Seen.{HasSeenMark}
 use Rattle.check_crew.proofs.SeenTurns.{stays_on}
 use Rattle.check_crew.proofs.TargetsSeen.{as_stays, seen_as, found_at}

@@ -2,7 +2,8 @@ use Rattle.std.proofs.Common.{◌≡◌, None, All}
 use Rattle.case_core.specs.Leaves.{HasTarget}
 use Rattle.board_hall.specs.Halls.{shared_of, view_of, IsPassOf}
 use Rattle.board_hall.specs.Clauses.{Stays}
-use Rattle.check_crew.specs.TargetProofs.{IsExamined, IsLeftOf, left_text}
+use Rattle.proof_folder.specs.TargetProofs.{IsLeftOf, left_text}
+use Rattle.check_crew.specs.Examined.{IsExamined}
 use Rattle.check_crew.proofs.targets.take_targets.Given as goal
 
 abbrev pub invariant-loop : goal.invariant-loop

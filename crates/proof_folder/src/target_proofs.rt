@@ -1,15 +1,14 @@
-//! Where the proofs lie that the case has no section of.
+//! Where the proofs lie that a case has no section of.
 
 ghost use Rattle.std.specs.Prelude.{◌≡◌, ℕ, List, ◌<◌, ◌+◌, ◌^◌, ◌-◌, Option, IfOk, IfErr, IfSome};
 ghost use Rattle.std.specs.Prelude.{OnOk, Bool, None, false};
 ghost use Rattle.byte_flow.specs.Device.{IsDeviceFault};
 ghost use Rattle.case_core.specs.Form.{proof_left};
 ghost use Rattle.case_core.specs.Target.{Target};
-ghost use Rattle.check_crew.specs.TargetProofs.{IsGiven, IsOpenedOf, left_text, text_by};
+ghost use Rattle.proof_folder.specs.TargetProofs.{IsGiven, IsOpenedOf, left_text, text_by};
 
 use byte_flow::{DeviceFault, Source};
 use case_core::{ProofForm, Target};
-use std::io;
 
 /// What a worker opens proofs by. Each worker of a run has one of its own, and all of a run tell of
 /// the same proofs.
@@ -62,50 +61,4 @@ pub trait TargetProofs {
     /// How long the proof of a target is, where that can be told without reading it. Nothing rests
     /// on it but the order in which proofs are read and the totals that a person is told.
     fn length(&self, target: Target) -> Option<u64>;
-}
-
-/// What opens no proof, where all of them stand in the case; as one it has no bytes.
-#[derive(Clone, Copy)]
-pub(crate) struct NoProofs;
-
-impl TargetProofs for NoProofs {
-    type Proof = NoProofs;
-
-    ghost use Rattle.std.specs.Prelude.{None, false};
-
-    ghost held = { λ _ _. None };
-
-    ghost failures = { λ _. 0 };
-
-    ghost takes_binary = { false };
-
-    fn form(&self) -> ProofForm {
-        ProofForm::Text
-    }
-
-    fn may_have(&self, _target: Target) -> bool {
-        false
-    }
-
-    fn open(&mut self, _target: Target) -> Result<Option<NoProofs>, DeviceFault> {
-        Ok(None)
-    }
-
-    fn close(&mut self, _proof: NoProofs) {}
-
-    fn length(&self, _target: Target) -> Option<u64> {
-        None
-    }
-}
-
-impl Source for NoProofs {
-    ghost use Rattle.std.specs.Prelude.{None};
-
-    ghost remaining = { λ _. None };
-
-    ghost failures = { λ _. 0 };
-
-    fn read(&mut self, _buffer: &mut [u8]) -> io::Result<usize> {
-        Ok(0)
-    }
 }
