@@ -1,5 +1,6 @@
 #!/usr/bin/env python3
-"""Looks at the pages: all *.md of the repository but those below out/, bench/bin and bench/corpus.
+"""Looks at the pages: all *.md of the repository but those below out/, bench/bin and bench/corpus; and at how wide the
+crates' sources are.
 
     python3 scripts/pages.py [DIR ..]        prints each place that is against a claim; the status is 1 if there is one
     python3 scripts/pages.py --sentences     prints for each page how many of its sentences are long
@@ -13,6 +14,9 @@ archive    Each link in a page of the archive that scripts/package.sh makes lead
            says that some don't, by the sentence LEADS_OUT.
 width      No line is wider than 100 columns. Left out are tables, whose rows can't be broken; blocks of code, which
            are commands and sources as they are; and a line of one word, as a long link.
+sources    No line of the crates' .rt and .antt files is wider than 100 columns, in src/, specs/ or proofs/. Left out are
+           an attribute and a `use` of one name, each of which `rt fmt` keeps in one line. Scripts have wider lines, and
+           so has an edit below must-fail/, which repeats a line of a source.
 cells      No cell of a table has more than 15 words. A code span is one word, and a link counts by its text. In the last
            column of CONTRIBUTING's table of crates each name is a word.
 examples   Each piece of code, up to a blank line, in a crate's README and in the parts README_PARTS of README stands
@@ -86,8 +90,11 @@ TESTS = re.compile(r"crates/\w*suite\b|scripts/\w+\.sh|\bstdin\b")
 # A code span that is one name, if it is of several words.
 SPAN = re.compile(r"`((?:\w+::)?[A-Za-z][\w-]*)`")
 OF_WORDS = re.compile(r"_|::|^[A-Z][a-z]+[A-Z]")
+# The crates' sources, and what `rt fmt` keeps in one line, however wide it is.
+OF_CRATES = ("crates/*/src/**/*.rt", "crates/*/specs/**/*.antt", "crates/*/proofs/**/*.antt")
+IN_ONE = re.compile(r"\s*(?:#!?\[.*\]|(?:ghost |pub )*use [^\s,]+)")
 # Where names stand.
-SOURCES = ("crates/*/src/**/*.rt", "crates/*/specs/**/*.antt", "crates/*/proofs/**/*.antt", "scripts/*", "bench/**/*.py", "bench/**/*.sh", "bench/**/*.rs", "examples/**/*")
+SOURCES = (*OF_CRATES, "scripts/*", "bench/**/*.py", "bench/**/*.sh", "bench/**/*.rs", "examples/**/*")
 # Paths of the repository, and those in a crate.
 PATH = re.compile(r"(?<![\w./*-])(?:scripts|tests|crates|bench|docs|examples)/[\w./*-]*[\w/*]|(?<![\w./*-])((?:src|specs|proofs)/[\w/*-]+\.(?:rt|antt))")
 PLACEHOLDER = re.compile(r"\*|[A-Z]{2,}(?!\w*\.md)")
@@ -220,6 +227,13 @@ def against_width(root):
                 words = ITEM.sub("", line, count=1).split()
                 if part.kind not in ("code", "table") and len(line) > COLUMNS and len(words) > 1:
                     yield page, number, f"{len(line)} columns"
+
+
+def against_sources(root):
+    for path in itertools.chain(*(root.glob(ways) for ways in OF_CRATES)):
+        for number, line in enumerate(path.read_text(encoding="utf-8").split("\n"), 1):
+            if len(line) > COLUMNS and not IN_ONE.fullmatch(line):
+                yield str(path.relative_to(root)), number, f"{len(line)} columns"
 
 
 def cells(part):
@@ -463,6 +477,7 @@ CLAIMS = {
     "links": against_links,
     "archive": against_archive,
     "width": against_width,
+    "sources": against_sources,
     "cells": against_cells,
     "examples": against_examples,
     "crates": against_crates,

@@ -1,23 +1,25 @@
 #!/bin/sh
 # Looks at the pages by scripts/pages.py, whose head has the claims: links that lead nowhere, also
-# in the archive of scripts/package.sh; lines wider than 100 columns; cells of tables with more
-# than 15 words; examples that are in no source; CONTRIBUTING's table of crates; clauses that no
-# function has, rooms that no crate has, names that no source has, and paths that aren't there;
-# what is only tested, if nothing is named that tests it. Then it tries each claim on wrong pages,
-# each of which it has to refuse, and on right ones. It prints how many sentences of each page are
-# long, and no claim follows from that. It runs no program. The last line counts.
+# in the archive of scripts/package.sh; lines wider than 100 columns, also of the crates' sources;
+# cells of tables with more than 15 words; examples that are in no source; CONTRIBUTING's table of
+# crates; clauses that no function has, rooms that no crate has, names that no source has, and paths
+# that aren't there; what is only tested, if nothing is named that tests it. Then it tries each
+# claim on wrong pages and sources, each of which it has to refuse, and on right ones. It prints how
+# many sentences of each page are long, and no claim follows from that. It runs no program. The last
+# line counts.
 root=$(CDPATH= cd -- "$(dirname -- "$0")/.." && pwd) || exit 1
 . "$root/scripts/runs.sh"
-claims="links archive width cells examples crates clauses rooms tested names paths"
+claims="links archive width sources cells examples crates clauses rooms tested names paths"
 
 # A small repository whose pages are right.
 right=$here/right
+wide=$(printf '%099d' 0)
 mkdir -p "$right/docs" "$right/scripts" "$right/tests/rows" "$right/crates/low/src"
 : > "$right/tests/rows/one.in"
 printf 'packed="README.md docs/IN.md"\n' > "$right/scripts/package.sh"
 printf 'fn main() {\n    // a line\n    one();\n\n    two();\n}\n' > "$right/crates/low/src/lib.rt"
 printf '%s\n' 'pub fn joins(it: u8) -> u8' '    requires room { it.now < 2 }' '    ensures sound { result ≡ it.now }' \
-    '{' '    it' '}' '' 'pub struct Pair {' '    left: u8,' '}' '// some_name and SomeName' > "$right/crates/low/src/two.rt"
+    '{' '    it' '}' '' 'pub struct Pair {' '    left: u8,' '}' '// some_name and SomeName' '' "#[tactic(auto, using($wide))]" > "$right/crates/low/src/two.rt"
 printf '%s\n' 'low: clap' 'high tests_may=Wait: low hex  # above it' > "$right/crates.txt"
 printf '%s\n' '| Crate | What it is about | Stands on |' '|---|---|---|' '| low | one | clap |' \
     '| high | another | low, hex |' '' '- an item whose link [goes' '  on](docs/IN.md#a-heading-of-it)' \
@@ -39,7 +41,7 @@ printf '%s\n' '# low' '' 'A sketch, which is in no source:' '' '    three();' ''
     > "$right/crates/low/README.md"
 mkdir -p "$right/crates/some_suite" "$right/crates/low/specs" "$right/crates/high/specs"
 : > "$right/crates/low/specs/Room.antt"
-: > "$right/crates/high/specs/Other.antt"
+printf '%s\n' "use Rattle.low.{$wide}" '-- a definition' > "$right/crates/high/specs/Other.antt"
 
 # Makes a wrong page: the claim that has to refuse it, what is wrong, the file, and the sed that makes it so.
 wrong() {
@@ -50,7 +52,6 @@ wrong() {
 }
 
 made=0
-wide=$(printf '%099d' 0)
 wrong links "a file that isn't there" README.md 's/docs.IN.md/docs\/ON.md/'
 wrong links "a heading that isn't there" docs/IN.md 's/#a-heading-of-it/#a-heading/'
 wrong links "a heading in another page that isn't there, by a link over two lines" CONTRIBUTING.md 's/#a-heading/#heading/'
@@ -60,6 +61,10 @@ wrong archive "a link out of it on another page" docs/IN.md '$a [out](OUT.md)'
 wrong archive "a page of it that isn't there" scripts/package.sh 's/IN/ON/'
 wrong width "a wide line" docs/OUT.md "3s/^/$wide /"
 wrong width "a wide item of a list" CONTRIBUTING.md "s/^- an item/- $wide an item/"
+wrong sources "a wide comment of code" crates/low/src/two.rt "s,^// some,// $wide some,"
+wrong sources "a wide line of code behind an attribute" crates/low/src/two.rt "s/^#.*/& fn $wide() {}/"
+wrong sources "a wide line of a definition" crates/high/specs/Other.antt "s/a definition/& $wide/"
+wrong sources "a wide \`use\` of two names" crates/high/specs/Other.antt 's/{/{other, /'
 wrong cells "a cell of sixteen words" docs/OUT.md 's/ fifteen/ fifteen sixteen/'
 wrong cells "a last cell of sixteen words" docs/OUT.md "s,| |$,| sixteen $cell |,"
 wrong cells "a cell whose link has a word more" docs/OUT.md 's/\[one\]/[or one]/'

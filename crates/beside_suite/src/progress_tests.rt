@@ -205,7 +205,8 @@ fn tells_of_file<R: AllocGlobal + Abort + Threads + Wait + Sync>(
 }
 
 // A clock that moves by 300 milliseconds, and 137 bytes, which are read whole, since a folder is
-// asked for: a line is due at every fourth read, and then, as reading is over, at the fourth section.
+// asked for: a line is due at every fourth read, and then, as reading is over, at the fourth
+// section.
 #[test]
 fn how_much_was_read(rt: HostRuntime) {
     let words = ["--workers", "1", "--progress", "--proofs", "D", "four.icnf"];
@@ -218,12 +219,12 @@ fn how_much_was_read(rt: HostRuntime) {
 }
 
 // The same clock, and the same file alone, of which no length is known: it is judged while it is
-// read. Four reads are 64 bytes, for which a line is due. The fifth has the first label line, and the
-// pause begins anew. Each of the next three ends a section with the label line of the next one. The
-// ninth has the rest of the last section, and the tenth says that the file is at its end. The clock
-// is looked at with each read, and with each section when it is judged. So a line is due at the
-// second section, the fourth look, and at the tenth read, the fourth from there. Nobody knows how
-// many sections there are, so a line has as many as are judged.
+// read. Four reads are 64 bytes, for which a line is due. The fifth has the first label line, and
+// the pause begins anew. Each of the next three ends a section with the label line of the next one.
+// The ninth has the rest of the last section, and the tenth says that the file is at its end. The
+// clock is looked at with each read, and with each section when it is judged. So a line is due at
+// the second section, the fourth look, and at the tenth read, the fourth from there. Nobody knows
+// how many sections there are, so a line has as many as are judged.
 #[test]
 fn judged_while_it_is_read(rt: HostRuntime) {
     let words = ["--workers", "1", "--progress", "four.icnf"];

@@ -5,7 +5,7 @@ use Rattle.std.proofs.Common.{false, cond, List, [], ◌∷◌, ◌++◌, map, c
 use Rattle.std.proofs.Common.{Option, None, Some, find, eqb, length, ◌-◌}
 use Rattle.std.specs.Prelude.{not, replicate, filter, is_some, MatchOption}
 use Rattle.std.specs.Bool.{OnTrue, OnFalse}
-use Rattle.std.specs.List.{AllByRecursion, slice_split, onto_first}
+use Rattle.std.specs.List.{slice_split, onto_first}
 use Rattle.std.proofs.lemmas.Bool.{cases_Bool}
 use Rattle.std.proofs.lemmas.List.Splits.{slice_split-cons_yes, slice_split-cons_no}
 use Rattle.std.proofs.lemmas.Slice.Eq.{bytes_eq-Decides}
@@ -19,6 +19,7 @@ use Rattle.case_core.specs.Dimacs.{clause_symbols}
 use Rattle.case_core.specs.Bundle.{lines_of, is_label, is_label_of}
 use Rattle.case_core.proofs.DimacsFormula.{among_clauses}
 use Rattle.bundle_files.specs.Formula.{header_over}
+use Rattle.bundle_files.proofs.FormulaPlain.{ArePlain}
 
 -- ---- a label line has a token
 
@@ -98,7 +99,7 @@ l_unknown n = refl
 pub clauses_plain : (done : List Token) (n : ℕ) (lines : List (List ℕ))
     (formula : List (List Literal))
     → clause_symbols (done ++ joined (lines_from n lines)) ≡ spelled (map ClauseItem formula)
-    → AllByRecursion (λ line. is_label line ≡ false) lines
+    → ArePlain lines
 clauses_plain done n [] formula written = tt
 clauses_plain done n (line ∷ lines) formula written = (
   elim (cases_Bool (is_label line)) [

@@ -1,8 +1,7 @@
 -- A formula's file that was read, and the bundle that it makes.
-use Rattle.std.proofs.Common.{◌≡◌, ◌≢◌, ◌∙◌, sym, ap, refl, subst, false, ℕ, ◌+◌}
+use Rattle.std.proofs.Common.{◌≡◌, ◌≢◌, ◌∙◌, sym, ap, refl, subst, ℕ}
 use Rattle.std.proofs.Common.{List, [], ◌∷◌, ◌++◌, length, take, append_assoc, inl, inr, arith}
 use Rattle.std.proofs.Common.{Option, None, Some, Result, Ok, Err, OnOk, IfOk, IfErr, IsErrAnd}
-use Rattle.std.specs.List.{AllByRecursion}
 use Rattle.std.proofs.Math.Seq.{take-append_seam}
 use Rattle.case_core.specs.Literal.{Literal}
 use Rattle.case_core.specs.Icnf.{Item, StandsFor, clauses_of}
@@ -10,7 +9,7 @@ use Rattle.case_core.specs.Dimacs.{IsDimacs, KeepsLimits, told, told_problem, gr
 use Rattle.case_core.specs.Problem as code
 use Rattle.case_core.specs.TextFault.{TextFault}
 use Rattle.case_core.specs.TextFault.TheVariants as text
-use Rattle.case_core.specs.Bundle.{icnf_text, is_label, labelled, lines_of}
+use Rattle.case_core.specs.Bundle.{icnf_text, labelled, lines_of}
 use Rattle.case_core.specs.Case.{CaseOf}
 use Rattle.case_core.specs.Sections.{IsCaseOf}
 use Rattle.case_core.proofs.BundleMore.{lines_more}
@@ -25,6 +24,7 @@ use Rattle.bundle_files.specs.Formula.{IsFormulaFault, IsFormulaRead, IsOverwrit
 use Rattle.bundle_files.specs.Inner.Formula.{IsFaultyFormula, IsOtherCount}
 use Rattle.bundle_files.specs.Inner.Outlined.{IsCounted}
 use Rattle.bundle_files.specs.declared.formula.BegunBundle.{BegunBundle}
+use Rattle.bundle_files.proofs.FormulaPlain.{plain_labels, plain_more}
 use Rattle.bundle_files.proofs.FormulaText.{over_plain}
 
 -- what holds of an error holds of the result that hands it on
@@ -112,12 +112,6 @@ over_end over ended rest bundle first second =
     second ∙ ap (λ (t : List ℕ). t ++ rest) first ∙ append_assoc over (10 ∷ []) rest
 
 -- what stands before it is whole lines
-no_labels : (lines : List (List ℕ)) (number : ℕ)
-    → AllByRecursion (λ line. is_label line ≡ false) lines
-    → labelled number (lines ++ lines_of []) ≡ []
-no_labels [] number plain = rw empty_line refl
-no_labels (line ∷ lines) number plain = rw plain.0 (no_labels lines (number + 1) plain.1)
-
 pub front_plain : (has : List ℕ → List ℕ → Type 0) (formula : Option (List ℕ))
     (said : Option code.Problem) (front : List ℕ) → IsFront has formula said front
     → ArePlainLines front
@@ -129,8 +123,9 @@ front_plain has (Some path) (Some said) front (over, read, is) =
     subst ArePlainLines (sym is) (
       inr (over, refl),
       ap (labelled 1) (lines_more over [])
-          ∙ no_labels (lines_of over) 1
-          (over_plain read.text over read.formula read.dimacs read.overwritten),
+          ∙ plain_labels 1 (lines_of over ++ lines_of [])
+          (plain_more (lines_of over) (lines_of [])
+          (over_plain read.text over read.formula read.dimacs read.overwritten) (empty_line, tt)),
     )
 
 pub plain_if : (begun : Result BegunBundle Fault) (has : List ℕ → List ℕ → Type 0)

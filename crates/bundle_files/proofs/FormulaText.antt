@@ -1,5 +1,5 @@
 -- The bundle of a formula's file and another text has the formula's clauses first.
-use Rattle.std.proofs.Common.{◌≡◌, ◌≢◌, ◌∙◌, sym, ap, refl, subst, ℕ, ◌+◌, false, List}
+use Rattle.std.proofs.Common.{◌≡◌, ◌≢◌, ◌∙◌, sym, ap, refl, subst, ℕ, ◌+◌, List}
 use Rattle.std.proofs.Common.{[], ◌∷◌, ◌++◌, length, append_assoc, Option, None, Some}
 use Rattle.std.specs.List.{AllByRecursion}
 use Rattle.std.specs.Option.{option_map}
@@ -9,17 +9,18 @@ use Rattle.case_core.specs.Tokens.{Token, line_tokens, lines_from, token_lines, 
 use Rattle.case_core.specs.Icnf.{Item, StandsFor, after_header, clauses_of}
 use Rattle.case_core.specs.Icnf.{symbols_of}
 use Rattle.case_core.specs.Dimacs.{Problem, problem_of, after_problem, clause_symbols, IsDimacs}
-use Rattle.case_core.specs.Bundle.{lines_of, is_label, text_before, icnf_text}
+use Rattle.case_core.specs.Bundle.{lines_of, text_before, icnf_text}
 use Rattle.case_core.specs.Case.{CaseOf}
 use Rattle.case_core.specs.Sections.{IsCaseOf}
 use Rattle.case_core.proofs.BundleMore.{no_lines, lines_more}
 use Rattle.case_core.proofs.DimacsFormula.{formula_of_tokens}
 use Rattle.case_core.proofs.IcnfUnique.{one_text_of, text_of}
-use Rattle.proof_folder.proofs.AddedLines.{with_ends, text_is_lines}
+use Rattle.proof_folder.proofs.AddedLines.{text_is_lines}
 use Rattle.cube_report.specs.Correct.{IsUnsatisfiable}
 use Rattle.file_store.specs.Files.{Held, IsJudgedOf}
 use Rattle.bundle_files.specs.Formula.{header_over, IsOverwritten, IsUnder}
 use Rattle.bundle_files.proofs.LawsFormula.{judged_keeps_items}
+use Rattle.bundle_files.proofs.FormulaPlain.{ArePlain, plain_front}
 use Rattle.bundle_files.proofs.FormulaLines.{bare_plain, clauses_plain, header_plain, header_tokens}
 
 -- ---- lines one after the other
@@ -33,19 +34,6 @@ joined_more n (line ∷ lines) more =
       ap (λ (t : List Token). line_tokens n line ++ t) found.1
           ∙ sym (append_assoc (line_tokens n line) (joined (lines_from (n + 1) lines)) found.0),
     )
-
--- the text before the first label line, where the first lines are none
-pub plain_front : (lines more : List (List ℕ)) →
-    AllByRecursion (λ line. is_label line ≡ false) lines → (lines ≡ [] → ⊥) → (more ≡ [] → ⊥)
-    → text_before (lines ++ more) ≡ with_ends lines ++ 10 ∷ text_before more
-plain_front [] more plain some others = absurd (some refl)
-plain_front (line ∷ lines) [] plain some others = absurd (others refl)
-plain_front (line ∷ []) (next ∷ more) plain some others = rw plain.0 refl
-plain_front (line ∷ second ∷ lines) (next ∷ more) plain some others =
-    rw plain.0
-    (ap (λ (t : List ℕ). line ++ 10 ∷ t)
-    (plain_front (second ∷ lines) (next ∷ more) plain.1 (λ e. cc) others)
-    ∙ sym (append_assoc line (10 ∷ with_ends (second ∷ lines)) (10 ∷ text_before (next ∷ more))))
 
 -- ---- below the problem line, and below the header over it
 
@@ -117,8 +105,8 @@ below_header n (other ∷ before) line after others problem tokens bare first is
 
 all_plain : (before after : List (List ℕ)) (line : List ℕ)
     → AllByRecursion (λ other. (m : ℕ) → line_tokens m other ≡ []) before
-    → AllByRecursion (λ other. is_label other ≡ false) after
-    → AllByRecursion (λ other. is_label other ≡ false) (before ++ header_over line ∷ after)
+    → ArePlain after
+    → ArePlain (before ++ header_over line ∷ after)
 all_plain [] after line bare plain = (header_plain line, plain)
 all_plain (other ∷ before) after line bare plain =
     (bare_plain other bare.0, all_plain before after line bare.1 plain)
@@ -133,7 +121,7 @@ by_lines f n text = refl
 -- no line of the text with the header over its problem line is a label line
 pub over_plain : (text over : List ℕ) (formula : List (List Literal)) → IsDimacs text formula
     → IsOverwritten text over
-    → AllByRecursion (λ other. is_label other ≡ false) (lines_of over)
+    → ArePlain (lines_of over)
 over_plain text over formula is made =
     let there : after_problem (lines_from 1 (made.before ++ made.line ∷ made.after))
     ≡ Some (is.problem, is.has.tokens) =
@@ -142,7 +130,7 @@ over_plain text over formula is made =
     let below =
     below_problem 1 made.before made.line made.after is.problem is.has.tokens made.bare made.first
     there in
-    subst (AllByRecursion (λ other. is_label other ≡ false)) (sym made.header)
+    subst ArePlain (sym made.header)
     (all_plain made.before made.after made.line made.bare
     (clauses_plain [] (below.at + 1) made.after formula
     (ap clause_symbols below.tokens_are ∙ is.has.written)))

@@ -1,4 +1,5 @@
 pub mod LawsFormula
+mod FormulaPlain
 mod FormulaLines
 pub mod FormulaText
 mod FormulaPlace

@@ -1,5 +1,5 @@
 -- What stands in a bundle before the file's text, and the bundle that it makes with the text.
-use Rattle.std.proofs.Common.{◌≡◌, ◌∙◌, ap, sym, subst, refl, ℕ, ◌+◌, List, []}
+use Rattle.std.proofs.Common.{◌≡◌, ◌∙◌, ap, sym, subst, refl, ℕ, List, []}
 use Rattle.std.proofs.Common.{◌∷◌, ◌++◌, append_assoc, length, Option, None, Some}
 use Rattle.case_core.specs.Bundle.{icnf_text}
 use Rattle.case_core.specs.Case.{CaseOf}

@@ -1,5 +1,5 @@
 -- A bundle whose iCNF text is known, and of whose proofs is only known which targets have none.
-use Rattle.std.proofs.Common.{◌≡◌, ◌∙◌, ◌⊎◌, ap, sym, subst, refl, inl, inr, arith, ℕ, ◌+◌, List}
+use Rattle.std.proofs.Common.{◌≡◌, ◌∙◌, ◌⊎◌, ap, sym, subst, refl, inl, inr, arith, ℕ, List}
 use Rattle.std.proofs.Common.{[]}
 use Rattle.std.proofs.Common.{◌∷◌, ◌++◌, map, append_assoc, append-nil, true, false, Option, None}
 use Rattle.std.proofs.Common.{Some}
@@ -9,8 +9,8 @@ use Rattle.std.proofs.lemmas.List.Splits.{slice_split-cons_yes, slice_split-cons
 use Rattle.case_core.specs.Tokens.{is_blank, is_comment, is_line_end, line_tokens, token_lines}
 use Rattle.case_core.specs.Tokens.{words}
 use Rattle.case_core.specs.Icnf.{Item, StandsFor, clauses_of, cubes_of}
-use Rattle.case_core.specs.Bundle.{icnf_text, is_label, labelled, labels_of, lines_of, text_before}
-use Rattle.case_core.specs.Bundle.{Labelled, line_onto}
+use Rattle.case_core.specs.Bundle.{icnf_text, is_label, labels_of, lines_of, text_before}
+use Rattle.case_core.specs.Bundle.{Labelled}
 use Rattle.case_core.specs.Case.{CaseOf, SectionOf, part_in, section_in, proof_for, same_target}
 use Rattle.case_core.specs.Target.{Target}
 use Rattle.case_core.specs.Outline.{OutlinedOf, IsOutlinedCase}
@@ -18,75 +18,16 @@ use Rattle.case_core.specs.Sections.{AreLabelled, AreSectionsOf, IsCaseOf}
 use Rattle.case_core.specs.SplitTree.{SplitTree, IsTreeOf, numbered}
 use Rattle.case_core.specs.declared.case.Section.{Section}
 use Rattle.case_core.proofs.BundleMore.{header_end, lines_more}
-use Rattle.case_core.proofs.OutlineLines.{lines_no_ends}
+use Rattle.case_core.proofs.OutlineLines.{empty_line, lines_no_ends}
 use Rattle.cube_report.specs.Mark.{Mark}
 use Rattle.proof_folder.specs.Given.{AreFoundApart, IsJudgedAs}
-use Rattle.proof_folder.proofs.AddedLines.{text_is_lines, with_ends}
+use Rattle.proof_folder.proofs.AddedLines.{with_ends}
 use Rattle.proof_folder.proofs.GivenBelow.{AreNamedBy, judged_below, named_by, placed, texts_below}
 use Rattle.proof_folder.proofs.GivenFound.{all_given}
 use Rattle.proof_folder.proofs.GivenLeaves.{HasCubes, cubes_of_case}
 use Rattle.file_store.specs.Parts.{held_in}
-use Rattle.bundle_files.proofs.FormulaText.{plain_front}
-
--- ---- lines that are no label lines
-
-abbrev ArePlain : List (List ℕ) → Type 0
-ArePlain lines = AllByRecursion (λ line. is_label line ≡ false) lines
-
-plain_labels : (n : ℕ) (lines : List (List ℕ)) → ArePlain lines → labelled n lines ≡ []
-plain_labels n [] plain = refl
-plain_labels n (line ∷ lines) plain = rw plain.0 (plain_labels (n + 1) lines plain.1)
-
-plain_before : (lines : List (List ℕ)) → ArePlain lines → text_before lines ≡ with_ends lines
-plain_before [] plain = refl
-plain_before (line ∷ lines) plain =
-    rw plain.0 (ap (λ (t : List ℕ). line_onto line lines t) (plain_before lines plain.1))
-
-plain_text : (text : List ℕ) → ArePlain (lines_of text) → icnf_text text ≡ text
-plain_text text plain = plain_before (lines_of text) plain ∙ text_is_lines text
-
-plain_more : (lines more : List (List ℕ)) → ArePlain lines → ArePlain more →
-    ArePlain (lines ++ more)
-plain_more [] more plain others = others
-plain_more (line ∷ lines) more plain others = (plain.0, plain_more lines more plain.1 others)
-
-empty_plain : is_label [] ≡ false
-unfolding is_label words is_blank
-empty_plain = refl
-
--- the lines up to the first label line, where there is one
-pub record HasLabelIn (lines : List (List ℕ)) : Type 0 where
-  pub before : List (List ℕ)
-  pub label : List ℕ
-  pub more : List (List ℕ)
-  pub plain : ArePlain before
-  pub is : is_label label ≡ true
-  pub parts : lines ≡ before ++ label ∷ more
-
-plain_or_not : (lines : List (List ℕ)) → ArePlain lines ⊎ HasLabelIn lines
-plain_or_not [] = inl tt
-plain_or_not (line ∷ lines) =
-    elim (cases_Bool (is_label line)) [
-      | inl is ↦ inr (record {
-        before = [];
-        label = line;
-        more = lines;
-        plain = tt;
-        is = is;
-        parts = refl;
-      })
-      | inr other ↦ elim (plain_or_not lines) [
-        | inl plain ↦ inl (other, plain)
-        | inr has ↦ inr (record {
-          before = line ∷ has.before;
-          label = has.label;
-          more = has.more;
-          plain = (other, has.plain);
-          is = has.is;
-          parts = ap (λ (l : List (List ℕ)). line ∷ l) has.parts;
-        })
-      ]
-    ]
+use Rattle.bundle_files.proofs.FormulaPlain.{ArePlain, HasLabelIn, plain_front, plain_icnf}
+use Rattle.bundle_files.proofs.FormulaPlain.{plain_labels, plain_more, plain_or_not}
 
 -- ---- each line is one
 
@@ -143,7 +84,7 @@ bare_case : (text : List ℕ) (items : List Item) (case : CaseOf) → ArePlain (
     → IsTreeOf case.tree (numbered 1 (cubes_of items)) → case.sections ≡ [] → IsCaseOf text case
 bare_case text items case plain stands formula tree bare = record {
   items = items;
-  text = subst (λ (t : List ℕ). StandsFor t items) (sym (plain_text text plain)) stands;
+  text = subst (λ (t : List ℕ). StandsFor t items) (sym (plain_icnf text plain)) stands;
   formula = formula;
   tree = tree;
   sections =
@@ -259,7 +200,7 @@ module _ (n : ℕ) (text : List ℕ) (outlined : OutlinedOf) (marks : List Mark)
       let none : outlined.sections ≡ [] =
       no_sections outlined.case.tree text (labels_of text) outlined.sections
       (plain_labels 1 (lines_of text) plain) is.is.sections.labelled in
-      let whole : icnf_text text ≡ text = plain_text text plain in
+      let whole : icnf_text text ≡ text = plain_icnf text plain in
       let nothing : texts_below given named.0 sections ≡ [] =
       ap (λ (s : List Section). texts_below given named.0 (map (section_in text) s)) none
       ∙ nothing_added given named.0 in
@@ -300,7 +241,7 @@ module _ (n : ℕ) (text : List ℕ) (outlined : OutlinedOf) (marks : List Mark)
     plain_ended : ArePlain (lines_of (with_ends has.before ++ 10 ∷ []))
     plain_ended =
         subst ArePlain (sym (lines_more (with_ends has.before) []))
-        (plain_more (lines_of (with_ends has.before)) ([] ∷ []) plain_head (empty_plain, tt))
+        (plain_more (lines_of (with_ends has.before)) ([] ∷ []) plain_head (empty_line, tt))
 
     labelled_behind : (added : List ℕ) → texts_below given named.0 sections ≡ added
         → IsNoneOrLabel added
@@ -316,7 +257,7 @@ module _ (n : ℕ) (text : List ℕ) (outlined : OutlinedOf) (marks : List Mark)
           is.is.formula is.is.tree is.bare));
       icnf =
           ap icnf_text (append-nil (with_ends has.before ++ 10 ∷ []))
-          ∙ plain_text (with_ends has.before ++ 10 ∷ []) plain_ended;
+          ∙ plain_icnf (with_ends has.before ++ 10 ∷ []) plain_ended;
     }
     labelled_behind added is_added (inr it) =
         let rest : List ℕ = it.line ++ 10 ∷ it.more in

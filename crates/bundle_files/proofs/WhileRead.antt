@@ -129,8 +129,8 @@ other_of (Some said) icnf bundle fault same other = (
   other.3,
 )
 
--- the iCNF text of a bundle that was begun is what it begins with, and what is behind that up to the
--- next label line
+-- the iCNF text of a bundle that was begun is what it begins with, and what is behind that up to
+-- the next label line
 pub front_part : (begin cubes icnf : List ℕ) (before after : Option (List ℕ))
     (text new : LabelledOf) → text ≡ text_below begin → ArePlainLines begin
     → IsPart text new before after cubes → icnf ≡ begin ++ cubes

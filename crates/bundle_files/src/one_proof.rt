@@ -23,9 +23,9 @@ use std::alloc::Global;
 use std::sync::Wait;
 
 /// What a run says of a bundle whose tree is cube 1 alone, with the proof that a source gives below
-/// a label line of that cube, at the cut that the settings say, and with a picture of the tree where
-/// `draws` asks for one; or the first fault of the bundle with the proof. `None` where the tree is
-/// another or the bundle has a section, and then nothing is read.
+/// a label line of that cube, at the cut that the settings say, and with a picture of the tree
+/// where `draws` asks for one; or the first fault of the bundle with the proof. `None` where the
+/// tree is another or the bundle has a section, and then nothing is read.
 ///
 /// The proof, a text or binary, is judged while it is read, by this thread, in blocks of whole
 /// lines; a text is read no further where a block has a label line. The gate is started for one
@@ -69,8 +69,8 @@ where
     Ok(Some(judge_one_cube(rt, bundle, case, source, length, settings, gate, draws)?))
 }
 
-/// The same with the proof in the file at this path. `None` also where no file is there. The file is
-/// opened once.
+/// The same with the proof in the file at this path. `None` also where no file is there. The file
+/// is opened once.
 ///
 /// `Device` where the file is there and can't be read.
 pub fn judge_with_proof<R, D, G>(

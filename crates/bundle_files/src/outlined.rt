@@ -31,8 +31,8 @@ pub struct BundleOutline {
 }
 
 /// The outline of the bundle that `read_from` would read from these files; or `None` where the
-/// bundle has to be read in order. The formula's file is read first, and then the bundle's, once and a
-/// block at a time.
+/// bundle has to be read in order. The formula's file is read first, and then the bundle's, once
+/// and a block at a time.
 ///
 /// A bundle has to be read in order whose file isn't there, or has no length that can be told, as a
 /// pipe. So it has where the formula's file is like that, or no DIMACS text.
@@ -87,8 +87,8 @@ impl BundleOutline {
     }
 }
 
-/// The outline of a bundle that is begun so, and goes on with the file at this path, which has to be
-/// there.
+/// The outline of a bundle that is begun so, and goes on with the file at this path, which has to
+/// be there.
 fn outline_below<D: Store>(
     alloc: Global,
     store: &mut D,
@@ -129,8 +129,8 @@ fn outline_of(alloc: Global, text: Vec<u8>) -> Result<Outline, AllocError>
     }
 }
 
-/// Nothing for a fault of the input, which is told where the bundle is read in order; any other fault is
-/// told.
+/// Nothing for a fault of the input, which is told where the bundle is read in order; any other
+/// fault is told.
 pub fn told_whole<T>(fault: Fault) -> Result<Option<T>, Fault>
     // Nothing comes of a fault of the input, and of no other.
     ensures none { IfOk result (λ some. (some ≡ None) × IsInputFault fault) }

@@ -110,8 +110,8 @@ where
     // The iCNF text is that of a bundle that was begun, with what the source gave.
     requires front { (begun : BegunBundle) × ((given : Option (List ℕ))
         × IsFrontOf begun given (S.remaining source.old) front) }
-    // It is what a run promises on the bundle that goes on with what the source gave, which has that
-    // iCNF text, and as many clauses as is said.
+    // It is what a run promises on the bundle that goes on with what the source gave, which has
+    // that iCNF text, and as many clauses as is said.
     ensures outcome { (begun : BegunBundle) (given : Option (List ℕ))
         → IsFrontOf begun given (S.remaining source.old) front
         → IfOk result (λ outcome. IsRunBehind (IsBundleBelow begun (IsLeft given)) front.icnf.items

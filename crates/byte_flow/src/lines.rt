@@ -86,8 +86,8 @@ impl LineBuffer {
     /// Reads the next block, and answers whether it ends with a line end. One that doesn't is the
     /// last: what stands behind the text's last line end, and maybe nothing.
     ///
-    /// `Device` where a read failed, `Memory` where a growth was refused. Nothing is lost then: there
-    /// is no block, and what was read is begun.
+    /// `Device` where a read failed, `Memory` where a growth was refused. Nothing is lost then:
+    /// there is no block, and what was read is begun.
     pub fn refill<S: Source>(&mut self, source: &mut S) -> Result<bool, DeviceFault>
         // One more failed read can be counted.
         requires { S.failures source.old < 2 ^ 64 - 1 }

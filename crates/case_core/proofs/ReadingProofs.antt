@@ -65,12 +65,13 @@ pub lines_more : (old now new : LabelledOf) (first before after : Option (List �
     → HasNoLabel now.ready
     → ((rest : List ℕ) → says next rest ≡ says j (now.ready ++ rest))
     → longer ≡ size + length now.ready → HasFrontJudged old new first after begun next longer
-lines_more old now new first before after begun j next size longer was gone plain told sum = record {
-  bytes = was.bytes ++ now.ready;
-  front = front_more old now new first before after was.bytes was.front gone plain;
-  judged = judged_both begun j next was.bytes now.ready was.judged told;
-  long = both_long was.bytes now.ready size longer was.long sum;
-}
+lines_more old now new first before after begun j next size longer was gone plain told
+    sum = record {
+      bytes = was.bytes ++ now.ready;
+      front = front_more old now new first before after was.bytes was.front gone plain;
+      judged = judged_both begun j next was.bytes now.ready was.judged told;
+      long = both_long was.bytes now.ready size longer was.long sum;
+    }
 
 pub lines_done : (old now new : LabelledOf) (first before after : Option (List ℕ))
     (begun j next : JudgingOf) (size : ℕ) (read : JudgedText)
@@ -79,14 +80,15 @@ pub lines_done : (old now new : LabelledOf) (first before after : Option (List �
     → ((rest : List ℕ) → says next rest ≡ says j (now.ready ++ rest))
     → read.length ≡ size + length now.ready → read.judged ≡ says next []
     → IsPartJudged old new first after begun read
-lines_done old now new first before after begun j next size read was gone plain told sum is = record {
-  bytes = was.bytes ++ now.ready;
-  part = part_done old now new first before after was.bytes was.front gone plain;
-  judged =
-      is ∙ judged_both begun j next was.bytes now.ready was.judged told []
-      ∙ ap (says begun) (append-nil (was.bytes ++ now.ready));
-  long = both_long was.bytes now.ready size read.length was.long sum;
-}
+lines_done old now new first before after begun j next size read was gone plain told
+    sum is = record {
+      bytes = was.bytes ++ now.ready;
+      part = part_done old now new first before after was.bytes was.front gone plain;
+      judged =
+          is ∙ judged_both begun j next was.bytes now.ready was.judged told []
+          ∙ ap (says begun) (append-nil (was.bytes ++ now.ready));
+      long = both_long was.bytes now.ready size read.length was.long sum;
+    }
 
 -- ---- the bytes of a binary proof
 

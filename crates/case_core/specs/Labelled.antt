@@ -59,9 +59,9 @@ left_of text left = prepend_known (text.ready ++ text.behind) left
 abbrev pub IsOverWith : LabelledOf → Option (List ℕ) → Type 0
 IsOverWith text left = text.is_last ≡ true → IsAtEnd left
 
--- A text went on behind these bytes: the next ones of what was in memory, and of what its source lost
--- meanwhile, which is nothing where no more was to be read. So they are the next ones of all that was
--- left of the text (`left_passed`).
+-- A text went on behind these bytes: the next ones of what was in memory, and of what its source
+-- lost meanwhile, which is nothing where no more was to be read. So they are the next ones of all
+-- that was left of the text (`left_passed`).
 pub record HasPassed (old new : LabelledOf) (before after : Option (List ℕ)) (bytes : List ℕ)
     : Type 0 where
   pub read : List ℕ
@@ -105,8 +105,8 @@ pub record HasFront (old new : LabelledOf) (before after : Option (List ℕ)) (b
   pub plain : labels_of bytes ≡ []
   pub whole : AreWholeLines bytes
 
--- these bytes of a text are all up to its next label line, or up to its end; or they are whole lines
--- of it, more than so many bytes, and the text goes on behind them
+-- these bytes of a text are all up to its next label line, or up to its end; or they are whole
+-- lines of it, more than so many bytes, and the text goes on behind them
 abbrev pub IsFront : LabelledOf → LabelledOf → Option (List ℕ) → Option (List ℕ) → ℕ → List ℕ
     → Bool → Type 0
 IsFront old new before after most bytes is_part =

@@ -23,7 +23,8 @@ pub struct Finding<'c> {
     /// The number of the node at which the target stands.
     pub(crate) node: u32,
     pub(crate) judged: Judged,
-    pub ghost here: { IsTargetAt case.now.tree node (target_of leaf node) } by { IsTargetAt-prop _ _ _ },
+    pub ghost here: { IsTargetAt case.now.tree node
+        (target_of leaf node) } by { IsTargetAt-prop _ _ _ },
     pub ghost only: { (i : ℕ) → IsTargetAt case.now.tree i (target_of leaf node) → i ≡ node },
     pub ghost is: { IsFinding case.now (target_of leaf node) judged },
     pub ghost sound: { IsSoundFinding case.now (target_of leaf node) judged },

@@ -19,8 +19,8 @@ pub struct TakenLines {
     pub is_part: bool,
 }
 
-/// A text that is read once, in blocks of whole lines, and stands at its label lines. A caller hands
-/// the source to each call.
+/// A text that is read once, in blocks of whole lines, and stands at its label lines. A caller
+/// hands the source to each call.
 pub struct LabelledText {
     buffer: LineBuffer,
     /// So many bytes of the block were handed out.
@@ -68,8 +68,8 @@ impl LabelledText {
     ghost use Rattle.case_core.specs.Labelled.{IsFront, IsLabelTaken, IsPart, fresh_text};
     ghost use Rattle.case_core.specs.Labelled.{text_below};
 
-    /// A text below this front, of which nothing was read yet: its lines are counted from the front's
-    /// first one. An error is a refused growth.
+    /// A text below this front, of which nothing was read yet: its lines are counted from the
+    /// front's first one. An error is a refused growth.
     pub fn below(alloc: Global, front: &[u8]) -> Result<LabelledText, AllocError>
         ensures { IfOk result (λ text. text ≡ text_below front.now) }
     {

@@ -146,8 +146,8 @@ fn read_bytes<S: Source>(
     }
 }
 
-/// Judges a part of a text, with which the text of a judging goes on and ends: up to the text's next
-/// label line, or up to its end. There it stands then.
+/// Judges a part of a text, with which the text of a judging goes on and ends: up to the text's
+/// next label line, or up to its end. There it stands then.
 pub(crate) fn read_lines<S: Source>(
     alloc: Global,
     judging: &mut Judging<'_>,

@@ -28,8 +28,8 @@ SaysByText j = (bytes : List ℕ) → says_binary j bytes ≡ says j (text_of by
 abbrev pub IsOpenedText : ProofForm → List ℕ → Type 0
 IsOpenedText opened begun = (more : List ℕ) → proof_left opened (begun ++ more) ≡ begun ++ more
 
--- of a text that was opened in this form: no line is a label line, and it is judged so, or its first
--- label line
+-- of a text that was opened in this form: no line is a label line, and it is judged so, or its
+-- first label line
 abbrev pub IsTextOf : ProofForm → JudgingOf → List ℕ → ReadText → Type 0
 IsTextOf opened begun bytes (Judged read) =
     (labels_of (proof_left opened bytes) ≡ []) × (length bytes ≡ read.length)
