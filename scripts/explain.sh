@@ -102,15 +102,17 @@ run "$here/none" --explain case.icnf
 told "what was read" 1 << TOLD
 case.icnf: clauses: 3; literals: 5; greatest variable: 2
 SHA-256 of formula and cubes: $digest
-case.icnf: cubes: 2; branches without a cube: 0; sections for leaves: 0, for inner nodes: 0
+case.icnf: cubes: 2; branches without a cube: 0
+proofs judged: for leaves: 0, for inner nodes: 0
 TOLD
 with_bundle 'p inccnf\n1 2 0\n1 -2 0\n-1 0\n3 0\n'
 run "$here/run/case.icnf" --explain
 told "a cube without its a" 1 << TOLD
 standard input: clauses: 4; literals: 6; greatest variable: 3
 SHA-256 of formula and cubes: *
-standard input: cubes: 0; branches without a cube: 1; sections for leaves: 0, for inner nodes: 0
+standard input: cubes: 0; branches without a cube: 1
 standard input: a cube begins with "a"; a line without it is a clause
+proofs judged: for leaves: 0, for inner nodes: 0
 TOLD
 with_bundle 'a 3 0\n'
 printf 'c\np cnf 2 2\n1 0\n-1 0\n' > "$here/run/formula.cnf"
@@ -118,7 +120,8 @@ run "$here/none" --explain --formula formula.cnf case.icnf
 told "what was read of two files" 1 << TOLD
 formula.cnf: clauses: 2; literals: 2; greatest variable: 1
 SHA-256 of formula and cubes: *
-case.icnf: cubes: 1; branches without a cube: 1; sections for leaves: 0, for inner nodes: 0
+case.icnf: cubes: 1; branches without a cube: 1
+proofs judged: for leaves: 0, for inner nodes: 0
 TOLD
 
 # Words on the header's line are ignored, which is all of a text whose lines end with CR alone. A CR
@@ -130,8 +133,9 @@ case.icnf: clauses: 0; literals: 0; greatest variable: 0
 case.icnf, line 2: words behind p inccnf, which are ignored: 5
 case.icnf, line 2: the line has CR bytes in it, but only LF ends a line
 SHA-256 of formula and cubes: *
-case.icnf: cubes: 0; branches without a cube: 1; sections for leaves: 0, for inner nodes: 0
+case.icnf: cubes: 0; branches without a cube: 1
 case.icnf: a cube begins with "a"; a line without it is a clause
+proofs judged: for leaves: 0, for inner nodes: 0
 TOLD
 with_bundle 'p inccnf 3 2\r\n1 0\r\n'
 run "$here/none" --explain case.icnf
@@ -139,16 +143,18 @@ told "two words behind the header" 1 << 'TOLD'
 case.icnf: clauses: 1; literals: 1; greatest variable: 1
 case.icnf, line 1: words behind p inccnf, which are ignored: 2
 SHA-256 of formula and cubes: *
-case.icnf: cubes: 0; branches without a cube: 1; sections for leaves: 0, for inner nodes: 0
+case.icnf: cubes: 0; branches without a cube: 1
 case.icnf: a cube begins with "a"; a line without it is a clause
+proofs judged: for leaves: 0, for inner nodes: 0
 TOLD
 with_bundle 'p inccnf\r\n1 0\r\n'
 run "$here/none" --explain case.icnf
 told "lines that end with CR and LF" 1 << 'TOLD'
 case.icnf: clauses: 1; literals: 1; greatest variable: 1
 SHA-256 of formula and cubes: *
-case.icnf: cubes: 0; branches without a cube: 1; sections for leaves: 0, for inner nodes: 0
+case.icnf: cubes: 0; branches without a cube: 1
 case.icnf: a cube begins with "a"; a line without it is a clause
+proofs judged: for leaves: 0, for inner nodes: 0
 TOLD
 
 # A folder: without a file, with files that name no leaf, with links, and one that isn't there. What
@@ -198,8 +204,9 @@ run "$here/none" --explain --proofs proofs case.icnf
 told "a proof in the bundle and a packed one in the folder" 1 << TOLD
 case.icnf: clauses: 3; *
 SHA-256 *
-case.icnf: cubes: 2; branches without a cube: 0; sections for leaves: 1, for inner nodes: 0
+case.icnf: cubes: 2; branches without a cube: 0
 proofs: files that are proofs of leaves: 1
+proofs judged: for leaves: 2, for inner nodes: 0
 proof for 1: step 1 is rejected: case.icnf, line 9: "5 0 1 2 0"
 a clause that a hint names still has two or more literals*; look for *
 proof for 2: step 1 is rejected: proofs/2.lrat, line 1: "\\x1f\\x8b\\x08"
@@ -213,8 +220,9 @@ run "$here/none" --explain --proofs proofs case.icnf
 told "a proof in FRAT" 1 << TOLD
 case.icnf: clauses: 3; *
 SHA-256 *
-case.icnf: cubes: 2; branches without a cube: 0; sections for leaves: 0, for inner nodes: 0
+case.icnf: cubes: 2; branches without a cube: 0
 proofs: files that are proofs of leaves: 1
+proofs judged: for leaves: 1, for inner nodes: 0
 proof for 1: step 1 is rejected: proofs/1.lrat, line 1: "o 1  1 0"
 proofs/1.lrat: it looks like FRAT*(CaDiCaL: --lrat)
 what stands there is no whole step*; look for *
@@ -229,8 +237,9 @@ run "$here/none" --explain --proofs proofs case.icnf
 told "binary proofs in the folder" 1 << 'TOLD'
 case.icnf: clauses: 3; *
 SHA-256 *
-case.icnf: cubes: 2; branches without a cube: 0; sections for leaves: 0, for inner nodes: 0
+case.icnf: cubes: 2; branches without a cube: 0
 proofs: files that are proofs of leaves: 2
+proofs judged: for leaves: 2, for inner nodes: 0
 proof for 1: step 1 is rejected: proofs/1.lrat, binary LRAT: "5 0 1 9 0"
 proofs/1.lrat: CaDiCaL 1.7 doesn't double the ids of binary steps: have it write text (--no-binary)
 *; look for *
@@ -248,7 +257,8 @@ run "$here/none" --explain --formula formula.cnf cubes
 told "a section below a formula" 1 << 'TOLD'
 formula.cnf: clauses: 2; literals: 2; greatest variable: 1
 SHA-256 of formula and cubes: *
-cubes: cubes: 2; branches without a cube: 0; sections for leaves: 1, for inner nodes: 0
+cubes: cubes: 2; branches without a cube: 0
+proofs judged: for leaves: 1, for inner nodes: 0
 proof for 2: step 2 is rejected: cubes, line 7: "5 0 9 0"
 a hint names a clause that isn't live; look for *
 TOLD
@@ -259,6 +269,83 @@ awk '/^s OPEN$/ { report = NR }
     /^explain: proof for 2/ { proof = NR }
     END { exit !(report && report < proof) }' "$here/out"
 count "the report before its rejections" $?
+
+# Sections behind a long one, in another order than that of the report, and one for an inner node.
+with_bundle "$tree"
+{
+    echo 'l 2'
+    awk 'BEGIN { for (i = 0; i < 20000; i++) print "c a line that is no step" }'
+    printf '5 0 9 0\nl n 0\nc\n\n5 0 1\n0\nl 1\n5 0 1 2 3 0\n'
+} >> "$here/run/case.icnf"
+run "$here/none" --explain case.icnf
+told "sections behind a long one" 1 << 'TOLD'
+case.icnf: clauses: 3; *
+SHA-256 *
+case.icnf: cubes: 2; branches without a cube: 0
+proofs judged: for leaves: 2, for inner nodes: 1
+proof for 1: step 1 is rejected: case.icnf, line 20015: "5 0 1 2 3 0"
+*; look for *
+proof for 2: step 1 is rejected: case.icnf, line 20008: "5 0 9 0"
+a hint names a clause that isn't live; look for *
+proof for n 0: step 1 is rejected: case.icnf, line 20012: "5 0 1"
+*; look for *
+TOLD
+
+# A section of 30 MB that is rejected at its end: neither the run nor what is told of it holds it.
+measured_program
+with_bundle "$tree"
+{
+    echo 'l 1'
+    awk 'BEGIN { for (i = 0; i < 1500000; i++) print "6 1 0 1 2 0\n6 d 6 0" }'
+    echo '5 0 9 0'
+} >> "$here/run/case.icnf"
+echo none > "$here/peak"
+program=$here/measured
+run "$here/none" --explain case.icnf
+program=$built
+told "a section of 30 MB" 1 << 'TOLD'
+case.icnf: clauses: 3; *
+SHA-256 *
+case.icnf: cubes: 2; branches without a cube: 0
+proofs judged: for leaves: 1, for inner nodes: 0
+proof for 1: step 3000001 is rejected: case.icnf, line 3000008: "5 0 9 0"
+a hint names a clause that isn't live; look for *
+TOLD
+[ "$(cat "$here/peak")" -le 20 ] 2> /dev/null
+count "a section of 30 MB: at most 20 MB in memory, and not $(cat "$here/peak")" $?
+
+# One proof of the formula: of a text its line, of a binary proof its step, and of the input neither.
+make formula.cnf 'c\np cnf 2 2\n1 2 0\n-1 0\n'
+make proof.lrat 'c\n\n3 0 9 0\n'
+run "$here/none" --explain --formula formula.cnf --proof proof.lrat
+told "one proof of the formula" 1 << 'TOLD'
+formula.cnf: clauses: 2; *
+SHA-256 *
+proof.lrat: cubes: 1; branches without a cube: 0
+proofs judged: for leaves: 1, for inner nodes: 0
+proof for 1: step 1 is rejected: proof.lrat, line 3: "3 0 9 0"
+a hint names a clause that isn't live; look for *
+TOLD
+printf 'a\006\0\022\0' > "$here/run/proof.lrat"
+run "$here/none" --explain --formula formula.cnf --proof proof.lrat
+told "one binary proof of the formula" 1 << 'TOLD'
+formula.cnf: clauses: 2; *
+SHA-256 *
+proof.lrat: cubes: 1; branches without a cube: 0
+proofs judged: for leaves: 1, for inner nodes: 0
+proof for 1: step 1 is rejected: proof.lrat, binary LRAT: "3 0 9 0"
+proof.lrat: CaDiCaL 1.7 doesn't double the ids of binary steps: have it write text (--no-binary)
+a hint names a clause that isn't live; look for *
+TOLD
+run "$here/run/proof.lrat" --explain --formula formula.cnf --proof -
+told "one proof of the input" 1 << 'TOLD'
+formula.cnf: clauses: 2; *
+SHA-256 *
+standard input: cubes: 1; branches without a cube: 0
+proofs judged: for leaves: 1, for inner nodes: 0
+proof for 1: step 1 is rejected: standard input: can't be read again
+a hint names a clause that isn't live; look for *
+TOLD
 
 # Where a fault comes from: a proof's first bytes, and the claim, the lines and the bundle.
 from() {
@@ -301,6 +388,9 @@ with_bundle 'a 3 0\n1 0\n'
 printf 'p cnf 2 1\n1 2 0\n' > "$here/run/formula.cnf"
 run "$here/none" --explain --formula formula.cnf case.icnf
 from "a clause beside the formula's" << 'TOLD'
+formula.cnf: clauses: 2; *
+SHA-256 *
+case.icnf: cubes: 1; *
 formula.cnf, line 1: "p cnf 2 1"
 case.icnf, line 2: "1 0"
 this is a clause; a cube begins with "a"
@@ -364,15 +454,27 @@ the second is the beginning of the first
 each cube has to have its literals in the order of its splits
 TOLD
 below "a bad label" 'c\na 1 0\nl x\n' << 'TOLD'
+formula.cnf: clauses: 2; *
+SHA-256 *
+cubes: cubes: 1; *
 cubes, line 3: "l x"
 TOLD
 below "a label of no leaf" 'a 1 0\na -1 0\nl 3\n' << 'TOLD'
+formula.cnf: clauses: 2; *
+SHA-256 *
+cubes: cubes: 2; *
 cubes, line 3: "l 3"
 TOLD
 below "a second label" 'a 1 0\na -1 0\nl 1\nl 1\n' << 'TOLD'
+formula.cnf: clauses: 2; *
+SHA-256 *
+cubes: cubes: 2; *
 cubes, line 4: "l 1"
 TOLD
 below "a clause behind a cube of two lines" 'c\na 1\n2 0\n1 0\n' << 'TOLD'
+formula.cnf: clauses: 3; *
+SHA-256 *
+cubes: cubes: 1; *
 formula.cnf, line 2: "p cnf 2 2"
 cubes, line 4: "1 0"
 this is a clause; a cube begins with "a"
@@ -425,6 +527,7 @@ case.icnf: clauses: 3; *
 SHA-256 *
 case.icnf: cubes: 2; *
 proofs: files that are proofs of leaves: 1
+proofs judged: for leaves: 1, for inner nodes: 0
 proof for 1: step 1 is rejected: proofs/1.lrat: can't be read again
 a hint names a clause that isn't live; look for *
 TOLD
@@ -444,8 +547,25 @@ told "a rejected proof in a bundle in a pipe" 1 << 'TOLD'
 bundle: clauses: 3; *
 SHA-256 *
 bundle: cubes: 2; *
-proof for 1: step 1 is rejected: bundle, line 8: "5 0 9 0"
+proofs judged: for leaves: 1, for inner nodes: 0
+proof for 1: step 1 is rejected: bundle: can't be read again
 a hint names a clause that isn't live; look for *
+TOLD
+with_bundle ''
+once "a label of no leaf in a pipe" bundle "$tree"'l 1\nc\nl 3\n' bundle
+told "a label of no leaf in a bundle in a pipe" 3 << 'TOLD'
+bundle: clauses: 3; *
+SHA-256 *
+bundle: cubes: 2; *
+bundle, line 9: can't be read again
+TOLD
+with_bundle "$tree"'l 2\nl x\n'
+run "$here/run/case.icnf" --explain
+told "a bad label of the input" 3 << 'TOLD'
+standard input: clauses: 3; *
+SHA-256 *
+standard input: cubes: 2; *
+standard input, line 8: can't be read again
 TOLD
 with_bundle ''
 make cubes 'a 1 0\n'
@@ -480,8 +600,13 @@ with_bundle ''
 make formula "$dimacs"
 run "$here/in" --explain --formula formula
 told "a clause of the input below a formula" 3 << 'TOLD'
+formula: clauses: 3; *
+SHA-256 *
+standard input: cubes: 0; *
+standard input: a cube begins with "a"; a line without it is a clause
 formula, line 2: "p cnf 2 2"
-standard input: can't be read again
+standard input, line 1: "1 0"
+this is a clause; a cube begins with "a"
 TOLD
 : > "$here/in"
 with_bundle "$tree"

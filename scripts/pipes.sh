@@ -583,17 +583,8 @@ if preload device "the reads that are short or fail"; then
 fi
 
 # Memory. Refused are programs that hold the proof, its text if it is binary, its lines, or something
-# for each step or each id. The program's peak, in MB, stands in $here/peak.
-cat > "$here/measured" << MEASURED
-#!/bin/sh
-exec python3 -c '
-import resource, subprocess, sys
-status = subprocess.run(sys.argv[2:]).returncode
-with open(sys.argv[1], "w") as file:
-    print(resource.getrusage(resource.RUSAGE_CHILDREN).ru_maxrss * 1024 // 10**6, file=file)
-sys.exit(status)' "$here/peak" "$built" "\$@"
-MEASURED
-chmod 755 "$here/measured"
+# for each step or each id.
+measured_program
 # A proof of 100 MB and more: what it is, by_pipe or by_fifo, and further words.
 large() {
     what=$1

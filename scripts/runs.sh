@@ -92,6 +92,20 @@ launch() {
     fi
 }
 
+# Makes $here/measured, the built program whose peak of memory, in MB, stands in $here/peak behind it.
+measured_program() {
+    cat > "$here/measured" << MEASURED
+#!/bin/sh
+exec python3 -c '
+import resource, subprocess, sys
+status = subprocess.run(sys.argv[2:]).returncode
+with open(sys.argv[1], "w") as file:
+    print(resource.getrusage(resource.RUSAGE_CHILDREN).ru_maxrss * 1024 // 10**6, file=file)
+sys.exit(status)' "$here/peak" "$built" "\$@"
+MEASURED
+    chmod 755 "$here/measured"
+}
+
 # Runs a command in $here/run, for a minute at most: the input, then the command. The input is a file; if `$feed` is set, it comes by a pipe, from the command
 # that this names.
 note() {

@@ -1,6 +1,7 @@
 -- What a run says of the bundle that is asked for.
 use Rattle.std.proofs.Common.{◌≡◌, ◌∙◌, ◌++◌, sym, refl, subst, ℕ, Bool}
-use Rattle.std.proofs.Common.{List, Option, None, Some, Result, Ok, Err, IfErr, IfOk, true, inl, inr}
+use Rattle.std.proofs.Common.{List, Option, None, Some, Result, Ok, Err, IfErr, IfOk, true}
+use Rattle.std.proofs.Common.{inl, inr}
 use Rattle.std.specs.Prelude.{IfSome, is_some}
 use Rattle.bundle_files.specs.Outline.{IsOutlineOf}
 use Rattle.bundle_files.specs.Files.{Held, IsJudgedOf, IsTextAt, lies_in}

@@ -1,23 +1,42 @@
 //! What is told beside a run where that is asked for.
 
 use crate::one_proof::file_at;
+use case_core::line_ends;
 use command_words::Request;
-use cube_report::{Asked, Explain, Fault};
+use cube_report::{Asked, Explain, Fault, Kept, icnf_part};
 use std::alloc::{AllocError, Global};
 
-/// Who tells of a run, what the run was asked for, and whether it is to be told of.
-#[derive(Clone, Copy)]
+/// Who tells of a run, where that is asked for: what the run was asked for, and what is kept of the
+/// bundle to tell of it.
 pub(crate) struct Telling<'a, X> {
-    pub(crate) explain: &'a X,
-    pub(crate) asked: Asked<'a>,
-    pub(crate) is_asked: bool,
+    explain: &'a X,
+    asked: Asked<'a>,
+    is_asked: bool,
+    /// The iCNF text of the bundle that was read, where there was memory for it.
+    icnf: Vec<u8>,
+    /// How many of the bundle's lines stand above the proofs that a folder adds.
+    lines: u64,
+}
+
+// As a derive does, but proved here alone and not in the body of each owner.
+impl<'a, X> Drop for Telling<'a, X> {
+    fn drop(self) {
+        let Telling {
+            explain: _,
+            asked: _,
+            is_asked: _,
+            icnf: _,
+            lines: _,
+        } = self;
+    }
 }
 
 /// The files that a request asks for.
-pub(crate) fn asked_in<'a>(request: &Request<'a>) -> Asked<'a> {
+fn asked_in<'a>(request: &Request<'a>) -> Asked<'a> {
     Asked {
         formula: request.formula,
         file: file_of(request),
+        is_one_proof: request.proof.is_some(),
         proofs: request.proofs,
         map: request.map,
         out: request.out,
@@ -41,34 +60,77 @@ pub(crate) fn fault_in(run: &Result<bool, Fault>) -> Option<Fault> {
     }
 }
 
-impl<'a, X: Explain> Telling<'a, X> {
-    /// Tells what was read, and keeps it.
-    pub(crate) fn tell_read(
-        &self,
-        alloc: Global,
-        read: &[u8],
-        kept: &mut Vec<u8>,
-    ) -> Result<(), AllocError> {
-        if self.is_asked {
-            kept.extend_from_slice(read)?;
-            self.explain.tell_read(alloc, &self.asked, kept);
+impl<'a, X> Telling<'a, X> {
+    /// Who tells of what this request asks for, where it asks for that too.
+    pub(crate) fn new(alloc: Global, explain: &'a X, request: &Request<'a>) -> Telling<'a, X> {
+        Telling {
+            explain,
+            asked: asked_in(request),
+            is_asked: request.explain,
+            icnf: Vec::new(alloc),
+            lines: 0,
         }
-        Ok(())
+    }
+
+    /// Keeps this text and its end, or nothing where there is no memory for it.
+    fn keep(&mut self, front: &[u8], end: &[u8]) {
+        self.icnf.clear();
+        if append_both(&mut self.icnf, front, end).is_err() {
+            self.icnf.clear();
+        }
+    }
+}
+
+/// Appends two texts.
+fn append_both(text: &mut Vec<u8>, front: &[u8], end: &[u8]) -> Result<(), AllocError> {
+    text.extend_from_slice(front)?;
+    text.extend_from_slice(end)?;
+    Ok(())
+}
+
+impl<'a, X: Explain> Telling<'a, X> {
+    /// Tells what was read, and keeps it: an iCNF text in two parts, of which the second may be
+    /// empty. What is read again is kept anew, and not told again.
+    pub(crate) fn tell_read(&mut self, alloc: Global, front: &[u8], end: &[u8]) {
+        if self.is_asked {
+            let is_first = self.icnf.is_empty();
+            self.keep(front, end);
+            if is_first {
+                self.explain.tell_read(alloc, &self.asked, &self.icnf);
+            }
+        }
+    }
+
+    /// The same of a bundle that was read whole, to which a folder may add proofs.
+    pub(crate) fn tell_bundle(&mut self, alloc: Global, bundle: &[u8]) {
+        if self.is_asked {
+            self.lines = line_count(bundle);
+            self.tell_read(alloc, icnf_part(bundle), b"");
+        }
     }
 
     /// Tells of the report on what was read.
-    pub(crate) fn tell_report(&self, alloc: Global, kept: &[u8], report: &[u8]) {
+    pub(crate) fn tell_report(&self, alloc: Global, report: &[u8]) {
         if self.is_asked {
-            self.explain.tell_report(alloc, &self.asked, kept, report);
+            self.explain.tell_report(alloc, &self.asked, report);
         }
     }
 
     /// Tells of a run that ended with a fault, where it did.
-    pub(crate) fn tell_fault(&self, alloc: Global, kept: &[u8], fault: Option<Fault>) {
+    pub(crate) fn tell_fault(&self, alloc: Global, fault: Option<Fault>) {
         if let Some(fault) = fault {
             if self.is_asked {
+                let kept = Kept {
+                    icnf: &self.icnf,
+                    lines: self.lines,
+                };
                 self.explain.tell_fault(alloc, &self.asked, kept, fault);
             }
         }
     }
+}
+
+/// How many lines a text has.
+fn line_count(text: &[u8]) -> u64 {
+    (line_ends(text) as u64).saturating_add(1)
 }

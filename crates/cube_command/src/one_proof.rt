@@ -17,6 +17,7 @@ ghost use Rattle.cube_command.specs.Record.{digest_line};
 ghost use Rattle.cube_command.specs.Sources.{IsProofAt, IsSoBy, file_at};
 ghost use Rattle.cube_command.specs.Inner.Recorded.{IsRecordedFrom, IsRecordedWith};
 
+use crate::asked::Telling;
 use crate::program::Recorded;
 use crate::record::{begin_record, end_record};
 use bundle_files::{
@@ -24,7 +25,7 @@ use bundle_files::{
 };
 use case_core::{Case, turn_from};
 use command_words::Request;
-use cube_report::{DeviceFault, Fault, Gate, Outcome, Source, icnf_part};
+use cube_report::{DeviceFault, Explain, Fault, Gate, Outcome, Source, icnf_part};
 use std::alloc::{AllocError, Global};
 use std::io;
 use std::io::Read;
@@ -121,21 +122,23 @@ pub(crate) fn file_at(path: &str) -> Option<&str>
 /// What is said of the request's one proof, and the record of it where a file for that is asked
 /// for. The proof, which is that in the file at this path, or the input's where the path is `-`, is
 /// judged while it is read. `None` where its text has to be read first: there is something else to
-/// judge or to tell, or the formula's file has a fault, or no file is at the path. Then nothing was
-/// read of the input.
-pub(crate) fn judge_proof<R, D, I, G>(
+/// judge, or the formula's file has a fault, or no file is at the path. Then nothing was read of
+/// the input.
+pub(crate) fn judge_proof<R, D, I, G, X>(
     rt: &R,
     store: &mut D,
     request: &Request<'_>,
     path: &str,
     input: &mut I,
     gate: &G,
+    telling: &mut Telling<'_, X>,
 ) -> Result<Option<Recorded>, Fault>
 where
     R: AllocGlobal + Wait,
     D: Store,
     I: Source,
     G: Gate,
+    X: Explain,
     requires store { D.failures store.old < 2 ^ 64 - 1 }
     requires input { I.failures input.old < 2 ^ 64 - 1 }
     ensures held { D.held store.new ≡ D.held store.old }
@@ -160,21 +163,21 @@ where
     }
     let mut cube = Given::new(b"a 0");
     match read_from(rt.alloc(), store, &mut cube, request.formula, None, true) {
-        Ok(read) => judge_below(rt, store, read, path, input, request, gate),
+        Ok(read) => judge_below(rt, store, read, path, input, request, gate, telling),
         Err(fault) => told_whole(fault),
     }
 }
 
-/// Whether there is nothing else to judge, and nothing is told for which the text is kept.
+/// Whether there is nothing else to judge.
 fn is_alone(request: &Request<'_>) -> bool
     ensures { OnTrue result (((asked_in request.now).file ≡ None)
         × ((asked_in request.now).folder ≡ None)) }
 {
-    !request.explain && request.file.is_none() && request.proofs.is_none()
+    request.file.is_none() && request.proofs.is_none()
 }
 
 /// The same below the formula and the cube without a literal, which were read.
-fn judge_below<R, D, I, G>(
+fn judge_below<R, D, I, G, X>(
     rt: &R,
     store: &mut D,
     read: ReadBundle,
@@ -182,12 +185,14 @@ fn judge_below<R, D, I, G>(
     input: &mut I,
     request: &Request<'_>,
     gate: &G,
+    telling: &mut Telling<'_, X>,
 ) -> Result<Option<Recorded>, Fault>
 where
     R: AllocGlobal + Wait,
     D: Store,
     I: Source,
     G: Gate,
+    X: Explain,
     requires store { D.failures store.old < 2 ^ 64 - 1 }
     requires input { I.failures input.old < 2 ^ 64 - 1 }
     requires case { IfSome read.case (IsCaseOf read.bundle.items) }
@@ -212,6 +217,7 @@ where
     let Some(case) = case else {
         return Ok(None);
     };
+    telling.tell_read(rt.alloc(), &bundle, b"\n");
     let Some(outcome) = outcome_below(rt, store, &bundle, &case, path, input, request, gate)? else {
         return Ok(None);
     };

@@ -24,12 +24,12 @@ ghost use Rattle.cube_command.specs.Program.{AllowsReportsFor, IsRefusedFrom};
 ghost use Rattle.cube_command.specs.Inner.Recorded.{IsRecordedFor, IsRecordedFrom, IsRunRecorded};
 ghost use Rattle.command_words.specs.Request.{asked_in};
 
-use crate::asked::{Telling, asked_in, fault_in, file_of};
+use crate::asked::{Telling, fault_in, file_of};
 use crate::one_proof::{Given, judge_proof, text_of_one};
 use crate::open::{names_asked, shown};
 use crate::record::{begin_record, end_record};
 use crate::telling::{tell_refused, tell_run};
-use crate::while_read::judge_alone;
+use crate::while_read::{is_without_folder, judge_alone};
 use bundle_files::{
     BundleOutline, Inputs, ReadBundle, Spared, Store, judge_by_section, judge_given,
     outline_bundle, read_from,
@@ -47,17 +47,17 @@ use std::thread::Threads;
 /// OUT] [--log LOG] [FILE]`. It reads a bundle from FILE, or from `input` where there is none, and
 /// writes the report to `output` or, where there is no report, one line to `errors`. Files are
 /// found by `store`. Both writers have to write at once, without a buffer of their own. A bundle of
-/// `input`, or of a FILE that can't be read at places, as a pipe, is judged while it is read, unless
-/// `--proofs` or `--explain` is there.
+/// `input`, or of a FILE that can't be read at places, as a pipe, is judged while it is read,
+/// unless `--proofs` is there.
 ///
 /// With `--formula CNF` the clauses come from that file, a DIMACS text, and FILE adds cubes and
 /// sections, and no clause: the bundle is that text with its problem line overwritten by `p inccnf`
 /// and blanks, a line end, and FILE's text.
 ///
 /// With `--proof LRAT` and without FILE there is one proof of CNF's whole formula, a text or
-/// binary: that file, or `input` where LRAT is `-`. It is judged as the only section of the text
-/// `a 0`, `l 1` and the proof, in the place of FILE's. It is judged while it is read, unless
-/// `explain` may tell of it, or CNF has a fault.
+/// binary: that file, or `input` where LRAT is `-`. It is judged as the only section of the text `a
+/// 0`, `l 1` and the proof, in the place of FILE's. It is judged while it is read, unless CNF has a
+/// fault.
 ///
 /// With `--proofs DIR` the proofs of that folder are added to the bundle: for each cube K and after
 /// that for each missing leaf J, in order, the file `DIR/K.lrat` or `DIR/mJ.lrat`, where it is
@@ -67,13 +67,14 @@ use std::thread::Threads;
 /// `gate` is called beside each section, and with `--progress` also `watch`, from the first read
 /// on, which may tell a person how far the run is, on a device that it is lent: what it does there
 /// is not `errors`. With `--explain` so may `explain` tell what was read, and where rejections and
-/// a fault come from; then the text that was read is kept twice. With `--map SVG` a picture of the
-/// tree is written to that file, made anew, before the report; with `--record OUT` then a record to
-/// that one: the line `i ` with the SHA-256 of the iCNF text of the bundle that was read, and the
-/// report. With `--log LOG` that file is made anew by `log` before anything is read, and gets the
-/// report's line of each proof when it is judged; a run that is made anew, with all proofs read
-/// beforehand, logs them once more. What `log` does is not `store`'s. No two of the three can be
-/// one file, nor one that is read: CNF, FILE, LRAT or `DIR/NAME.lrat`, as their paths are written.
+/// a fault come from; for that the iCNF text of the bundle is kept. With `--map SVG` a picture of
+/// the tree is written to that file, made anew, before the report; with `--record OUT` then a
+/// record to that one: the line `i ` with the SHA-256 of the iCNF text of the bundle that was read,
+/// and the report. With `--log LOG` that file is made anew by `log` before anything is read, and
+/// gets the report's line of each proof when it is judged; a run that is made anew, with all proofs
+/// read beforehand, logs them once more. What `log` does is not `store`'s. No two of the three can
+/// be one file, nor one that is read: CNF, FILE, LRAT or `DIR/NAME.lrat`, as their paths are
+/// written.
 ///
 /// With `--list-open` `output` gets, in the report's place and in its order, the leaves that it
 /// doesn't call refuted: a line K for cube K, mJ for missing leaf J. The record has the report.
@@ -212,27 +213,13 @@ where
                 is_asked: request.progress,
                 log,
             };
-            let mut bundle = Vec::new(rt.alloc());
-            let telling = Telling {
-                explain,
-                asked: asked_in(&request),
-                is_asked: request.explain,
-            };
+            let mut telling = Telling::new(rt.alloc(), explain, &request);
             beside.begins_to_read();
-            let run = run_request(
-                rt,
-                store,
-                &request,
-                input,
-                output,
-                &beside,
-                &telling,
-                &mut bundle,
-            );
+            let run = run_request(rt, store, &request, input, output, &beside, &mut telling);
             beside.is_over();
             let fault = fault_in(&run);
             let status = tell_run(rt.alloc(), errors, run);
-            telling.tell_fault(rt.alloc(), &bundle, fault);
+            telling.tell_fault(rt.alloc(), fault);
             status
         }
         Err(error) => tell_refused(rt.alloc(), errors, &error, b"cubeboard: F6 memory\n"),
@@ -240,7 +227,7 @@ where
 }
 
 /// What the request asks for: whether the report that was written says refuted, or why there is
-/// none. What is told of the run is told of the bundle that was read, which is kept for that.
+/// none.
 fn run_request<R, D, I, O, G, W, X, L>(
     rt: &R,
     store: &mut D,
@@ -248,8 +235,7 @@ fn run_request<R, D, I, O, G, W, X, L>(
     input: &mut I,
     output: &mut O,
     beside: &Beside<'_, G, W, L>,
-    telling: &Telling<'_, X>,
-    bundle: &mut Vec<u8>,
+    telling: &mut Telling<'_, X>,
 ) -> Result<bool, Fault>
 where
     R: AllocGlobal + Threads + Wait + Sync,
@@ -304,9 +290,7 @@ where
     )?;
     let lines = beside.begins_log(request.log, &spared)?;
     let gates = beside.with_lines(lines.as_ref());
-    run_sparing(
-        rt, store, request, input, output, &gates, telling, bundle, &spared,
-    )
+    run_sparing(rt, store, request, input, output, &gates, telling, &spared)
 }
 
 /// The same where the log was begun, if one is asked for, writing over no file that is to be
@@ -318,8 +302,7 @@ fn run_sparing<R, D, I, O, G, X>(
     input: &mut I,
     output: &mut O,
     gate: &G,
-    telling: &Telling<'_, X>,
-    bundle: &mut Vec<u8>,
+    telling: &mut Telling<'_, X>,
     spared: &Spared,
 ) -> Result<bool, Fault>
 where
@@ -364,11 +347,11 @@ where
         D.failures store.old + I.failures input.old + O.failures output.old
         < D.failures store.new + I.failures input.new + O.failures output.new }
 {
-    let made = judge_request(rt, store, request, input, gate, telling, bundle)?;
+    let made = judge_request(rt, store, request, input, gate, telling)?;
     let names = names_asked(rt.alloc(), request.list_open, &made.outcome.text)?;
     let given = shown(request.list_open, &made.outcome.text, &names);
     write_outcome(store, output, request, &made, given, spared)?;
-    telling.tell_report(rt.alloc(), bundle, &made.outcome.text);
+    telling.tell_report(rt.alloc(), &made.outcome.text);
     Ok(made.outcome.refuted)
 }
 
@@ -396,8 +379,7 @@ fn judge_request<R, D, I, G, X>(
     request: &Request<'_>,
     input: &mut I,
     gate: &G,
-    telling: &Telling<'_, X>,
-    bundle: &mut Vec<u8>,
+    telling: &mut Telling<'_, X>,
 ) -> Result<Recorded, Fault>
 where
     R: AllocGlobal + Threads + Wait + Sync,
@@ -422,8 +404,8 @@ where
         (D.failures store.new + I.failures input.new)) }
 {
     match request.proof {
-        Some(path) => judge_one(rt, store, request, path, input, gate, telling, bundle),
-        None => judge_cubes(rt, store, request, input, gate, telling, bundle),
+        Some(path) => judge_one(rt, store, request, path, input, gate, telling),
+        None => judge_cubes(rt, store, request, input, gate, telling),
     }
 }
 
@@ -435,8 +417,7 @@ fn judge_one<R, D, I, G, X>(
     path: &str,
     input: &mut I,
     gate: &G,
-    telling: &Telling<'_, X>,
-    bundle: &mut Vec<u8>,
+    telling: &mut Telling<'_, X>,
 ) -> Result<Recorded, Fault>
 where
     R: AllocGlobal + Threads + Wait + Sync,
@@ -462,33 +443,24 @@ where
     ensures err { IfErr result (IsJudgingFault (D.failures store.old + I.failures input.old)
         (D.failures store.new + I.failures input.new)) }
 {
-    if let Some(made) = judge_proof(rt, store, request, path, input, gate)? {
+    if let Some(made) = judge_proof(rt, store, request, path, input, gate, telling)? {
         return Ok(made);
     }
     let text = text_of_one(rt.alloc(), store, input, path)?;
-    judge_cubes(
-        rt,
-        store,
-        request,
-        &mut Given::new(&text),
-        gate,
-        telling,
-        bundle,
-    )
+    judge_cubes(rt, store, request, &mut Given::new(&text), gate, telling)
 }
 
-/// The same with cubes and their proofs. Where the bundle is a file's, no folder adds proofs to it
-/// and nothing is told of it, its proofs are read one by one from their places. Where that can't be,
-/// or the bundle is the input's, it is judged while it is read. It is read whole first only where a
-/// folder's proofs go with it, or something is told of it.
+/// The same with cubes and their proofs. Where the bundle is a file's, and no folder adds proofs to
+/// it, its proofs are read one by one from their places. Where that can't be, or the bundle is the
+/// input's, it is judged while it is read. It is read whole first only where a folder's proofs go
+/// with it.
 fn judge_cubes<R, D, I, G, X>(
     rt: &R,
     store: &mut D,
     request: &Request<'_>,
     input: &mut I,
     gate: &G,
-    telling: &Telling<'_, X>,
-    bundle: &mut Vec<u8>,
+    telling: &mut Telling<'_, X>,
 ) -> Result<Recorded, Fault>
 where
     R: AllocGlobal + Threads + Wait + Sync,
@@ -512,27 +484,29 @@ where
     ensures err { IfErr result (IsJudgingFault (D.failures store.old + I.failures input.old)
         (D.failures store.new + I.failures input.new)) }
 {
-    if let Some(made) = judge_file(rt, store, request, gate)? {
+    if let Some(made) = judge_file(rt, store, request, gate, telling)? {
         return Ok(made);
     }
-    if let Some(made) = judge_alone(rt, store, request, input, gate)? {
+    if let Some(made) = judge_alone(rt, store, request, input, gate, telling)? {
         return Ok(made);
     }
-    judge_read(rt, store, request, input, gate, telling, bundle)
+    judge_read(rt, store, request, input, gate, telling)
 }
 
 /// What is said of the bundle of a file whose proofs are read one by one; `None` where it has to be
 /// read in order.
-fn judge_file<R, D, G>(
+fn judge_file<R, D, G, X>(
     rt: &R,
     store: &mut D,
     request: &Request<'_>,
     gate: &G,
+    telling: &mut Telling<'_, X>,
 ) -> Result<Option<Recorded>, Fault>
 where
     R: AllocGlobal + Threads + Wait + Sync,
     D: Store,
     G: Gate + Sync,
+    X: Explain,
     requires count { D.failures store.old < 2 ^ 64 - 1 }
     ensures held { D.held store.new ≡ D.held store.old }
     ensures allowed { StaysAllowed (D.allows store.old) (D.allows store.new) }
@@ -549,24 +523,26 @@ where
         return Ok(None);
     };
     match outline_bundle(rt.alloc(), store, request.formula, path)? {
-        Some(outlined) => judge_outlined(rt, store, outlined, path, request, gate),
+        Some(outlined) => judge_outlined(rt, store, outlined, path, request, gate, telling),
         None => Ok(None),
     }
 }
 
 /// The same of the bundle's outline: the record begins with what that has.
-fn judge_outlined<R, D, G>(
+fn judge_outlined<R, D, G, X>(
     rt: &R,
     store: &mut D,
     outlined: BundleOutline,
     path: &str,
     request: &Request<'_>,
     gate: &G,
+    telling: &mut Telling<'_, X>,
 ) -> Result<Option<Recorded>, Fault>
 where
     R: AllocGlobal + Threads + Wait + Sync,
     D: Store,
     G: Gate + Sync,
+    X: Explain,
     requires { D.failures store.old < 2 ^ 64 - 1 }
     ensures held { D.held store.new ≡ D.held store.old }
     ensures allowed { StaysAllowed (D.allows store.old) (D.allows store.new) }
@@ -586,7 +562,9 @@ where
     ensures ok { OnOk result (D.failures store.new ≡ D.failures store.old) }
     ensures err { IfErr result (IsJudgingFault (D.failures store.old) (D.failures store.new)) }
 {
-    let mut bytes = begin_record(rt.alloc(), request.out, outlined.icnf())?;
+    let icnf = outlined.icnf();
+    telling.tell_read(rt.alloc(), icnf, b"");
+    let mut bytes = begin_record(rt.alloc(), request.out, icnf)?;
     let draws = request.map.is_some();
     match judge_by_section(rt, store, outlined, path, request.settings, gate, draws)? {
         Some(outcome) => {
@@ -597,15 +575,17 @@ where
     }
 }
 
-/// The file with the bundle, where no folder adds proofs to it, and nothing is told for which the
-/// text of the bundle is kept.
+/// The file with the bundle, where no folder adds proofs to it.
 fn file_alone<'a>(request: &Request<'a>) -> Option<&'a str>
     ensures { IfSome result (λ path.
         ((asked_in request.now).file ≡ Some path.now)
         × ((asked_in request.now).folder ≡ None)) }
 {
-    let is_alone = request.proofs.is_none() && !request.explain;
-    if is_alone { request.file } else { None }
+    if is_without_folder(request) {
+        request.file
+    } else {
+        None
+    }
 }
 
 /// What is said of the request's bundle, all of which is read first.
@@ -615,8 +595,7 @@ fn judge_read<R, D, I, G, X>(
     request: &Request<'_>,
     input: &mut I,
     gate: &G,
-    telling: &Telling<'_, X>,
-    bundle: &mut Vec<u8>,
+    telling: &mut Telling<'_, X>,
 ) -> Result<Recorded, Fault>
 where
     R: AllocGlobal + Threads + Wait + Sync,
@@ -649,7 +628,7 @@ where
         request.file,
         wants_case,
     )?;
-    telling.tell_read(rt.alloc(), &read.bundle, bundle)?;
+    telling.tell_bundle(rt.alloc(), &read.bundle);
     judge_recorded(rt, store, read, request, gate, request.map.is_some())
 }
 

@@ -1,8 +1,8 @@
 //! The bundle of the program's input or of a file, which is judged while it is read.
 
-ghost use Rattle.std.specs.Prelude.{◌≡◌, ◌<◌, ◌+◌, ◌^◌, ◌-◌, IfOk, IfErr, IfSome, OnOk, None, Some};
-ghost use Rattle.std.specs.Prelude.{true, false};
-ghost use Rattle.std.specs.Bool.{OnTrue};
+ghost use Rattle.std.specs.Prelude.{◌≡◌, ◌≢◌, ◌<◌, ◌+◌, ◌^◌, ◌-◌, IfOk, IfErr, IfSome, OnOk};
+ghost use Rattle.std.specs.Prelude.{None, Some, true};
+ghost use Rattle.std.specs.Bool.{OnFalse, OnTrue};
 ghost use Rattle.command_words.specs.Request.{asked_in};
 ghost use Rattle.cube_report.specs.Device.{IsLeft};
 ghost use Rattle.cube_report.specs.Faults.{IsInputFault};
@@ -12,33 +12,35 @@ ghost use Rattle.bundle_files.specs.Formula.{ArePlainLines};
 ghost use Rattle.bundle_files.specs.WhileRead.{IsBundleBelow, IsRefusedBelow};
 ghost use Rattle.cube_command.specs.Headline.{IsRefutedFrom};
 ghost use Rattle.cube_command.specs.Program.{IsRefusedFrom};
-ghost use Rattle.cube_command.specs.Inner.Recorded.{IsRecordedFrom, IsRunRecorded, IsTextKept};
+ghost use Rattle.cube_command.specs.Inner.Recorded.{IsRecordedFrom, IsRunRecorded};
 
+use crate::asked::Telling;
 use crate::program::Recorded;
 use crate::record::{begin_record, end_record};
 use bundle_files::{BegunBundle, Store, begin_bundle, judge_while_read, read_front};
 use command_words::Request;
-use cube_report::{Fault, Gate, Source};
+use cube_report::{Explain, Fault, Gate, Source};
 use std::alloc::Global;
 use std::sync::Wait;
 use std::thread::Threads;
 
 /// What is said of the bundle of a file, or of the input where none is asked for, below a formula's
 /// own file where there is one, and the record of it where a file for that is asked for: it is
-/// judged while it is read. `None` where a folder's proofs go with it, or its text is kept to tell
-/// of it. Then nothing was read.
-pub(crate) fn judge_alone<R, D, I, G>(
+/// judged while it is read. `None` where a folder's proofs go with it. Then nothing was read.
+pub(crate) fn judge_alone<R, D, I, G, X>(
     rt: &R,
     store: &mut D,
     request: &Request<'_>,
     input: &mut I,
     gate: &G,
+    telling: &mut Telling<'_, X>,
 ) -> Result<Option<Recorded>, Fault>
 where
     R: AllocGlobal + Threads + Wait + Sync,
     D: Store,
     I: Source,
     G: Gate + Sync,
+    X: Explain,
     requires store { D.failures store.old < 2 ^ 64 - 1 }
     requires input { I.failures input.old < 2 ^ 64 - 1 }
     ensures held { D.held store.new ≡ D.held store.old }
@@ -51,44 +53,46 @@ where
     ensures fault { IfErr result (λ fault. IsInputFault fault → IsRefusedFrom (D.held store.old)
         (asked_in request.now) (I.remaining input.old) fault) }
     ensures unread { IfOk result (λ some. some ≡ None → input.new ≡ input.old) }
-    ensures none { IfOk result (λ some. some ≡ None → IsTextKept request.now) }
+    ensures none { IfOk result (λ some. some ≡ None → (asked_in request.now).folder ≢ None) }
     ensures ok { OnOk result ((D.failures store.new ≡ D.failures store.old)
         × (I.failures input.new ≡ I.failures input.old)) }
     ensures err { IfErr result (IsJudgingFault (D.failures store.old + I.failures input.old)
         (D.failures store.new + I.failures input.new)) }
 {
-    if !is_read_once(request) {
+    if !is_without_folder(request) {
         return Ok(None);
     }
     let begun = begin_bundle(rt.alloc(), store, request.formula)?;
     match request.file {
-        Some(path) => Ok(Some(judge_at(rt, store, request, begun, path, gate)?)),
-        None => Ok(Some(judge_source(rt, request, begun, input, gate)?)),
+        Some(path) => Ok(Some(judge_at(rt, store, request, begun, path, gate, telling)?)),
+        None => Ok(Some(judge_source(rt, request, begun, input, gate, telling)?)),
     }
 }
 
-/// Whether no folder adds proofs, and nothing is told for which the text is kept.
-fn is_read_once(request: &Request<'_>) -> bool
-    ensures kept { result ≡ false → IsTextKept request.now }
-    ensures alone { OnTrue result ((asked_in request.now).folder ≡ None) }
+/// Whether no folder adds proofs.
+pub(crate) fn is_without_folder(request: &Request<'_>) -> bool
+    ensures without { OnTrue result ((asked_in request.now).folder ≡ None) }
+    ensures with { OnFalse result ((asked_in request.now).folder ≢ None) }
 {
-    !request.explain && request.proofs.is_none()
+    request.proofs.is_none()
 }
 
 /// The same of a bundle that is begun so, and goes on with the file at this path, which is opened
 /// once.
-fn judge_at<R, D, G>(
+fn judge_at<R, D, G, X>(
     rt: &R,
     store: &mut D,
     request: &Request<'_>,
     begun: BegunBundle,
     path: &str,
     gate: &G,
+    telling: &mut Telling<'_, X>,
 ) -> Result<Recorded, Fault>
 where
     R: AllocGlobal + Threads + Wait + Sync,
     D: Store,
     G: Gate + Sync,
+    X: Explain,
     requires count { D.failures store.old < 2 ^ 64 - 1 }
     requires plain { ArePlainLines begun.text.items }
     ensures held { D.held store.new ≡ D.held store.old }
@@ -103,23 +107,25 @@ where
     ensures err { IfErr result (IsJudgingFault (D.failures store.old) (D.failures store.new)) }
 {
     let mut file = store.open(path)?;
-    let made = judge_source(rt, request, begun, &mut file, gate);
+    let made = judge_source(rt, request, begun, &mut file, gate, telling);
     store.close(file);
     made
 }
 
 /// The same of a bundle that is begun so, and goes on with what a source gives up to its end.
-fn judge_source<R, S, G>(
+fn judge_source<R, S, G, X>(
     rt: &R,
     request: &Request<'_>,
     begun: BegunBundle,
     source: &mut S,
     gate: &G,
+    telling: &mut Telling<'_, X>,
 ) -> Result<Recorded, Fault>
 where
     R: AllocGlobal + Threads + Wait + Sync,
     S: Source,
     G: Gate + Sync,
+    X: Explain,
     requires count { S.failures source.old < 2 ^ 64 - 1 }
     requires plain { ArePlainLines begun.text.items }
     ensures made { IfOk result (λ made. IsRunRecorded
@@ -132,7 +138,9 @@ where
     ensures err { IfErr result (IsJudgingFault (S.failures source.old) (S.failures source.new)) }
 {
     let front = read_front(rt.alloc(), begun, source)?;
-    let mut bytes = begin_record(rt.alloc(), request.out, front.icnf())?;
+    let icnf = front.icnf();
+    telling.tell_read(rt.alloc(), icnf, b"");
+    let mut bytes = begin_record(rt.alloc(), request.out, icnf)?;
     let draws = request.map.is_some();
     let outcome = judge_while_read(rt, front, source, request.settings, gate, draws)?;
     end_record(&mut bytes, request.out, &outcome.text)?;

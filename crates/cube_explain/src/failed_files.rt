@@ -3,7 +3,7 @@
 use crate::fault_places::{is_absent, path_of};
 use crate::files::{ReadFiles, Unread, try_read, try_write};
 use crate::run::Run;
-use case_core::{Tree, read_bundle};
+use case_core::{Tree, read_tree};
 use std::io::Eprint;
 
 /// Tells the first file that fails, in the order in which the run comes to them: the log, the
@@ -71,8 +71,8 @@ fn tell_proofs<R: Eprint + ReadFiles>(run: &Run<'_, R>, fails: bool) -> bool {
     let Some(folder) = run.asked.proofs else {
         return false;
     };
-    match read_bundle(run.alloc, run.bundle) {
-        Ok(case) => tell_leaves(run, folder, case.tree(), fails),
+    match read_tree(run.alloc, run.icnf) {
+        Ok(tree) => tell_leaves(run, folder, &tree, fails),
         Err(_) => false,
     }
 }

@@ -1,52 +1,68 @@
 //! Where a line of a bundle stands: in which file, and on which of its lines.
 
+use crate::again::label_again;
 use crate::files::{ReadFiles, Unread, read_again};
 use crate::lines::{line_at, line_count};
-use crate::parts::{BUNDLE, file_part};
+use crate::parts::{BUNDLE, Part, file_part};
 use crate::run::Run;
-use crate::shown::Name;
-use case_core::{Tree, read_bundle};
+use crate::shown::{Name, Shown};
+use case_core::{Tree, line_ends, read_tree};
 use std::alloc::{AllocError, Global};
 use std::io::{Eprint, ErrorKind};
 
-/// Tells the line of a bundle that has this number, by the file that it stands in. Where there is a
-/// bundle, its faults are those of the file with the cubes: a line above that file's is one of the
-/// bundle, since the file has changed.
+/// Tells the line of a bundle that has this number, by the file that it stands in. Where the iCNF
+/// text is kept, its faults are those of the file with the cubes: a line above that file's is one
+/// of the bundle, since the file has changed. A line below the iCNF text is a label line, and read
+/// again.
 pub(crate) fn tell_line<R: Eprint + ReadFiles>(run: &Run<'_, R>, number: u64) {
     if let Some(path) = run.formula_alone() {
-        return tell_unbundled(run, path, number);
+        return tell_formula_line(run, path, number);
     }
     let part = file_part(run);
-    if number > part.above {
-        run.tell_numbered(part.from, part.text, number.saturating_sub(part.above));
+    let below = number.saturating_sub(part.above);
+    if number <= part.above {
+        run.tell_numbered(BUNDLE, run.icnf, number);
+    } else if below <= lines_in(part.text) {
+        run.tell_numbered(part.from, part.text, below);
     } else {
-        run.tell_numbered(BUNDLE, run.bundle, number);
+        tell_label_line(run, &part, below);
     }
 }
 
-/// Tells the line that has this number in the text of the formula's file, which has this path, and
-/// below it of the file with the cubes.
-fn tell_unbundled<R: Eprint + ReadFiles>(run: &Run<'_, R>, path: &str, number: u64) {
+/// How many lines a text has, where the last one need not be ended.
+fn lines_in(text: &[u8]) -> u64 {
+    let ends = line_ends(text) as u64;
+    if text.ends_with(b"\n") {
+        ends
+    } else {
+        ends.saturating_add(1)
+    }
+}
+
+/// Tells the line that has this number in the text of the formula's file, which has this path.
+fn tell_formula_line<R: Eprint + ReadFiles>(run: &Run<'_, R>, path: &str, number: u64) {
     if let Some(formula) = run.read_or_tell(path) {
-        let above = line_count(&formula);
-        if number <= above {
-            run.tell_numbered(path, &formula, number);
-        } else {
-            tell_in_file(run, number.saturating_sub(above));
-        }
+        run.tell_numbered(path, &formula, number);
     }
 }
 
-/// Tells the line that has this number in the file with the cubes.
-fn tell_in_file<R: Eprint + ReadFiles>(run: &Run<'_, R>, number: u64) {
-    if let Some(text) = run.read_file_or_tell() {
-        run.tell_numbered(run.file(), &text, number);
+/// Tells the label line on the line of this number in the file that has a part, which is read
+/// again.
+fn tell_label_line<R: Eprint + ReadFiles>(run: &Run<'_, R>, part: &Part<'_>, number: u64) {
+    let read = match part.file {
+        Some(path) => label_again(run.device, run.alloc, path, number),
+        None => Err(Unread::Once),
+    };
+    match read {
+        Ok(Some(line)) => run.say_at(part.from, number, Shown(&line)),
+        Ok(None) => run.say_at(part.from, number, Unread::Changed),
+        Err(unread) => run.say_at(part.from, number, unread),
     }
 }
 
 /// Tells the line of a bundle with a folder's proofs that has this number.
 pub(crate) fn tell_label<R: Eprint + ReadFiles>(run: &Run<'_, R>, number: u64) {
-    let above = line_count(run.bundle);
+    let above = run.lines;
     match run.asked.proofs {
         Some(folder) if number > above => tell_in_folder(run, folder, number.saturating_sub(above)),
         _ => tell_line(run, number),
@@ -56,8 +72,8 @@ pub(crate) fn tell_label<R: Eprint + ReadFiles>(run: &Run<'_, R>, number: u64) {
 /// Tells the line of this number among those that a folder's proofs add to a bundle, a label line
 /// above each.
 fn tell_in_folder<R: Eprint + ReadFiles>(run: &Run<'_, R>, folder: &str, number: u64) {
-    if let Ok(case) = read_bundle(run.alloc, run.bundle) {
-        tell_in_tree(run, folder, case.tree(), number);
+    if let Ok(tree) = read_tree(run.alloc, run.icnf) {
+        tell_in_tree(run, folder, &tree, number);
     }
 }
 

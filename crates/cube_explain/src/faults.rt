@@ -8,7 +8,7 @@ use crate::looks::looks_of;
 use crate::parts::file_part;
 use crate::run::Run;
 use crate::shown::Shown;
-use case_core::{first_word, icnf_part, read_problem};
+use case_core::{first_word, read_problem};
 use cube_report::Fault;
 use std::io::Eprint;
 
@@ -42,7 +42,7 @@ fn tell_beginning<R: Eprint>(run: &Run<'_, R>, from: &str, text: &[u8], wanted: 
 
 /// Tells what stands in the place of a header.
 fn tell_header<R: Eprint>(run: &Run<'_, R>) {
-    tell_beginning(run, run.file(), run.bundle, "a bundle begins with p inccnf");
+    tell_beginning(run, run.file(), run.icnf, "a bundle begins with p inccnf");
 }
 
 /// Tells the last line of the text that ends inside a clause or a cube.
@@ -51,7 +51,7 @@ fn tell_end<R: Eprint + ReadFiles>(run: &Run<'_, R>) {
         Some(path) => tell_formula_end(run, path),
         None => {
             let part = file_part(run);
-            run.tell(part.from, last_line(icnf_part(part.text)));
+            run.tell(part.from, last_line(part.text));
         }
     }
 }
@@ -85,14 +85,21 @@ fn tell_counts<R: Eprint + ReadFiles>(run: &Run<'_, R>) {
 
 /// Tells the first clause of the file with the cubes.
 fn tell_clause<R: Eprint + ReadFiles>(run: &Run<'_, R>) {
-    if let Some(text) = run.read_file_or_tell() {
-        tell_clause_of(run, &text);
+    if run.icnf.is_empty() {
+        if let Some(text) = run.front_or_tell() {
+            tell_clause_of(run, &text);
+        }
+    } else {
+        let part = file_part(run);
+        if part.above > 0 {
+            tell_clause_of(run, part.text);
+        }
     }
 }
 
 /// Tells the first clause of this text of that file.
 fn tell_clause_of<R: Eprint>(run: &Run<'_, R>, text: &[u8]) {
-    if let Some(line) = first_clause(icnf_part(text)) {
+    if let Some(line) = first_clause(text) {
         run.tell(run.file(), Some(line));
         run.say("this is a clause; a cube begins with \"a\"");
     }
@@ -101,13 +108,13 @@ fn tell_clause_of<R: Eprint>(run: &Run<'_, R>, text: &[u8]) {
 /// Tells a cube.
 fn tell_cube<R: Eprint + ReadFiles>(run: &Run<'_, R>, cube: u32) {
     let part = file_part(run);
-    run.tell(part.from, cube_line(icnf_part(part.text), cube));
+    run.tell(part.from, cube_line(part.text, cube));
 }
 
 /// Tells two cubes that aren't leaves of one tree.
 fn tell_cubes<R: Eprint + ReadFiles>(run: &Run<'_, R>, first: u32, second: u32) {
     let part = file_part(run);
-    let text = icnf_part(part.text);
+    let text = part.text;
     let (one, other) = (cube_line(text, first), cube_line(text, second));
     run.tell(part.from, one);
     run.tell(part.from, other);

@@ -92,6 +92,34 @@ fn read_plain<R: ReadFiles>(device: &R, alloc: Global, path: &str) -> io::Result
     Ok(Some(bytes))
 }
 
+/// The file at this path, which the run has read before, opened again, or why it isn't. Only a
+/// plain file is opened.
+pub(crate) fn open_again<R: ReadFiles>(device: &R, path: &str) -> Result<R::Opened, Unread> {
+    match open_plain(device, path) {
+        Ok(Some(file)) => Ok(file),
+        Ok(None) => Err(Unread::Once),
+        Err(error) => Err(Unread::Failed(error)),
+    }
+}
+
+/// The file at this path; `None` where it is no plain file.
+fn open_plain<R: ReadFiles>(device: &R, path: &str) -> io::Result<Option<R::Opened>> {
+    if !device.look_at(path)?.is_file() {
+        return Ok(None);
+    }
+    Ok(Some(device.open_to_read(path)?))
+}
+
+/// Whether the file at this path is a binary proof, by its first byte, or why it isn't read again.
+pub(crate) fn is_binary<R: ReadFiles>(device: &R, path: &str) -> Result<bool, Unread> {
+    let mut file = open_again(device, path)?;
+    let mut byte = [0u8; 1];
+    match file.read(&mut byte) {
+        Ok(count) => Ok(count > 0 && matches!(byte[0], b'a' | b'd')),
+        Err(error) => Err(Unread::Failed(error)),
+    }
+}
+
 /// Reads a byte of the plain file or the folder at this path, or says why that can't be. What is
 /// neither isn't opened.
 pub(crate) fn try_read<R: ReadFiles>(device: &R, path: &str) -> Result<(), Unread> {

@@ -10,7 +10,7 @@ use std::io::Eprint;
 /// file of its own has a line of another form.
 pub(crate) fn tell_ignored<R: Eprint>(run: &Run<'_, R>) {
     if run.asked.formula.is_none()
-        && let Some(line) = first_line(run.bundle)
+        && let Some(line) = first_line(run.icnf)
     {
         tell_behind(run, line);
     }

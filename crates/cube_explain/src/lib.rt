@@ -2,6 +2,7 @@
 //! where a fault comes from.
 #![tactic(auto)]
 
+mod again;
 mod failed_files;
 mod fault_places;
 mod faults;

@@ -18,11 +18,27 @@ pub(crate) struct Rejected<'r> {
     pub(crate) reason: &'r [u8],
 }
 
-/// The first rejected proofs of a report, and how many more there are.
+/// The first rejected proofs of a report, and how many more there are; and of how many leaves and
+/// inner nodes it has a judgement.
 #[derive(Drop)]
 pub(crate) struct Rejections<'r> {
     pub(crate) first: Vec<Rejected<'r>>,
     pub(crate) more: u64,
+    pub(crate) leaves: u64,
+    pub(crate) nodes: u64,
+}
+
+impl<'r> Rejections<'r> {
+    /// Counts the judgement that a line of the report has, if it has one.
+    fn count(&mut self, line: &[u8]) {
+        let is_leaf = line.starts_with(b"a ") || line.starts_with(b"m ");
+        if is_leaf && !line.ends_with(b" open") {
+            self.leaves = self.leaves.saturating_add(1);
+        }
+        if line.starts_with(b"n ") {
+            self.nodes = self.nodes.saturating_add(1);
+        }
+    }
 }
 
 /// The last word of a line, and what stands before it.
@@ -52,17 +68,20 @@ fn rejection_in(line: &[u8], missing: u64) -> Option<Rejected<'_>> {
     })
 }
 
-/// The rejected proofs of a report.
+/// The rejected proofs of a report, and how many judgements it has.
 pub(crate) fn rejections_in(alloc: Global, report: &[u8]) -> Result<Rejections<'_>, AllocError> {
     let mut found = Rejections {
         first: Vec::new(alloc),
         more: 0,
+        leaves: 0,
+        nodes: 0,
     };
     let mut missing = 0u64;
     for line in report.split(is_line_end) {
         if line.starts_with(b"m ") {
             missing = missing.saturating_add(1);
         }
+        found.count(line);
         if let Some(rejected) = rejection_in(line, missing) {
             if found.first.len() < MOST {
                 found.first.push(rejected)?;

@@ -1,5 +1,6 @@
 //! A run that is told of.
 
+use crate::again::front_again;
 use crate::files::{ReadFiles, Unread, read_again};
 use crate::lines::{Line, line_at};
 use crate::shown::{Name, Shown};
@@ -12,13 +13,16 @@ use std::io::Eprint;
 const INPUT: &str = "standard input";
 
 /// A run that is told of: on whose standard error, and by what its files are read again; what it
-/// was asked for; and the bundle that it has read, which is empty where it has read none.
+/// was asked for; and what is kept of the bundle that it has read.
 #[derive(Drop)]
 pub(crate) struct Run<'r, R> {
     pub(crate) device: &'r R,
     pub(crate) alloc: Global,
     pub(crate) asked: Asked<'r>,
-    pub(crate) bundle: &'r [u8],
+    /// The bundle's iCNF text, which is empty where none was read.
+    pub(crate) icnf: &'r [u8],
+    /// How many of the bundle's lines stand above the proofs that a folder adds.
+    pub(crate) lines: u64,
 }
 
 impl<'r, R> Run<'r, R> {
@@ -30,7 +34,7 @@ impl<'r, R> Run<'r, R> {
     /// The formula's own file where the run has ended before it had a bundle: then its fault is one
     /// of that file, or of the clauses of both.
     pub(crate) fn formula_alone(&self) -> Option<&'r str> {
-        if self.bundle.is_empty() {
+        if self.icnf.is_empty() {
             self.asked.formula
         } else {
             None
@@ -91,12 +95,17 @@ impl<'r, R: Eprint + ReadFiles> Run<'r, R> {
         }
     }
 
-    /// The same of the file with the cubes. The program's input can't be read again.
-    pub(crate) fn read_file_or_tell(&self) -> Option<Vec<u8>> {
-        match self.asked.file {
-            Some(path) => self.read_or_tell(path),
-            None => {
-                self.say_of(INPUT, Unread::Once);
+    /// The lines of the file with the cubes up to its first label line, read again; `None` where
+    /// they can't be, which is told. The program's input can't be read again.
+    pub(crate) fn front_or_tell(&self) -> Option<Vec<u8>> {
+        let Some(path) = self.asked.file else {
+            self.say_of(INPUT, Unread::Once);
+            return None;
+        };
+        match front_again(self.device, self.alloc, path) {
+            Ok(front) => Some(front),
+            Err(unread) => {
+                self.say_of(path, unread);
                 None
             }
         }

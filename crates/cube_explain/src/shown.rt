@@ -5,6 +5,11 @@ use std::fmt;
 /// The most bytes of a line that are shown.
 const MOST: usize = 72;
 
+/// The beginning of a line, which is shown as the whole of it is.
+pub(crate) fn beginning(line: &[u8]) -> &[u8] {
+    line.get(..=MOST).unwrap_or(line)
+}
+
 /// Bytes between quotation marks: at most so many, and those that aren't letters, digits or signs
 /// of ASCII by their escapes.
 #[derive(Clone, Copy)]

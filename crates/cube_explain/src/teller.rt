@@ -2,20 +2,19 @@
 
 ghost use Rattle.std.specs.Prelude.{◌≡◌};
 
+use crate::again::{Sought, step_again, steps_again};
 use crate::faults::tell_fault;
-use crate::files::{ReadFiles, read_again};
+use crate::files::{ReadFiles, Unread, is_binary, read_again};
 use crate::folder::{Few, Folder, Names};
 use crate::header::tell_ignored;
-use crate::labels::{Label, labels_in, section_of};
-use crate::looks::{Looks, looks_of};
-use crate::parts::{Part, file_part};
+use crate::looks::Looks;
 use crate::reasons::advice_on;
 use crate::rejected::{Rejected, Rejections, rejections_in};
 use crate::run::Run;
 use crate::shown::{Name, Shown};
-use crate::step_lines::step_line;
+use crate::step_lines::StepWalk;
 use case_core::{Case, Formula, binary_text, read_bundle};
-use cube_report::{Asked, Explain, Fault, Target, icnf_part};
+use cube_report::{Asked, Explain, Fault, Kept};
 use sha2::{Digest, Sha256};
 use std::alloc::{AllocError, Global};
 use std::fmt::Display;
@@ -39,28 +38,39 @@ impl<'a, R> Teller<'a, R> {
 }
 
 impl<'a, R: Eprint + ReadFiles> Explain for Teller<'a, R> {
-    fn tell_read(&self, alloc: Global, asked: &Asked<'_>, bundle: &[u8]) {
-        if let Ok(case) = read_bundle(alloc, bundle) {
-            tell_case(&run_of(self.device, alloc, asked, bundle), &case);
+    fn tell_read(&self, alloc: Global, asked: &Asked<'_>, icnf: &[u8]) {
+        if let Ok(case) = read_bundle(alloc, icnf) {
+            tell_case(&run_of(self.device, alloc, asked, icnf, 0), &case);
         }
     }
 
-    fn tell_report(&self, alloc: Global, asked: &Asked<'_>, bundle: &[u8], report: &[u8]) {
-        tell_rejections(&run_of(self.device, alloc, asked, bundle), report);
+    fn tell_report(&self, alloc: Global, asked: &Asked<'_>, report: &[u8]) {
+        tell_judgements(&run_of(self.device, alloc, asked, b"", 0), report);
     }
 
-    fn tell_fault(&self, alloc: Global, asked: &Asked<'_>, bundle: &[u8], fault: Fault) {
-        tell_fault(&run_of(self.device, alloc, asked, bundle), fault);
+    fn tell_fault(&self, alloc: Global, asked: &Asked<'_>, kept: Kept<'_>, fault: Fault) {
+        tell_fault(
+            &run_of(self.device, alloc, asked, kept.icnf, kept.lines),
+            fault,
+        );
     }
 }
 
-/// The run of this bundle, which is told of by this device.
-fn run_of<'r, R>(device: &'r R, alloc: Global, asked: &Asked<'r>, bundle: &'r [u8]) -> Run<'r, R> {
+/// The run that is told of by this device, where this iCNF text is kept of its bundle, and so many
+/// of its lines stand above a folder's proofs.
+fn run_of<'r, R>(
+    device: &'r R,
+    alloc: Global,
+    asked: &Asked<'r>,
+    icnf: &'r [u8],
+    lines: u64,
+) -> Run<'r, R> {
     Run {
         device,
         alloc,
         asked: *asked,
-        bundle,
+        icnf,
+        lines,
     }
 }
 
@@ -71,19 +81,6 @@ fn literals_of(formula: &Formula) -> u64 {
         sum = sum.saturating_add(clause.lits().len() as u64);
     }
     sum
-}
-
-/// How many sections of a case are for leaves, and how many for inner nodes.
-fn sections_of(case: &Case) -> (u64, u64) {
-    let mut leaves = 0u64;
-    let mut nodes = 0u64;
-    for section in case.sections() {
-        match section.target {
-            Target::Leaf(_) => leaves = leaves.saturating_add(1),
-            Target::Node(_) => nodes = nodes.saturating_add(1),
-        }
-    }
-    (leaves, nodes)
 }
 
 /// Tells what was read, where it is this case.
@@ -108,20 +105,16 @@ fn tell_formula<R: Eprint>(run: &Run<'_, R>, formula: &Formula) {
 
 /// Tells the digest of the iCNF text, which a record names.
 fn tell_digest<R: Eprint>(run: &Run<'_, R>) {
-    if let Ok(digits) = hex::encode(run.alloc, Sha256::digest(icnf_part(run.bundle))) {
+    if let Ok(digits) = hex::encode(run.alloc, Sha256::digest(run.icnf)) {
         run.say(format_args!("SHA-256 of formula and cubes: {digits}"));
     }
 }
 
-/// Tells which tree was read, and the sections that stand in the bundle.
+/// Tells which tree was read.
 fn tell_tree<R: Eprint>(run: &Run<'_, R>, case: &Case) {
     let cubes = case.tree().cube_count();
     let missing = case.tree().missing_count();
-    let (leaves, nodes) = sections_of(case);
-    let what = format_args!(
-        "cubes: {cubes}; branches without a cube: {missing}; \
-         sections for leaves: {leaves}, for inner nodes: {nodes}"
-    );
+    let what = format_args!("cubes: {cubes}; branches without a cube: {missing}");
     run.say_of(run.file(), what);
     if cubes == 0 {
         let what = "a cube begins with \"a\"; a line without it is a clause";
@@ -173,29 +166,63 @@ fn tell_few<R: Eprint>(run: &Run<'_, R>, folder: &str, kind: &str, few: &Few) {
     }
 }
 
-/// Tells of the proofs that a report rejects.
-fn tell_rejections<R: Eprint + ReadFiles>(run: &Run<'_, R>, report: &[u8]) {
-    if let Ok(rejections) = rejections_in(run.alloc, report)
-        && let Ok(labels) = labels_in(run.alloc, run.bundle)
-    {
-        tell_each(run, &rejections, &labels);
+/// Tells how many proofs a report judges, and of those that it rejects.
+fn tell_judgements<R: Eprint + ReadFiles>(run: &Run<'_, R>, report: &[u8]) {
+    if let Ok(rejections) = rejections_in(run.alloc, report) {
+        let (leaves, nodes) = (rejections.leaves, rejections.nodes);
+        run.say(format_args!("proofs judged: for leaves: {leaves}, for inner nodes: {nodes}"));
+        tell_rejections(run, &rejections);
     }
 }
 
-/// Tells of these rejected proofs, where these are the label lines of the bundle.
-fn tell_each<'r, R: Eprint + ReadFiles>(
-    run: &Run<'r, R>,
-    rejections: &Rejections<'_>,
-    labels: &[Label<'r>],
-) {
-    let mut part = None;
-    for rejected in &rejections.first {
-        tell_rejection(run, labels, &mut part, rejected);
-        run.say(advice_on(rejected.reason));
+/// Tells of the proofs that a report rejects.
+fn tell_rejections<R: Eprint + ReadFiles>(run: &Run<'_, R>, rejections: &Rejections<'_>) {
+    if let Ok(mut steps) = steps_of(run.alloc, &rejections.first) {
+        let unread = find_sections(run, &mut steps);
+        tell_each(run, &rejections.first, &steps, unread);
     }
     let more = rejections.more;
     if more > 0 {
         run.say(format_args!("{more} more proofs are rejected"));
+    }
+}
+
+/// The steps of rejected proofs, of which none was found yet.
+fn steps_of(alloc: Global, rejected: &[Rejected<'_>]) -> Result<Vec<Sought>, AllocError> {
+    let mut steps = Vec::new(alloc);
+    for one in rejected {
+        steps.push(Sought {
+            name: label_of(alloc, one)?,
+            above: None,
+            walk: StepWalk::new(one.step),
+        })?;
+    }
+    Ok(steps)
+}
+
+/// Looks for the steps in the sections of the file with the bundle; or why that isn't read again.
+/// Where there is none to look for it isn't read.
+fn find_sections<R: Eprint + ReadFiles>(run: &Run<'_, R>, steps: &mut [Sought]) -> Option<Unread> {
+    if steps.is_empty() || run.asked.is_one_proof {
+        return None;
+    }
+    match run.asked.file {
+        Some(path) => steps_again(run.device, run.alloc, path, steps).err(),
+        None => Some(Unread::Once),
+    }
+}
+
+/// Tells of these rejected proofs and their steps, as far as these were found in the file with the
+/// bundle, if that could be read again.
+fn tell_each<R: Eprint + ReadFiles>(
+    run: &Run<'_, R>,
+    rejected: &[Rejected<'_>],
+    steps: &[Sought],
+    unread: Option<Unread>,
+) {
+    for (one, sought) in rejected.iter().zip(steps.iter()) {
+        tell_rejection(run, one, sought, &unread);
+        run.say(advice_on(one.reason));
     }
 }
 
@@ -208,78 +235,92 @@ struct Step<'t> {
     from: &'t str,
 }
 
-/// Tells the step of a proof that is rejected: of a section of the bundle, or of a file of the
-/// folder. The part of the bundle that has its sections is found at the first of them.
-fn tell_rejection<'r, R: Eprint + ReadFiles>(
-    run: &Run<'r, R>,
-    labels: &[Label<'r>],
-    part: &mut Option<Part<'r>>,
+/// Tells the step of a proof that is rejected: of a file of its own, or of a section of the bundle.
+fn tell_rejection<R: Eprint + ReadFiles>(
+    run: &Run<'_, R>,
     rejected: &Rejected<'_>,
+    sought: &Sought,
+    unread: &Option<Unread>,
 ) {
-    let Ok(name) = label_of(run.alloc, rejected) else {
-        return;
-    };
-    match section_of(run.bundle, labels, name.as_bytes()) {
-        Some((line, proof)) => {
-            let part = part_at_first(run, part);
-            let step = Step {
-                name: name.as_str(),
-                number: rejected.step,
-                from: part.from,
-            };
-            tell_step(run, step, proof, line.saturating_sub(part.above));
-        }
-        None => tell_file(run, name.as_str(), rejected.step),
+    let (name, number) = (sought.name.as_str(), rejected.step);
+    if run.asked.is_one_proof {
+        let from = run.file();
+        return tell_proof(run, Step { name, number, from });
     }
-}
-
-/// The part that was found at the first call, by which it is kept.
-fn part_at_first<'r, R: Eprint + ReadFiles>(
-    run: &Run<'r, R>,
-    part: &mut Option<Part<'r>>,
-) -> Part<'r> {
-    if let Some(found) = *part {
-        return found;
-    }
-    let found = file_part(run);
-    *part = Some(found);
-    found
-}
-
-/// Tells the rejected step of the folder's proof of the leaf of this name.
-fn tell_file<R: Eprint + ReadFiles>(run: &Run<'_, R>, name: &str, number: u64) {
-    if let Some(folder) = run.asked.proofs
-        && let Ok(path) = format!(in run.alloc; "{folder}/{name}.lrat")
+    if sought.above.is_none()
+        && let Some(path) = file_of(run, rejected, name)
     {
         let from = path.as_str();
-        tell_in_file(run, Step { name, number, from });
+        return tell_proof(run, Step { name, number, from });
+    }
+    let from = run.file();
+    tell_section(run, Step { name, number, from }, sought, unread);
+}
+
+/// The file of the folder that is the proof of a leaf of this name, where it is there.
+fn file_of<R: ReadFiles>(run: &Run<'_, R>, rejected: &Rejected<'_>, name: &str) -> Option<String> {
+    let folder = run.asked.proofs?;
+    if rejected.node.starts_with(b"n ") {
+        return None;
+    }
+    let path = format!(in run.alloc; "{folder}/{name}.lrat").ok()?;
+    match run.device.look_at(path.as_str()) {
+        Ok(_) => Some(path),
+        Err(_) => None,
     }
 }
 
-/// Tells the rejected step of a file, or why it can't be read again.
-fn tell_in_file<R: Eprint + ReadFiles>(run: &Run<'_, R>, step: Step<'_>) {
-    match read_again(run.device, run.alloc, step.from) {
-        Ok(proof) => tell_proof(run, step, &proof),
-        Err(unread) => say_rejected(run, step, format_args!(": {unread}")),
+/// Tells the step of a section of the bundle, where the file with the bundle was read again.
+fn tell_section<R: Eprint>(
+    run: &Run<'_, R>,
+    step: Step<'_>,
+    sought: &Sought,
+    unread: &Option<Unread>,
+) {
+    match (unread, sought.above) {
+        (Some(unread), _) => say_rejected(run, step, format_args!(": {unread}")),
+        (None, Some(above)) => tell_step(run, step, &sought.walk, above),
+        (None, None) => say_rejected(run, step, format_args!(": {}", Unread::Changed)),
     }
 }
 
-/// Tells the rejected step of a folder's proof: of a text where it stands, of a binary one as text.
-fn tell_proof<R: Eprint>(run: &Run<'_, R>, step: Step<'_>, proof: &[u8]) {
-    match binary_text(run.alloc, proof) {
-        Ok(Some(text)) => tell_binary_step(run, step, &text),
-        Ok(None) => tell_step(run, step, proof, 0),
-        Err(_) => {}
+/// Tells the rejected step of a proof that is a file of its own, or why it can't be read again.
+fn tell_proof<R: Eprint + ReadFiles>(run: &Run<'_, R>, step: Step<'_>) {
+    let told = if run.asked.is_one_proof && run.asked.file.is_none() {
+        Err(Unread::Once)
+    } else {
+        tell_proof_at(run, step)
+    };
+    if let Err(unread) = told {
+        say_rejected(run, step, format_args!(": {unread}"));
     }
+}
+
+/// Tells the rejected step of a file: of a text where it stands, of a binary proof as text.
+fn tell_proof_at<R: Eprint + ReadFiles>(run: &Run<'_, R>, step: Step<'_>) -> Result<(), Unread> {
+    if is_binary(run.device, step.from)? {
+        let proof = read_again(run.device, run.alloc, step.from)?;
+        if let Ok(Some(text)) = binary_text(run.alloc, &proof) {
+            tell_binary_step(run, step, &text);
+        }
+    } else {
+        let walk = step_again(run.device, run.alloc, step.from, step.number)?;
+        tell_step(run, step, &walk, 0);
+    }
+    Ok(())
 }
 
 /// Tells a step that was rejected of a binary proof, by the text that it stands for.
 fn tell_binary_step<R: Eprint>(run: &Run<'_, R>, step: Step<'_>, text: &[u8]) {
-    match step_line(text, step.number) {
+    let mut walk = StepWalk::new(step.number);
+    if walk.pass(run.alloc, text).is_err() {
+        return;
+    }
+    match &walk.line {
         Some(line) => say_rejected(
             run,
             step,
-            format_args!(", binary LRAT: {}", Shown(line.text)),
+            format_args!(", binary LRAT: {}", Shown(&line.text)),
         ),
         None => say_absent(run, step),
     }
@@ -291,16 +332,16 @@ fn tell_binary_step<R: Eprint>(run: &Run<'_, R>, step: Step<'_>, text: &[u8]) {
 }
 
 /// Tells a step that was rejected, and where it stands, with so many lines above its proof.
-fn tell_step<R: Eprint>(run: &Run<'_, R>, step: Step<'_>, proof: &[u8], above: u64) {
-    match step_line(proof, step.number) {
+fn tell_step<R: Eprint>(run: &Run<'_, R>, step: Step<'_>, walk: &StepWalk, above: u64) {
+    match &walk.line {
         Some(line) => {
-            let (number, text) = (above.saturating_add(line.number), Shown(line.text));
+            let (number, text) = (above.saturating_add(line.number), Shown(&line.text));
             say_rejected(run, step, format_args!(", line {number}: {text}"));
         }
         None => say_absent(run, step),
     }
     if step.number == 1 {
-        match looks_of(proof) {
+        match walk.looks {
             Looks::Unknown => {}
             looks => run.say_of(step.from, looks),
         }

@@ -12,7 +12,7 @@ ghost use Rattle.cube_report.specs.Stated.{IsStated, IsWrittenBy};
 ghost use Rattle.case_core.specs.Target.{Target};
 ghost use Rattle.mark_board.specs.declared.mark.Mark.{Mark};
 ghost use Rattle.proof_folder.specs.Given.{AreFoundApart};
-ghost use Rattle.check_crew.specs.TargetProofs.{Known};
+ghost use Rattle.proof_folder.specs.TargetProofs.{Known};
 ghost use Rattle.mark_board.specs.Findings.{AreFindings};
 ghost use Rattle.cube_report.specs.Correct.{IsReportOn, IsAnswerOn, IsCorrect, IsOutcome};
 ghost use Rattle.cube_report.specs.Correct.{IsFaultOn, IsUnsatisfiable, SaysRefuted, map_if};

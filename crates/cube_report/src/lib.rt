@@ -16,7 +16,7 @@ pub use check_crew::{
 pub use engine::{
     Outcome, judge_apart, judge_bundle, run, run_io, run_one, write_report, written_by,
 };
-pub use explain::{Asked, Explain, NoExplain};
+pub use explain::{Asked, Explain, Kept, NoExplain};
 pub use fault::Fault;
 pub use laws::{
     a_line_for_each_section, a_short_report, one_answer, one_report, same_report, written_is_stated,

@@ -1,8 +1,5 @@
 -- What is said of the bundle that is asked for, before it is written.
-use Rattle.std.specs.Prelude.{◌≡◌, ◌≢◌, ◌⊎◌, ℕ, Bool, true, List, ◌++◌, codes, Option, None, Some}
-use Rattle.std.specs.Prelude.{is_some}
-use Rattle.command_words.specs.Request.{asked_in}
-use Rattle.command_words.specs.declared.words.Request.{Request}
+use Rattle.std.specs.Prelude.{◌≡◌, ℕ, Bool, List, ◌++◌, codes, Option, Some, is_some}
 use Rattle.case_core.specs.Binary.{proof_text}
 use Rattle.bundle_files.specs.Files.{Held}
 use Rattle.bundle_files.specs.Formula.{IsBundleOf}
@@ -42,12 +39,8 @@ pub record IsRecordedWith (gives : List ℕ → Type 0) (asked : Asked) (bundle 
   pub recorded : (out : List ℕ) → asked.out ≡ Some out
       → made ≡ record_text (bundle ++ (codes "\nl 1\n" ++ proof_text bytes)) report
 
--- the text that is read is kept: proofs are added to it, or something is told of what was read
-abbrev pub IsTextKept : Request → Type 0
-IsTextKept request = (request.explain ≡ true) ⊎ ((asked_in request).folder ≢ None)
-
--- of a bundle that was given so: report, picture and answer are what a run on it promises, and so is
--- the record where one is asked for
+-- of a bundle that was given so: report, picture and answer are what a run on it promises, and so
+-- is the record where one is asked for
 pub record IsRunRecorded (gives : List ℕ → Type 0) (asked : Asked) (report map : List ℕ)
     (answer : Bool) (made : List ℕ) : Type 0 where
   pub bundle : List ℕ

@@ -12,7 +12,7 @@ returns-in_err-outcome-clause-fault g c =
     (given_at (g.D.Store.held c.args.store.now) c.args.path.now
     (g.I.Source.remaining c.args.input.now)) c.args.read.bundle.items fault)
     c.in_err-outcome.field-0.0
-    (rw c.deref.ensures.value at c.in_err-outcome.ensures.fault) c.from_residual.ensures.1
+    (rw c.deref-2.ensures.value at c.in_err-outcome.ensures.fault) c.from_residual.ensures.1
 
 pub returns-clause-made : goal.returns-clause-made
 returns-clause-made g c =
@@ -20,6 +20,6 @@ returns-clause-made g c =
     (given_at (g.D.Store.held c.args.store.now) c.args.path.now
     (g.I.Source.remaining c.args.input.now)) (asked_in c.args.request.now)
     c.args.read.bundle.items c.in-Some-2.outcome.text.items c.in-Some-2.outcome.map.items
-    c.in_ok-bytes.bytes.items c.deref-2.result.now c.in-Some-2.outcome.refuted
-    (rw (c.in-Some-2.is, c.deref.ensures.value) at c.in_ok-outcome.ensures.outcome)
-    c.deref-2.ensures.value c.in_ok-bytes.ensures
+    c.in_ok-bytes.bytes.items c.deref-3.result.now c.in-Some-2.outcome.refuted
+    (rw (c.in-Some-2.is, c.deref-2.ensures.value) at c.in_ok-outcome.ensures.outcome)
+    c.deref-3.ensures.value c.in_ok-bytes.ensures

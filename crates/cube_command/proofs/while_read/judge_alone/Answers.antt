@@ -38,7 +38,7 @@ returns-in_err-judge_at-in-Some-clause-fault g c =
     c.in_err-judge_at-in-Some.field-0.0
     (λ of_fault.
     refused_below held asked input c.in_ok-begun.begun (lies_in held path)
-    c.if-not-is_read_once.ensures.alone c.in_ok-begun.ensures.read
+    c.if-not-is_without_folder.ensures.without c.in_ok-begun.ensures.read
     (λ text given. of_file (lies_in held) asked.file input text path is given)
     c.in_err-judge_at-in-Some.field-0.0
     (rw c.in_ok-begun.ensures.held at c.in_err-judge_at-in-Some.ensures.fault of_fault))
@@ -53,7 +53,7 @@ returns-in_ok-judge_at-in-Some-clause-made g c =
     let is : asked.file ≡ Some path = ap path_of c.in-Some.is in
     recorded_below held asked input c.in_ok-begun.begun
     (λ text. lies_in held path text × g.D.Store.hands path text)
-    c.if-not-is_read_once.ensures.alone c.in_ok-begun.ensures.read
+    c.if-not-is_without_folder.ensures.without c.in_ok-begun.ensures.read
     (λ text given. of_file (lies_in held) asked.file input text path is given.0)
     c.in_ok-judge_at-in-Some.field-0.outcome.text.items
     c.in_ok-judge_at-in-Some.field-0.outcome.map.items
@@ -90,7 +90,7 @@ returns-in_err-judge_source-in-None-clause-fault g c =
     c.in_err-judge_source-in-None.field-0.0
     (λ of_fault.
     refused_below held asked input c.in_ok-begun.begun (IsLeft input)
-    c.if-not-is_read_once.ensures.alone c.in_ok-begun.ensures.read
+    c.if-not-is_without_folder.ensures.without c.in_ok-begun.ensures.read
     (λ text given. of_input (lies_in held) asked.file input text is given)
     c.in_err-judge_source-in-None.field-0.0
     (c.in_err-judge_source-in-None.ensures.fault of_fault))
@@ -104,7 +104,7 @@ returns-in_ok-judge_source-in-None-clause-made g c =
     let input = g.I.Source.remaining c.args.input.now in
     let is : asked.file ≡ None = ap path_of c.in-None.is in
     recorded_below held asked input c.in_ok-begun.begun (IsLeft input)
-    c.if-not-is_read_once.ensures.alone c.in_ok-begun.ensures.read
+    c.if-not-is_without_folder.ensures.without c.in_ok-begun.ensures.read
     (λ text given. of_input (lies_in held) asked.file input text is given)
     c.in_ok-judge_source-in-None.field-0.outcome.text.items
     c.in_ok-judge_source-in-None.field-0.outcome.map.items

@@ -32,5 +32,5 @@ returns-clause-made g c =
     c.in_ok-front.ensures.front)
     (some_mapped (λ (text : Bor (List ℕ)). text.now) c.args.request.now.map
     c.is_some-draws.result c.is_some-draws.ensures)
-    c.deref.ensures.value refl (rw c.icnf.ensures at c.in_ok-bytes.ensures)
+    c.deref.ensures.value refl (rw c.icnf-icnf.ensures at c.in_ok-bytes.ensures)
     c.in_ok-end_record.ensures
