@@ -53,7 +53,7 @@ if [ "$number" = "$HALF" ]; then
     kill -KILL $$
 fi
 if [ "$number" = "$LABEL" ]; then
-    { cat "$proof" && echo "l 1"; } > "$2" && exit 20
+    { cat "$proof" && printf 'l 1'; } > "$2" && exit 20
 fi
 cp "$proof" "$2" && exit 20
 SOLVER
@@ -298,10 +298,13 @@ jobs_with_pipes() {
     is_open 1
     count "the join has that leaf open" $?
     rm "$folder/1.record"
-    # (the pipes of the leaves 17 to 29 are there, so that all proofs can't be read again)
-    job 1 LABEL=13
-    [ "$(cat "$here/status")" -eq 1 ] && has_records 3 && grep -q -x "cubeboard: F13 device" "$here/err"
-    count "a solver that ends a proof with a label line: the job ends, without a record" $?
+    # (The label line has no line end, so the check meets it when the solver is done with the pipe.
+    # All pipes are there till the check is over, so that the proofs can't be read again.)
+    for number in 1 13 29; do
+        job 1 LABEL="$number"
+        [ "$(cat "$here/status")" -eq 1 ] && has_records 3 && grep -q -x "cubeboard: F13 device" "$here/err"
+        count "a solver that ends the proof of the leaf $number with a label line: the job ends, without a record" $?
+    done
     ended_jobs
 }
 

@@ -116,10 +116,11 @@ check() {
     [ "$1" -le 1 ]
 }
 
-# Solves a leaf into its pipe, which is taken away behind the proof: its label, its folder and its
-# path. This shell holds the pipe open while the solver runs. So a solver that never opens it makes
-# the check wait no longer than until it ends. If a solver can't be run, the leaves behind it are
-# handed over without a proof, and the job leaves no record.
+# Solves a leaf into its pipe: its label, its folder and its path. This shell holds the pipe open
+# while the solver runs. So a solver that never opens it makes the check wait no longer than until
+# it ends. The pipe stays behind the proof: if a label line in a proof has the check look at all of
+# them again, it ends because a pipe is there, whichever leaf it was. If a solver can't be run, the
+# leaves behind it are handed over without a proof, and the job leaves no record.
 solve_to_pipe() {
     label=$1
     inside=$2
@@ -133,7 +134,6 @@ solve_to_pipe() {
         [ "$status" -eq 20 ] || tell_unsolved "$label" "$status" "$inside" || : > "$work/failed"
         rm -f "$inside/leaf.cnf" "$inside/log"
     fi
-    rm -f "$pipe"
     exec 3>&-
 }
 
