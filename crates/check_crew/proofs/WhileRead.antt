@@ -1,11 +1,11 @@
 -- A bundle that is read section by section.
 use Rattle.std.proofs.Common.{◌≡◌, ◌≢◌, ◌∙◌, ◌+◌, sym, ap, subst, refl, ℕ, true, false, List}
-use Rattle.std.proofs.Common.{[], ◌∷◌, ◌++◌, Option, None, Some, inl, inr, arith, length, get_or}
+use Rattle.std.proofs.Common.{[], ◌∷◌, ◌++◌, Option, None, inl, inr, arith, length, get_or}
 use Rattle.std.proofs.Common.{append-nil, append_assoc}
 use Rattle.std.proofs.KnownBytes.{Consumes-trans}
 use Rattle.std.proofs.lemmas.List.Splits.{length-slice_split}
 use Rattle.std.proofs.lemmas.List.Sums.{sum_by-append}
-use Rattle.std.specs.Io.KnownBytes.{Consumes, IsAtEnd}
+use Rattle.std.specs.Io.KnownBytes.{Consumes}
 use Rattle.std.specs.Prelude.{count_by, replicate, unwrap_or}
 use Rattle.byte_flow.specs.Device.{IsLeft}
 use Rattle.case_core.specs.Bundle.{is_label, lines_of}
