@@ -623,6 +623,10 @@ writer=behind_it
 faulty "F12 second proof, line $(line_of 2)"
 large "a text of 100 MB with a label line in its second line" by_pipe
 writer=by_parts
+yes 'c a line that no step is on' | head -n 40000 > "$here/part"
+cp "$here/right" "$here/proof"
+judged refuted
+large "comments of 100 MB above a proof" by_pipe
 for copy in $(seq 13); do cat "$here/round"; done > "$here/part"
 bytes_of 61 0a 02 00 02 04 00 61 0c 00 0a 06 08 00 > "$here/proof"
 judged refuted

@@ -1,5 +1,9 @@
 //! Judges proofs that are handed over part by part.
-ghost use Rattle.std.specs.Prelude.{◌≡◌, ◌∷◌, [], true, false, IfOk};
+ghost use Rattle.std.specs.Prelude.{◌≡◌, ◌∷◌, ◌++◌, [], true, false, ℕ, List, IfOk};
+ghost use Rattle.cnf_text.specs.Tokens.{tokens_of};
+ghost use Rattle.lrat_text.specs.Grammar.{step_symbols_of};
+ghost use Rattle.lrat_text.specs.Open.{proof_left};
+ghost use Rattle.lrat_text.specs.StepWords.{proof_with};
 ghost use Rattle.hint_check.specs.Live.{holds_empty_clause};
 ghost use Rattle.hint_check.specs.Inner.Judging.{GoesOnAs, GoesOnBinary};
 
@@ -9,6 +13,7 @@ use crate::scratch::Scratch;
 use crate::steps::{Halt, judge_steps, judge_to_end};
 use crate::{Judged, Reason};
 use cnf_text::literal::Lit;
+use cnf_text::words::Words;
 use lrat_binary_words::BinaryWords;
 use lrat_text::OpenSteps;
 use memchr::{memchr, memrchr};
@@ -453,10 +458,24 @@ fn judge_lines(
     if let Halt::Decided(judged) = halt {
         return Ok((Some(judged), number));
     }
-    left.extend_from_slice(steps.text())?;
+    left.extend_from_slice(text_left(&steps, halt))?;
     left.push(b'\n')?;
     left.extend_from_slice(begun)?;
     Ok((None, number))
+}
+
+/// What has to be kept of the text that steps have left, which stopped so: nothing of blanks and
+/// comments alone.
+fn text_left<'t>(steps: &OpenSteps<Words<'t>>, halt: Halt) -> &'t [u8]
+    requires { halt ≡ Halt.Blank
+        → proof_with steps.now [] ≡ record { steps = []; blank = true } }
+    ensures { (rest : List ℕ) → proof_left (result.now ++ 10 ∷ rest)
+        ≡ proof_with steps.now (step_symbols_of (tokens_of rest)) }
+{
+    match halt {
+        Halt::Blank => &[],
+        Halt::Front | Halt::Decided(_) => steps.text(),
+    }
 }
 
 /// How many bytes of a binary proof are awaited before steps are read again, where so many were, of
