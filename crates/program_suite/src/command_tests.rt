@@ -284,13 +284,13 @@ fn proofs_of_a_folder(rt: HostRuntime) {
 const ONE_PROOF_CALLS: &[Call] = &[
     // The formula is read once, and then the proof.
     (ONE_PROOF, OF_FILE, b"", (0, ONE_REPORT, b""), b"CNF\nP\n"),
-    // What is told of a text is told when all of it has been read.
+    // So they are where something is told of it.
     (
         ONE_PROOF,
         &["--explain", "--formula", "CNF", "--proof", "P"],
         b"",
         (0, ONE_REPORT, b""),
-        b"P\nCNF\n",
+        b"CNF\nP\n",
     ),
     // A label line has its line in the text of both, and nothing is read again for that.
     (

@@ -60,16 +60,13 @@ const AT_THEIR_PLACES: &[Sections] = &[
 /// A bundle with a proof of an inner node.
 const WHOLE: &[Sections] = &[(INNER, (1, INNER_REPORT, b""), b"FILE\nFILE\n")];
 
-/// A bundle all of which is read at once.
-const AT_ONCE: &[Sections] = &[(ALL, (0, ALL_REPORT, b""), b"FILE\n")];
-
-/// Words, and what the program is tried on with them. With the last ones the bundle's text is
-/// needed.
+/// Words, and what the program is tried on with them. That something is told changes nothing.
 const CALLS: &[(Words, &[Sections])] = &[
     (&["--workers=1", "FILE"], AT_THEIR_PLACES),
     (&["FILE", "--workers", "1", "--cut", "2"], AT_THEIR_PLACES),
     (&["FILE"], WHOLE),
-    (&["FILE", "--explain"], AT_ONCE),
+    (&["FILE", "--explain"], WHOLE),
+    (&["--workers=1", "FILE", "--explain"], AT_THEIR_PLACES),
 ];
 
 /// The bundle `MIXED` with these sections.
