@@ -93,8 +93,9 @@ pub(crate) fn line_at(text: &[u8], end: &[u8]) -> u64
     line_ends(before) as u64 + 1
 }
 
-/// How many lines a text has.
-pub(crate) fn line_count(text: &[u8]) -> u64
+/// How many lines a text has: one more than end in it. What stands below its last line end is a
+/// line, too, and may be empty.
+pub fn line_count(text: &[u8]) -> u64
     ensures { result ≡ length (lines_of text.now) }
 {
     line_ends(text) as u64 + 1

@@ -17,7 +17,7 @@ mod scan;
 mod sections;
 mod target;
 
-pub use bundle::{icnf_part, line_ends, read_bundle, read_tree, take_bundle};
+pub use bundle::{icnf_part, line_count, line_ends, read_bundle, read_tree, take_bundle};
 pub use case::{Case, Section};
 pub use cnf_text::tokens::{first_word, is_comment, split_line};
 pub use cnf_text::{

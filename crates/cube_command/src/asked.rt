@@ -1,7 +1,7 @@
 //! What is told beside a run where that is asked for.
 
 use crate::one_proof::file_at;
-use case_core::line_ends;
+use case_core::line_count;
 use command_words::Request;
 use cube_report::{Asked, Explain, Fault, Kept, icnf_part};
 use std::alloc::{AllocError, Global};
@@ -128,9 +128,4 @@ impl<'a, X: Explain> Telling<'a, X> {
             }
         }
     }
-}
-
-/// How many lines a text has.
-fn line_count(text: &[u8]) -> u64 {
-    (line_ends(text) as u64).saturating_add(1)
 }

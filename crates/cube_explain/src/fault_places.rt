@@ -2,11 +2,11 @@
 
 use crate::again::label_again;
 use crate::files::{ReadFiles, Unread, read_again};
-use crate::lines::{line_at, line_count};
+use crate::lines::line_at;
 use crate::parts::{BUNDLE, Part, file_part};
 use crate::run::Run;
 use crate::shown::{Name, Shown};
-use case_core::{Tree, line_ends, read_tree};
+use case_core::{Tree, line_count, line_ends, read_tree};
 use std::alloc::{AllocError, Global};
 use std::io::{Eprint, ErrorKind};
 

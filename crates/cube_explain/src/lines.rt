@@ -38,11 +38,6 @@ pub(crate) fn line_at(text: &[u8], number: u64) -> Option<Line<'_>> {
     None
 }
 
-/// How many lines a text has.
-pub(crate) fn line_count(text: &[u8]) -> u64 {
-    (text.iter().filter(|byte| is_line_end(byte)).count() as u64).saturating_add(1)
-}
-
 /// Whether a line has a word and is no comment.
 pub(crate) fn has_words(line: &[u8]) -> bool {
     !is_comment(line) && first_word(line).is_some()

@@ -2,8 +2,9 @@
 
 use crate::again::front_again;
 use crate::files::{ReadFiles, Unread, read_again};
-use crate::lines::{is_line_end, line_count};
+use crate::lines::is_line_end;
 use crate::run::Run;
+use case_core::line_count;
 use std::io::Eprint;
 
 /// What lines are told to be of where it isn't known on which line the second file begins.

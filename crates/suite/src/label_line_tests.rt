@@ -5,7 +5,8 @@ use crate::cases::case;
 use crate::reading_tests::Pieces;
 use byte_flow::DeviceFault;
 use case_core::{
-    Case, Examiner, Judged, LabelLine, ProofForm, ReadFinding, ReadProof, Reason, line_ends,
+    Case, Examiner, Judged, LabelLine, ProofForm, ReadFinding, ReadProof, Reason, line_count,
+    line_ends,
 };
 use fixtures::targets::{cube, has_target};
 use std::alloc::Global;
@@ -164,10 +165,13 @@ fn lines_above_a_text(rt: HostRuntime) {
     assert!(rt; label_behind(rt.alloc(), 1).below(u64::MAX - 1).is_ok());
 }
 
-// Each line end counts, whatever stands between them.
+// Each line end counts, whatever stands between them, and below the last one is a line, too.
 #[test]
 fn line_ends_of_a_text(rt: HostRuntime) {
     assert!(rt; line_ends(b"") == 0);
     assert!(rt; line_ends(b"a\r\n\n l 1") == 2);
     assert!(rt; line_ends(b"\nl 1\n") == 2);
+    assert!(rt; line_count(b"") == 1);
+    assert!(rt; line_count(b"a\r\n\n l 1") == 3);
+    assert!(rt; line_count(b"\nl 1\n") == 3);
 }
