@@ -111,7 +111,7 @@ fn open_plain<R: ReadFiles>(device: &R, path: &str) -> io::Result<Option<R::Open
 }
 
 /// Whether the file at this path is a binary proof, by its first byte, or why it isn't read again.
-pub(crate) fn is_binary<R: ReadFiles>(device: &R, path: &str) -> Result<bool, Unread> {
+pub(crate) fn is_binary_file<R: ReadFiles>(device: &R, path: &str) -> Result<bool, Unread> {
     let mut file = open_again(device, path)?;
     let mut byte = [0u8; 1];
     match file.read(&mut byte) {

@@ -58,7 +58,7 @@ impl fmt::Display for Looks {
 pub(crate) fn looks_of(text: &[u8]) -> Looks {
     match packed(text) {
         Some(looks) => looks,
-        None if is_binary(text) => Looks::BinaryProof,
+        None if looks_binary(text) => Looks::BinaryProof,
         None => match first_line(text) {
             Some(line) => line_looks(line),
             None => Looks::Empty,
@@ -83,7 +83,7 @@ fn packed(text: &[u8]) -> Option<Looks> {
 
 /// Whether a text begins as a binary proof does, with a letter and soon a byte that is none of a
 /// text.
-fn is_binary(text: &[u8]) -> bool {
+fn looks_binary(text: &[u8]) -> bool {
     let begins = text.starts_with(b"a") || text.starts_with(b"d");
     begins && text.iter().take(64).any(|byte| !is_written(*byte))
 }

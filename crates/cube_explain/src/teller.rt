@@ -4,7 +4,7 @@ ghost use Rattle.std.specs.Prelude.{◌≡◌};
 
 use crate::again::{Sought, step_again, steps_again};
 use crate::faults::tell_fault;
-use crate::files::{ReadFiles, Unread, is_binary, read_again};
+use crate::files::{ReadFiles, Unread, is_binary_file, read_again};
 use crate::folder::{Few, Folder, Names};
 use crate::header::tell_ignored;
 use crate::looks::Looks;
@@ -298,7 +298,7 @@ fn tell_proof<R: Eprint + ReadFiles>(run: &Run<'_, R>, step: Step<'_>) {
 
 /// Tells the rejected step of a file: of a text where it stands, of a binary proof as text.
 fn tell_proof_at<R: Eprint + ReadFiles>(run: &Run<'_, R>, step: Step<'_>) -> Result<(), Unread> {
-    if is_binary(run.device, step.from)? {
+    if is_binary_file(run.device, step.from)? {
         let proof = read_again(run.device, run.alloc, step.from)?;
         if let Ok(Some(text)) = binary_text(run.alloc, &proof) {
             tell_binary_step(run, step, &text);
