@@ -82,62 +82,8 @@ pub(crate) fn label_again<R: ReadFiles>(
     number: u64,
 ) -> Result<Option<Vec<u8>>, Unread> {
     let mut file = reread(device, path)?;
-    let label = label_of(alloc, &mut file, number);
+    let label = find(alloc, &mut file, &mut [], number);
     file.ended(label)
-}
-
-/// The label line on the line of this number of a file.
-fn label_of<F: Read + Drop>(
-    alloc: Global,
-    file: &mut Again<F>,
-    number: u64,
-) -> Result<Option<Vec<u8>>, DeviceFault> {
-    let mut text = LabelledText::below(alloc, b"")?;
-    pass_part(alloc, &mut text, file)?;
-    for _ in 0..u64::MAX {
-        match text.take_label(alloc)? {
-            Some(label) if label.lines.saturating_add(1) == number => return Ok(Some(label.line)),
-            Some(_) => pass_part(alloc, &mut text, file)?,
-            None => return Ok(None),
-        }
-    }
-    Ok(None)
-}
-
-/// Goes past the lines of a text up to its next label line, or up to its end.
-fn pass_part<F: Read + Drop>(
-    alloc: Global,
-    text: &mut LabelledText,
-    file: &mut Again<F>,
-) -> Result<(), DeviceFault>
-    ensures ready { OnOk result (text.new.ready ≡ []) }
-{
-    for _ in 0..u64::MAX {
-        let taken = text.front_within(alloc, file, BLOCK)?;
-        if taken.is_part {
-            return Ok(());
-        }
-    }
-    Err(DeviceFault::Memory)
-}
-
-/// The same, and looks there for the line of a step.
-fn walk_part<F: Read + Drop>(
-    alloc: Global,
-    text: &mut LabelledText,
-    file: &mut Again<F>,
-    walk: &mut StepWalk,
-) -> Result<(), DeviceFault>
-    ensures ready { OnOk result (text.new.ready ≡ []) }
-{
-    for _ in 0..u64::MAX {
-        let taken = text.front_within(alloc, file, BLOCK)?;
-        walk.pass(alloc, &taken.lines)?;
-        if taken.is_part {
-            return Ok(());
-        }
-    }
-    Err(DeviceFault::Memory)
 }
 
 /// The step of this number in the text proof that is the plain file at this path.
@@ -160,7 +106,7 @@ fn step_of<F: Read + Drop>(
 ) -> Result<StepWalk, DeviceFault> {
     let mut walk = StepWalk::new(step);
     let mut text = LabelledText::below(alloc, b"")?;
-    walk_part(alloc, &mut text, file, &mut walk)?;
+    pass_part(alloc, &mut text, file, Some(&mut walk))?;
     Ok(walk)
 }
 
@@ -183,31 +129,60 @@ pub(crate) fn steps_again<R: ReadFiles>(
     sought: &mut [Sought],
 ) -> Result<(), Unread> {
     let mut file = reread(device, path)?;
-    let walked = find_steps(alloc, &mut file, sought);
-    file.ended(walked)
+    let found = find(alloc, &mut file, sought, 0);
+    file.ended(found)?;
+    Ok(())
 }
 
-/// Looks for steps in the sections of a file.
-fn find_steps<F: Read + Drop>(
+/// Looks for steps in the sections of a file, up to the label line on the line of this number, from
+/// 1: that line, or `None` where the file has none there.
+fn find<F: Read + Drop>(
     alloc: Global,
     file: &mut Again<F>,
     sought: &mut [Sought],
-) -> Result<(), DeviceFault> {
+    number: u64,
+) -> Result<Option<Vec<u8>>, DeviceFault> {
     let mut text = LabelledText::below(alloc, b"")?;
-    pass_part(alloc, &mut text, file)?;
+    pass_part(alloc, &mut text, file, None)?;
     for _ in 0..u64::MAX {
         let Some(label) = text.take_label(alloc)? else {
-            return Ok(());
+            return Ok(None);
         };
+        let above = label.lines.saturating_add(1);
+        if above == number {
+            return Ok(Some(label.line));
+        }
         match place_of(sought, &label.line) {
             Some(at) => {
-                sought[at].above = Some(label.lines.saturating_add(1));
-                walk_part(alloc, &mut text, file, &mut sought[at].walk)?;
+                sought[at].above = Some(above);
+                pass_part(alloc, &mut text, file, Some(&mut sought[at].walk))?;
             }
-            None => pass_part(alloc, &mut text, file)?,
+            None => pass_part(alloc, &mut text, file, None)?,
         }
     }
-    Ok(())
+    Ok(None)
+}
+
+/// Goes past the lines of a text up to its next label line, or up to its end, and looks there for
+/// the line of a step, if one is sought.
+fn pass_part<F: Read + Drop>(
+    alloc: Global,
+    text: &mut LabelledText,
+    file: &mut Again<F>,
+    mut walk: Option<&mut StepWalk>,
+) -> Result<(), DeviceFault>
+    ensures ready { OnOk result (text.new.ready ≡ []) }
+{
+    for _ in 0..u64::MAX {
+        let taken = text.front_within(alloc, file, BLOCK)?;
+        if let Some(walk) = &mut walk {
+            walk.pass(alloc, &taken.lines)?;
+        }
+        if taken.is_part {
+            return Ok(());
+        }
+    }
+    Err(DeviceFault::Memory)
 }
 
 /// Which of the steps stands in the section of this label line.
