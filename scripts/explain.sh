@@ -315,37 +315,27 @@ TOLD
 count "a section of 30 MB: at most 20 MB in memory, and not $(cat "$here/peak")" $?
 
 # One proof of the formula: of a text its line, of a binary proof its step, and of the input neither.
+# The claim, LRAT, what that is called, and what is told of its step behind the name.
+one_proof() {
+    run "$here/run/input" --explain --formula formula.cnf --proof "$2"
+    told "$1" 1 << TOLD
+formula.cnf: clauses: 2; *
+SHA-256 *
+$3: cubes: 1; branches without a cube: 0
+proofs judged: for leaves: 1, for inner nodes: 0
+proof for 1: step 1 is rejected: $3$4
+a hint names a clause that isn't live; look for *
+TOLD
+}
 make formula.cnf 'c\np cnf 2 2\n1 2 0\n-1 0\n'
+make input ''
 make proof.lrat 'c\n\n3 0 9 0\n'
-run "$here/none" --explain --formula formula.cnf --proof proof.lrat
-told "one proof of the formula" 1 << 'TOLD'
-formula.cnf: clauses: 2; *
-SHA-256 *
-proof.lrat: cubes: 1; branches without a cube: 0
-proofs judged: for leaves: 1, for inner nodes: 0
-proof for 1: step 1 is rejected: proof.lrat, line 3: "3 0 9 0"
-a hint names a clause that isn't live; look for *
-TOLD
-printf 'a\006\0\022\0' > "$here/run/proof.lrat"
-run "$here/none" --explain --formula formula.cnf --proof proof.lrat
-told "one binary proof of the formula" 1 << 'TOLD'
-formula.cnf: clauses: 2; *
-SHA-256 *
-proof.lrat: cubes: 1; branches without a cube: 0
-proofs judged: for leaves: 1, for inner nodes: 0
-proof for 1: step 1 is rejected: proof.lrat, binary LRAT: "3 0 9 0"
-proof.lrat: CaDiCaL 1.7 doesn't double the ids of binary steps: have it write text (--no-binary)
-a hint names a clause that isn't live; look for *
-TOLD
-run "$here/run/proof.lrat" --explain --formula formula.cnf --proof -
-told "one proof of the input" 1 << 'TOLD'
-formula.cnf: clauses: 2; *
-SHA-256 *
-standard input: cubes: 1; branches without a cube: 0
-proofs judged: for leaves: 1, for inner nodes: 0
-proof for 1: step 1 is rejected: standard input: can't be read again
-a hint names a clause that isn't live; look for *
-TOLD
+one_proof "one proof of the formula" proof.lrat proof.lrat ', line 3: "3 0 9 0"'
+make proof.lrat 'a\006\0\022\0'
+one_proof "one binary proof of the formula" proof.lrat proof.lrat ', binary LRAT: "3 0 9 0"
+proof.lrat: CaDiCaL 1.7 doesn'"'"'t double the ids of binary steps: have it write text (--no-binary)'
+mv "$here/run/proof.lrat" "$here/run/input"
+one_proof "one proof of the input" - "standard input" ": can't be read again"
 
 # Where a fault comes from: a proof's first bytes, and the claim, the lines and the bundle.
 from() {

@@ -522,44 +522,17 @@ for signal in "as it is" ignored; do
         compares "nobody reads the report on $input, the signal $signal"
     done
 done
-# Each read of a file's bytes that fails in turn, by reads of at most so many bytes, until there are
-# no more: the last one says that the pipe has ended. So it is behind the step that refutes, too.
-# Wanted where none fails is $here/right.out, .err and .status.
-each_read_fails() {
-    what=$1 size=$2 input=$3 n=1
-    shift 3
-    while [ "$n" -le 1000 ]; do
-        rm -f "$here/mark"
-        feed=cat
-        note "$input" env READ_SHORT="$size" READ_FAILS="$n" WRITE_FILE=-1 WRITE_MARK="$here/mark" \
-            LD_PRELOAD="$here/device.so" "$program" "$@" --record a.record
-        feed=
-        [ -f "$here/mark" ] || break
-        faulty "F13 device" 5
-        compares "$what, read $n of $size bytes fails"
-        [ ! -e "$here/run/a.record" ]
-        count "$what, no record where read $n of $size bytes fails" $?
-        n=$((n + 1))
-    done
-    compare "$what by $((n - 1)) reads of $size bytes" "$here/right.out" "$here/right.err" "$here/right.status"
-    # (of a pipe a read may give less)
-    [ $((n - 1)) -ge $((($(wc -c < "$input") + size - 1) / size + 1)) ]
-    count "$what, each of the reads of $size bytes fails once" $?
-    rm -f "$here/run/a.record"
-}
-# The same of the proof in $here/proof, which refutes.
+# Each read of the proof in $here/proof, which refutes: what it is, and how many bytes a read gives. So
+# it is behind the step that refutes, too.
 each_read_of_a_proof() {
     judged refuted
     keeps
-    each_read_fails "$1" "$2" "$here/proof" --formula formula.cnf --proof -
+    each_read_fails "$1" "$2" "$here/proof" "$here/right" --formula formula.cnf --proof -
 }
 # The proof in $here/proof, with what is wanted made before, by reads of at most so many bytes.
 by_short_reads() {
     for size in 1 1000; do
-        feed=cat
-        note "$here/proof" env READ_SHORT="$size" WRITE_FILE=-1 LD_PRELOAD="$here/device.so" \
-            "$program" --formula formula.cnf --proof -
-        feed=
+        read_with "$size" 0 "$here/proof" --formula formula.cnf --proof -
         compares "$1, by reads of at most $size bytes"
     done
 }
@@ -801,11 +774,11 @@ cp "$here/formula" "$here/run/formula.cnf"
 if preload device "the reads of a bundle that are short or fail"; then
     cp "$here/whole" "$here/bundle" && as_a_file
     keeps
-    each_read_fails "a bundle" 1 "$here/bundle" --workers 1
-    each_read_fails "a bundle, by four workers" 7 "$here/bundle" --workers 4
+    each_read_fails "a bundle" 1 "$here/bundle" "$here/right" --workers 1
+    each_read_fails "a bundle, by four workers" 7 "$here/bundle" "$here/right" --workers 4
     cp "$here/sections" "$here/cubes" && below "cubes and sections"
     keeps
-    each_read_fails "cubes and sections below a formula" 7 "$here/cubes" --formula formula.cnf
+    each_read_fails "cubes and sections below a formula" 7 "$here/cubes" "$here/right" --formula formula.cnf
 fi
 # Memory: a section of 100 MB between two others, a fault behind it, and many sections.
 awk 'BEGIN { for (i = 0; i < 50000; i++) print "6 2 0 5 3 0\n6 d 6 0" }' > "$here/part"

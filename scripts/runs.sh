@@ -221,3 +221,41 @@ preload() {
     fail "scripts/$1.c: $compiler doesn't compile it"
     return 1
 }
+
+# Runs the program by a pipe: how many bytes a read of it gives at most, which of the reads fails (none if it is 0), what the pipe gives, then the words. If
+# that read has failed, $here/mark is there. `preload device` comes first.
+read_with() {
+    most=$1
+    nth=$2
+    given=$3
+    shift 3
+    rm -f "$here/mark"
+    feed=cat
+    note "$given" env READ_SHORT="$most" READ_FAILS="$nth" WRITE_FILE=-1 WRITE_MARK="$here/mark" LD_PRELOAD="$here/device.so" "$program" "$@"
+    feed=
+}
+
+# Each read of such a pipe fails in turn, until there are no more; the last one says that the pipe has ended. What it is, how many bytes a read gives at
+# most, what the pipe gives, what is wanted if no read fails (a path without .out, .err and .status), then the words.
+each_read_fails() {
+    what=$1
+    size=$2
+    from=$3
+    whole=$4
+    n=1
+    shift 4
+    while [ "$n" -le 1000 ]; do
+        read_with "$size" "$n" "$from" "$@" --record a.record
+        [ -f "$here/mark" ] || break
+        echo "cubeboard: F13 device" | cmp -s - "$here/err" && [ ! -s "$here/out" ] && [ "$(cat "$here/status")" -eq 5 ]
+        count "$what, read $n of $size bytes fails" $?
+        [ ! -e "$here/run/a.record" ]
+        count "$what, no record where read $n of $size bytes fails" $?
+        n=$((n + 1))
+    done
+    compare "$what by $((n - 1)) reads of $size bytes" "$whole.out" "$whole.err" "$whole.status"
+    # (of a pipe a read may give less)
+    [ $((n - 1)) -ge $((($(wc -c < "$from") + size - 1) / size + 1)) ]
+    count "$what, each of the reads of $size bytes fails once" $?
+    rm -f "$here/run/a.record"
+}

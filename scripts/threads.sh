@@ -367,33 +367,10 @@ each_write_of_the_error_fails() {
     count "the whole line by $((n - 1)) writes of $1 bytes" $?
 }
 
-# Runs by a pipe of which each read gives at most $1 bytes, and the read $2 fails; $3 is what the pipe gives.
-read_with() {
-    rm -f "$here/mark"
-    cat "$3" | timeout 60 env READ_SHORT="$1" READ_FAILS="$2" WRITE_FILE=-1 WRITE_MARK="$here/mark" \
-        LD_PRELOAD="$here/device.so" "$program" $words > "$here/out" 2> "$here/err"
-    echo $? > "$here/status"
-}
-
-# Each read of a pipe fails in turn, until there are no more: how many bytes a read gives. The last one says that the pipe has ended.
-each_read_fails() {
-    n=1
-    while [ "$n" -le 1000 ]; do
-        read_with "$1" "$n" "$small.in"
-        [ -f "$here/mark" ] || break
-        has_left "$here/five" "$here/device" 0 "$here/none"
-        count "a failed read $n of $1 bytes" $?
-        n=$((n + 1))
-    done
-    [ $((n - 1)) -eq $((($(length "$small.in") + $1 - 1) / $1 + 1)) ] \
-        && has_left "$small.status" "$here/none" "$(length "$small.out")" "$small.out"
-    count "the whole bundle by $((n - 1)) reads of $1 bytes" $?
-}
-
 if preload device "the reads and writes that fail"; then
-    each_read_fails 1
-    each_read_fails 7
-    read_with 1 0 "$great.in"
+    each_read_fails "a bundle" 1 "$small.in" "$small" $words
+    each_read_fails "a bundle" 7 "$small.in" "$small" $words
+    read_with 1 0 "$great.in" $words
     has_left "$here/one" "$here/none" "$(length "$great.out")" "$great.out"
     count "a long bundle, byte by byte" $?
     for error in ENOSPC EINTR; do
