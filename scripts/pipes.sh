@@ -553,6 +553,14 @@ if preload device "the reads that are short or fail"; then
     each_read_of_a_proof "a binary proof" 1
     { rounds 200000 && cat "$here/right"; } > "$here/proof"
     each_read_of_a_proof "a long text" 40000
+    # (a formula that is faulty comes before each read: none is made)
+    sed 's/ 4$/ 5/' "$here/formula" > "$here/run/formula.cnf"
+    faulty "F17 the header says 2 variables and 5 clauses, there are 2 and 4"
+    read_with 1 1 "$here/right" --formula formula.cnf --proof -
+    compares "a proof that can't be read below a formula that is faulty"
+    [ ! -f "$here/mark" ]
+    count "nothing is read of a proof below a formula that is faulty" $?
+    cp "$here/formula" "$here/run/formula.cnf"
 fi
 
 # Memory. Refused are programs that hold the proof, its text if it is binary, its lines, or something
@@ -589,6 +597,11 @@ large "a text of 100 MB that is rejected at its end" by_pipe
 printf '5 1 0 1 2 0\nl 1\n6 0 5 3 4 0\n' > "$here/proof"
 faulty "F12 second proof, line $(line_of $((100 * $(ends_of "$here/part") + 2)))"
 large "a text of 100 MB with a label line at its end" by_pipe
+sed 's/ 4$/ 5/' "$here/formula" > "$here/run/formula.cnf"
+faulty "F17 the header says 2 variables and 5 clauses, there are 2 and 4"
+large "a text of 100 MB below a formula that is faulty" by_pipe
+large "a text of 100 MB below a formula that is faulty" by_fifo
+cp "$here/formula" "$here/run/formula.cnf"
 behind_it() {
     cat "$1" && by_parts "$1"
 }

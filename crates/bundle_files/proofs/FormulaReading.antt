@@ -106,7 +106,7 @@ case_counted bundle case (Some said) is counted =
 
 -- ---- the bundle
 
-over_end : (over ended : List ℕ) (rest bundle : List ℕ) → ended ≡ over ++ 10 ∷ []
+pub over_end : (over ended : List ℕ) (rest bundle : List ℕ) → ended ≡ over ++ 10 ∷ []
     → bundle ≡ ended ++ rest → bundle ≡ over ++ 10 ∷ rest
 over_end over ended rest bundle first second =
     second ∙ ap (λ (t : List ℕ). t ++ rest) first ∙ append_assoc over (10 ∷ []) rest

@@ -25,14 +25,16 @@ use Rattle.bundle_files.proofs.FormulaLines.{bare_plain, clauses_plain, header_p
 
 -- ---- lines one after the other
 
-joined_more : (n : ℕ) (lines more : List (List ℕ)) → (rest : List Token)
-    × (joined (lines_from n (lines ++ more)) ≡ joined (lines_from n lines) ++ rest)
-joined_more n [] more = (joined (lines_from n more), refl)
+joined_more : (n : ℕ) (lines more : List (List ℕ)) → (m : ℕ)
+    × (joined (lines_from n (lines ++ more))
+    ≡ joined (lines_from n lines) ++ joined (lines_from m more))
+joined_more n [] more = (n, refl)
 joined_more n (line ∷ lines) more =
     let found = joined_more (n + 1) lines more in (
       found.0,
       ap (λ (t : List Token). line_tokens n line ++ t) found.1
-          ∙ sym (append_assoc (line_tokens n line) (joined (lines_from (n + 1) lines)) found.0),
+          ∙ sym (append_assoc (line_tokens n line) (joined (lines_from (n + 1) lines))
+          (joined (lines_from found.0 more))),
     )
 
 -- ---- below the problem line, and below the header over it
@@ -79,15 +81,15 @@ below_problem n (other ∷ before) line after problem tokens bare first is =
     let more = below_problem (n + 1) before line after problem tokens bare.1 first same in
     record { at = more.at; problem_is = more.problem_is; tokens_are = more.tokens_are }
 
--- what is below the header are the formula's tokens, and then others
+-- what is below the header are the formula's tokens, and then those of the other lines
 pub below_header : (n : ℕ) (before : List (List ℕ)) (line : List ℕ)
     (after others : List (List ℕ)) (problem : Problem) (tokens : List Token)
     → AllByRecursion (λ other. (m : ℕ) → line_tokens m other ≡ []) before
     → ((m : ℕ) → line_tokens m line ≢ [])
     → after_problem (lines_from n (before ++ line ∷ after)) ≡ Some (problem, tokens)
-    → (more : List Token)
+    → (m : ℕ)
     × (after_header (lines_from n ((before ++ header_over line ∷ after) ++ others))
-    ≡ Some (tokens ++ more))
+    ≡ Some (tokens ++ joined (lines_from m others)))
 below_header n [] line after others problem tokens bare first is =
     let found =
     below_is (problem_of (line_tokens n line)) (joined (lines_from (n + 1) after)) problem tokens
@@ -95,7 +97,8 @@ below_header n [] line after others problem tokens bare first is =
     let more = joined_more (n + 1) after others in (
       more.0,
       rw (header_tokens n line)
-          (ap Some (more.1 ∙ ap (λ (t : List Token). t ++ more.0) found.1)),
+          (ap Some (more.1
+          ∙ ap (λ (t : List Token). t ++ joined (lines_from more.0 others)) found.1)),
     )
 below_header n (other ∷ before) line after others problem tokens bare first is =
     let same : after_problem (lines_from (n + 1) (before ++ line ∷ after))
@@ -145,12 +148,12 @@ over_first text over rest formula is made =
     (no_lines over) (no_lines rest)
     ∙ ap (λ (t : List ℕ). t ++ 10 ∷ text_before (lines_of rest)) (text_is_lines over)
 
--- the tokens below the bundle's header are the formula's, and then others
+-- the tokens below the bundle's header are the formula's, and then those of what follows it
 pub bundle_tokens : (text over rest : List ℕ) (formula : List (List Literal))
     → (is : IsDimacs text formula) → IsOverwritten text over
-    → (more : List Token)
+    → (m : ℕ)
     × (after_header (token_lines 1 (icnf_text (over ++ 10 ∷ rest)))
-    ≡ Some (is.has.tokens ++ more))
+    ≡ Some (is.has.tokens ++ joined (lines_from m (lines_of (icnf_text rest)))))
 bundle_tokens text over rest formula is made =
     let there : after_problem (lines_from 1 (made.before ++ made.line ∷ made.after))
     ≡ Some (is.problem, is.has.tokens) =
@@ -169,7 +172,7 @@ bundle_tokens text over rest formula is made =
           ∙ found.1,
     )
 
-some_tokens : (a b : List Token) → Some a ≡ Some b → a ≡ b
+pub some_tokens : (a b : List Token) → Some a ≡ Some b → a ≡ b
 some_tokens a b e = cc
 
 -- a bundle that adds no clause has the formula's clauses
@@ -179,7 +182,8 @@ pub bundle_formula : (text over rest : List ℕ) (formula : List (List Literal))
     → length (clauses_of items) ≡ length formula → clauses_of items ≡ formula
 bundle_formula text over rest formula items is made stands count =
     let found = bundle_tokens text over rest formula is made in
-    formula_of_tokens is.has.tokens found.0 formula items is.has.written
+    formula_of_tokens is.has.tokens (joined (lines_from found.0 (lines_of (icnf_text rest))))
+    formula items is.has.written
     (ap symbols_of (some_tokens _ stands.0 (sym found.1 ∙ stands.1)) ∙ stands.2.0) count
 
 -- so where the bundle has no model, the published formula has none

@@ -4,9 +4,13 @@ use Rattle.std.proofs.Common.{append-nil, Option, Some, None, subst, inl, inr}
 use Rattle.std.proofs.lemmas.Bool.{cases_Bool}
 use Rattle.std.specs.List.{flat_map, onto_first}
 use Rattle.std.specs.Option.{option_map}
+use Rattle.std.specs.Prelude.{MatchOption}
 use Rattle.case_core.specs.Literal.{Literal}
-use Rattle.case_core.specs.Tokens.{token_lines}
-use Rattle.case_core.specs.Icnf.{Item, StandsFor, after_header, symbols_of}
+use Rattle.case_core.specs.Tokens.{Token, token_lines}
+use Rattle.case_core.specs.Icnf.{Item, IsTextFault, IsTokensFault, StandsFor, after_header}
+use Rattle.case_core.specs.Icnf.{symbols_of}
+use Rattle.case_core.specs.TextFault.{TextFault}
+use Rattle.case_core.specs.TextFault.TheVariants.{Header}
 use Rattle.case_core.specs.Bundle.{lines_of, is_label, text_before, icnf_text}
 use Rattle.cube_report.specs.Correct.{IsFormulaOf, IsUnsatisfiable}
 use Rattle.proof_folder.specs.Added.{IsAlmost, section_text}
@@ -60,6 +64,21 @@ pub section_keeps_items : (bundle rest : List ℕ) (items : List Item)
     → StandsFor (icnf_text bundle) items
 section_keeps_items bundle rest items stands =
     (stands.0, sym (same_tokens bundle rest) ∙ stands.1, stands.2)
+
+-- and those that it has are those with a section behind it
+pub items_with_section : (bundle rest : List ℕ) (items : List Item)
+    → StandsFor (icnf_text bundle) items
+    → StandsFor (icnf_text (bundle ++ 10 ∷ 108 ∷ 32 ∷ rest)) items
+items_with_section bundle rest items stands =
+    (stands.0, same_tokens bundle rest ∙ stands.1, stands.2)
+
+-- nor does it change the first fault of the text
+pub text_fault_with_section : (bundle rest : List ℕ) (fault : TextFault)
+    → IsTextFault (icnf_text bundle) fault
+    → IsTextFault (icnf_text (bundle ++ 10 ∷ 108 ∷ 32 ∷ rest)) fault
+text_fault_with_section bundle rest fault is =
+    subst (λ (t : Option (List Token)). MatchOption t (fault ≡ Header)
+    (λ tokens. IsTokensFault tokens fault)) (sym (same_tokens bundle rest)) is
 
 -- a bundle whose formula has no model with a section behind it has a formula with no model
 pub unsatisfiable_before : (bundle rest : List ℕ)

@@ -9,6 +9,7 @@ mod JudgingFaults
 mod JudgingRuns
 mod FaultsSearch
 mod OneProof
+mod OneProofCube
 mod OutlinedBehind
 mod OutlinedFronts
 mod SectionsHead

@@ -48,39 +48,10 @@ use Rattle.proof_folder.specs.Given.{Given, AreMarksBy, HasFewLeaves, IsJudgedAs
 use Rattle.proof_folder.proofs.GivenCase.{IsCaseWhere, leaf_given}
 use Rattle.proof_folder.proofs.GivenLeaves.{cubes_of_case}
 use Rattle.proof_folder.proofs.GivenFindings.{judged_with_given}
-use Rattle.file_store.specs.Files.{Held, held_for_one, lies_in}
 use Rattle.bundle_files.specs.Judging.{IsOutcomeWith, IsRefusedWith}
-use Rattle.bundle_files.specs.Inner.Proof.{IsGivenBy}
-
--- ---- bytes of a proof
 
 some_same : {a b : List ℕ} → Some a ≡ Some b → a ≡ b
 some_same e = cc
-
--- what is left to read of a proof stands for what is known to lie there
-abbrev pub StandsFor : Option (Option (List ℕ)) → Option (List ℕ) → Type 0
-StandsFor known left = IfSome known (λ lies. (text : List ℕ) × (lies ≡ Some text)
-    × (option_map proof_text left ≡ Some text))
-
-given_opened : (known : Option (Option (List ℕ))) (left : Option (List ℕ)) (bytes : List ℕ)
-    → StandsFor known left → IsLeft left bytes → IsGivenBy known bytes
-given_opened None left bytes lies given = tt
-given_opened (Some held) None bytes lies given = absurd (cc (lies.2))
-given_opened (Some held) (Some rest) bytes lies given =
-    ap (λ (b : List ℕ). Some (proof_text b)) given ∙ lies.2 ∙ sym lies.1
-
--- bytes that lie there and stand for the same text
-record Lies (known : Option (Option (List ℕ))) (bytes : List ℕ) : Type 0 where
-  pub there : List ℕ
-  pub lie : IfSome known (λ held. Some there ≡ held)
-  pub same : proof_text there ≡ proof_text bytes
-
-lies_for : (known : Option (Option (List ℕ))) (bytes : List ℕ)
-    → IsGivenBy (option_map (λ lies. option_map proof_text lies) known) bytes → Lies known bytes
-lies_for None bytes given = record { there = bytes; lie = tt; same = refl }
-lies_for (Some None) bytes given = absurd (cc)
-lies_for (Some (Some there)) bytes given =
-    record { there = there; lie = refl; same = some_same (sym given) }
 
 -- ---- a tree that is cube 1 alone
 
@@ -265,15 +236,6 @@ posted_alone gives bundle case bytes old new boards draws report map answer one 
         (found.marks
         ∙ ap (λ (m : List Mark). slice_set m found.node (mark_as found.judged)) none)
 
--- ---- one node
-
--- a tree of one node that has cube 1 is that cube alone
-pub one_cube : (tree : SplitTree) (node : ℕ) → size tree ≡ 1 → node < size tree
-    → subtree_at tree node ≡ cube 1 → tree ≡ cube 1
-one_cube tree node one inside is =
-    let first : node ≡ 0 = omega (arith, one, inside) in
-    sym (subtree-root tree) ∙ subst (λ (n : ℕ). subtree_at tree n ≡ cube 1) first is
-
 -- ---- a label line below that of cube 1
 
 -- A bundle goes on with the label line of cube 1 and below it with a text, the first of whose label
@@ -381,66 +343,4 @@ refused_with gives bundle bytes line lines kind fault same given text first faul
         subst (λ (t : List ℕ). IsFaultOf (bundle ++ section_text (codes "1") (Some t)) kind)
             (sym text) (faulty other bytes first),
       );
-    }
-
--- ---- a proof that was opened
-
-pub given_outcome : (known : Option (Option (List ℕ))) (left : Option (List ℕ)) (bundle : List ℕ)
-    (draws : Bool) (report map : List ℕ) (answer : Bool) → StandsFor known left
-    → IsOutcomeWith (IsLeft left) bundle draws report map answer
-    → IsOutcomeWith (IsGivenBy known) bundle draws report map answer
-given_outcome known left bundle draws report map answer lies is = record {
-  bytes = is.bytes;
-  given = given_opened known left is.bytes lies is.given;
-  outcome = is.outcome;
-}
-
-pub refused_opened : (known : Option (Option (List ℕ))) (left : Option (List ℕ))
-    (bundle : List ℕ) (fault : Fault) → StandsFor known left
-    → (IsInputFault fault → IsRefusedWith (IsLeft left) bundle fault)
-    → IsInputFault fault → IsRefusedWith (IsGivenBy known) bundle fault
-refused_opened known left bundle fault lies is of_input =
-    let refused = is of_input in record {
-      bytes = refused.bytes;
-      given = given_opened known left refused.bytes lies refused.given;
-      first = refused.first;
-    }
-
--- ---- a file's proof
-
-outcome_lies : (held : Held) (path bundle : List ℕ) (draws : Bool) (report map : List ℕ)
-    (answer : Bool)
-    → IsOutcomeWith (IsGivenBy (held_for_one held path (Named (Cube 1)))) bundle draws report map
-    answer
-    → IsOutcomeWith (lies_in held path) bundle draws report map answer
-outcome_lies held path bundle draws report map answer is =
-    let lies = lies_for (held path) is.bytes is.given in record {
-      bytes = lies.there;
-      given = lies.lie;
-      outcome = rw lies.same is.outcome;
-    }
-
-pub run_lies : (held : Held) (path bundle : List ℕ) (draws : Bool)
-    (run : Result (Option Outcome) Fault)
-    → IfOk run (λ some. IfSome some (λ outcome. IsOutcomeWith
-    (IsGivenBy (held_for_one held path (Named (Cube 1)))) bundle draws outcome.text.items
-    outcome.map.items outcome.refuted))
-    → IfOk run (λ some. IfSome some (λ outcome. IsOutcomeWith (lies_in held path) bundle draws
-    outcome.text.items outcome.map.items outcome.refuted))
-run_lies held path bundle draws (Err fault) is = tt
-run_lies held path bundle draws (Ok None) is = tt
-run_lies held path bundle draws (Ok (Some outcome)) is =
-    outcome_lies held path bundle draws outcome.text.items outcome.map.items outcome.refuted is
-
-pub refused_lies : {T : Type 0} (held : Held) (path bundle : List ℕ) (run : Result T Fault)
-    → IfErr run (λ fault. IsInputFault fault → IsRefusedWith
-    (IsGivenBy (held_for_one held path (Named (Cube 1)))) bundle fault)
-    → IfErr run (λ fault. IsInputFault fault → IsRefusedWith (lies_in held path) bundle fault)
-refused_lies held path bundle (Ok outcome) is = tt
-refused_lies held path bundle (Err fault) is = λ of_input.
-    let refused = is of_input in
-    let lies = lies_for (held path) refused.bytes refused.given in record {
-      bytes = lies.there;
-      given = lies.lie;
-      first = rw lies.same refused.first;
     }

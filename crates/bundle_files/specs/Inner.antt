@@ -2,5 +2,4 @@
 pub mod Faults
 pub mod Formula
 pub mod Outlined
-pub mod Proof
 pub mod WhileRead

@@ -20,6 +20,6 @@ pub use file_store::{
 pub use formula::{BegunBundle, ReadBundle, begin_bundle, read_from};
 pub use judge::judge_given;
 pub use laws::{proofs_judged_apart, proofs_keep_formula};
-pub use one_proof::{judge_proof_of, judge_with_proof};
+pub use one_proof::{OneCube, begin_one, judge_proof_of};
 pub use outlined::{BundleOutline, outline_bundle, told_whole};
 pub use while_read::{BundleFront, judge_while_read, read_front};

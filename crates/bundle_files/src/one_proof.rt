@@ -1,31 +1,98 @@
 //! What is said of a bundle whose tree is cube 1 alone, with one proof that is read once, and
 //! judged while it is read.
 
-ghost use Rattle.std.specs.Prelude.{◌≡◌, ◌≢◌, ◌<◌, ◌^◌, ◌-◌, ◌++◌, ℕ, List, IfOk, IfErr, IfSome};
-ghost use Rattle.std.specs.Prelude.{OnOk, None, codes, true};
-ghost use Rattle.std.specs.Bool.{OnTrue};
+ghost use Rattle.std.specs.Prelude.{◌≡◌, ◌≢◌, ◌<◌, ◌^◌, ◌-◌, ◌++◌, ℕ, List, IfOk, IfErr};
+ghost use Rattle.std.specs.Prelude.{OnOk, None, Some, codes, option_map};
 ghost use Rattle.cube_report.specs.Device.{IsLeft};
 ghost use Rattle.case_core.specs.Case.{proof_for};
 ghost use Rattle.case_core.specs.Leaf.TheVariants.{Cube};
 ghost use Rattle.case_core.specs.Reading.{IsFirstLabel};
 ghost use Rattle.case_core.specs.Sections.{IsCaseOf, IsFaultOf};
-ghost use Rattle.case_core.specs.SplitTree.{cube, size};
+ghost use Rattle.case_core.specs.SplitTree.{cube};
 ghost use Rattle.case_core.specs.Target.TheVariants.{Leaf as Named};
 ghost use Rattle.cube_report.specs.Faults.{IsInputFault};
-ghost use Rattle.file_store.specs.Files.{StaysAllowed, lies_in};
+ghost use Rattle.file_store.specs.Files.{StaysAllowed};
+ghost use Rattle.bundle_files.specs.Formula.{HasCount, IsBundleBy, IsReadBy};
 ghost use Rattle.bundle_files.specs.Judging.{IsJudgingFault, IsOutcomeWith, IsRefusedWith};
-ghost use Rattle.bundle_files.specs.Inner.Proof.{IsGivenBy};
+ghost use Rattle.bundle_files.specs.Judging.{IsRefusedWithEach};
+ghost use Rattle.bundle_files.specs.Inner.WhileRead.{IsFrontFault};
 
-use case_core::{Case, CaseFault, LabelLine, Leaf, ProofForm, Target, has_target, line_ends};
+use crate::formula::{BegunBundle, begin_bundle, count_or_read};
+use case_core::{
+    Case, CaseFault, LabelLine, Leaf, Problem, ProofForm, Target, line_ends, read_bundle,
+};
 use cube_report::{Elsewhere, Fault, Gate, OneWorker, Outcome, Settings, Source, written_by};
-use file_store::{ProofPlace, Store, TargetProofs};
+use file_store::Store;
 use std::alloc::Global;
 use std::sync::Wait;
 
+/// The bundle of one proof without its proof: its tree is cube 1 alone, and it has no section.
+#[derive(Drop)]
+pub struct OneCube {
+    /// The bytes.
+    pub bundle: Vec<u8>,
+    /// The case that they stand for.
+    pub case: Case,
+}
+
+/// The bundle of one proof without its proof: the text of the formula's file at this path, a DIMACS
+/// text, as a bundle begins with it, and below it the cube without a literal.
+///
+/// `Device` where the file can't be read or isn't there, `Memory` where a growth was refused. Any
+/// other fault is the first one of that bundle, whichever the proof is.
+pub fn begin_one<D: Store>(
+    alloc: Global,
+    store: &mut D,
+    formula: Option<&str>,
+) -> Result<OneCube, Fault>
+    // One more failed read can be counted.
+    requires { D.failures store.old < 2 ^ 64 - 1 }
+    // The store holds what it held.
+    ensures held { D.held store.new ≡ D.held store.old }
+    ensures allowed { StaysAllowed (D.allows store.old) (D.allows store.new) }
+    // It is the bundle of the file and of that cube, by what lies there and by what one reading of
+    // the file handed over.
+    ensures read { IfOk result (λ one. IsReadBy (D.held store.old)
+        (option_map (λ path. path.now) formula.entry) None (Some (codes "a 0"))
+        one.bundle.items) }
+    ensures handed { IfOk result (λ one. IsBundleBy D.hands
+        (option_map (λ path. path.now) formula.entry) None (Some (codes "a 0"))
+        one.bundle.items) }
+    // The case is the bundle's: its tree is cube 1 alone, which has no section.
+    ensures case { IfOk result (λ one. IsCaseOf one.bundle.items one.case) }
+    ensures tree { IfOk result (λ one. one.case.tree ≡ cube 1) }
+    ensures free { IfOk result (λ one. proof_for one.case.sections (Named (Cube 1)) ≡ None) }
+    // A fault of the input is told with each proof.
+    ensures fault { IfErr result (λ fault. IsInputFault fault → IsRefusedWithEach
+        (D.held store.old) (option_map (λ path. path.now) formula.entry) fault) }
+    // The device is at fault exactly where a read failed.
+    ensures ok { OnOk result (D.failures store.new ≡ D.failures store.old) }
+    ensures err { IfErr result (IsJudgingFault (D.failures store.old) (D.failures store.new)) }
+{
+    let BegunBundle { text, said } = begin_bundle(alloc, store, formula)?;
+    let mut bundle = text;
+    bundle.extend_from_slice(b"a 0")?;
+    let case = counted_case(alloc, &bundle, said)?;
+    Ok(OneCube { bundle, case })
+}
+
+/// The case of a bundle, which has as many clauses as a problem line says, where there is one.
+fn counted_case(alloc: Global, bundle: &[u8], said: Option<Problem>) -> Result<Case, Fault>
+    ensures case { IfOk result (IsCaseOf bundle.now) }
+    ensures counted { OnOk result (HasCount said bundle.now) }
+    ensures fault { IfErr result (λ fault. IsInputFault fault
+        → IsFrontFault said bundle.now fault) }
+    ensures memory { IfErr result (λ fault. fault ≢ Fault.Device) }
+{
+    if let Some(case) = count_or_read(alloc, bundle, said, true)? {
+        return Ok(case);
+    }
+    Ok(read_bundle(alloc, bundle)?)
+}
+
 /// What a run says of a bundle whose tree is cube 1 alone, with the proof that a source gives below
 /// a label line of that cube, at the cut that the settings say, and with a picture of the tree
-/// where `draws` asks for one; or the first fault of the bundle with the proof. `None` where the
-/// tree is another or the bundle has a section, and then nothing is read.
+/// where `draws` asks for one; or the first fault of the bundle with the proof.
 ///
 /// The proof, a text or binary, is judged while it is read, by this thread, in blocks of whole
 /// lines; a text is read no further where a block has a label line. The gate is started for one
@@ -34,154 +101,7 @@ use std::sync::Wait;
 /// `Device` where a read failed; `Memory` may stand in the place of any other answer.
 pub fn judge_proof_of<R, S, G>(
     rt: &R,
-    bundle: &[u8],
-    case: &Case,
-    source: &mut S,
-    length: u64,
-    settings: Settings,
-    gate: &G,
-    draws: bool,
-) -> Result<Option<Outcome>, Fault>
-where
-    R: AllocGlobal + Wait,
-    S: Source,
-    G: Gate,
-    // One more failed read can be counted.
-    requires count { S.failures source.old < 2 ^ 64 - 1 }
-    // The case is the bundle's.
-    requires case { IsCaseOf bundle.now case.now }
-    // It is what a run on the bundle with that proof promises.
-    ensures outcome { IfOk result (λ some. IfSome some (λ outcome. IsOutcomeWith
-        (IsLeft (S.remaining source.old)) bundle.now draws outcome.text.items outcome.map.items
-        outcome.refuted)) }
-    // A fault of the input is the first one of that bundle.
-    ensures fault { IfErr result (λ fault. IsInputFault fault → IsRefusedWith
-        (IsLeft (S.remaining source.old)) bundle.now fault) }
-    // Without an answer nothing was read.
-    ensures unread { IfOk result (λ some. some ≡ None → source.new ≡ source.old) }
-    // The device is at fault exactly where a read failed.
-    ensures ok { OnOk result (S.failures source.new ≡ S.failures source.old) }
-    ensures err { IfErr result (IsJudgingFault (S.failures source.old) (S.failures source.new)) }
-{
-    if !is_one_cube(case) {
-        return Ok(None);
-    }
-    Ok(Some(judge_one_cube(rt, bundle, case, source, length, settings, gate, draws)?))
-}
-
-/// The same with the proof in the file at this path. `None` also where no file is there. The file
-/// is opened once.
-///
-/// `Device` where the file is there and can't be read.
-pub fn judge_with_proof<R, D, G>(
-    rt: &R,
-    store: &mut D,
-    bundle: &[u8],
-    case: &Case,
-    path: &str,
-    settings: Settings,
-    gate: &G,
-    draws: bool,
-) -> Result<Option<Outcome>, Fault>
-where
-    R: AllocGlobal + Wait,
-    D: Store,
-    G: Gate,
-    // One more failed read can be counted.
-    requires count { D.failures store.old < 2 ^ 64 - 1 }
-    // The case is the bundle's.
-    requires case { IsCaseOf bundle.now case.now }
-    // The store holds what it held.
-    ensures held { D.held store.new ≡ D.held store.old }
-    ensures allowed { StaysAllowed (D.allows store.old) (D.allows store.new) }
-    // It is what a run on the bundle with the proof promises.
-    ensures outcome { IfOk result (λ some. IfSome some (λ outcome. IsOutcomeWith
-        (lies_in (D.held store.old) path.now) bundle.now draws outcome.text.items
-        outcome.map.items outcome.refuted)) }
-    // A fault of the input is the first one of that bundle.
-    ensures fault { IfErr result (λ fault. IsInputFault fault → IsRefusedWith
-        (lies_in (D.held store.old) path.now) bundle.now fault) }
-    // The device is at fault exactly where a read failed.
-    ensures ok { OnOk result (D.failures store.new ≡ D.failures store.old) }
-    ensures err { IfErr result (IsJudgingFault (D.failures store.old) (D.failures store.new)) }
-{
-    if !is_one_cube(case) {
-        return Ok(None);
-    }
-    let place = ProofPlace::file(rt.alloc(), path)?;
-    let mut reader = store.reader(rt.alloc(), &place)?;
-    let outcome = judge_opened(rt, &mut reader, bundle, case, settings, gate, draws);
-    store.settle(reader);
-    outcome
-}
-
-/// Whether the tree of a case is cube 1 alone, which has no section.
-fn is_one_cube(case: &Case) -> bool
-    ensures tree { OnTrue result (case.now.tree ≡ cube 1) }
-    ensures free { OnTrue result (proof_for case.now.sections (Named (Cube 1)) ≡ None) }
-{
-    let asked = Target::Leaf(Leaf::Cube(1));
-    if !has_one_node(case) {
-        return false;
-    }
-    if !has_target(case.tree(), asked) {
-        return false;
-    }
-    case.proof_for(Target::Leaf(Leaf::Cube(1))).is_none()
-}
-
-/// Whether the tree of a case is one node.
-fn has_one_node(case: &Case) -> bool
-    ensures { OnTrue result (size case.now.tree ≡ 1) }
-{
-    case.tree().size() == 1
-}
-
-/// The same of such a case with the proof of its cube that a reader opens; `None` where it opens
-/// none.
-fn judge_opened<R, P, G>(
-    rt: &R,
-    reader: &mut P,
-    bundle: &[u8],
-    case: &Case,
-    settings: Settings,
-    gate: &G,
-    draws: bool,
-) -> Result<Option<Outcome>, Fault>
-where
-    R: AllocGlobal + Wait,
-    P: TargetProofs,
-    G: Gate,
-    requires fresh { P.failures reader.old ≡ 0 }
-    requires binary { P.takes_binary ≡ true }
-    requires case { IsCaseOf bundle.now case.now }
-    requires one { case.now.tree ≡ cube 1 }
-    requires free { proof_for case.now.sections (Named (Cube 1)) ≡ None }
-    ensures outcome { IfOk result (λ some. IfSome some (λ outcome. IsOutcomeWith
-        (IsGivenBy (P.held reader.old (Named (Cube 1)))) bundle.now draws outcome.text.items
-        outcome.map.items outcome.refuted)) }
-    ensures fault { IfErr result (λ fault. IsInputFault fault → IsRefusedWith
-        (IsGivenBy (P.held reader.old (Named (Cube 1)))) bundle.now fault) }
-    ensures ok { OnOk result (P.failures reader.new ≡ 0) }
-    ensures err { IfErr result (IsJudgingFault 0 (P.failures reader.new)) }
-{
-    let length = reader.length(Target::Leaf(Leaf::Cube(1))).unwrap_or(0);
-    let Some(mut proof) = reader.open(Target::Leaf(Leaf::Cube(1)))? else {
-        return Ok(None);
-    };
-    let outcome = judge_one_cube(rt, bundle, case, &mut proof, length, settings, gate, draws);
-    reader.close(proof);
-    match outcome {
-        Ok(outcome) => Ok(Some(outcome)),
-        Err(fault) => Err(fault),
-    }
-}
-
-/// The same with the proof that a source gives, between the start of the gate and its end.
-fn judge_one_cube<R, S, G>(
-    rt: &R,
-    bundle: &[u8],
-    case: &Case,
+    one: &OneCube,
     source: &mut S,
     length: u64,
     settings: Settings,
@@ -192,14 +112,19 @@ where
     R: AllocGlobal + Wait,
     S: Source,
     G: Gate,
+    // One more failed read can be counted.
     requires count { S.failures source.old < 2 ^ 64 - 1 }
-    requires case { IsCaseOf bundle.now case.now }
-    requires one { case.now.tree ≡ cube 1 }
-    requires free { proof_for case.now.sections (Named (Cube 1)) ≡ None }
+    // The case is the bundle's: its tree is cube 1 alone, which has no section.
+    requires case { IsCaseOf one.now.bundle.items one.now.case }
+    requires tree { one.now.case.tree ≡ cube 1 }
+    requires free { proof_for one.now.case.sections (Named (Cube 1)) ≡ None }
+    // It is what a run on the bundle with that proof promises.
     ensures outcome { IfOk result (λ outcome. IsOutcomeWith (IsLeft (S.remaining source.old))
-        bundle.now draws outcome.text.items outcome.map.items outcome.refuted) }
+        one.now.bundle.items draws outcome.text.items outcome.map.items outcome.refuted) }
+    // A fault of the input is the first one of that bundle.
     ensures fault { IfErr result (λ fault. IsInputFault fault → IsRefusedWith
-        (IsLeft (S.remaining source.old)) bundle.now fault) }
+        (IsLeft (S.remaining source.old)) one.now.bundle.items fault) }
+    // The device is at fault exactly where a read failed.
     ensures ok { OnOk result (S.failures source.new ≡ S.failures source.old) }
     ensures err { IfErr result (IsJudgingFault (S.failures source.old) (S.failures source.new)) }
 {
@@ -207,8 +132,8 @@ where
         proofs: 1,
         bytes: length,
     };
-    gate.start(rt.alloc(), case, settings.cut(), elsewhere)?;
-    let outcome = judge_begun(rt, bundle, case, source, settings, gate, draws);
+    gate.start(rt.alloc(), &one.case, settings.cut(), elsewhere)?;
+    let outcome = judge_begun(rt, &one.bundle, &one.case, source, settings, gate, draws);
     gate.end();
     outcome
 }

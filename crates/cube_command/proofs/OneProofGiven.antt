@@ -14,26 +14,6 @@ use Rattle.cube_command.specs.Words.{Asked}
 use Rattle.cube_command.specs.Inner.Recorded.{IsRecordedFor, IsRecordedFrom}
 use Rattle.cube_command.specs.declared.program.Recorded.{Recorded}
 
--- ---- the text of a proof
-
--- the bytes of a proof were appended, and then its text stood in their place
-pub proof_appended : (held : Held) (path : List ℕ) (file input : Option (List ℕ))
-    (old read new : List ℕ) (begin : ℕ) → file ≡ file_at path → begin ≡ length old
-    → IsAppended (lies_in held) file input old read
-    → new ≡ take begin read ++ proof_text (drop begin read)
-    → (proof : List ℕ) × IsProofAt held path input proof × (new ≡ old ++ proof)
-proof_appended held path file input old read new begin same at grew turned = (
-  proof_text grew.0,
-  (
-    grew.0,
-    subst (λ (f : Option (List ℕ)). IsTextAt (lies_in held) f input grew.0) same grew.1,
-    refl,
-  ),
-  turned ∙ ap₂ (λ (n : ℕ) (t : List ℕ). take n t ++ proof_text (drop n t)) at grew.2
-      ∙ ap₂ (λ (a b : List ℕ). a ++ proof_text b) (take-append_seam old grew.0)
-      (drop-append_seam old grew.0),
-)
-
 -- ---- where nothing is known of what lies at a path
 
 text_at : (has : List ℕ → List ℕ → Type 0) (file : Option (List ℕ)) (text rest : List ℕ) →
@@ -57,40 +37,6 @@ bundle_by has (Some path) file text read by = record {
   whole = by.whole;
   no_clause_more = by.no_clause_more;
 }
-
-pub handed_given : (run : Result Recorded Fault) (hands : List ℕ → List ℕ → Type 0)
-    (asked : Asked) (text : List ℕ)
-    → IfOk run (λ made. made.outcome.refuted ≡ true → IsRefutedFrom hands asked (Some text))
-    → IfOk run (λ made. made.outcome.refuted ≡ true → IsRefutedFrom hands asked None)
-handed_given (Err fault) hands asked text handed = tt
-handed_given (Ok recorded) hands asked text handed = λ says.
-    let refuted = handed says in record {
-      read = refuted.read;
-      handed = bundle_by hands asked.formula asked.file text refuted.read refuted.handed;
-      none = refuted.none;
-      formula = refuted.formula;
-    }
-
--- ---- what is so of a text that is one proof's
-
-pub ok_given : (run : Result Recorded Fault) (held : Held) (path : List ℕ)
-    (input : Option (List ℕ)) (text : List ℕ) (So : Option (List ℕ) → Recorded → Type 0)
-    → IsSoBy held (Some path) input (λ given. given ≡ Some text)
-    → IfOk run (So (Some text))
-    → IfOk run (λ made. IsSoBy held (Some path) input (λ given. So given made))
-ok_given (Err fault) held path input text So is made = tt
-ok_given (Ok recorded) held path input text So is made =
-    (is.0, is.1, subst (λ (g : Option (List ℕ)). So g recorded) (sym is.2) made)
-
-pub err_given : (run : Result Recorded Fault) (held : Held) (path : List ℕ)
-    (input : Option (List ℕ)) (text : List ℕ) (So : Option (List ℕ) → Fault → Type 0)
-    → IsSoBy held (Some path) input (λ given. given ≡ Some text)
-    → IfErr run (λ fault. IsInputFault fault → So (Some text) fault)
-    → IfErr run
-    (λ fault. IsInputFault fault → IsSoBy held (Some path) input (λ given. So given fault))
-err_given (Ok recorded) held path input text So is refused = tt
-err_given (Err fault) held path input text So is refused = λ of_input.
-    (is.0, is.1, subst (λ (g : Option (List ℕ)). So g fault) (sym is.2) (refused of_input))
 
 -- ---- what is so of what is asked for
 

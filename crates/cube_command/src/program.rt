@@ -15,7 +15,7 @@ ghost use Rattle.cube_command.specs.Headline.{IsPublished, IsRefutedAsHanded, Is
 ghost use Rattle.cube_command.specs.Headline.{IsRefutedFrom, IsSoundAsHanded};
 ghost use Rattle.cube_command.specs.Words.{AreApart, AreTaken, asked_of, IsElsewhere, IsInput};
 ghost use Rattle.cube_command.specs.Sources.{IsSoBy};
-ghost use Rattle.cube_command.specs.Words.{nothing_asked};
+ghost use Rattle.cube_command.specs.Words.{GoesWith, nothing_asked};
 ghost use Rattle.cube_command.specs.Record.{record_text};
 ghost use Rattle.cube_command.specs.Program.{IsStatus, IsMade, IsReported, IsRefused, IsBegun};
 ghost use Rattle.cube_command.specs.Program.{IsLineWritten, fault_line, AllowsFaults};
@@ -25,7 +25,7 @@ ghost use Rattle.cube_command.specs.Inner.Recorded.{IsRecordedFor, IsRecordedFro
 ghost use Rattle.command_words.specs.Request.{asked_in};
 
 use crate::asked::{Telling, fault_in, file_of};
-use crate::one_proof::{Given, judge_proof, text_of_one};
+use crate::one_proof::judge_one;
 use crate::open::{names_asked, shown};
 use crate::record::{begin_record, end_record};
 use crate::telling::{tell_refused, tell_run};
@@ -56,8 +56,8 @@ use std::thread::Threads;
 ///
 /// With `--proof LRAT` and without FILE there is one proof of CNF's whole formula, a text or
 /// binary: that file, or `input` where LRAT is `-`. It is judged as the only section of the text `a
-/// 0`, `l 1` and the proof, in the place of FILE's. It is judged while it is read, unless CNF has a
-/// fault.
+/// 0`, `l 1` and the proof, in the place of FILE's. It is judged while it is read. Where CNF has a
+/// fault, nothing of it is read; where it can't be opened either, that is told.
 ///
 /// With `--proofs DIR` the proofs of that folder are added to the bundle: for each cube K and after
 /// that for each missing leaf J, in order, the file `DIR/K.lrat` or `DIR/mJ.lrat`, where it is
@@ -255,6 +255,8 @@ where
         (asked_in request.now) (I.remaining input.old) }
     requires records { AllowsRecordsFor (D.allows store.old) (D.held store.old)
         (asked_in request.now) (I.remaining input.old) }
+    requires alone { GoesWith (asked_in request.now).proof (asked_in request.now).formula
+        (asked_in request.now).file (asked_in request.now).folder }
     requires apart { AreApart (asked_in request.now).picture (asked_in request.now).out }
     ensures report { IfOk result
         (IsReported (D.held store.old) (D.held store.new) (asked_in request.now)
@@ -321,6 +323,8 @@ where
         (asked_in request.now) (I.remaining input.old) }
     requires records { AllowsRecordsFor (D.allows store.old) (D.held store.old)
         (asked_in request.now) (I.remaining input.old) }
+    requires alone { GoesWith (asked_in request.now).proof (asked_in request.now).formula
+        (asked_in request.now).file (asked_in request.now).folder }
     requires apart { AreApart (asked_in request.now).picture (asked_in request.now).out }
     ensures report { IfOk result
         (IsReported (D.held store.old) (D.held store.new) (asked_in request.now)
@@ -389,6 +393,8 @@ where
     X: Explain,
     requires store { D.failures store.old < 2 ^ 64 - 1 }
     requires input { I.failures input.old < 2 ^ 64 - 1 }
+    requires alone { GoesWith (asked_in request.now).proof (asked_in request.now).formula
+        (asked_in request.now).file (asked_in request.now).folder }
     ensures held { D.held store.new ≡ D.held store.old }
     ensures allowed { StaysAllowed (D.allows store.old) (D.allows store.new) }
     ensures made { IfOk result (λ made. IsRecordedFor (D.held store.old) (asked_in request.now)
@@ -407,47 +413,6 @@ where
         Some(path) => judge_one(rt, store, request, path, input, gate, telling),
         None => judge_cubes(rt, store, request, input, gate, telling),
     }
-}
-
-/// The same with one proof of the whole formula, at this path.
-fn judge_one<R, D, I, G, X>(
-    rt: &R,
-    store: &mut D,
-    request: &Request<'_>,
-    path: &str,
-    input: &mut I,
-    gate: &G,
-    telling: &mut Telling<'_, X>,
-) -> Result<Recorded, Fault>
-where
-    R: AllocGlobal + Threads + Wait + Sync,
-    D: Store,
-    I: Source,
-    G: Gate + Sync,
-    X: Explain,
-    requires store { D.failures store.old < 2 ^ 64 - 1 }
-    requires input { I.failures input.old < 2 ^ 64 - 1 }
-    ensures held { D.held store.new ≡ D.held store.old }
-    ensures allowed { StaysAllowed (D.allows store.old) (D.allows store.new) }
-    ensures made { IfOk result (λ made. IsSoBy (D.held store.old) (Some path.now)
-        (I.remaining input.old) (λ given. IsRecordedFrom (D.held store.old)
-        (asked_in request.now) given made.outcome.text.items made.outcome.map.items
-        made.outcome.refuted made.bytes.items)) }
-    ensures handed { IfOk result (λ made. made.outcome.refuted ≡ true → IsRefutedFrom D.hands
-        (asked_in request.now) None) }
-    ensures fault { IfErr result (λ fault. IsInputFault fault → IsSoBy (D.held store.old)
-        (Some path.now) (I.remaining input.old)
-        (λ given. IsRefusedFrom (D.held store.old) (asked_in request.now) given fault)) }
-    ensures ok { OnOk result ((D.failures store.new ≡ D.failures store.old)
-        × (I.failures input.new ≡ I.failures input.old)) }
-    ensures err { IfErr result (IsJudgingFault (D.failures store.old + I.failures input.old)
-        (D.failures store.new + I.failures input.new)) }
-{
-    if let Some(made) = judge_proof(rt, store, request, path, input, gate, telling)? {
-        return Ok(made);
-    }
-    let text = text_of_one(rt.alloc(), store, input, path)?;
-    judge_cubes(rt, store, request, &mut Given::new(&text), gate, telling)
 }
 
 /// The same with cubes and their proofs. Where the bundle is a file's, and no folder adds proofs to

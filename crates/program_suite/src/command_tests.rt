@@ -279,6 +279,12 @@ fn proofs_of_a_folder(rt: HostRuntime) {
     }
 }
 
+/// A formula's file with a fault, and the line that tells it.
+const FEW_SAID: File<'static> = ("CNF", b"p cnf 1 1\n1 0\n-1 0\n");
+
+const FEW_TOLD: &[u8] =
+    b"cubeboard: F17 the header says 1 variables and 1 clauses, there are 1 and 2\n";
+
 /// Files whose lengths are told, words and an input for one proof; how the program ends, and the
 /// paths that it has asked for.
 const ONE_PROOF_CALLS: &[Call] = &[
@@ -303,18 +309,16 @@ const ONE_PROOF_CALLS: &[Call] = &[
         (3, b"", b"cubeboard: F12 second proof, line 8\n"),
         b"CNF\nP\n",
     ),
-    // A formula's file with a fault is read again, for that.
+    // A fault of the formula's file is told when the proof was opened, which isn't read.
     (
-        &[("CNF", b"p cnf 1 1\n1 0\n-1 0\n"), ("P", b"3 0 1 2 0\n")],
+        &[FEW_SAID, ("P", b"l 1\n")],
         OF_FILE,
         b"",
-        (
-            3,
-            b"",
-            b"cubeboard: F17 the header says 1 variables and 1 clauses, there are 1 and 2\n",
-        ),
-        b"CNF\nP\nCNF\n",
+        (3, b"", FEW_TOLD),
+        b"CNF\nP\n",
     ),
+    // One that isn't there is told before that.
+    (&[FEW_SAID], OF_FILE, b"", (5, b"", DEVICE), b"CNF\nP\n"),
 ];
 
 // One proof of a formula is judged while it is read, once.
@@ -326,6 +330,13 @@ fn one_proof_of_a_file(rt: HostRuntime) {
             .with_lengths();
         ends_so(&rt, shelf, &unfailing(words, input), *ending, paths);
     }
+}
+
+// Nothing of the input is read where the formula's file has a fault.
+#[test]
+fn one_proof_below_a_fault(rt: HostRuntime) {
+    let shelf = Shelf::new(rt.alloc(), &[FEW_SAID]).expect(&rt, "memory");
+    leaves_input(&rt, shelf, OF_INPUT, (3, b"", FEW_TOLD), b"CNF\n");
 }
 
 /// The same words, and that for the open leaves.

@@ -1,5 +1,5 @@
 use Rattle.std.proofs.Common.{◌≡◌, arith, map, subst, sym, true, IfOk}
-use Rattle.cube_command.specs.Words.{AreApart, Asked, asked_of, IsElsewhere}
+use Rattle.cube_command.specs.Words.{AreApart, Asked, asked_of, GoesWith, IsElsewhere}
 use Rattle.cube_command.specs.Headline.{IsRefutedAsHanded}
 use Rattle.cube_command.specs.Program.{AllowsPicturesFor, AllowsRecordsFor, AllowsReportsFor}
 use Rattle.cube_command.specs.Program.{IsReported}
@@ -31,6 +31,11 @@ run_request-run-requires-clause-records g c = λ κs within.
     (λ (a : Asked). AllowsRecordsFor (g.D.Store.allows c.args.store.now)
     (g.D.Store.held c.args.store.now) a (g.I.Source.remaining c.args.input.now))
     (sym c.in-Ok.ensures.asked) c.requires.records
+
+pub run_request-run-requires-clause-alone : goal.run_request-run-requires-clause-alone
+run_request-run-requires-clause-alone g c = λ κs within.
+    subst (λ (a : Asked). GoesWith a.proof a.formula a.file a.folder) (sym c.in-Ok.ensures.asked)
+    c.in-Ok.ensures.taken.1.0
 
 pub run_request-run-requires-clause-apart : goal.run_request-run-requires-clause-apart
 run_request-run-requires-clause-apart g c = λ κs within.
