@@ -155,21 +155,18 @@ made_by_section (Ok (Some recorded)) held asked path file folder made = λ input
 -- ---- of a bundle that was begun, and goes on with a text of the input or of a file
 
 -- it is known of the text, too, what is known of what was given so
-refused_as : (begun : BegunBundle) (gives texts : List ℕ → Type 0) (fault : Fault)
-    → ((text : List ℕ) → gives text → texts text) → IsRefusedBelow begun gives fault
-    → IsRefusedBelow begun texts fault
-refused_as begun gives texts fault of (inl (bundle, ((text, given, whole), count), first)) =
-    inl (bundle, ((text, of text given, whole), count), first)
-refused_as begun gives texts fault of (inr (bundle, (text, given, whole), other)) =
-    inr (bundle, (text, of text given, whole), other)
-
 pub refused_if : (run : Result Recorded Fault) (begun : BegunBundle)
     (gives texts : List ℕ → Type 0) → ((text : List ℕ) → gives text → texts text)
     → IfErr run (λ fault. IsInputFault fault → IsRefusedBelow begun gives fault)
     → IfErr run (λ fault. IsInputFault fault → IsRefusedBelow begun texts fault)
 refused_if (Ok made) begun gives texts of refused = tt
 refused_if (Err fault) begun gives texts of refused = λ of_input.
-    refused_as begun gives texts fault of (refused of_input)
+    elim (refused of_input) [
+      | inl (bundle, ((text, given, whole), count), first) ↦
+          inl (bundle, ((text, of text given, whole), count), first)
+      | inr (bundle, (text, given, whole), other) ↦
+          inr (bundle, (text, of text given, whole), other)
+    ]
 
 module _ (has : List ℕ → List ℕ → Type 0) (asked : Asked) (input : Option (List ℕ))
     (begun : BegunBundle) (gives : List ℕ → Type 0)
