@@ -8,14 +8,14 @@ ghost use Rattle.cube_report.specs.Stated.{IsWrittenBy};
 ghost use Rattle.proof_folder.specs.Given.{AreFoundApart};
 ghost use Rattle.case_core.specs.Target.{Target};
 ghost use Rattle.case_core.specs.Sections.{IsCaseOf, IsFaultOf};
-ghost use Rattle.file_store.specs.Files.{StaysAllowed, held_at, held_for};
+ghost use Rattle.file_store.specs.Files.{StaysAllowed, held_for};
 ghost use Rattle.bundle_files.specs.Judging.{IsOutcomeOf, IsRefusedOf, IsJudgingFault};
 
 use crate::faults::find_fault;
 use crate::formula::ReadBundle;
 use case_core::{Case, CaseFault, read_bundle};
 use cube_report::{Fault, Gate, Outcome, Settings, judge_apart, judge_bundle};
-use file_store::{ProofPlace, Store, add_proofs};
+use file_store::{Store, add_proofs};
 use std::alloc::Global;
 use std::sync::Wait;
 use std::thread::Threads;
@@ -179,8 +179,7 @@ where
     ensures ok { OnOk result (D.failures store.new ≡ D.failures store.old) }
     ensures err { IfErr result (IsJudgingFault (D.failures store.old) (D.failures store.new)) }
 {
-    let place = ProofPlace::folder(rt.alloc(), folder)?;
-    let readers = readers_of(rt.alloc(), store, &place, settings.workers())?;
+    let readers = readers_of(rt.alloc(), store, folder, settings.workers())?;
     match judge_apart(rt, rt.alloc(), case, settings, gate, draws, readers) {
         Ok(run) => run,
         Err(reader) => {
@@ -190,16 +189,16 @@ where
     }
 }
 
-/// Readers of the proofs that lie at a place, one for each worker.
+/// Readers of the proofs in the folder at this path, one for each worker.
 pub(crate) fn readers_of<D: Store>(
     alloc: Global,
     store: &D,
-    place: &ProofPlace,
+    folder: &str,
     workers: u32,
 ) -> Result<Vec<D::Reader>, Fault>
     ensures count { IfOk result (λ readers. vec_len readers ≡ workers) }
     ensures held { IfOk result (λ readers. All (λ reader. (target : Target)
-        → D.Reader.held reader target ≡ held_at (D.held store.now) place.now target)
+        → D.Reader.held reader target ≡ held_for (D.held store.now) folder.now target)
         readers.items) }
     ensures fresh { IfOk result (λ readers.
         All (λ reader. D.Reader.failures reader ≡ 0) readers.items) }
@@ -207,7 +206,7 @@ pub(crate) fn readers_of<D: Store>(
 {
     let mut readers = Vec::new(alloc);
     for _ in 0..workers {
-        readers.push(store.reader(alloc, place)?)?;
+        readers.push(store.reader(alloc, folder)?)?;
     }
     Ok(readers)
 }

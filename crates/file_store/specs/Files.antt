@@ -5,21 +5,17 @@ use Rattle.std.specs.Prelude.{decimal, Option, None, Some, IfSome, is_some, unwr
 use Rattle.std.specs.Prelude.{true, false, codes, drop, if◌then◌else◌}
 use Rattle.std.specs.Prelude.{option_map}
 use Rattle.std.specs.List.{All, flat_map}
-use Rattle.std.specs.String.{string_bytes}
 use Rattle.byte_flow.specs.Device.{IsLeft}
 use Rattle.case_core.specs.Binary.{proof_text}
 use Rattle.case_core.specs.SplitTree.{SplitTree}
 use Rattle.case_core.specs.Target.{Target}
 use Rattle.case_core.specs.Target.TheVariants.{Leaf as Named, Node}
 use Rattle.case_core.specs.Leaves.{missing_nodes, cube_count}
-use Rattle.case_core.specs.Case.{CaseOf, same_target}
-use Rattle.case_core.specs.Leaf.TheVariants.{Cube}
+use Rattle.case_core.specs.Case.{CaseOf}
 use Rattle.case_core.specs.Sections.{IsCaseOf, IsFaultOf}
 use Rattle.case_core.specs.declared.fault.CaseFault.{CaseFault}
 use Rattle.proof_folder.specs.Added.{proof_path, section_text}
 use Rattle.proof_folder.specs.Given.{name_of}
-use Rattle.file_store.specs.declared.reader.ProofPlace.{ProofPlace}
-use Rattle.file_store.specs.declared.reader.ProofPlace.TheVariants.{Folder, File}
 
 -- what lies at each path, where that is known: no file, or a file with these bytes
 abbrev pub Held : Type 0
@@ -103,17 +99,6 @@ IsJudgedOf held (Some folder) bundle whole = IsWithProofs held folder bundle who
 abbrev pub held_for : Held → List ℕ → Target → Option (Option (List ℕ))
 held_for held folder (Named leaf) = as_proofs held (proof_path folder (name_of leaf))
 held_for held folder (Node node) = Some None
-
--- where there is one proof, that of cube 1: what is known to lie at its path, in the place of a
--- binary one its text; another target has none
-abbrev pub held_for_one : Held → List ℕ → Target → Option (Option (List ℕ))
-held_for_one held path target =
-    if same_target target (Named (Cube 1)) then as_proofs held path else Some None
-
--- so it is where a reader finds proofs
-abbrev pub held_at : Held → ProofPlace → Target → Option (Option (List ℕ))
-held_at held (Folder folder) target = held_for held (string_bytes folder) target
-held_at held (File path) target = held_for_one held (string_bytes path) target
 
 -- ---- what single calls do
 

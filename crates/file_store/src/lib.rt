@@ -21,7 +21,7 @@ pub use inputs::{FileId, Inputs, Spared};
 pub use opener::{Opener, SystemFiles};
 pub use part::Part;
 pub use proof_folder::TargetProofs;
-pub use reader::{ProofPlace, ProofReader};
+pub use reader::ProofReader;
 pub use sections::SectionReader;
 pub use source::{append_file, append_given};
 pub use store::{FileStore, Store};

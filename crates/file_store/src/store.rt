@@ -8,12 +8,12 @@ ghost use Rattle.file_store.specs.Files.{Gives, GivesOneOf, IsFound, IsOpenedAt,
 ghost use Rattle.file_store.specs.Files.{StaysAllowedBeside, lies_in};
 ghost use Rattle.file_store.specs.Files.{as_proofs, held_if};
 ghost use Rattle.case_core.specs.Binary.{proof_text};
-ghost use Rattle.file_store.specs.Files.{held_at};
+ghost use Rattle.file_store.specs.Files.{held_for};
 ghost use Rattle.file_store.specs.Parts.{held_in};
 
 use crate::inputs::{Inputs, Spared, is_clash, is_none_written};
 use crate::opener::Opener;
-use crate::reader::{ProofPlace, ProofReader};
+use crate::reader::ProofReader;
 use crate::sections::SectionReader;
 use byte_flow::{Counted, DeviceFault, Source, read_to_end, write_all};
 use case_core::{OutlinedCase, turn_from};
@@ -156,11 +156,11 @@ pub trait Store {
         ensures err { IfErr result (λ fault. fault ≡ DeviceFault.Device) }
         ensures failed { OnErr result (failures self.new ≡ failures self.old + 1) };
 
-    /// A reader of the proofs that lie at a place, for one worker, with no failed read yet: what it
-    /// reads for a target is what lies there for it.
-    fn reader(&self, alloc: Global, place: &ProofPlace) -> Result<Self::Reader, AllocError>
+    /// A reader of the proofs in the folder at this path, for one worker, with no failed read yet:
+    /// what it reads for a target is what lies there for it.
+    fn reader(&self, alloc: Global, folder: &str) -> Result<Self::Reader, AllocError>
         ensures held { IfOk result (λ reader. (target : Target) →
-            Self.Reader.held reader target ≡ held_at (held self.now) place.now target) }
+            Self.Reader.held reader target ≡ held_for (held self.now) folder.now target) }
         // A proof may be binary there.
         ensures binary { IfOk result (λ _. Self.Reader.takes_binary ≡ true) }
         ensures none { IfOk result (λ reader. Self.Reader.failures reader ≡ 0) };
@@ -450,9 +450,10 @@ where
         }
     }
 
-    fn reader(&self, alloc: Global, place: &ProofPlace) -> Result<ProofReader<F>, AllocError> {
+    fn reader(&self, alloc: Global, folder: &str) -> Result<ProofReader<F>, AllocError> {
         let opener = self.opener.another(alloc)?;
-        Ok(ProofReader::new(alloc, opener, place.another(alloc)?))
+        let folder = String::from_str(alloc, folder)?;
+        Ok(ProofReader::new(alloc, opener, folder))
     }
 
     fn length(&self, path: &str) -> Option<u64> {
