@@ -3,8 +3,9 @@
 # Runs PROGRAM with four workers on the same 32 proofs of 1.9 MB in one file by calls with other
 # words, and by a pipe with one worker, too, and says how much memory each took. The status is 1 if a
 # report isn't that all is refuted, or if a call that judges each proof where it reads it took more
-# than 1.2 times what the plain one did. (By a pipe four workers have copies of short proofs.)
-# What is made is in TMPDIR (/tmp), 190 MB, and removed.
+# than 1.2 times what the plain one did. (By a pipe four workers have copies of short proofs; so they
+# have of a folder's files if one of these has a label line.)
+# What is made is in TMPDIR (/tmp), 250 MB, and removed.
 set -eu
 program=$(realpath "${1:?a program}")
 cd "$(dirname "$0")"
@@ -33,6 +34,10 @@ cat "$folder/case.icnf" "$folder/sections" > "$folder/bundle"
     awk '/^a / {last = $0} END {sub(/^a/, "n", last); sub(/ -?[0-9]+ 0$/, " 0", last); print "l " last}' "$folder/case.icnf"
     python3 -c 'import sys; sys.path.insert(0, "tools"); import large_folder as made; made.write_proof(sys.stdout, len(made.CORE) + 5, 1_900_000, False)'
 } > "$folder/inner"
+# The folder once more, with the last proof behind a label line in the file before.
+cp -r "$folder/proofs" "$folder/labelled"
+{ echo 'l 32' && cat "$folder/proofs/32.lrat"; } >> "$folder/labelled/31.lrat"
+rm "$folder/labelled/32.lrat"
 # The same formula as a DIMACS text, and the rest of the bundle.
 {
     echo "p cnf $(grep -v '^[ap]' "$folder/case.icnf" | tr ' -' '\n\n' | sort -n | tail -n 1) $(grep -c -v '^[ap]' "$folder/case.icnf")"
@@ -68,6 +73,7 @@ measure places "FILE with --formula and --record" --formula "$folder/formula.cnf
 measure places "FILE with --map, --log and --record" --map "$folder/map" --log "$folder/log" --record "$folder/record" "$folder/bundle"
 measure places "FILE with a proof for an inner node" "$folder/inner"
 measure places "--proofs DIR" --proofs "$folder/proofs" "$folder/case.icnf"
+measure copies "--proofs DIR with a label line in a file" --proofs "$folder/labelled" "$folder/case.icnf"
 measure copies "standard input" < <(cat "$folder/bundle")
 measure copies "standard input with --formula" --formula "$folder/formula.cnf" < <(cat "$folder/cubes")
 workers=1 measure places "standard input, one worker" < <(cat "$folder/bundle")

@@ -156,12 +156,11 @@ run on this bundle promises.""",
       "bundle_files/formula.rt read_from held bundle handed case fault ok err kept",
       "bundle_files/outlined.rt outline_bundle held read handed fault ok err",
       "bundle_files/by_section.rt judge_by_section held outcome handed fault ok err",
-      "bundle_files/judge.rt judge_given held outcome fault ok err",
+      "bundle_files/judge.rt judge_with_folder held outcome fault ok err",
       "bundle_files/one_proof.rt begin_one held read handed case tree free fault ok err",
       "bundle_files/one_proof.rt judge_proof_of outcome fault ok err",
       "bundle_files/while_read.rt read_front front ok err",
       "bundle_files/while_read.rt judge_while_read outcome fault ok err",
-      "file_store/folder.rt add_proofs held whole ok err",
       "file_store/store.rt Store::open held lies none ok err",
       "file_store/store.rt Store::close held failures",
       "file_store/source.rt append_file held read handed ok err",
@@ -169,7 +168,9 @@ run on this bundle promises.""",
       "file_store/store.rt Store::write written elsewhere nothing ok err",
       "file_store/store.rt Store::write_counted written elsewhere ok err failed",
       "file_store/store.rt Store::reader held binary none",
-      "file_store/store.rt Store::settle held failures"]),
+      "file_store/store.rt Store::settle held failures",
+      "file_store/store.rt Store::folder gives none",
+      "file_store/store.rt Store::settle_folder held failures"]),
     ("cnf_text: the iCNF text and the DIMACS text", """
 The file that is read is what the text stands for, or the fault is the text's first one. So it is with what the problem
 line of a DIMACS text says.""",
@@ -201,8 +202,6 @@ keeps that a refuted target has no model with the formula.""",
       "case_core/examiner.rt Examiner::examine found",
       "case_core/examiner.rt Examiner::examine_read read",
       "case_core/bundle.rt icnf_part -",
-      "case_core/scan.rt LabelScan::new -",
-      "case_core/scan.rt LabelScan::add ok err",
       "case_core/label_line.rt LabelLine::target has named fault",
       "case_core/label_line.rt LabelLine::twice -",
       "case_core/finding.rt Finding here only is sound"]),
@@ -243,7 +242,7 @@ hall ends.""",
       "board_hall/closing.rt Hall::close all boards same"]),
     ("cube_jobs and check_crew: one report for every number of threads", """
 Each section's place is claimed once. Once all workers are joined, each node of the boards has the mark of its finding,
-for every number of workers, every cut, every gate and every schedule. `command` makes the report by `judge_given` of
+for every number of workers, every cut, every gate and every schedule. `command` makes the report by `judge_with_folder` of
 bundle_files, over `conquer` of check_crew, and writes it by `write_all` of byte_flow.
 
 With DIR, or from FILE, each proof is judged while a worker reads it, when the worker comes to its target. That goes

@@ -12,7 +12,8 @@
 # - input that can't be read, a report that nobody reads, and each read that fails in turn, which
 #   needs a C compiler: where there is none, that is skipped, or fails where CI is set;
 # - the record, the picture and the log of such a run;
-# - proofs of 100 MB: the program takes 64 MB of memory at most.
+# - proofs of 100 MB, and a folder of as many with a label line: the program takes 64 MB of memory at
+#   most.
 # So it is with bundles: what is wanted of them is what four workers say of the same bytes in a file,
 # which they read in another way; tests/rows have what that has to be. And so it is with folders that
 # have pipes.
@@ -816,12 +817,15 @@ large_bundle() {
     done
 }
 # (the leaves of seven variables that the formula hasn't got, each with a section of 1 MB)
-of_many() {
+many_cubes() {
     head -n 5 "$here/case" && awk 'BEGIN { for (i = 0; i < 128; i++) {
         line = "a"
         for (v = 3 + 0 * (k = i); v < 10; v++) { line = line (k % 2 ? " -" : " ") v; k = int(k / 2) }
         print line " 0"
-    } }' && for leaf in $(seq 128); do echo "l $leaf" && cat "$here/part" "$1" || return; done
+    } }'
+}
+of_many() {
+    many_cubes && for leaf in $(seq 128); do echo "l $leaf" && cat "$here/part" "$1" || return; done
 }
 writer=with_parts
 cp "$here/first" "$here/proof"
@@ -837,6 +841,21 @@ printf '12 1 0 1 2 0\n13 0 12 3 4 0\n' > "$here/proof"
 writer=of_many
 large_bundle "a bundle of 128 sections of 1 MB" "s REFUTED"
 writer=cat
+# The same proofs in a folder, the last of them behind a label line in the file before: one file at a time
+# is in memory.
+mkdir "$here/run/many" && many_cubes > "$here/run/many.icnf"
+for leaf in $(seq 127); do cat "$here/part" "$here/proof" > "$here/run/many/$leaf.lrat" || break; done
+{ echo 'l 128' && cat "$here/part" "$here/proof"; } >> "$here/run/many/127.lrat"
+for workers in 1 4; do
+    echo none > "$here/peak"
+    program=$here/measured
+    run "$here/none" --workers "$workers" --proofs many many.icnf
+    program=$built
+    [ "$(tail -n 1 "$here/out")" = "s REFUTED" ] && [ ! -s "$here/err" ]
+    count "a folder of 128 MB with a label line, $workers workers: s REFUTED" $?
+    [ "$(cat "$here/peak")" -le 64 ] 2> /dev/null
+    count "that folder, $workers workers: at most 64 MB in memory, and not $(cat "$here/peak")" $?
+done
 
 # Folders. Refused are programs that open a pipe again if all proofs have to be read again, and so wait
 # for ever; that take it for a proof that isn't there; that report the label line all the same, or

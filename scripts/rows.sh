@@ -156,12 +156,15 @@ progress_with_folder() {
 progress_with_folder folder_of_proofs << 'TOLD'
 cubeboard: 2 of 2 judged, 24 of 24 bytes, 2 refuted, 0 rejected, 0.000 % open
 TOLD
+# (the run that is made anew judges FILE's two sections before it meets the second proof; behind FILE's last
+# line stands an empty one, which is the last of the second section then)
 progress_with_folder proof_in_file_and_folder << 'TOLD'
-cubeboard: 1.lrat has a label line or is a second proof, so all proofs are read before they are judged
+cubeboard: 1.lrat has a label line or is a second proof, so all proofs are read again, one after the other
 cubeboard: 2 of 4 judged, 24 of 48 bytes, 2 refuted, 0 rejected, 0.000 % open
+cubeboard: 2 of 2 judged, 25 of 25 bytes, 2 refuted, 0 rejected, 0.000 % open
 cubeboard: F12 second proof, line 13
 TOLD
-# A run that is made anew with all proofs in one bundle counts anew: FILE has the second cube's proof, and the first one's file has a section for the
+# A run that is made anew counts anew: FILE has the second cube's proof, and the first one's file has a section for the
 # root, too. Behind the bundle's last line stands an empty one, which is the last of the second cube's section then.
 rm -rf "$here/run"
 mkdir -p "$here/run/proofs"
@@ -169,7 +172,7 @@ sed '/^l 1$/,/^6/d' "$root/tests/rows/two_cubes_refuted.in" > "$here/run/case.ic
 printf '6 0 5 3 4 0\nl n 0\n5 1 0 1 2 0\n6 0 5 3 4 0\n' > "$here/run/proofs/1.lrat"
 sed 's/^w 0$/n 0 refuted\n&/' "$root/tests/rows/two_cubes_refuted.out" > "$here/report"
 cat > "$here/wanted" << 'TOLD'
-cubeboard: 1.lrat has a label line or is a second proof, so all proofs are read before they are judged
+cubeboard: 1.lrat has a label line or is a second proof, so all proofs are read again, one after the other
 cubeboard: 1 of 2 judged, 12 of 54 bytes, 1 refuted, 0 rejected, 50.000 % open
 cubeboard: 3 of 3 judged, 49 of 49 bytes, 3 refuted, 0 rejected, 0.000 % open
 TOLD

@@ -18,7 +18,8 @@ use Rattle.case_core.proofs.OutlineLines.{empty_line}
 use Rattle.cube_report.specs.declared.fault.Fault.{Fault}
 use Rattle.cube_report.specs.declared.fault.Fault.TheVariants.{Counts}
 use Rattle.cube_report.specs.Faults.{IsInputFault}
-use Rattle.file_store.specs.Files.{GrewBy, Held, IsRead, IsTextAt, lies_in}
+use Rattle.cube_report.specs.Device.{GrewBy}
+use Rattle.file_store.specs.Files.{Held, IsRead, IsTextAt, lies_in}
 use Rattle.bundle_files.specs.Formula.{ArePlainLines, HasCount, HasOtherCount, IsBundleBy, IsFront}
 use Rattle.bundle_files.specs.Formula.{IsFormulaFault, IsFormulaRead, IsOverwritten}
 use Rattle.bundle_files.specs.Inner.Formula.{IsFaultyFormula, IsOtherCount}

@@ -1,8 +1,6 @@
 -- What is said of a bundle and a folder's proofs on the way to the program's report.
-use Rattle.std.proofs.Common.{◌≡◌, ◌≢◌, ◌<◌, ◌^◌, ℕ, List, [], Bool, Option, None, Some, refl}
-use Rattle.std.proofs.Common.{ap, inr, arith, length, Result, Ok, Err, IfOk}
-use Rattle.std.proofs.Common.{IfErr}
-use Rattle.std.specs.Prelude.{IfSome}
+use Rattle.std.proofs.Common.{◌≡◌, ◌≢◌, ◌<◌, ◌^◌, ℕ, List, [], Bool, Some, refl}
+use Rattle.std.proofs.Common.{ap, inl, inr, arith, length, Result, Ok, Err, IfErr, IfOk}
 use Rattle.case_core.specs.Sections.{IsCaseOf, IsFaultOf}
 use Rattle.case_core.specs.declared.fault.CaseFault.{CaseFault}
 use Rattle.case_core.specs.declared.fault.CaseFault.TheVariants as case
@@ -13,14 +11,14 @@ use Rattle.cube_report.specs.Mark.{Mark}
 use Rattle.cube_report.specs.declared.fault.Fault.{Fault}
 use Rattle.cube_report.specs.declared.engine.Outcome.{Outcome}
 use Rattle.cube_report.specs.Faults.{IsInputFault, fault_of_case}
-use Rattle.cube_report.specs.Correct.{IsFaultOn}
 use Rattle.cube_report.specs.Stated.{IsWrittenBy}
 use Rattle.proof_folder.specs.Given.{HasFewLeaves, AreFoundApart}
-use Rattle.file_store.specs.Files.{Held, IsWithProofs, as_proofs}
+use Rattle.file_store.specs.Files.{AreAdded, Held, IsWithProofs, as_proofs, leaf_names}
 use Rattle.file_store.proofs.FilesSections.{nothing_added}
 use Rattle.file_store.specs.Files.{held_for}
 use Rattle.bundle_files.proofs.LawsApart.{judged_apart}
 use Rattle.bundle_files.specs.Judging.{IsOutcomeOf, IsRefusedOf}
+use Rattle.bundle_files.specs.WhileRead.{IsRefusedBy, IsRunOf}
 
 -- a bundle with a fault has no proofs added
 faulty_alone : (held : Held) (folder bundle : List ℕ) (kind : CaseFault) → IsFaultOf bundle kind →
@@ -56,30 +54,39 @@ apart_outcome held folder bundle case marks draws report map answer is few apart
       outcome = judged.outcome draws report map answer written;
     }
 
--- so it is of a run, where it wrote something
-pub run_apart : (held : Held) (folder bundle : List ℕ) (case : CaseOf) (draws : Bool)
-    (run : Result (Option Outcome) Fault) → IsCaseOf bundle case → HasFewLeaves case.tree
-    → IfOk run (λ some. IfSome some (λ outcome. (marks : List Mark)
-    × AreFoundApart (held_for held folder) case marks
-    × IsWrittenBy case marks draws outcome.text.items outcome.map.items outcome.refuted))
-    → IfOk run (λ some. IfSome some (λ outcome. IsOutcomeOf held (Some folder) bundle draws
-    outcome.text.items outcome.map.items outcome.refuted))
-run_apart held folder bundle case draws (Ok (Some outcome)) is few apart =
-    apart_outcome held folder bundle case apart.0 draws outcome.text.items outcome.map.items
-    outcome.refuted is few apart.1 apart.2
-run_apart held folder bundle case draws (Ok None) is few apart = tt
-run_apart held folder bundle case draws (Err fault) is few apart = tt
-
 -- two counts of 32 bits are few leaves
 pub few_leaves : (tree : SplitTree) (cubes missing_leaves : ℕ) → cubes < 2 ^ 32
     → missing_leaves < 2 ^ 32 → cubes ≡ cube_count tree
     → missing_leaves ≡ length (missing_nodes tree) → HasFewLeaves tree
 few_leaves tree cubes missing_leaves few_cubes few_missing cubes_are missing_are = omega arith
 
--- without a folder the bundle is judged as it was read
-pub refused_as_read : (held : Held) (run : Result Outcome Fault) (bundle : List ℕ)
-    → IfErr run (λ fault. IsInputFault fault → IsFaultOn bundle fault)
-    → IfErr run (λ fault. IsInputFault fault → IsRefusedOf held None bundle fault)
-refused_as_read held (Ok outcome) bundle of = tt
-refused_as_read held (Err fault) bundle of = λ input.
-    record { whole = bundle; is_judged = refl; first = of input }
+-- ---- the bundle with the folder's proofs, as one text
+
+module _ (held : Held) (folder bundle : List ℕ) (case : CaseOf) (gives : List ℕ → Type 0)
+    (is : IsCaseOf bundle case)
+    (added : (whole : List ℕ) → gives whole
+    → AreAdded (as_proofs held) folder (leaf_names case.tree) bundle whole) where
+  with_proofs : (whole : List ℕ) → gives whole → IsWithProofs held folder bundle whole
+  with_proofs whole given = (leaf_names case.tree, inl (case, is, refl), added whole given)
+
+  pub run_with : (run : Result Outcome Fault) (draws : Bool)
+      → IfOk run (λ outcome. IsRunOf gives draws outcome.text.items outcome.map.items
+      outcome.refuted)
+      → IfOk run (λ outcome. IsOutcomeOf held (Some folder) bundle draws outcome.text.items
+      outcome.map.items outcome.refuted)
+  run_with (Ok outcome) draws of = record {
+    whole = of.bundle;
+    is_judged = with_proofs of.bundle of.given;
+    outcome = of.outcome;
+  }
+  run_with (Err fault) draws of = tt
+
+  pub refused_with : (run : Result Outcome Fault)
+      → IfErr run (λ fault. IsInputFault fault → IsRefusedBy gives fault)
+      → IfErr run (λ fault. IsInputFault fault → IsRefusedOf held (Some folder) bundle fault)
+  refused_with (Ok outcome) of = tt
+  refused_with (Err fault) of = λ input. record {
+    whole = (of input).0;
+    is_judged = with_proofs (of input).0 (of input).1;
+    first = (of input).2;
+  }

@@ -7,7 +7,6 @@ pub mod FormulaReading
 mod LawsApart
 mod JudgingFaults
 mod JudgingRuns
-mod FaultsSearch
 mod OneProof
 mod OneProofCube
 mod OutlinedBehind

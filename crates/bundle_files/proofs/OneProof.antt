@@ -1,14 +1,11 @@
 -- A bundle whose tree is cube 1 alone, with one proof that was judged while it was read.
-use Rattle.std.proofs.Common.{◌≡◌, ◌≢◌, ◌∙◌, ◌+◌, sym, ap, refl, subst, ℕ, ◌<◌, Bool}
+use Rattle.std.proofs.Common.{◌≡◌, ◌≢◌, ◌∙◌, ◌+◌, sym, ap, refl, subst, ℕ, Bool}
 use Rattle.std.proofs.Common.{List, [], ◌∷◌, ◌++◌, codes, append-nil, append_assoc, arith, decimal}
-use Rattle.std.proofs.Common.{Option, None, Some, Result, Ok, Err, IfOk, IfErr, inr}
-use Rattle.std.specs.Prelude.{IfSome, count_by, replicate, slice_set}
+use Rattle.std.proofs.Common.{None, Some, inr}
+use Rattle.std.specs.Prelude.{count_by, replicate, slice_set}
 use Rattle.std.proofs.lemmas.List.Sums.{sum_by-append}
 use Rattle.std.specs.Fmt.{digits}
-use Rattle.std.specs.Option.{option_map}
-use Rattle.cube_report.specs.Device.{IsLeft}
 use Rattle.case_core.proofs.OutlineLines.{whole_both}
-use Rattle.case_core.proofs.NodesCoding.{subtree-root}
 use Rattle.case_core.specs.Binary.{proof_text}
 use Rattle.case_core.specs.Judged.{Judged}
 use Rattle.case_core.specs.Judgement.{judgement}
@@ -41,7 +38,6 @@ use Rattle.cube_report.specs.One.{IsFoundOn}
 use Rattle.cube_report.specs.Stated.{IsWrittenBy}
 use Rattle.cube_report.proofs.CorrectReports.{outcome}
 use Rattle.cube_report.proofs.ReportSame.{written_is_stated}
-use Rattle.cube_report.specs.declared.engine.Outcome.{Outcome}
 use Rattle.cube_report.specs.declared.fault.Fault.{Fault}
 use Rattle.proof_folder.specs.Added.{section_text}
 use Rattle.proof_folder.specs.Given.{Given, AreMarksBy, HasFewLeaves, IsJudgedAs, MayBeGiven}

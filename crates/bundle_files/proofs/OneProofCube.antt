@@ -21,7 +21,8 @@ use Rattle.case_core.proofs.BundleMore.{lines_more}
 use Rattle.case_core.proofs.DimacsFormula.{clauses_as_symbols}
 use Rattle.case_core.proofs.IcnfUnique.{one_spelling}
 use Rattle.cube_report.specs.declared.fault.Fault.{Fault}
-use Rattle.file_store.specs.Files.{GrewBy, Held, IsTextAt, lies_in}
+use Rattle.cube_report.specs.Device.{GrewBy}
+use Rattle.file_store.specs.Files.{Held, IsTextAt, lies_in}
 use Rattle.bundle_files.specs.Formula.{HasCount, HasOtherCount, IsBundleBy, IsFront, IsOverwritten}
 use Rattle.bundle_files.specs.Formula.{IsFormulaFault}
 use Rattle.bundle_files.specs.Judging.{IsRefusedWithEach, one_cube_text}

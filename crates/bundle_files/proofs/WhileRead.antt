@@ -1,28 +1,26 @@
 -- A bundle that is judged while it is read.
 use Rattle.std.proofs.Common.{◌≡◌, ◌≢◌, ◌∙◌, sym, ap, subst, refl, ℕ, Bool, List, [], ◌∷◌, ◌++◌}
-use Rattle.std.proofs.Common.{Option, None, Some, inl, inr, append-nil, append_assoc}
-use Rattle.std.specs.Io.KnownBytes.{Consumes, prepend_known}
-use Rattle.std.specs.Prelude.{unwrap_or}
-use Rattle.std.proofs.lemmas.Bool.{cases_Bool}
-use Rattle.case_core.specs.Bundle.{Labelled, icnf_text, is_label, labels_of, lines_of, text_before}
+use Rattle.std.proofs.Common.{Option, None, Some, inl, inr, append-nil, append_assoc, arith, ◌+◌}
+use Rattle.std.specs.Prelude.{count_by}
+use Rattle.case_core.specs.Bundle.{Labelled, icnf_text, labels_of}
 use Rattle.case_core.specs.Icnf.{StandsFor}
 use Rattle.case_core.specs.Problem as code
-use Rattle.case_core.specs.Labelled.{IsBehindLabel, IsOverWith, IsPart, LabelledOf}
+use Rattle.case_core.specs.Labelled.{IsBehindFront, IsBehindLabel, IsOverWith, IsPart, LabelledOf}
 use Rattle.case_core.specs.Labelled.{Stands, fresh_text, text_below}
 use Rattle.case_core.specs.Outline.{AreWholeLines}
+use Rattle.case_core.specs.Tokens.{is_line_end}
 use Rattle.case_core.specs.Sections.{InCubes, InLabels, InText, IsFaultOf}
 use Rattle.case_core.specs.declared.fault.CaseFault.{CaseFault}
 use Rattle.case_core.specs.declared.fault.CaseFault.TheVariants as case
 use Rattle.case_core.specs.declared.fault.CaseFault.TheVariants.{Memory}
-use Rattle.case_core.proofs.LabelledParts.{front_passed, memory_on, part_behind}
+use Rattle.case_core.proofs.LabelledParts.{RestOf, front_passed, memory_on, part_behind, some_rest}
 use Rattle.case_core.proofs.OutlineLines.{plain_text}
-use Rattle.case_core.proofs.ReadingParts.{all_left, left_over, none_over}
 use Rattle.case_core.proofs.SectionsMore.{icnf_same}
-use Rattle.cube_report.specs.Device.{IsLeft}
+use Rattle.cube_report.specs.Device.{GrewBy, HasGiven}
 use Rattle.cube_report.specs.DeviceFault.TheVariants as flow
 use Rattle.cube_report.specs.ReadFault.{ReadFault}
 use Rattle.cube_report.specs.ReadFault.TheVariants as read
-use Rattle.cube_report.specs.WhileRead.{IsAllRead, IsReadFault, IsReadRefused}
+use Rattle.cube_report.specs.WhileRead.{IsAllRead, IsReadFault, IsReadRefused, bundle_behind}
 use Rattle.mark_board.specs.Boards.{BoardsOf}
 use Rattle.cube_report.specs.Faults.{IsInputFault, fault_of_case, fault_of_read}
 use Rattle.cube_report.specs.Stated.{IsWrittenBy}
@@ -31,8 +29,6 @@ use Rattle.cube_report.specs.declared.fault.Fault.TheVariants.{Device}
 use Rattle.cube_report.proofs.CorrectReports.{outcome}
 use Rattle.cube_report.proofs.ReportSame.{written_is_stated}
 use Rattle.bundle_files.specs.Judging.{IsJudgingFault}
-use Rattle.file_store.specs.Files.{GrewBy}
-use Rattle.proof_folder.proofs.AddedLines.{text_is_lines, with_ends}
 use Rattle.bundle_files.specs.Formula.{ArePlainLines, HasCount, HasOtherCount}
 use Rattle.bundle_files.specs.WhileRead.{IsBundleBelow, IsFrontOf, IsRefusedBelow, IsRunBehind}
 use Rattle.bundle_files.specs.Inner.WhileRead.{IsFrontFault}
@@ -80,38 +76,6 @@ front_fault icnf rest line below kind whole is plain (InLabels items tree stands
 
 -- ---- a bundle that was begun
 
--- the iCNF text of a text stands at its front
-icnf_first : (lines : List (List ℕ)) → (more : List ℕ)
-    × (with_ends lines ≡ text_before lines ++ more)
-icnf_first [] = ([], refl)
-icnf_first (line ∷ []) = elim (cases_Bool (is_label line)) [
-  | inl is ↦ rw is (line, refl)
-  | inr other ↦ rw other ([], sym (append-nil line))
-]
-icnf_first (line ∷ next ∷ lines) = elim (cases_Bool (is_label line)) [
-  | inl is ↦ rw is (line ++ 10 ∷ with_ends (next ∷ lines), refl)
-  | inr other ↦
-      let found = icnf_first (next ∷ lines) in
-      rw other (
-        found.0,
-        ap (λ (t : List ℕ). line ++ 10 ∷ t) found.1
-            ∙ sym (append_assoc line (10 ∷ text_before (next ∷ lines)) found.0),
-      )
-]
-
--- so a bundle with this iCNF text goes on behind what it begins with, also where it isn't known
-goes_on : (begin cubes icnf bundle : List ℕ) (given : Option (List ℕ)) → icnf ≡ begin ++ cubes
-    → icnf_text bundle ≡ icnf → IsLeft (prepend_known begin given) bundle
-    → GrewBy (IsLeft given) begin bundle
-goes_on begin cubes icnf bundle None is front left =
-    let more = icnf_first (lines_of bundle) in (
-      cubes ++ more.0,
-      tt,
-      sym (text_is_lines bundle) ∙ more.1 ∙ ap (λ (t : List ℕ). t ++ more.0) (front ∙ is)
-          ∙ append_assoc begin cubes more.0,
-    )
-goes_on begin cubes icnf bundle (Some known) is front left = (known, refl, left)
-
 count_of : (said : Option code.Problem) (icnf bundle : List ℕ) → icnf_text bundle ≡ icnf_text icnf
     → HasCount said icnf → HasCount said bundle
 count_of None icnf bundle same counted = tt
@@ -131,109 +95,127 @@ other_of (Some said) icnf bundle fault same other = (
 
 -- the iCNF text of a bundle that was begun is what it begins with, and what is behind that up to
 -- the next label line
-pub front_part : (begin cubes icnf : List ℕ) (before after : Option (List ℕ))
+pub front_part : (begin cubes icnf : List ℕ) (before after : List ℕ → Type 0)
     (text new : LabelledOf) → text ≡ text_below begin → ArePlainLines begin
     → IsPart text new before after cubes → icnf ≡ begin ++ cubes
-    → IsPart (fresh_text []) new (prepend_known begin before) after icnf
+    → IsPart (fresh_text []) new (GrewBy before begin) after icnf
 front_part begin cubes icnf before after text new same plain part is =
-    subst (IsPart (fresh_text []) new (prepend_known begin before) after) (sym is)
-    (part_behind (fresh_text []) (text_below begin) new (prepend_known begin before) before after
+    subst (IsPart (fresh_text []) new (GrewBy before begin) after) (sym is)
+    (part_behind (fresh_text []) (text_below begin) new (GrewBy before begin) before after
     begin cubes (front_passed begin before plain.1 plain.0)
     (subst (λ (t : LabelledOf). IsPart t new before after cubes) same part))
 
--- all that was given, which has this iCNF text and each fault of it
-record IsWhole (given : Option (List ℕ)) (icnf : List ℕ) : Type 0 where
-  bundle : List ℕ
-  given_is : IsLeft given bundle
-  front : icnf_text bundle ≡ icnf
-  faulty : (kind : CaseFault) → IsFaultOf icnf kind → IsFaultOf bundle kind
+-- a text of which this is a part stands behind it
+module _ (given left : List ℕ → Type 0) (text : LabelledOf) (icnf : List ℕ)
+    (part : IsPart (fresh_text []) text given left icnf) where
+  over : IsOverWith text left
+  over = part.passed.over (λ e. absurd (cc))
 
-front_whole : (given left : Option (List ℕ)) (text : LabelledOf) (icnf : List ℕ)
-    → IsPart (fresh_text []) text given left icnf → IsWhole given icnf
-front_whole given left text icnf part = by_stands part.stands
-  where
-    lost : Consumes given left (icnf ++ text.behind)
-    lost =
-        subst (Consumes given left)
-        (part.passed.parts
-        ∙ ap (λ (t : List ℕ). icnf ++ (t ++ text.behind)) part.ready) part.passed.lost
+  pub at_front : IsBehindFront icnf text left
+  at_front = record {
+    plain = part.plain;
+    stands = part.stands;
+    over = over;
+    lines = part.passed.lines ∙ none (count_by is_line_end icnf);
+  }
+    where
+      none : (n : ℕ) → 0 + n ≡ n
+      none n = omega arith
 
-    over : IsOverWith text left
-    over = part.passed.over (λ e. absurd (cc))
+  passed : HasGiven given left (icnf ++ text.behind)
+  passed =
+      subst (HasGiven given left)
+      (part.passed.parts ∙ ap (λ (t : List ℕ). icnf ++ (t ++ text.behind)) part.ready)
+      part.passed.given
 
-    by_stands : Stands icnf text → IsWhole given icnf
-    by_stands (inl end) = record {
-      bundle = icnf;
-      given_is =
-          all_left given left icnf
-          (subst (Consumes given left)
-          (ap (λ (t : List ℕ). icnf ++ t) end.0 ∙ append-nil icnf) lost) (over end.2);
-      front = plain_text 1 icnf part.plain;
-      faulty = λ kind faulty. faulty;
-    }
-    by_stands (inr at) =
-        let rest = text.behind ++ unwrap_or left [] in
-        let below = at.2.below ++ unwrap_or left [] in
-        let label : IsBehindLabel rest at.2.line below =
-        memory_on text.behind at.2.line at.2.below (unwrap_or left []) at.2.begins
-        (λ is. none_over left (over (at.2.whole is))) in
-        record {
-          bundle = icnf ++ rest;
-          given_is =
-              subst (IsLeft given) (append_assoc icnf text.behind (unwrap_or left []))
-              (left_over given left (icnf ++ text.behind) lost);
-          front =
-              icnf_same icnf rest at.2.line below at.0 label ∙ plain_text 1 icnf part.plain;
-          faulty = λ kind. front_fault icnf rest at.2.line below kind at.0 label part.plain;
-        }
+  -- what may be given behind it makes up a bundle that might be given
+  pub whole_given : (bundle : List ℕ) → bundle_behind icnf text left bundle → given bundle
+  whole_given bundle behind = subst given (sym behind.2) (passed behind.0 behind.1)
 
-module _ (begun : BegunBundle) (given left : Option (List ℕ)) (front : BundleFront)
+  -- a bundle that might be given, which has this iCNF text and each fault of it
+  record IsWhole : Type 0 where
+    bundle : List ℕ
+    given_is : given bundle
+    front : icnf_text bundle ≡ icnf
+    faulty : (kind : CaseFault) → IsFaultOf icnf kind → IsFaultOf bundle kind
+
+  front_whole : ((rest : List ℕ) × left rest) → IsWhole
+  front_whole some = by_stands part.stands
+    where
+      by_stands : Stands icnf text → IsWhole
+      by_stands (inl end) = record {
+        bundle = icnf;
+        given_is =
+            subst given
+            (append-nil (icnf ++ text.behind) ∙ ap (λ (t : List ℕ). icnf ++ t) end.0
+            ∙ append-nil icnf) (passed [] (over end.2));
+        front = plain_text 1 icnf part.plain;
+        faulty = λ kind faulty. faulty;
+      }
+      by_stands (inr at) =
+          let end : RestOf text left = some_rest text left over some in
+          let rest = text.behind ++ end.rest in
+          let below = at.2.below ++ end.rest in
+          let label : IsBehindLabel rest at.2.line below =
+          memory_on text.behind at.2.line at.2.below end.rest at.2.begins
+          (λ is. end.last (at.2.whole is)) in record {
+            bundle = icnf ++ rest;
+            given_is =
+                subst given (append_assoc icnf text.behind end.rest) (passed end.rest end.is);
+            front =
+                icnf_same icnf rest at.2.line below at.0 label ∙ plain_text 1 icnf part.plain;
+            faulty = λ kind. front_fault icnf rest at.2.line below kind at.0 label part.plain;
+          }
+
+module _ (begun : BegunBundle) (given left : List ℕ → Type 0) (front : BundleFront)
     (is : IsFrontOf begun given left front) where
   abbrev icnf : List ℕ
   icnf = front.icnf.items
 
-  abbrev whole_given : Option (List ℕ)
-  whole_given = prepend_known begun.text.items given
+  abbrev bundles : List ℕ → Type 0
+  bundles = GrewBy given begun.text.items
 
   plain : icnf_text icnf ≡ icnf
   plain = plain_text 1 icnf is.part.plain
 
-  below : (bundle : List ℕ) → IsLeft whole_given bundle → icnf_text bundle ≡ icnf
-      → HasCount front.said icnf → IsBundleBelow begun (IsLeft given) bundle
+  below : (bundle : List ℕ) → bundles bundle → icnf_text bundle ≡ icnf
+      → HasCount front.said icnf → IsBundleBelow begun given bundle
   below bundle given_is same counted = (
-    goes_on begun.text.items is.cubes icnf bundle given is.icnf same given_is,
+    given_is,
     subst (λ (s : Option code.Problem). HasCount s bundle) is.said
         (count_of front.said icnf bundle (same ∙ sym plain) counted),
   )
 
   -- a fault of the iCNF text is that of the bundle
-  pub front_refused : (fault : Fault) → IsFrontFault front.said icnf fault
-      → IsRefusedBelow begun (IsLeft given) fault
-  front_refused fault (inl (faulty, counted)) =
-      let whole = front_whole whole_given left front.text icnf is.part in
+  pub front_refused : ((rest : List ℕ) × left rest) → (fault : Fault)
+      → IsFrontFault front.said icnf fault → IsRefusedBelow begun given fault
+  front_refused some fault (inl (faulty, counted)) =
+      let whole = front_whole bundles left front.text icnf is.part some in
       inl (
         whole.bundle,
         below whole.bundle whole.given_is whole.front counted,
         (faulty.0, faulty.1, whole.faulty faulty.0 faulty.2),
       )
-  front_refused fault (inr other) =
-      let whole = front_whole whole_given left front.text icnf is.part in
+  front_refused some fault (inr other) =
+      let whole = front_whole bundles left front.text icnf is.part some in
       inr (
         whole.bundle,
-        goes_on begun.text.items is.cubes icnf whole.bundle given is.icnf whole.front
-            whole.given_is,
+        whole.given_is,
         subst (λ (s : Option code.Problem). HasOtherCount s whole.bundle fault) is.said
             (other_of front.said icnf whole.bundle fault (whole.front ∙ sym plain) other),
       )
 
   -- so is a fault of the run over the sections
-  pub read_refused : (kind : ReadFault) → IsReadRefused icnf whole_given kind
+  pub read_refused : (kind : ReadFault)
+      → IsReadRefused icnf (bundle_behind icnf front.text left) kind
       → HasCount front.said icnf → IsInputFault (fault_of_read kind)
-      → IsRefusedBelow begun (IsLeft given) (fault_of_read kind)
+      → IsRefusedBelow begun given (fault_of_read kind)
   read_refused (read.Case fault) refused counted of_input =
       inl (
         refused.0,
-        below refused.0 refused.1 refused.2 counted,
+        below refused.0
+            (whole_given bundles left front.text icnf is.part refused.0 refused.1) refused.2
+            counted,
         (fault, refl, refused.3 (λ memory. of_input.0 (ap fault_of_case memory))),
       )
   read_refused (read.Device flow.Memory) refused counted of_input = absurd (of_input.0 refl)
@@ -242,13 +224,17 @@ module _ (begun : BegunBundle) (given left : Option (List ℕ)) (front : BundleF
 
   -- what is written
   pub run_behind : (boards : BoardsOf) (draws : Bool) (report map : List ℕ) (answer : Bool)
-      → IsAllRead boards icnf whole_given → HasCount front.said icnf
+      → IsAllRead boards icnf (bundle_behind icnf front.text left)
+      → HasCount front.said icnf
       → IsWrittenBy boards.case boards.marks draws report map answer
-      → IsRunBehind (IsBundleBelow begun (IsLeft given)) icnf draws report map answer
+      → IsRunBehind (IsBundleBelow begun given) icnf draws report map answer
   run_behind boards draws report map answer all counted by =
       let made = all.judged in record {
         bundle = all.bundle;
-        given = below all.bundle all.is_given all.front counted;
+        given =
+            below all.bundle
+            (whole_given bundles left front.text icnf is.part all.bundle all.is_given) all.front
+            counted;
         front = all.front;
         outcome =
             outcome all.bundle made.whole draws report map answer made.is

@@ -1,5 +1,4 @@
 -- The words of private contracts: no public contract names them, and no other crate does.
-pub mod Faults
 pub mod Formula
 pub mod Outlined
 pub mod WhileRead

@@ -1,4 +1,4 @@
-//! What is said of a bundle that was read, with the proofs of a folder where one is asked for.
+//! What is said of a bundle that was read, with the proofs of a folder.
 
 ghost use Rattle.std.specs.Prelude.{◌≡◌, ◌≢◌, ◌<◌, ◌^◌, ◌-◌, ◌+◌, ◌⊎◌, ℕ, List, All, IfOk, IfErr};
 ghost use Rattle.std.specs.Prelude.{IfSome, OnOk, option_map, Some, vec_len};
@@ -10,34 +10,35 @@ ghost use Rattle.case_core.specs.Target.{Target};
 ghost use Rattle.case_core.specs.Sections.{IsCaseOf, IsFaultOf};
 ghost use Rattle.file_store.specs.Files.{StaysAllowed, held_for};
 ghost use Rattle.bundle_files.specs.Judging.{IsOutcomeOf, IsRefusedOf, IsJudgingFault};
+ghost use Rattle.bundle_files.specs.WhileRead.{IsRefusedBy, IsRunOf};
+ghost use Rattle.cube_report.specs.Device.{IsDeviceFault};
 
-use crate::faults::find_fault;
-use crate::formula::ReadBundle;
+use crate::formula::{BegunBundle, ReadBundle};
+use crate::while_read::{judge_while_read, read_front};
 use case_core::{Case, CaseFault, read_bundle};
-use cube_report::{Fault, Gate, Outcome, Settings, judge_apart, judge_bundle};
-use file_store::{Store, add_proofs};
+use cube_report::{DeviceFault, Fault, Gate, Outcome, Settings, Stream, judge_apart};
+use file_store::Store;
 use std::alloc::Global;
 use std::sync::Wait;
 use std::thread::Threads;
 
-/// What a run says of a bundle that was read, with the proofs of a folder where one is asked for,
-/// by as many workers and at the cut that the settings say, and with a picture of the tree where
-/// `draws` asks for one; or the first fault of the bundle with these proofs. The gate is called as
-/// `judge_bundle` says. Where the bundle's case was made when it was read, it isn't read again for
-/// the folder's proofs.
+/// What a run says of a bundle that was read, with the proofs of a folder, by as many workers and
+/// at the cut that the settings say, and with a picture of the tree where `draws` asks for one; or
+/// the first fault of the bundle with these proofs. Where the bundle's case was made when it was
+/// read, it isn't read again.
 ///
-/// Each proof of the folder is judged while it is read, when a worker comes to its leaf.
-/// Where one has a label line, or is for a leaf with a section of its own, all of them are read
-/// again, one after the other, for the first fault of the bundle with them. Only where it has none
-/// they are read together; then the gate is called for a second run.
+/// Each proof of the folder is judged while it is read, when a worker comes to its leaf, and the
+/// gate is called as `judge_apart` says. Where one has a label line, or is for a leaf with a
+/// section of its own, the bundle with all of them is judged while it is read, as one text. Then
+/// the gate is called for a second run, as `judge_while_read` says.
 ///
 /// `Device` where a file is there and can't be read, before everything else; `Memory` and `Thread`
 /// may stand in the place of any other answer.
-pub fn judge_given<R, D, G>(
+pub fn judge_with_folder<R, D, G>(
     rt: &R,
     store: &mut D,
     read: ReadBundle,
-    folder: Option<&str>,
+    folder: &str,
     settings: Settings,
     gate: &G,
     draws: bool,
@@ -54,32 +55,30 @@ where
     ensures held { D.held store.new ≡ D.held store.old }
     ensures allowed { StaysAllowed (D.allows store.old) (D.allows store.new) }
     // It is what a run on the bundle with the folder's proofs promises.
-    ensures outcome { IfOk result (λ outcome. IsOutcomeOf (D.held store.old)
-        (option_map (λ text. text.now) folder.entry) read.bundle.items draws outcome.text.items
-        outcome.map.items outcome.refuted) }
+    ensures outcome { IfOk result (λ outcome. IsOutcomeOf (D.held store.old) (Some folder.now)
+        read.bundle.items draws outcome.text.items outcome.map.items outcome.refuted) }
     // A fault of the input is the first one of that bundle.
     ensures fault { IfErr result (λ fault. IsInputFault fault → IsRefusedOf (D.held store.old)
-        (option_map (λ text. text.now) folder.entry) read.bundle.items fault) }
+        (Some folder.now) read.bundle.items fault) }
     // The device is at fault exactly where a read failed.
     ensures ok { OnOk result (D.failures store.new ≡ D.failures store.old) }
     ensures err { IfErr result (IsJudgingFault (D.failures store.old) (D.failures store.new)) }
 {
     let ReadBundle { bundle, case } = read;
-    match folder {
-        Some(folder) => judge_folder(rt, store, bundle, case, folder, settings, gate, draws),
-        None => judge_bundle(rt, rt.alloc(), bundle, settings, gate, draws),
+    let case = case_of(rt.alloc(), &bundle, case)?;
+    let _few = (case.tree().cube_count(), case.tree().missing_count());
+    if let Some(outcome) = judge_leaves(rt, store, &case, folder, settings, gate, draws)? {
+        return Ok(outcome);
     }
+    let text = store.folder(rt.alloc(), bundle, folder, case.tree())?;
+    judge_in_order(rt, store, text, settings, gate, draws)
 }
 
-/// The same with a folder: each proof is read when a worker comes to its leaf, unless the bundle
-/// with all of them has to be judged. That is so only where it has no fault: a fault is found by a
-/// pass that holds one proof at a time.
-fn judge_folder<R, D, G>(
+/// What a run says of a bundle with a folder's proofs, as one text that is judged while it is read.
+fn judge_in_order<R, D, G>(
     rt: &R,
     store: &mut D,
-    bundle: Vec<u8>,
-    case: Option<Case>,
-    folder: &str,
+    text: D::Folder,
     settings: Settings,
     gate: &G,
     draws: bool,
@@ -89,24 +88,74 @@ where
     D: Store,
     G: Gate + Sync,
     requires count { D.failures store.old < 2 ^ 64 - 1 }
-    requires case { IfSome case (IsCaseOf bundle.items) }
+    requires none { D.Folder.failures text ≡ 0 }
     ensures held { D.held store.new ≡ D.held store.old }
     ensures allowed { StaysAllowed (D.allows store.old) (D.allows store.new) }
-    ensures outcome { IfOk result (λ outcome. IsOutcomeOf (D.held store.old)
-        (Some folder.now) bundle.items draws outcome.text.items
-        outcome.map.items outcome.refuted) }
-    ensures fault { IfErr result (λ fault. IsInputFault fault → IsRefusedOf (D.held store.old)
-        (Some folder.now) bundle.items fault) }
+    ensures outcome { IfOk result (λ outcome. IsRunOf (D.Folder.gives text) draws
+        outcome.text.items outcome.map.items outcome.refuted) }
+    ensures fault { IfErr result
+        (λ fault. IsInputFault fault → IsRefusedBy (D.Folder.gives text) fault) }
     ensures ok { OnOk result (D.failures store.new ≡ D.failures store.old) }
     ensures err { IfErr result (IsJudgingFault (D.failures store.old) (D.failures store.new)) }
 {
-    match judge_by_leaf(rt, store, &bundle, case, folder, settings, gate, draws)? {
-        Some(outcome) => Ok(outcome),
-        None => {
-            find_fault(rt.alloc(), store, folder, &bundle)?;
-            judge_whole(rt, store, bundle, folder, settings, gate, draws)
+    let mut text = text;
+    let outcome = judge_text(rt, &mut text, settings, gate, draws);
+    store.settle_folder(text);
+    outcome
+}
+
+/// What a run says of the bundle that a stream gives. Where that has a fault, it is read to its end
+/// first: a read that fails is told before it.
+fn judge_text<R, S, G>(
+    rt: &R,
+    source: &mut S,
+    settings: Settings,
+    gate: &G,
+    draws: bool,
+) -> Result<Outcome, Fault>
+where
+    R: AllocGlobal + Threads + Wait + Sync,
+    S: Stream,
+    G: Gate + Sync,
+    requires { S.failures source.old < 2 ^ 64 - 1 }
+    ensures outcome { IfOk result (λ outcome. IsRunOf (S.gives source.old) draws
+        outcome.text.items outcome.map.items outcome.refuted) }
+    ensures fault { IfErr result
+        (λ fault. IsInputFault fault → IsRefusedBy (S.gives source.old) fault) }
+    ensures ok { OnOk result (S.failures source.new ≡ S.failures source.old) }
+    ensures err { IfErr result (IsJudgingFault (S.failures source.old) (S.failures source.new)) }
+{
+    let begun = BegunBundle {
+        text: Vec::new(rt.alloc()),
+        said: None,
+    };
+    let front = read_front(rt.alloc(), begun, source)?;
+    match judge_while_read(rt, front, source, settings, gate, draws) {
+        Ok(outcome) => Ok(outcome),
+        Err(Fault::Memory) => Err(Fault::Memory),
+        Err(Fault::Device) => Err(Fault::Device),
+        Err(Fault::Thread) => Err(Fault::Thread),
+        Err(fault) => {
+            pass_rest(source)?;
+            Err(fault)
         }
     }
+}
+
+/// Reads what a stream gives up to its end, and drops it.
+fn pass_rest<S: Stream>(source: &mut S) -> Result<(), DeviceFault>
+    requires { S.failures source.old < 2 ^ 64 - 1 }
+    ensures ok { OnOk result (S.failures source.new ≡ S.failures source.old) }
+    ensures err { IfErr result
+        (λ fault. IsDeviceFault (S.failures source.old) (S.failures source.new) fault) }
+{
+    let mut buffer = [0u8; 65536];
+    for _ in 0..u64::MAX {
+        if source.read(&mut buffer)? == 0 {
+            return Ok(());
+        }
+    }
+    Err(DeviceFault::Memory)
 }
 
 /// The case of a bundle: the one that was made of it, if one was.
@@ -119,39 +168,6 @@ fn case_of(alloc: Global, bundle: &[u8], case: Option<Case>) -> Result<Case, Cas
         Some(case) => Ok(case),
         None => read_bundle(alloc, bundle),
     }
-}
-
-/// What a run says of a bundle with the proofs of a folder, each of which is read when a worker
-/// comes to its leaf, and dropped when it is judged; or `None` where that can't be said so.
-fn judge_by_leaf<R, D, G>(
-    rt: &R,
-    store: &mut D,
-    bundle: &[u8],
-    case: Option<Case>,
-    folder: &str,
-    settings: Settings,
-    gate: &G,
-    draws: bool,
-) -> Result<Option<Outcome>, Fault>
-where
-    R: AllocGlobal + Threads + Wait + Sync,
-    D: Store,
-    G: Gate + Sync,
-    requires count { D.failures store.old < 2 ^ 64 - 1 }
-    requires case { IfSome case (IsCaseOf bundle.now) }
-    ensures held { D.held store.new ≡ D.held store.old }
-    ensures allowed { StaysAllowed (D.allows store.old) (D.allows store.new) }
-    ensures outcome { IfOk result (λ some. IfSome some (λ outcome. IsOutcomeOf (D.held store.old)
-        (Some folder.now) bundle.now draws outcome.text.items outcome.map.items
-        outcome.refuted)) }
-    ensures fault { IfErr result (λ fault. IsInputFault fault → IsRefusedOf (D.held store.old)
-        (Some folder.now) bundle.now fault) }
-    ensures ok { OnOk result (D.failures store.new ≡ D.failures store.old) }
-    ensures err { IfErr result (IsJudgingFault (D.failures store.old) (D.failures store.new)) }
-{
-    let case = case_of(rt.alloc(), bundle, case)?;
-    let _few = (case.tree().cube_count(), case.tree().missing_count());
-    judge_leaves(rt, store, &case, folder, settings, gate, draws)
 }
 
 /// The same of the bundle's case: what is written is by marks that are right for its sections and
@@ -209,34 +225,4 @@ pub(crate) fn readers_of<D: Store>(
         readers.push(store.reader(alloc, folder)?)?;
     }
     Ok(readers)
-}
-
-/// What a run says of a bundle with the proofs of a folder, all of which are read before the first
-/// is judged.
-fn judge_whole<R, D, G>(
-    rt: &R,
-    store: &mut D,
-    mut bundle: Vec<u8>,
-    folder: &str,
-    settings: Settings,
-    gate: &G,
-    draws: bool,
-) -> Result<Outcome, Fault>
-where
-    R: AllocGlobal + Threads + Wait + Sync,
-    D: Store,
-    G: Gate + Sync,
-    requires { D.failures store.old < 2 ^ 64 - 1 }
-    ensures held { D.held store.new ≡ D.held store.old }
-    ensures allowed { StaysAllowed (D.allows store.old) (D.allows store.new) }
-    ensures outcome { IfOk result (λ outcome. IsOutcomeOf (D.held store.old)
-        (Some folder.now) bundle.items draws outcome.text.items
-        outcome.map.items outcome.refuted) }
-    ensures fault { IfErr result (λ fault. IsInputFault fault → IsRefusedOf (D.held store.old)
-        (Some folder.now) bundle.items fault) }
-    ensures ok { OnOk result (D.failures store.new ≡ D.failures store.old) }
-    ensures err { IfErr result (IsJudgingFault (D.failures store.old) (D.failures store.new)) }
-{
-    add_proofs(rt.alloc(), store, folder, &mut bundle)?;
-    judge_bundle(rt, rt.alloc(), bundle, settings, gate, draws)
 }

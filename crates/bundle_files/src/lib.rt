@@ -3,7 +3,6 @@
 #![tactic(auto)]
 
 mod by_section;
-mod faults;
 mod formula;
 mod judge;
 mod laws;
@@ -14,11 +13,11 @@ mod while_read;
 pub use by_section::judge_by_section;
 pub use file_store::{
     DeviceFault, FileId, FileStore, Inputs, Opener, Outline, OutlinedCase, Part, ProofReader,
-    SectionReader, Spared, Store, Stretch, SystemFiles, TargetProofs, add_proofs, append_file,
-    append_given, make_anew,
+    SectionReader, Spared, Store, Stretch, SystemFiles, TargetProofs, append_file, append_given,
+    make_anew,
 };
 pub use formula::{BegunBundle, ReadBundle, begin_bundle, read_from};
-pub use judge::judge_given;
+pub use judge::judge_with_folder;
 pub use laws::{proofs_judged_apart, proofs_keep_formula};
 pub use one_proof::{OneCube, begin_one, judge_proof_of};
 pub use outlined::{BundleOutline, outline_bundle, told_whole};

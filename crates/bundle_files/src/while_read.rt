@@ -1,7 +1,7 @@
 //! What is said of a bundle that is read once, and judged while it is read.
 
 ghost use Rattle.std.specs.Prelude.{◌≡◌, ◌≢◌, ◌<◌, ◌^◌, ◌-◌, ℕ, List, Option, IfOk, IfErr, OnOk};
-ghost use Rattle.cube_report.specs.Device.{IsDeviceFault, IsLeft};
+ghost use Rattle.cube_report.specs.Device.{IsDeviceFault};
 ghost use Rattle.case_core.specs.Sections.{IsCaseOf};
 ghost use Rattle.cube_report.specs.Faults.{IsInputFault};
 ghost use Rattle.bundle_files.specs.Judging.{IsJudgingFault};
@@ -13,7 +13,7 @@ ghost use Rattle.bundle_files.specs.Inner.WhileRead.{IsFrontFault};
 use crate::formula::{BegunBundle, count_or_read};
 use case_core::{Case, LabelledText, Problem, take_bundle};
 use cube_report::{
-    DeviceFault, Fault, Gate, Outcome, Settings, Source, conquer_while_read, written_by,
+    DeviceFault, Fault, Gate, Outcome, Settings, Stream, conquer_while_read, written_by,
 };
 use std::alloc::Global;
 use std::sync::Wait;
@@ -39,11 +39,11 @@ impl BundleFront {
     }
 }
 
-/// Reads the iCNF text of a bundle that is begun so and goes on with what a source gives, and no
+/// Reads the iCNF text of a bundle that is begun so and goes on with what a stream gives, and no
 /// block behind it.
 ///
 /// `Device` where a read failed, `Memory` where a growth was refused.
-pub fn read_front<S: Source>(
+pub fn read_front<S: Stream>(
     alloc: Global,
     begun: BegunBundle,
     source: &mut S,
@@ -52,9 +52,9 @@ pub fn read_front<S: Source>(
     requires count { S.failures source.old < 2 ^ 64 - 1 }
     // What the bundle begins with has no label line.
     requires plain { ArePlainLines begun.text.items }
-    // It is that of the bundle with what the source had left.
+    // It is that of the bundle with what the stream might give.
     ensures front { IfOk result
-        (IsFrontOf begun (S.remaining source.old) (S.remaining source.new)) }
+        (IsFrontOf begun (S.gives source.old) (S.gives source.new)) }
     // The device is at fault exactly where a read failed.
     ensures ok { OnOk result (S.failures source.new ≡ S.failures source.old) }
     ensures err { IfErr result
@@ -103,28 +103,29 @@ pub fn judge_while_read<R, S, G>(
 ) -> Result<Outcome, Fault>
 where
     R: AllocGlobal + Threads + Wait + Sync,
-    S: Source,
+    S: Stream,
     G: Gate + Sync,
     // One more failed read can be counted.
     requires count { S.failures source.old < 2 ^ 64 - 1 }
-    // The iCNF text is that of a bundle that was begun, with what the source gave.
-    requires front { (begun : BegunBundle) × ((given : Option (List ℕ))
-        × IsFrontOf begun given (S.remaining source.old) front) }
-    // It is what a run promises on the bundle that goes on with what the source gave, which has
+    // The iCNF text is that of a bundle that was begun, with what the stream gave.
+    requires front { (begun : BegunBundle) × ((start : S)
+        × IsFrontOf begun (S.gives start) (S.gives source.old) front) }
+    // It is what a run promises on the bundle that goes on with what the stream gave, which has
     // that iCNF text, and as many clauses as is said.
-    ensures outcome { (begun : BegunBundle) (given : Option (List ℕ))
-        → IsFrontOf begun given (S.remaining source.old) front
-        → IfOk result (λ outcome. IsRunBehind (IsBundleBelow begun (IsLeft given)) front.icnf.items
+    ensures outcome { (begun : BegunBundle) (start : S)
+        → IsFrontOf begun (S.gives start) (S.gives source.old) front
+        → IfOk result (λ outcome. IsRunBehind (IsBundleBelow begun (S.gives start)) front.icnf.items
         draws outcome.text.items outcome.map.items outcome.refuted) }
     // A fault of the input is the first one of that bundle, or that it has other clauses.
-    ensures fault { (begun : BegunBundle) (given : Option (List ℕ))
-        → IsFrontOf begun given (S.remaining source.old) front
+    ensures fault { (begun : BegunBundle) (start : S)
+        → IsFrontOf begun (S.gives start) (S.gives source.old) front
         → IfErr result (λ fault. IsInputFault fault
-        → IsRefusedBelow begun (IsLeft given) fault) }
+        → IsRefusedBelow begun (S.gives start) fault) }
     // The device is at fault exactly where a read failed.
     ensures ok { OnOk result (S.failures source.new ≡ S.failures source.old) }
     ensures err { IfErr result (IsJudgingFault (S.failures source.old) (S.failures source.new)) }
 {
+    source.has_text();
     let BundleFront { text, icnf, said } = front;
     let case = case_of_front(rt.alloc(), icnf, said)?;
     let boards = conquer_while_read(rt, rt.alloc(), &case, settings, gate, text, source)?;

@@ -1,2 +1,3 @@
+pub mod DeviceGiven
 mod LinesFilled
 mod WholePieces

@@ -1,28 +1,41 @@
 -- How the room of a buffer is filled, read by read.
 use Rattle.std.proofs.Common.{◌≡◌, ◌∙◌, sym, ap, ℕ, ◌+◌, ◌-◌, ◌≤◌, ◌<◌, ◌^◌, List, []}
-use Rattle.std.proofs.Common.{◌++◌, length, take, drop, Option, arith}
-use Rattle.std.proofs.Common.{append-nil, append_assoc, false, refl, true}
+use Rattle.std.proofs.Common.{◌++◌, length, take, drop, arith}
+use Rattle.std.proofs.Common.{append-nil, append_assoc, false, refl, true, Result, Ok, Err, IfOk}
 use Rattle.std.proofs.Math.Seq.{take-append-add, take-add, paste, take-paste}
-use Rattle.std.proofs.lemmas.List.{drop-take, length-append, length-drop, length-take-le}
-use Rattle.std.proofs.KnownBytes.{Consumes-nil, Consumes-kept, Consumes-trans}
-use Rattle.std.specs.Io.KnownBytes.{Consumes, IsAtEnd, Keeps}
+use Rattle.std.proofs.lemmas.List.{drop-take, drop_all, length-append, length-drop, length-take-le}
+use Rattle.std.specs.Io.{ReadsAtMost}
+use Rattle.byte_flow.specs.Device.{HasGiven}
 use Rattle.byte_flow.specs.Lines.{EndsWithLine, IsBegunFurther, IsNextBlock, LinesOf}
 use Rattle.byte_flow.specs.Inner.Lines.{IsReadAt, IsReadBehind}
+use Rattle.byte_flow.proofs.DeviceGiven.{given_both}
 
 -- a read into the rest of a room
-pub read_behind : (before after : Option (List ℕ)) (old front buffer : List ℕ) (from count : ℕ)
+read_behind : (before after : List ℕ → Type 0) (old front buffer : List ℕ) (from count : ℕ)
     → front ≡ old → length front ≡ from → count ≤ length buffer
-    → Consumes before after (take count buffer) → (count ≡ 0 → IsAtEnd after)
+    → HasGiven before after (take count buffer) → (count ≡ 0 → after [])
     → IsReadAt before after old (front ++ buffer) from count
-read_behind before after old front buffer from count is long few lost last = record {
+read_behind before after old front buffer from count is long few given last = record {
   read = take count buffer;
-  lost = lost;
+  given = given;
   long = length-take-le count buffer few;
   within = omega (arith, long, few, length-append front buffer);
   behind = ap (λ (n : ℕ). take (n + count) (front ++ buffer)) (sym long)
       ∙ take-append-add front buffer count ∙ ap (λ (f : List ℕ). f ++ take count buffer) is;
   last = last;
 }
+
+-- the same of what a read answered
+pub result_behind : {E : Type 0} (result : Result ℕ E) (before after : List ℕ → Type 0)
+    (old front buffer : List ℕ) (from : ℕ) → front ≡ old → length front ≡ from → 0 < length buffer
+    → ReadsAtMost result buffer
+    → IfOk result (λ count. HasGiven before after (take count buffer))
+    → IfOk result (λ count. count ≡ 0 → 0 < length buffer → after [])
+    → IfOk result (IsReadAt before after old (front ++ buffer) from)
+result_behind (Ok count) before after old front buffer from is long some few given last =
+    read_behind before after old front buffer from count is long few.0 given
+    (λ none. last none some)
+result_behind (Err fault) before after old front buffer from is long some few given last = tt
 
 split_at : (block filled : ℕ) → block ≤ filled → block + (filled - block) ≡ filled
 split_at block filled within = omega arith
@@ -83,14 +96,14 @@ cut_at room block filled end old within few is none before =
     sym (in_two room end filled before) ∙ (all_begun room block filled old within few is none).1
 
 -- nothing was read
-pub begun_same : (before after : Option (List ℕ)) (room other : List ℕ) (block filled : ℕ)
+pub begun_same : (before after : List ℕ → Type 0) (room other : List ℕ) (block filled : ℕ)
     (old : LinesOf) → block ≤ filled → filled ≤ length room → as_lines room block filled ≡ old
-    → old.block ≡ [] → Keeps before after → take filled other ≡ take filled room
+    → old.block ≡ [] → HasGiven before after [] → take filled other ≡ take filled room
     → IsBegunFurther before after old.begun (as_lines other block filled)
 begun_same before after room other block filled old within few is none keeps same =
     let all = all_begun room block filled old within few is none in record {
       read = [];
-      lost = Consumes-kept before before after [] (Consumes-nil before) keeps;
+      given = keeps;
       none = ap (λ (n : ℕ). take n other) all.0;
       parts =
           ap (λ (n : ℕ). drop n (take filled other)) all.0 ∙ same ∙ all.1
@@ -98,7 +111,7 @@ begun_same before after room other block filled old within few is none keeps sam
     }
 
 -- so many bytes were read
-pub begun_behind : (before after : Option (List ℕ)) (room between other : List ℕ)
+pub begun_behind : (before after : List ℕ → Type 0) (room between other : List ℕ)
     (block filled count : ℕ) (old : LinesOf) → block ≤ filled → filled ≤ length room
     → as_lines room block filled ≡ old → old.block ≡ []
     → take filled between ≡ take filled room → length other < 2 ^ 64
@@ -111,7 +124,7 @@ begun_behind before after room between other block filled count old within few i
     ap (λ (n : ℕ). drop n (take (filled + count) other)) all.0 ∙ read.behind
     ∙ ap (λ (t : List ℕ). t ++ read.read) (same ∙ all.1) in record {
       read = read.read;
-      lost = read.lost;
+      given = read.given;
       long = read.long;
       none = ap (λ (n : ℕ). take n other) all.0;
       parts = begun;
@@ -125,26 +138,26 @@ begun_behind before after room between other block filled count old within few i
     }
 
 -- and so many more
-pub begun_more : (first before after : Option (List ℕ)) (begun : List ℕ) (was more : LinesOf)
+pub begun_more : (first before after : List ℕ → Type 0) (begun : List ℕ) (was more : LinesOf)
     (count : ℕ) → IsBegunFurther first before begun was → IsReadBehind before after was more count
     → IsBegunFurther first after begun more
 begun_more first before after begun was more count so_far read = record {
   read = so_far.read ++ read.read;
-  lost =
-      Consumes-trans first before after so_far.read read.read so_far.lost read.lost;
+  given =
+      given_both first before after so_far.read read.read so_far.given read.given;
   none = read.none;
   parts = read.parts ∙ ap (λ (t : List ℕ). t ++ read.read) so_far.parts
       ∙ append_assoc begun so_far.read read.read;
 }
 
 -- a read failed
-pub begun_kept : (first before after : Option (List ℕ)) (begun : List ℕ) (was more : LinesOf)
+pub begun_kept : (first before after : List ℕ → Type 0) (begun : List ℕ) (was more : LinesOf)
     → IsBegunFurther first before begun was → IsBegunFurther before after was.begun more
     → IsBegunFurther first after begun more
 begun_kept first before after begun was more so_far read = record {
   read = so_far.read ++ read.read;
-  lost =
-      Consumes-trans first before after so_far.read read.read so_far.lost read.lost;
+  given =
+      given_both first before after so_far.read read.read so_far.given read.given;
   none = read.none;
   parts = read.parts ∙ ap (λ (t : List ℕ). t ++ read.read) so_far.parts
       ∙ append_assoc begun so_far.read read.read;
@@ -153,28 +166,40 @@ begun_kept first before after begun was more so_far read = record {
 -- ---- the next block
 
 -- at the source's end all that is begun is the last block
-pub last_block : (first before after : Option (List ℕ)) (begun : List ℕ) (was more new : LinesOf)
+last_block : (first before after : List ℕ → Type 0) (begun : List ℕ) (was more new : LinesOf)
     → IsBegunFurther first before begun was → IsReadBehind before after was more 0
     → new.block ≡ more.begun → new.begun ≡ [] → IsNextBlock first after begun new false
 last_block first before after begun was more new so_far read block rest =
     let both = begun_more first before after begun was more 0 so_far read in record {
       read = both.read;
-      lost = both.lost;
+      given = both.given;
       parts = sym both.parts ∙ sym block ∙ sym (append-nil new.block)
           ∙ ap (λ (t : List ℕ). new.block ++ t) (sym rest);
       whole = λ yes. absurd (cc);
       last = λ no. (rest, read.last refl);
     }
 
+-- all that a room is filled with, as the last block
+pub room_last : (first before after : List ℕ → Type 0) (begun room : List ℕ) (block filled : ℕ)
+    (was more : LinesOf) → block ≤ filled → filled ≤ length room
+    → as_lines room block filled ≡ more → IsBegunFurther first before begun was
+    → IsReadBehind before after was more 0
+    → IsNextBlock first after begun (as_lines room filled filled) false
+room_last first before after begun room block filled was more within few is so_far read =
+    last_block first before after begun was more (as_lines room filled filled) so_far read
+    (all_begun room block filled more within few is read.none).1
+    (drop_all filled (take filled room)
+    (omega (arith, few, length-take-le filled room few)))
+
 -- a line ended among what was read
-pub whole_block : (first before after : Option (List ℕ)) (begun : List ℕ)
+pub whole_block : (first before after : List ℕ → Type 0) (begun : List ℕ)
     (was more new : LinesOf) (count : ℕ) → IsBegunFurther first before begun was
     → IsReadBehind before after was more count → new.block ++ new.begun ≡ more.begun
     → EndsWithLine new.block → IsNextBlock first after begun new true
 whole_block first before after begun was more new count so_far read parts whole =
     let both = begun_more first before after begun was more count so_far read in record {
       read = both.read;
-      lost = both.lost;
+      given = both.given;
       parts = sym both.parts ∙ sym parts;
       whole = λ yes. whole;
       last = λ no. absurd (cc);

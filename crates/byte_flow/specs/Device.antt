@@ -22,6 +22,14 @@ IsLeft left bytes = IfSome left (λ known. bytes ≡ known)
 abbrev pub IsReadOf : Option (List ℕ) → List ℕ → List ℕ → Type 0
 IsReadOf left old new = (read : List ℕ) × (new ≡ old ++ read) × IfSome left (λ known. read ≡ known)
 
+-- these bytes were given: what may be given now may have stood behind them before
+abbrev pub HasGiven : (List ℕ → Type 0) → (List ℕ → Type 0) → List ℕ → Type 0
+HasGiven before after bytes = (rest : List ℕ) → after rest → before (bytes ++ rest)
+
+-- bytes grew by one of these texts
+abbrev pub GrewBy : (List ℕ → Type 0) → List ℕ → List ℕ → Type 0
+GrewBy texts old new = (text : List ℕ) × texts text × (new ≡ old ++ text)
+
 -- want of memory without a failed call, or a fault of the device with one
 abbrev pub IsDeviceFault : ℕ → ℕ → DeviceFault → Type 0
 IsDeviceFault before after fault =

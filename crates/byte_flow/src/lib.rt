@@ -4,9 +4,11 @@
 mod device;
 mod fault;
 mod lines;
+mod stream;
 mod whole;
 
 pub use device::{Counted, Sink, Source};
 pub use fault::DeviceFault;
 pub use lines::LineBuffer;
+pub use stream::Stream;
 pub use whole::{read_all, read_to_end, write_all};

@@ -1,13 +1,12 @@
 //! A text that is read in blocks of whole lines.
 
 ghost use Rattle.std.specs.Prelude.{◌≡◌, ◌<◌, ◌≤◌, ◌^◌, ◌-◌, length, take, IfOk, IfErr};
-ghost use Rattle.std.specs.Prelude.{OnOk, OnErr, ◌++◌, List, ℕ};
-ghost use Rattle.std.specs.Io.KnownBytes.{Keeps};
-ghost use Rattle.byte_flow.specs.Device.{IsDeviceFault};
+ghost use Rattle.std.specs.Prelude.{OnOk, OnErr, ◌++◌, [], List, ℕ};
+ghost use Rattle.byte_flow.specs.Device.{HasGiven, IsDeviceFault};
 ghost use Rattle.byte_flow.specs.Inner.Lines.{IsReadAt};
 
-use crate::device::Source;
 use crate::fault::DeviceFault;
+use crate::stream::Stream;
 use memchr::memrchr;
 use std::alloc::{AllocError, Global};
 use std::marker::Model;
@@ -88,15 +87,15 @@ impl LineBuffer {
     ///
     /// `Device` where a read failed, `Memory` where a growth was refused. Nothing is lost then:
     /// there is no block, and what was read is begun.
-    pub fn refill<S: Source>(&mut self, source: &mut S) -> Result<bool, DeviceFault>
+    pub fn refill<S: Stream>(&mut self, source: &mut S) -> Result<bool, DeviceFault>
         // One more failed read can be counted.
         requires { S.failures source.old < 2 ^ 64 - 1 }
         // The line that was begun, and what was read now, are the block and a line that is begun.
-        ensures block { IfOk result (IsNextBlock (S.remaining source.old) (S.remaining source.new)
+        ensures block { IfOk result (IsNextBlock (S.gives source.old) (S.gives source.new)
             self.old.begun self.new) }
         // Behind an error all of it is begun.
-        ensures begun { OnErr result (IsBegunFurther (S.remaining source.old)
-            (S.remaining source.new) self.old.begun self.new) }
+        ensures begun { OnErr result (IsBegunFurther (S.gives source.old)
+            (S.gives source.new) self.old.begun self.new) }
         // A fault is that of a read that failed, or of memory.
         ensures ok { OnOk result (S.failures source.new ≡ S.failures source.old) }
         ensures err { IfErr result
@@ -128,13 +127,13 @@ impl LineBuffer {
 
     /// Reads some bytes behind what is begun, and answers how many: 0 at the source's end. The room
     /// grows where it is full.
-    fn read_more<S: Source>(&mut self, source: &mut S) -> Result<usize, DeviceFault>
+    fn read_more<S: Stream>(&mut self, source: &mut S) -> Result<usize, DeviceFault>
         requires count { S.failures source.old < 2 ^ 64 - 1 }
         requires none { self.old.block ≡ [] }
-        ensures read { IfOk result (IsReadBehind (S.remaining source.old) (S.remaining source.new)
+        ensures read { IfOk result (IsReadBehind (S.gives source.old) (S.gives source.new)
             self.old self.new) }
-        ensures kept { OnErr result (IsBegunFurther (S.remaining source.old)
-            (S.remaining source.new) self.old.begun self.new) }
+        ensures kept { OnErr result (IsBegunFurther (S.gives source.old)
+            (S.gives source.new) self.old.begun self.new) }
         ensures ok { OnOk result (S.failures source.new ≡ S.failures source.old) }
         ensures err { IfErr result
             (λ fault. IsDeviceFault (S.failures source.old) (S.failures source.new) fault) }
@@ -189,12 +188,12 @@ fn grow(room: &mut Vec<u8>) -> Result<(), AllocError>
 }
 
 /// Reads some bytes behind so many of a room that goes on behind these.
-fn read_at<S: Source>(room: &mut [u8], from: usize, source: &mut S) -> Result<usize, DeviceFault>
+fn read_at<S: Stream>(room: &mut [u8], from: usize, source: &mut S) -> Result<usize, DeviceFault>
     requires count { S.failures source.old < 2 ^ 64 - 1 }
     requires within { from < length room.old }
-    ensures read { IfOk result (IsReadAt (S.remaining source.old) (S.remaining source.new)
+    ensures read { IfOk result (IsReadAt (S.gives source.old) (S.gives source.new)
         (take from room.old) room.new from) }
-    ensures kept { OnErr result (Keeps (S.remaining source.old) (S.remaining source.new)
+    ensures kept { OnErr result (HasGiven (S.gives source.old) (S.gives source.new) []
         × (take from room.new ≡ take from room.old)) }
     ensures long { length room.new ≡ length room.old }
     ensures ok { OnOk result (S.failures source.new ≡ S.failures source.old) }
@@ -202,8 +201,5 @@ fn read_at<S: Source>(room: &mut [u8], from: usize, source: &mut S) -> Result<us
         (λ fault. IsDeviceFault (S.failures source.old) (S.failures source.new) fault) }
 {
     let (_, rest) = room.split_at_mut(from);
-    match source.read(rest) {
-        Ok(count) => Ok(count),
-        Err(_) => Err(DeviceFault::Device),
-    }
+    source.read(rest)
 }

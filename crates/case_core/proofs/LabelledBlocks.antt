@@ -4,14 +4,13 @@ use Rattle.std.proofs.Common.{true, false, not, List, [], ◌∷◌, ◌++◌, �
 use Rattle.std.proofs.Common.{MatchOption, append-nil, append_assoc, inl, inr, length, take, drop}
 use Rattle.std.proofs.Common.{arith, take-append-drop, ◌==◌, ◌||◌}
 use Rattle.std.specs.Prelude.{count_by}
-use Rattle.std.specs.Io.KnownBytes.{IsAtEnd}
-use Rattle.std.proofs.KnownBytes.{Consumes-nil}
 use Rattle.std.proofs.Math.Seq.{take-append_seam, drop-append_seam}
 use Rattle.std.proofs.lemmas.Bool.{ne_eqb}
 use Rattle.std.proofs.lemmas.List.{drop-append-le, drop-drop, drop-take, drop_all, length-append}
 use Rattle.std.proofs.lemmas.List.{length-drop, length-take-le, take_all}
 use Rattle.std.proofs.lemmas.List.Splits.{slice_split_none}
 use Rattle.byte_flow.specs.Lines.{EndsWithLine, IsNextBlock, LinesOf}
+use Rattle.byte_flow.proofs.DeviceGiven.{given_none}
 use Rattle.cnf_text.specs.Tokens.{is_line_end}
 use Rattle.case_core.specs.Bundle.{BeginsWithLabel, is_label, lines_of, text_before}
 use Rattle.case_core.specs.Inner.Bundle.{FirstLabel, HasNoLabel, IsCutAtLine}
@@ -120,7 +119,7 @@ kept_at_end buffer at end is_last kept =
       last = kept.last;
     }
 
-pub kept_next : (before after : Option (List ℕ)) (begun : List ℕ) (buffer : LinesOf) (end : ℕ)
+pub kept_next : (before after : List ℕ → Type 0) (begun : List ℕ) (buffer : LinesOf) (end : ℕ)
     (is_whole : Bool) → IsNextBlock before after begun buffer is_whole
     → IsCutFrom buffer.block 0 end → IsTextKept buffer 0 end (not is_whole)
 kept_next before after begun buffer end true next cut = record {
@@ -288,7 +287,7 @@ counted_by block told at end lines ends more same ordered count sum =
 
 -- up to a label line, or up to the end
 pub passed_ready : (old : LabelledOf) (buffer : LinesOf) (at end lines more : ℕ) (is_last : Bool)
-    (left : Option (List ℕ)) → labelled_text buffer at end is_last lines ≡ old
+    (left : List ℕ → Type 0) → labelled_text buffer at end is_last lines ≡ old
     → IsTextKept buffer at end is_last → (is_last ≡ true) ⊎ (drop end buffer.block ≢ [])
     → more ≡ lines + count_by is_line_end (between buffer.block at end)
     → HasAdvanced old (labelled_text buffer end end is_last more) left left false
@@ -297,7 +296,7 @@ passed_ready old buffer at end lines more is_last left is kept over counted =
     false) is record {
       passed = record {
         read = [];
-        lost = Consumes-nil left;
+        given = given_none left;
         parts = append-nil (between buffer.block at end ++ behind)
             ∙ ap (λ (r : List ℕ). between buffer.block at end ++ (r ++ behind)) (sym none);
         lines = counted;
@@ -327,7 +326,7 @@ some_block block whole none = some whole.0 (sym none ∙ whole.1)
 
 -- up to the block's end, behind which comes another block
 pub next_ready : (old : LabelledOf) (buffer new : LinesOf) (at end lines front more : ℕ)
-    (is_last is_whole some : Bool) (before after : Option (List ℕ))
+    (is_last is_whole some : Bool) (before after : List ℕ → Type 0)
     → labelled_text buffer at end is_last lines ≡ old → IsTextKept buffer at end is_last
     → is_last ≡ false → drop end buffer.block ≡ []
     → IsNextBlock before after buffer.begun new is_whole → IsCutFrom new.block 0 front
@@ -340,7 +339,7 @@ next_ready old buffer new at end lines front more is_last is_whole some before a
     after some) is record {
       passed = record {
         read = next.read;
-        lost = next.lost;
+        given = next.given;
         parts =
             append_assoc ready (drop end buffer.block ++ buffer.begun) next.read
             ∙ ap (λ (b : List ℕ). ready ++ ((b ++ buffer.begun) ++ next.read)) none
@@ -366,7 +365,7 @@ next_ready old buffer new at end lines front more is_last is_whole some before a
     ready : List ℕ
     ready = between buffer.block at end
 
-    over : (w : Bool) → IsNextBlock before after buffer.begun new w → not w ≡ true → IsAtEnd after
+    over : (w : Bool) → IsNextBlock before after buffer.begun new w → not w ≡ true → after []
     over true next is = absurd (cc)
     over false next is = (next.last refl).1
 

@@ -1,38 +1,57 @@
 -- The parts of a text that stands at its label lines.
 use Rattle.std.proofs.Common.{◌≡◌, ◌∙◌, sym, ap, refl, ℕ, ◌+◌, true, false, List, [], ◌∷◌}
-use Rattle.std.proofs.Common.{◌++◌, Option, None, Some, append-nil, append_assoc, inl, inr, arith}
+use Rattle.std.proofs.Common.{◌++◌, Bool, append-nil, append_assoc, inl, inr, arith}
 use Rattle.std.specs.Prelude.{count_by}
-use Rattle.std.specs.Io.KnownBytes.{Consumes, prepend_known}
-use Rattle.std.proofs.KnownBytes.{Consumes-nil, Consumes-trans}
 use Rattle.std.proofs.lemmas.List.Sums.{sum_by-append}
+use Rattle.byte_flow.specs.Device.{GrewBy, HasGiven}
+use Rattle.byte_flow.proofs.DeviceGiven.{given_both, given_none}
 use Rattle.cnf_text.specs.Tokens.{is_line_end}
 use Rattle.case_core.specs.Inner.Bundle.{HasNoLabel}
 use Rattle.case_core.specs.Inner.Labelled.{HasAdvanced}
 use Rattle.case_core.specs.Labelled.{HasFront, HasPassed, IsBehindLabel, IsPart, LabelledOf, Stands}
 use Rattle.case_core.specs.Bundle.{labels_of}
-use Rattle.case_core.specs.Labelled.{fresh_text, left_of, text_below}
+use Rattle.case_core.specs.Labelled.{IsOverWith, fresh_text, left_of, text_below}
 use Rattle.case_core.specs.Outline.{AreWholeLines}
 use Rattle.case_core.proofs.LabelFirst.{no_label, plain_both, plain_of}
 use Rattle.case_core.proofs.OutlineLines.{whole_both}
 
 -- what is passed are the next bytes of all that was left
-pub left_passed : (old new : LabelledOf) (before after : Option (List ℕ)) (bytes : List ℕ)
+pub left_passed : (old new : LabelledOf) (before after : List ℕ → Type 0) (bytes : List ℕ)
     → HasPassed old new before after bytes
-    → Consumes (left_of old before) (left_of new after) bytes
-left_passed old new None after bytes passed = tt
-left_passed old new (Some known) None bytes passed = absurd passed.lost
-left_passed old new (Some known) (Some more) bytes passed =
-    ap (λ (k : List ℕ). (old.ready ++ old.behind) ++ k) passed.lost
-    ∙ sym (append_assoc (old.ready ++ old.behind) passed.read more)
-    ∙ ap (λ (t : List ℕ). t ++ more) passed.parts
-    ∙ append_assoc bytes (new.ready ++ new.behind) more
+    → HasGiven (left_of old before) (left_of new after) bytes
+left_passed old new before after bytes passed left is = (
+  passed.read ++ is.0,
+  passed.given is.0 is.1,
+  ap (λ (t : List ℕ). bytes ++ t) is.2
+      ∙ sym (append_assoc bytes (new.ready ++ new.behind) is.0)
+      ∙ ap (λ (t : List ℕ). t ++ is.0) (sym passed.parts)
+      ∙ append_assoc (old.ready ++ old.behind) passed.read is.0,
+)
 
-pub passed_both : (old now new : LabelledOf) (first before after : Option (List ℕ))
+-- What a stream may give behind what was read: nothing, where no more was to be read.
+pub record RestOf (text : LabelledOf) (gives : List ℕ → Type 0) : Type 0 where
+  pub rest : List ℕ
+  pub is : gives rest
+  pub last : text.is_last ≡ true → rest ≡ []
+
+pub some_rest : (text : LabelledOf) (gives : List ℕ → Type 0) → IsOverWith text gives
+    → (rest : List ℕ) × gives rest → RestOf text gives
+some_rest text gives over some = by_last text.is_last refl
+  where
+    by_last : (last : Bool) → text.is_last ≡ last → RestOf text gives
+    by_last true is = record { rest = []; is = over is; last = λ _. refl }
+    by_last false is = record {
+      rest = some.0;
+      is = some.1;
+      last = λ last. absurd (cc (sym is ∙ last));
+    }
+
+pub passed_both : (old now new : LabelledOf) (first before after : List ℕ → Type 0)
     (bytes more : List ℕ) → HasPassed old now first before bytes
     → HasPassed now new before after more → HasPassed old new first after (bytes ++ more)
 passed_both old now new first before after bytes more was next = record {
   read = was.read ++ next.read;
-  lost = Consumes-trans first before after was.read next.read was.lost next.lost;
+  given = given_both first before after was.read next.read was.given next.given;
   parts = sym (append_assoc (old.ready ++ old.behind) was.read next.read)
       ∙ ap (λ (t : List ℕ). t ++ next.read) was.parts
       ∙ append_assoc bytes (now.ready ++ now.behind) next.read
@@ -52,11 +71,12 @@ passed_both old now new first before after bytes more was next = record {
     added : (a b c d : ℕ) → b ≡ a + c → b + d ≡ a + (c + d)
     added a b c d e = omega arith
 
-pub front_none : (text : LabelledOf) (left : Option (List ℕ)) → HasFront text text left left []
-front_none text left = record {
+pub front_none : (text : LabelledOf) (gives : List ℕ → Type 0)
+    → HasFront text text gives gives []
+front_none text gives = record {
   passed = record {
     read = [];
-    lost = Consumes-nil left;
+    given = given_none gives;
     parts = append-nil (text.ready ++ text.behind);
     lines = none text.lines;
     over = λ over. over;
@@ -69,7 +89,7 @@ front_none text left = record {
     none : (n : ℕ) → n ≡ n + 0
     none n = omega arith
 
-pub front_more : (old now new : LabelledOf) (first before after : Option (List ℕ))
+pub front_more : (old now new : LabelledOf) (first before after : List ℕ → Type 0)
     (bytes : List ℕ) → HasFront old now first before bytes
     → HasAdvanced now new before after true → HasNoLabel now.ready
     → HasFront old new first after (bytes ++ now.ready)
@@ -80,7 +100,7 @@ front_more old now new first before after bytes was next plain = record {
 }
 
 -- whole lines of a text, and the part of it behind them, are one part
-pub part_behind : (old now new : LabelledOf) (first before after : Option (List ℕ))
+pub part_behind : (old now new : LabelledOf) (first before after : List ℕ → Type 0)
     (front bytes : List ℕ) → HasFront old now first before front
     → IsPart now new before after bytes → IsPart old new first after (front ++ bytes)
 part_behind old now new first before after front bytes was part = record {
@@ -95,7 +115,7 @@ part_behind old now new first before after front bytes was part = record {
     stands (inl end) = inl end
     stands (inr label) = inr (whole_both front bytes was.whole label.0, label.1, label.2)
 
-pub part_done : (old now new : LabelledOf) (first before after : Option (List ℕ))
+pub part_done : (old now new : LabelledOf) (first before after : List ℕ → Type 0)
     (bytes : List ℕ) → HasFront old now first before bytes
     → HasAdvanced now new before after false → HasNoLabel now.ready
     → IsPart old new first after (bytes ++ now.ready)
@@ -108,13 +128,13 @@ part_done old now new first before after bytes was next plain =
     }
 
 -- a text below a front went on behind it, of the front and what is given below that
-pub front_passed : (front : List ℕ) (given : Option (List ℕ)) → labels_of front ≡ []
+pub front_passed : (front : List ℕ) (gives : List ℕ → Type 0) → labels_of front ≡ []
     → AreWholeLines front
-    → HasFront (fresh_text []) (text_below front) (prepend_known front given) given front
-front_passed front given plain whole = record {
+    → HasFront (fresh_text []) (text_below front) (GrewBy gives front) gives front
+front_passed front gives plain whole = record {
   passed = record {
     read = front;
-    lost = lost given;
+    given = λ rest is. (rest, is, refl);
     parts = sym (append-nil front);
     lines = none (count_by is_line_end front);
     over = λ over last. absurd (cc);
@@ -124,10 +144,6 @@ front_passed front given plain whole = record {
   whole = whole;
 }
   where
-    lost : (g : Option (List ℕ)) → Consumes (prepend_known front g) g front
-    lost None = tt
-    lost (Some known) = refl
-
     none : (n : ℕ) → n ≡ 0 + n
     none n = omega arith
 

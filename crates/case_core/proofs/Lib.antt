@@ -12,9 +12,7 @@ mod BundleLetters
 pub mod ReadingParts
 mod BinaryLines
 pub mod BundleMore
-mod ScanLabels
-mod ScanTaken
-mod ScanWhole
+mod OutlineAlike
 pub mod OutlineLines
 mod OutlineOnly
 mod OutlineSteps

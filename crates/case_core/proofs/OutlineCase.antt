@@ -25,7 +25,7 @@ use Rattle.case_core.specs.Outline.{OutlineOf, AreOutlined, IsOutlineOf, IsOutli
 use Rattle.case_core.proofs.CaseTables.{by_place, proof_here, proof_past, none_from}
 use Rattle.case_core.proofs.CaseTables.{same_target-self, same_target-true}
 use Rattle.case_core.proofs.OutlineLines.{plain_text, front_plain}
-use Rattle.case_core.proofs.ScanLabels.{AreAlike, alike_apart, alike_long, alike_at, alike_free}
+use Rattle.case_core.proofs.OutlineAlike.{AreAlike, alike_apart, alike_long, alike_at, alike_free}
 
 -- ---- sections that are moved, one after the other
 

@@ -13,7 +13,7 @@ use Rattle.case_core.specs.Case.{CaseOf, SectionOf, section_in}
 use Rattle.case_core.specs.Label.{label_name, IsTargetOf}
 use Rattle.case_core.specs.Sections.{AreLabelled, IsCaseOf, IsFaultOf}
 use Rattle.case_core.specs.Outline.{OutlineOf, AreOutlined, IsOutlineOf}
-use Rattle.case_core.proofs.ScanLabels.{AreAlike, alike_apart}
+use Rattle.case_core.proofs.OutlineAlike.{AreAlike, alike_apart}
 use Rattle.case_core.proofs.SectionsUniqueCase.{case_or_fault}
 
 -- ---- the case of the outline's own text

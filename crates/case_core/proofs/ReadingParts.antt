@@ -1,10 +1,10 @@
 -- A proof that is judged while it is read.
-use Rattle.std.proofs.Common.{◌≡◌, ◌∙◌, sym, ap, subst, refl, ℕ, List, [], ◌++◌}
-use Rattle.std.proofs.Common.{Option, Some, None}
+use Rattle.std.proofs.Common.{◌≡◌, ◌∙◌, sym, ap, subst, ℕ, List, []}
+use Rattle.std.proofs.Common.{Option}
 use Rattle.std.proofs.Common.{append-nil}
 use Rattle.std.specs.Io.KnownBytes.{Consumes, IsAtEnd}
-use Rattle.std.specs.Prelude.{unwrap_or}
 use Rattle.byte_flow.specs.Device.{IsLeft}
+use Rattle.byte_flow.proofs.DeviceGiven.{left_end, left_given}
 use Rattle.cnf_text.specs.Literal.{Literal}
 use Rattle.hint_check.specs.Proof.{Proof, IsProofOf}
 use Rattle.hint_check.specs.Judgement.{judgement}
@@ -36,20 +36,8 @@ begun case target formula path j same of told text =
 
 -- ---- what a source gave
 
--- what was read of it, and what it has left
-pub left_over : (first now : Option (List ℕ)) (read : List ℕ) → Consumes first now read
-    → IsLeft first (read ++ unwrap_or now [])
-left_over None now read lost = tt
-left_over (Some xs) None read lost = absurd lost
-left_over (Some xs) (Some ys) read lost = sym lost
-
-pub none_over : (now : Option (List ℕ)) → IsAtEnd now → unwrap_or now [] ≡ []
-none_over None end = refl
-none_over (Some xs) end = end
-
 -- it was read to its end
 pub all_left : (first now : Option (List ℕ)) (read : List ℕ) → Consumes first now read
     → IsAtEnd now → IsLeft first read
 all_left first now read lost end =
-    subst (IsLeft first) (ap (λ (t : List ℕ). read ++ t) (none_over now end) ∙ append-nil read)
-    (left_over first now read lost)
+    subst (IsLeft first) (append-nil read) (left_given first now read lost [] (left_end now end))

@@ -2,10 +2,11 @@
 use Rattle.std.proofs.Common.{◌≡◌, ◌∙◌, sym, ap, subst, refl, ℕ, ◌+◌, true, false, List, []}
 use Rattle.std.proofs.Common.{◌++◌, Option, None, Some, append-nil, append_assoc, inl, inr}
 use Rattle.std.proofs.Common.{length, length-append, arith}
-use Rattle.std.specs.Prelude.{unwrap_or, count_by}
+use Rattle.std.specs.Prelude.{count_by}
 use Rattle.std.specs.Io.KnownBytes.{Consumes, IsAtEnd}
 use Rattle.std.proofs.KnownBytes.{Consumes-nil, Consumes-trans}
 use Rattle.byte_flow.specs.Device.{IsLeft}
+use Rattle.byte_flow.proofs.DeviceGiven.{left_some}
 use Rattle.cnf_text.specs.Tokens.{is_line_end}
 use Rattle.hint_check.specs.Judging.{JudgingOf, says, says_binary}
 use Rattle.hint_check.specs.declared.Judged.{Judged as Judgement}
@@ -32,12 +33,13 @@ use Rattle.case_core.specs.declared.reading.JudgedText.{JudgedText}
 use Rattle.case_core.specs.declared.reading.ReadText.TheVariants.{Judged, Labelled}
 use Rattle.case_core.proofs.BinaryLines.{no_label_in_binary}
 use Rattle.case_core.proofs.LabelFirst.{no_label}
-use Rattle.case_core.proofs.LabelledParts.{front_more, front_none, memory_on, part_done}
-use Rattle.case_core.proofs.ReadingParts.{all_left, left_over, none_over}
+use Rattle.case_core.proofs.LabelledParts.{RestOf, front_more, front_none, memory_on, part_done}
+use Rattle.case_core.proofs.LabelledParts.{some_rest}
+use Rattle.case_core.proofs.ReadingParts.{all_left}
 
 -- ---- the lines of a text
 
-pub lines_none : (text : LabelledOf) (left : Option (List ℕ)) (j : JudgingOf)
+pub lines_none : (text : LabelledOf) (left : List ℕ → Type 0) (j : JudgingOf)
     → HasFrontJudged text text left left j j 0
 lines_none text left j = record {
   bytes = [];
@@ -59,7 +61,7 @@ both_long : (bytes ready : List ℕ) (size longer : ℕ) → size ≡ length byt
 both_long bytes ready size longer was sum =
     sum ∙ ap (λ (n : ℕ). n + length ready) was ∙ sym (length-append bytes ready)
 
-pub lines_more : (old now new : LabelledOf) (first before after : Option (List ℕ))
+pub lines_more : (old now new : LabelledOf) (first before after : List ℕ → Type 0)
     (begun j next : JudgingOf) (size longer : ℕ)
     → HasFrontJudged old now first before begun j size → HasAdvanced now new before after true
     → HasNoLabel now.ready
@@ -73,7 +75,7 @@ lines_more old now new first before after begun j next size longer was gone plai
       long = both_long was.bytes now.ready size longer was.long sum;
     }
 
-pub lines_done : (old now new : LabelledOf) (first before after : Option (List ℕ))
+pub lines_done : (old now new : LabelledOf) (first before after : List ℕ → Type 0)
     (begun j next : JudgingOf) (size : ℕ) (read : JudgedText)
     → HasFrontJudged old now first before begun j size → HasAdvanced now new before after false
     → HasNoLabel now.ready
@@ -192,7 +194,7 @@ binary_read opened form first now begun old j handed read left binary lost some 
 pub text_read : (opened : ProofForm) (first now after : Option (List ℕ)) (begun : List ℕ)
     (text end : LabelledOf) (j : JudgingOf) (read : JudgedText)
     → IsOpenedText opened begun → Consumes first now begun → text ≡ fresh_text begun
-    → IsPartJudged text end now after j read → end.at_label ≡ false
+    → IsPartJudged text end (IsLeft now) (IsLeft after) j read → end.at_label ≡ false
     → IsTextRead opened first j (Judged read)
 text_read opened first now after begun text end j read opens lost fresh part none =
     by_end part.part.stands
@@ -212,12 +214,13 @@ text_read opened first now after begun text end j read opens lost fresh part non
         sym all ∙ sym (opens part.part.passed.read) ∙ ap (proof_left opened) all in record {
           bytes = part.bytes;
           is_left =
-              subst (λ (t : List ℕ). IsLeft first t) all
-              (all_left first after (begun ++ part.part.passed.read)
-              (Consumes-trans first now after begun part.part.passed.read lost
-              part.part.passed.lost)
+              subst (λ (t : List ℕ). IsLeft first t)
+              (ap (λ (t : List ℕ). begun ++ t) (append-nil part.part.passed.read) ∙ all)
+              (left_both first now begun (part.part.passed.read ++ []) lost
+              (part.part.passed.given []
               (part.part.passed.over
-              (λ is. absurd (going (ap (λ (t : LabelledOf). t.is_last) (sym fresh) ∙ is))) over.2));
+              (λ is. absurd (going (ap (λ (t : LabelledOf). t.is_last) (sym fresh) ∙ is)))
+              over.2)));
           is = (
             ap labels_of (sym same) ∙ part.part.plain,
             sym part.long,
@@ -232,20 +235,32 @@ text_read opened first now after begun text end j read opens lost fresh part non
 pub label_read : (opened : ProofForm) (first now after : Option (List ℕ)) (begun : List ℕ)
     (text end behind : LabelledOf) (j : JudgingOf) (read : JudgedText) (label : LabelLine)
     → IsOpenedText opened begun → Consumes first now begun → text ≡ fresh_text begun
-    → IsPartJudged text end now after j read
+    → IsPartJudged text end (IsLeft now) (IsLeft after) j read
     → IsLabelTaken end behind label.line.items label.lines
     → IsTextRead opened first j (Labelled label)
 label_read opened first now after begun text end behind j read label opens lost fresh part taken =
     record {
       bytes = bytes;
       is_left =
-          left_over first after (begun ++ part.part.passed.read)
-          (Consumes-trans first now after begun part.part.passed.read lost part.part.passed.lost);
+          subst (λ (t : List ℕ). IsLeft first t)
+          (sym (append_assoc begun part.part.passed.read rest))
+          (left_both first now begun (part.part.passed.read ++ rest) lost
+          (part.part.passed.given rest behind_end.is));
       is = (as_text, first_label);
     }
   where
+    going : false ≡ true → ⊥
+    going e = cc
+
+    behind_end : RestOf end (IsLeft after)
+    behind_end =
+        some_rest end (IsLeft after)
+        (part.part.passed.over
+        (λ last. absurd (going (ap (λ (t : LabelledOf). t.is_last) (sym fresh) ∙ last))))
+        (left_some after)
+
     rest : List ℕ
-    rest = unwrap_or after []
+    rest = behind_end.rest
 
     bytes : List ℕ
     bytes = (begun ++ part.part.passed.read) ++ rest
@@ -279,15 +294,8 @@ label_read opened first now after begun text end behind j read label opens lost 
         none : (n : ℕ) → 0 + n ≡ n
         none n = omega arith
 
-    going : false ≡ true → ⊥
-    going e = cc
-
     over : end.behind ≡ line → rest ≡ []
-    over is =
-        none_over after
-        (part.part.passed.over
-        (λ last. absurd (going (ap (λ (t : LabelledOf). t.is_last) (sym fresh) ∙ last)))
-        (sym taken.same ∙ taken.last is))
+    over is = behind_end.last (sym taken.same ∙ taken.last is)
 
     first_label : IsFirstLabel bytes line label.lines
     first_label = record {
@@ -316,7 +324,7 @@ found_in case here target text judged finding same told by is =
 
 -- behind lines that were handed over before it
 part_judged : (case : CaseOf) (target : Target) (front : List ℕ) (old new : LabelledOf)
-    (before after : Option (List ℕ)) (begun j : JudgingOf) (read : JudgedText)
+    (before after : List ℕ → Type 0) (begun j : JudgingOf) (read : JudgedText)
     → IsBegun case target begun → ((rest : List ℕ) → says j rest ≡ says begun (front ++ rest))
     → (part : IsPartJudged old new before after j read)
     → IsJudgement case target (front ++ part.bytes) read.judged
@@ -325,7 +333,7 @@ part_judged case target front old new before after begun j read is told part =
     (sym (part.judged ∙ told part.bytes)) (is (front ++ part.bytes))
 
 pub part_text : (case : CaseOf) (target : Target) (front : List ℕ) (old new : LabelledOf)
-    (before after : Option (List ℕ)) (begun j : JudgingOf) (read : JudgedText)
+    (before after : List ℕ → Type 0) (begun j : JudgingOf) (read : JudgedText)
     → IsBegun case target begun → ((rest : List ℕ) → says j rest ≡ says begun (front ++ rest))
     → IsPartJudged old new before after j read
     → (text : List ℕ) × IsJudgement case target text read.judged
@@ -335,7 +343,7 @@ part_text case target front old new before after begun j read is told part = (
 )
 
 pub part_found : (case here : CaseOf) (target : Target) (front : List ℕ) (old new : LabelledOf)
-    (before after : Option (List ℕ)) (begun j : JudgingOf) (read : JudgedText)
+    (before after : List ℕ → Type 0) (begun j : JudgingOf) (read : JudgedText)
     (finding : Finding) (long : ℕ) → here ≡ case → IsBegun here target begun
     → ((rest : List ℕ) → says j rest ≡ says begun (front ++ rest))
     → IsPartJudged old new before after j read → finding.case.now ≡ here

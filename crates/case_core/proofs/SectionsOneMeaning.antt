@@ -1,5 +1,5 @@
 -- A bundle stands for one case at most, or has one fault.
-use Rattle.std.proofs.Common.{◌≡◌, ◌+◌, ◌≤◌, ◌^◌, List, [], ◌∷◌, subst, arith, Vec}
+use Rattle.std.proofs.Common.{◌≡◌, ◌+◌, ◌≤◌, ◌^◌, ℕ, List, [], ◌∷◌, subst, arith, Vec}
 use Rattle.std.specs.List.{AllByRecursion}
 use Rattle.cnf_text.specs.Literal.{Literal}
 use Rattle.cnf_text.specs.Icnf.{Item, ClauseItem, CubeItem, literals_of, clauses_of, cubes_of}
@@ -7,7 +7,9 @@ use Rattle.cnf_text.specs.Icnf.{Within, StandsFor, IsTextFault}
 use Rattle.cnf_text.specs.Icnf as icnf
 use Rattle.split_tree.specs.Clash as clash
 use Rattle.split_tree.specs.SplitTree.{SplitTree, numbered, IsTreeOf, total}
-use Rattle.case_core.specs.Inner.Label.{IsPathInRange}
+use Rattle.case_core.specs.Case.{CaseOf}
+use Rattle.case_core.specs.Sections.{IsCaseOf}
+use Rattle.case_core.specs.Inner.Label.{IsLimited, IsPathInRange}
 use Rattle.case_core.specs.Inner.Sections.{HasTree}
 use Rattle.case_core.proofs.LabelLimits.{limited}
 
@@ -31,3 +33,10 @@ has_tree tree items cubes within e is total_is =
           (cubes_in_range items within.variables);
       total = total_is;
     }
+
+-- so it is of a bundle's case: its tree keeps the limits of labels
+pub case_limited : (bundle : List ℕ) (case : CaseOf) → IsCaseOf bundle case → IsLimited case.tree
+case_limited bundle case is =
+    let within = is.text.2.1 in
+    limited case.tree (cubes_of is.items) is.tree (omega (arith, within.cubes))
+    (cubes_in_range is.items within.variables)

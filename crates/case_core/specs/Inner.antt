@@ -4,7 +4,6 @@ pub mod Finding
 pub mod Label
 pub mod Bundle
 pub mod Sections
-pub mod Scan
 pub mod Outline
 pub mod Reading
 pub mod Labelled

@@ -1,8 +1,8 @@
 -- A text that is read once, and stands at its label lines.
 use Rattle.std.specs.Prelude.{◌≡◌, ◌⊎◌, ℕ, ◌+◌, ◌<◌, Bool, true, false, List, [], ◌∷◌, ◌++◌}
-use Rattle.std.specs.Prelude.{MatchBool, Option, count_by, length, refl}
+use Rattle.std.specs.Prelude.{MatchBool, count_by, length, refl}
 use Rattle.std.specs.Coded.{Coded, code_by, coded×, coded_ℕ, coded_bool, coded_list}
-use Rattle.std.specs.Io.KnownBytes.{Consumes, IsAtEnd, prepend_known}
+use Rattle.byte_flow.specs.Device.{GrewBy, HasGiven}
 use Rattle.cnf_text.specs.Tokens.{is_line_end}
 use Rattle.case_core.specs.Bundle.{is_label, labels_of, lines_of}
 use Rattle.case_core.specs.Outline.{AreWholeLines}
@@ -51,21 +51,21 @@ text_below front = record {
   lines = count_by is_line_end front;
 }
 
--- all that is left of a text, where its source has this left
-abbrev pub left_of : LabelledOf → Option (List ℕ) → Option (List ℕ)
-left_of text left = prepend_known (text.ready ++ text.behind) left
+-- all that is left of a text, where its stream may give these texts
+abbrev pub left_of : LabelledOf → (List ℕ → Type 0) → List ℕ → Type 0
+left_of text gives = GrewBy gives (text.ready ++ text.behind)
 
--- where no more is to be read of a text, its source is at its end
-abbrev pub IsOverWith : LabelledOf → Option (List ℕ) → Type 0
-IsOverWith text left = text.is_last ≡ true → IsAtEnd left
+-- where no more is to be read of a text, its stream may be at its end
+abbrev pub IsOverWith : LabelledOf → (List ℕ → Type 0) → Type 0
+IsOverWith text gives = text.is_last ≡ true → gives []
 
--- A text went on behind these bytes: the next ones of what was in memory, and of what its source
--- lost meanwhile, which is nothing where no more was to be read. So they are the next ones of all
+-- A text went on behind these bytes: the next ones of what was in memory, and of what its stream
+-- gave meanwhile, which is nothing where no more was to be read. So they are the next ones of all
 -- that was left of the text (`left_passed`).
-pub record HasPassed (old new : LabelledOf) (before after : Option (List ℕ)) (bytes : List ℕ)
+pub record HasPassed (old new : LabelledOf) (before after : List ℕ → Type 0) (bytes : List ℕ)
     : Type 0 where
   pub read : List ℕ
-  pub lost : Consumes before after read
+  pub given : HasGiven before after read
   pub parts : (old.ready ++ old.behind) ++ read ≡ bytes ++ (new.ready ++ new.behind)
   pub lines : new.lines ≡ old.lines + count_by is_line_end bytes
   pub over : IsOverWith old before → IsOverWith new after
@@ -91,15 +91,23 @@ Stands bytes new =
     ⊎ (AreWholeLines bytes × (new.at_label ≡ true) × IsAtLabel new)
 
 -- these bytes of a text are all up to its next label line, or up to its end; there it stands
-pub record IsPart (old new : LabelledOf) (before after : Option (List ℕ)) (bytes : List ℕ)
+pub record IsPart (old new : LabelledOf) (before after : List ℕ → Type 0) (bytes : List ℕ)
     : Type 0 where
   pub passed : HasPassed old new before after bytes
   pub plain : labels_of bytes ≡ []
   pub ready : new.ready ≡ []
   pub stands : Stands bytes new
 
+-- a text stands behind all lines up to its first label line, or up to its end
+pub record IsBehindFront (front : List ℕ) (text : LabelledOf) (left : List ℕ → Type 0)
+    : Type 0 where
+  pub plain : labels_of front ≡ []
+  pub stands : Stands front text
+  pub over : IsOverWith text left
+  pub lines : text.lines ≡ count_by is_line_end front
+
 -- a text went on behind these bytes, which are whole lines, and none of them is a label line
-pub record HasFront (old new : LabelledOf) (before after : Option (List ℕ)) (bytes : List ℕ)
+pub record HasFront (old new : LabelledOf) (before after : List ℕ → Type 0) (bytes : List ℕ)
     : Type 0 where
   pub passed : HasPassed old new before after bytes
   pub plain : labels_of bytes ≡ []
@@ -107,8 +115,8 @@ pub record HasFront (old new : LabelledOf) (before after : Option (List ℕ)) (b
 
 -- these bytes of a text are all up to its next label line, or up to its end; or they are whole
 -- lines of it, more than so many bytes, and the text goes on behind them
-abbrev pub IsFront : LabelledOf → LabelledOf → Option (List ℕ) → Option (List ℕ) → ℕ → List ℕ
-    → Bool → Type 0
+abbrev pub IsFront : LabelledOf → LabelledOf → (List ℕ → Type 0) → (List ℕ → Type 0) → ℕ
+    → List ℕ → Bool → Type 0
 IsFront old new before after most bytes is_part =
     MatchBool is_part (IsPart old new before after bytes)
     (HasFront old new before after bytes × (most < length bytes))

@@ -1,5 +1,5 @@
 -- A proof that is read, and the label line that ends it.
-use Rattle.std.specs.Prelude.{◌≡◌, ℕ, List, [], ◌++◌, length, count_by, Option}
+use Rattle.std.specs.Prelude.{◌≡◌, ℕ, List, [], ◌++◌, length, count_by}
 use Rattle.cnf_text.specs.Tokens.{is_line_end}
 use Rattle.lrat_binary.specs.Form.{proof_left}
 use Rattle.lrat_binary.specs.declared.form.ProofForm.{ProofForm}
@@ -37,7 +37,7 @@ IsReadProof case target opened bytes (Labelled label) =
 -- what is found of a target by these lines and, behind them, a part of a text: all up to the text's
 -- next label line, or its end
 pub record IsPartRead (case : CaseOf) (target : Target) (front : List ℕ) (old new : LabelledOf)
-    (before after : Option (List ℕ)) (read : ReadFinding) : Type 0 where
+    (before after : List ℕ → Type 0) (read : ReadFinding) : Type 0 where
   pub bytes : List ℕ
   pub part : IsPart old new before after bytes
   pub long : length (front ++ bytes) ≡ read.length

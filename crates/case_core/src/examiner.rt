@@ -18,7 +18,7 @@ use crate::finding::Finding;
 use crate::label_line::LabelLine;
 use crate::labelled::LabelledText;
 use crate::reading::{ReadText, begin_proof, read_lines, read_proof};
-use byte_flow::{DeviceFault, Source};
+use byte_flow::{DeviceFault, Source, Stream};
 use hint_check::{Judged, Judging};
 use lrat_binary::ProofForm;
 use split_tree::{Leaf, Target};
@@ -163,7 +163,7 @@ impl<'c> Examiner<'c> {
     ///
     /// `Device` where a read failed, `Memory` where a growth was refused, or the bytes or lines are
     /// too many to be counted.
-    pub fn examine_part<S: Source>(
+    pub fn examine_part<S: Stream>(
         &mut self,
         alloc: Global,
         target: Target,
@@ -177,7 +177,7 @@ impl<'c> Examiner<'c> {
         requires count { S.failures source.old < 2 ^ 64 - 1 }
         // It is what is found by those lines and that part, behind which the text goes on.
         ensures read { IfOk result (IsPartRead self.old target front.now text.old text.new
-            (S.remaining source.old) (S.remaining source.new)) }
+            (S.gives source.old) (S.gives source.new)) }
         ensures same { self.new ≡ self.old }
         ensures ok { OnOk result (S.failures source.new ≡ S.failures source.old) }
         ensures err { IfErr result

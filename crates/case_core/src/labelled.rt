@@ -5,7 +5,7 @@ ghost use Rattle.case_core.specs.Inner.Labelled.{IsCutFrom};
 
 use crate::bundle::{cut, line_ends};
 use crate::label_line::LabelLine;
-use byte_flow::{DeviceFault, LineBuffer, Source};
+use byte_flow::{DeviceFault, LineBuffer, Stream};
 use cnf_text::tokens::split_line;
 use std::alloc::{AllocError, Global};
 use std::marker::Model;
@@ -20,7 +20,7 @@ pub struct TakenLines {
 }
 
 /// A text that is read once, in blocks of whole lines, and stands at its label lines. A caller
-/// hands the source to each call.
+/// hands the stream to each call.
 pub struct LabelledText {
     buffer: LineBuffer,
     /// So many bytes of the block were handed out.
@@ -105,10 +105,10 @@ impl LabelledText {
     ///
     /// `Device` where a read failed, `Memory` where a growth was refused, or the lines are too many
     /// to be counted.
-    pub(crate) fn advance<S: Source>(&mut self, source: &mut S) -> Result<bool, DeviceFault>
+    pub(crate) fn advance<S: Stream>(&mut self, source: &mut S) -> Result<bool, DeviceFault>
         requires { S.failures source.old < 2 ^ 64 - 1 }
         ensures gone { IfOk result
-            (HasAdvanced self.old self.new (S.remaining source.old) (S.remaining source.new)) }
+            (HasAdvanced self.old self.new (S.gives source.old) (S.gives source.new)) }
         ensures ok { OnOk result (S.failures source.new ≡ S.failures source.old) }
         ensures err { IfErr result
             (λ fault. IsDeviceFault (S.failures source.old) (S.failures source.new) fault) }
@@ -170,14 +170,14 @@ impl LabelledText {
     ///
     /// `Device` where a read failed, `Memory` where a growth was refused, or the lines are too many
     /// to be counted.
-    pub fn front<S: Source>(
+    pub fn front<S: Stream>(
         &mut self,
         alloc: Global,
         source: &mut S,
     ) -> Result<Vec<u8>, DeviceFault>
         requires { S.failures source.old < 2 ^ 64 - 1 }
-        ensures part { IfOk result (λ front. IsPart self.old self.new (S.remaining source.old)
-            (S.remaining source.new) front.items) }
+        ensures part { IfOk result (λ front. IsPart self.old self.new (S.gives source.old)
+            (S.gives source.new) front.items) }
         ensures ok { OnOk result (S.failures source.new ≡ S.failures source.old) }
         ensures err { IfErr result
             (λ fault. IsDeviceFault (S.failures source.old) (S.failures source.new) fault) }
@@ -196,15 +196,15 @@ impl LabelledText {
     ///
     /// `Device` where a read failed, `Memory` where a growth was refused, or the lines are too many
     /// to be counted.
-    pub fn front_within<S: Source>(
+    pub fn front_within<S: Stream>(
         &mut self,
         alloc: Global,
         source: &mut S,
         most: usize,
     ) -> Result<TakenLines, DeviceFault>
         requires { S.failures source.old < 2 ^ 64 - 1 }
-        ensures taken { IfOk result (λ taken. IsFront self.old self.new (S.remaining source.old)
-            (S.remaining source.new) most taken.lines.items taken.is_part) }
+        ensures taken { IfOk result (λ taken. IsFront self.old self.new (S.gives source.old)
+            (S.gives source.new) most taken.lines.items taken.is_part) }
         ensures ok { OnOk result (S.failures source.new ≡ S.failures source.old) }
         ensures err { IfErr result
             (λ fault. IsDeviceFault (S.failures source.old) (S.failures source.new) fault) }

@@ -13,7 +13,6 @@ mod labelled;
 mod laws;
 mod outline;
 mod reading;
-mod scan;
 mod sections;
 mod target;
 
@@ -34,6 +33,5 @@ pub use laws::{
 };
 pub use lrat_binary::{ProofForm, binary_text, turn_from};
 pub use outline::{Outline, OutlinedCase, Stretch};
-pub use scan::LabelScan;
 pub use split_tree::{Leaf, NodeId, Target, Tree};
 pub use target::has_target;

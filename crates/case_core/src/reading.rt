@@ -10,7 +10,7 @@ ghost use Rattle.case_core.specs.Inner.Reading.{IsRestJudged, IsTextRead, SaysBy
 use crate::case::Case;
 use crate::label_line::LabelLine;
 use crate::labelled::LabelledText;
-use byte_flow::{DeviceFault, LineBuffer, Source};
+use byte_flow::{DeviceFault, LineBuffer, Source, Stream};
 use hint_check::{Judged, Judging};
 use lrat_binary::ProofForm;
 use split_tree::Target;
@@ -148,15 +148,15 @@ fn read_bytes<S: Source>(
 
 /// Judges a part of a text, with which the text of a judging goes on and ends: up to the text's
 /// next label line, or up to its end. There it stands then.
-pub(crate) fn read_lines<S: Source>(
+pub(crate) fn read_lines<S: Stream>(
     alloc: Global,
     judging: &mut Judging<'_>,
     text: &mut LabelledText,
     source: &mut S,
 ) -> Result<JudgedText, DeviceFault>
     requires count { S.failures source.old < 2 ^ 64 - 1 }
-    ensures read { IfOk result (IsPartJudged text.old text.new (S.remaining source.old)
-        (S.remaining source.new) judging.old) }
+    ensures read { IfOk result (IsPartJudged text.old text.new (S.gives source.old)
+        (S.gives source.new) judging.old) }
     ensures same { judging.new.formula ≡ judging.old.formula }
     ensures ok { OnOk result (S.failures source.new ≡ S.failures source.old) }
     ensures err { IfErr result

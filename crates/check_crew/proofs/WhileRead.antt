@@ -2,18 +2,17 @@
 use Rattle.std.proofs.Common.{◌≡◌, ◌≢◌, ◌∙◌, ◌+◌, sym, ap, subst, refl, ℕ, true, false, List}
 use Rattle.std.proofs.Common.{[], ◌∷◌, ◌++◌, Option, None, inl, inr, arith, length, get_or}
 use Rattle.std.proofs.Common.{append-nil, append_assoc}
-use Rattle.std.proofs.KnownBytes.{Consumes-trans}
 use Rattle.std.proofs.lemmas.List.Splits.{length-slice_split}
 use Rattle.std.proofs.lemmas.List.Sums.{sum_by-append}
-use Rattle.std.specs.Io.KnownBytes.{Consumes}
-use Rattle.std.specs.Prelude.{count_by, replicate, unwrap_or}
-use Rattle.byte_flow.specs.Device.{IsLeft}
+use Rattle.std.specs.Prelude.{count_by, replicate}
+use Rattle.byte_flow.specs.Device.{HasGiven}
+use Rattle.byte_flow.proofs.DeviceGiven.{given_both}
 use Rattle.case_core.specs.Bundle.{is_label, lines_of}
 use Rattle.case_core.specs.Case.{CaseOf, SectionOf, proof_for}
 use Rattle.case_core.specs.Finding.{HasSection}
 use Rattle.case_core.specs.Label.{IsTargetOf, label_name}
-use Rattle.case_core.specs.Labelled.{IsAtLabel, IsBehindLabel, IsPart, LabelledOf}
-use Rattle.case_core.specs.Labelled.{Stands, fresh_text}
+use Rattle.case_core.specs.Labelled.{IsAtLabel, IsBehindFront, IsBehindLabel, IsPart, LabelledOf}
+use Rattle.case_core.specs.Labelled.{Stands}
 use Rattle.case_core.specs.Leaves.{HasTarget}
 use Rattle.case_core.specs.Outline.{AreWholeLines}
 use Rattle.case_core.specs.Sections.{IsCaseOf, IsFaultOf}
@@ -22,16 +21,15 @@ use Rattle.case_core.specs.Target.{Target}
 use Rattle.case_core.specs.Tokens.{is_line_end, words}
 use Rattle.case_core.specs.declared.fault.CaseFault.{CaseFault}
 use Rattle.case_core.specs.declared.fault.CaseFault.TheVariants.{Memory}
-use Rattle.case_core.proofs.LabelledParts.{memory_on}
+use Rattle.case_core.proofs.LabelledParts.{RestOf, memory_on, some_rest}
 use Rattle.case_core.proofs.OutlineLines.{empty_line, plain_text, whole_both}
-use Rattle.case_core.proofs.ReadingParts.{all_left, left_over, none_over}
 use Rattle.case_core.proofs.SectionsMore.{icnf_same}
 use Rattle.mark_board.specs.Boards.{BoardsOf}
 use Rattle.mark_board.specs.declared.mark.Mark.TheVariants.{Open}
 use Rattle.check_crew.specs.One.{IsFoundOn}
 use Rattle.check_crew.specs.Inner.WhileRead.{AreMarksBut, IsAllBut, IsBelow, IsBelowLabel}
 use Rattle.check_crew.specs.Inner.WhileRead.{IsPartPosted, IsPutOut, IsReadOn, KeepsMarks}
-use Rattle.check_crew.specs.WhileRead.{IsReadRefused}
+use Rattle.check_crew.specs.WhileRead.{IsReadRefused, bundle_behind}
 use Rattle.check_crew.specs.declared.fault.ReadFault.TheVariants.{Case}
 use Rattle.check_crew.proofs.WhileReadMarks.{nothing_marked, section_marked, section_out}
 
@@ -86,24 +84,19 @@ whole_on done line below whole rest =
 -- ---- the first part
 
 pub first_read : (boards : BoardsOf) (out : List (Option SectionOf)) (icnf : List ℕ)
-    (given left : Option (List ℕ)) (text : LabelledOf) (case : CaseOf) → IsCaseOf icnf case
-    → IsPart (fresh_text []) text given left icnf → boards.case ≡ case
+    (left : List ℕ → Type 0) (text : LabelledOf) (case : CaseOf) → IsCaseOf icnf case
+    → text.ready ≡ [] → IsBehindFront icnf text left → boards.case ≡ case
     → boards.marks ≡ replicate (size case.tree) Open → ((place : ℕ) → get_or out place None ≡ None)
-    → IsReadOn boards out icnf given left text
-first_read boards out icnf given left text case is part same marks empty = record {
+    → IsReadOn boards out icnf (bundle_behind icnf text left) left text
+first_read boards out icnf left text case is ready at same marks empty = record {
   done = icnf;
-  front = plain_text 1 icnf part.plain;
-  lost =
-      subst (Consumes given left)
-      (part.passed.parts
-      ∙ ap (λ (t : List ℕ). icnf ++ (t ++ text.behind)) part.ready) part.passed.lost;
-  over = part.passed.over (λ e. absurd (cc));
-  ready = part.ready;
-  stands = part.stands;
-  marks = nothing_marked boards out icnf case is part.plain same marks empty;
-  lines = λ at.
-      let all : text.lines ≡ 0 + count_by is_line_end icnf = part.passed.lines in
-      omega (arith, all);
+  front = plain_text 1 icnf at.plain;
+  passed = λ rest some. (rest, some, refl);
+  over = at.over;
+  ready = ready;
+  stands = at.stands;
+  marks = nothing_marked boards out icnf case is at.plain same marks empty;
+  lines = λ _. at.lines;
 }
 
 -- ---- one section more
@@ -176,7 +169,7 @@ lines_on done line section text after lines alone ended one more (inr stands) at
     (sym (ended (some_behind after stands.2)))
 
 module _ (old : BoardsOf) (out : List (Option SectionOf)) (icnf : List ℕ)
-    (given left rest : Option (List ℕ)) (text after : LabelledOf) (line : List ℕ) (lines : ℕ)
+    (given left rest : List ℕ → Type 0) (text after : LabelledOf) (line : List ℕ) (lines : ℕ)
     (bytes : List ℕ) (below : IsBelowLabel old out icnf given left text line lines)
     (part : IsPart text after left rest bytes) where
   abbrev before : LabelledOf
@@ -207,13 +200,13 @@ module _ (old : BoardsOf) (out : List (Option SectionOf)) (icnf : List ℕ)
   section_read new now marks = record {
     done = done ++ cut.text;
     front = icnf_same done cut.text line bytes at.0 cut.label ∙ below.read.front;
-    lost =
-        subst (Consumes given rest)
+    passed =
+        subst (HasGiven given rest)
         (append_assoc done before.behind read
         ∙ ap (λ (t : List ℕ). done ++ t) cut.parts
         ∙ sym (append_assoc done cut.text after.behind))
-        (Consumes-trans given left rest (done ++ before.behind) read below.read.lost
-        part.passed.lost);
+        (given_both given left rest (done ++ before.behind) read below.read.passed
+        part.passed.given);
     over = part.passed.over (λ last. below.read.over (sym below.taken.same ∙ last));
     ready = part.ready;
     stands = stands_on done line bytes cut.text after at.0 cut.ended part.stands;
@@ -250,7 +243,7 @@ module _ (old : BoardsOf) (out : List (Option SectionOf)) (icnf : List ℕ)
 
 -- a part that was judged behind lines of it that were taken before, or behind none
 pub part_read : (old new : BoardsOf) (out now : List (Option SectionOf)) (icnf : List ℕ)
-    (given left middle rest : Option (List ℕ)) (text mid after : LabelledOf) (target : Target)
+    (given left middle rest : List ℕ → Type 0) (text mid after : LabelledOf) (target : Target)
     (front : List ℕ) → IsBelow old out icnf given left text target
     → ((bytes : List ℕ) → IsPart mid after middle rest bytes
     → IsPart text after left rest (front ++ bytes))
@@ -270,7 +263,7 @@ same_section s target text of is = rw (sym of, sym is) refl
 
 -- a part that somebody else has
 pub out_read : (old new : BoardsOf) (out now : List (Option SectionOf)) (icnf : List ℕ)
-    (given left rest : Option (List ℕ)) (text after : LabelledOf) (target : Target)
+    (given left rest : List ℕ → Type 0) (text after : LabelledOf) (target : Target)
     (bytes : List ℕ) (proof : SectionOf) → IsBelow old out icnf given left text target
     → IsPart text after left rest bytes → HasTarget old.case.tree target
     → proof.target ≡ target → proof.proof ≡ bytes
@@ -288,34 +281,33 @@ out_read old new out now icnf given left rest text after target bytes proof belo
 -- ---- a label line with a fault
 
 -- all that was given, and what of it is read
-pub record WithRest (given : Option (List ℕ)) (done line : List ℕ) : Type 0 where
+pub record WithRest (given : List ℕ → Type 0) (done line : List ℕ) : Type 0 where
   pub text : List ℕ
-  pub given_is : IsLeft given (done ++ text)
+  pub given_is : given (done ++ text)
   pub below : List ℕ
   pub label : IsBehindLabel text line below
 
 pub with_rest : (boards : BoardsOf) (out : List (Option SectionOf)) (icnf : List ℕ)
-    (given left : Option (List ℕ))
-    (text : LabelledOf) (line : List ℕ) (lines : ℕ)
+    (given left : List ℕ → Type 0) (text : LabelledOf) (line : List ℕ) (lines : ℕ)
+    → (some : (rest : List ℕ) × left rest)
     → (below : IsBelowLabel boards out icnf given left text line lines)
     → WithRest given below.read.done line
-with_rest boards out icnf given left text line lines below = record {
-  text = below.before.behind ++ unwrap_or left [];
+with_rest boards out icnf given left text line lines some below = record {
+  text = below.before.behind ++ end.rest;
   given_is =
-      subst (IsLeft given)
-      (append_assoc below.read.done below.before.behind (unwrap_or left []))
-      (left_over given left (below.read.done ++ below.before.behind) below.read.lost);
-  below = (text.ready ++ text.behind) ++ unwrap_or left [];
+      subst given (append_assoc below.read.done below.before.behind end.rest)
+      (below.read.passed end.rest end.is);
+  below = (text.ready ++ text.behind) ++ end.rest;
   label =
-      memory_on below.before.behind line (text.ready ++ text.behind) (unwrap_or left [])
-      below.taken.behind
-      (λ is. none_over left (below.read.over
-      (sym below.taken.same ∙ below.taken.last is)));
+      memory_on below.before.behind line (text.ready ++ text.behind) end.rest below.taken.behind
+      (λ is. end.last (sym below.taken.same ∙ below.taken.last is));
 }
+  where
+    end : RestOf below.before left
+    end = some_rest below.before left below.read.over some
 
 pub whole_there : (boards : BoardsOf) (out : List (Option SectionOf)) (icnf : List ℕ)
-    (given left : Option (List ℕ))
-    (text : LabelledOf) (line : List ℕ) (lines : ℕ)
+    (given left : List ℕ → Type 0) (text : LabelledOf) (line : List ℕ) (lines : ℕ)
     → (below : IsBelowLabel boards out icnf given left text line lines)
     → AreWholeLines below.read.done × (lines ≡ count_by is_line_end below.read.done)
 whole_there boards out icnf given left text line lines below =
@@ -325,14 +317,15 @@ whole_there boards out icnf given left text line lines below =
 
 -- the fault of a label line that was passed is that of the bundle
 pub label_refused : (boards : BoardsOf) (out : List (Option SectionOf)) (icnf : List ℕ)
-    (given left : Option (List ℕ)) (text : LabelledOf) (line : List ℕ) (lines : ℕ)
-    (kind : CaseFault) (below : IsBelowLabel boards out icnf given left text line lines)
+    (given left : List ℕ → Type 0) (text : LabelledOf) (line : List ℕ) (lines : ℕ)
+    (kind : CaseFault) (some : (rest : List ℕ) × left rest)
+    (below : IsBelowLabel boards out icnf given left text line lines)
     → (kind ≢ Memory → (done text below : List ℕ) (whole : CaseOf) → IsCaseOf done whole
     → whole.tree ≡ boards.case.tree → AreWholeLines done → lines ≡ count_by is_line_end done
     → IsBehindLabel text line below → IsFaultOf (done ++ text) kind)
     → IsReadRefused icnf given (Case kind)
-label_refused boards out icnf given left text line lines kind below faulty =
-    let rest = with_rest boards out icnf given left text line lines below in
+label_refused boards out icnf given left text line lines kind behind below faulty =
+    let rest = with_rest boards out icnf given left text line lines behind below in
     let there = whole_there boards out icnf given left text line lines below in
     let marks = below.read.marks in (
       below.read.done ++ rest.text,
@@ -344,8 +337,8 @@ label_refused boards out icnf given left text line lines kind below faulty =
 
 -- so it is of one that names a target with a section above it
 pub twice_refused : (boards : BoardsOf) (out : List (Option SectionOf)) (icnf : List ℕ)
-    (given left : Option (List ℕ)) (text : LabelledOf) (line : List ℕ) (lines : ℕ)
-    (kind : CaseFault) (target : Target)
+    (given left : List ℕ → Type 0) (text : LabelledOf) (line : List ℕ) (lines : ℕ)
+    (kind : CaseFault) (target : Target) (some : (rest : List ℕ) × left rest)
     (below : IsBelowLabel boards out icnf given left text line lines)
     → IsTargetOf boards.case.tree (label_name (words line)) target
     → HasSection below.read.marks.whole target
@@ -354,8 +347,8 @@ pub twice_refused : (boards : BoardsOf) (out : List (Option SectionOf)) (icnf : 
     → IsBehindLabel text line below → IsTargetOf whole.tree (label_name (words line)) target
     → HasSection whole target → IsFaultOf (done ++ text) kind)
     → IsReadRefused icnf given (Case kind)
-twice_refused boards out icnf given left text line lines kind target below named has faulty =
-    let rest = with_rest boards out icnf given left text line lines below in
+twice_refused boards out icnf given left text line lines kind target behind below named has faulty =
+    let rest = with_rest boards out icnf given left text line lines behind below in
     let there = whole_there boards out icnf given left text line lines below in
     let marks = below.read.marks in (
       below.read.done ++ rest.text,
@@ -368,12 +361,12 @@ twice_refused boards out icnf given left text line lines kind target below named
 -- ---- what others find
 
 pub read_kept : (old new : BoardsOf) (out now : List (Option SectionOf)) (icnf : List ℕ)
-    (given left : Option (List ℕ)) (text : LabelledOf) → KeepsMarks old new out now
+    (given left : List ℕ → Type 0) (text : LabelledOf) → KeepsMarks old new out now
     → IsReadOn old out icnf given left text → IsReadOn new now icnf given left text
 read_kept old new out now icnf given left text keeps read = record {
   done = read.done;
   front = read.front;
-  lost = read.lost;
+  passed = read.passed;
   over = read.over;
   ready = read.ready;
   stands = read.stands;
@@ -382,7 +375,7 @@ read_kept old new out now icnf given left text keeps read = record {
 }
 
 pub all_kept : (old new : BoardsOf) (out now : List (Option SectionOf)) (icnf : List ℕ)
-    (given : Option (List ℕ)) → KeepsMarks old new out now → IsAllBut old out icnf given
+    (given : List ℕ → Type 0) → KeepsMarks old new out now → IsAllBut old out icnf given
     → IsAllBut new now icnf given
 all_kept old new out now icnf given keeps all = record {
   bundle = all.bundle;
@@ -394,7 +387,7 @@ all_kept old new out now icnf given keeps all = record {
 -- ---- the end
 
 pub all_read : (boards : BoardsOf) (out : List (Option SectionOf)) (icnf : List ℕ)
-    (given left : Option (List ℕ)) (text : LabelledOf) → IsReadOn boards out icnf given left text
+    (given left : List ℕ → Type 0) (text : LabelledOf) → IsReadOn boards out icnf given left text
     → text.at_label ≡ false → IsAllBut boards out icnf given
 all_read boards out icnf given left text read none = at_end read.stands
   where
@@ -402,10 +395,10 @@ all_read boards out icnf given left text read none = at_end read.stands
     at_end (inl end) = record {
       bundle = read.done;
       is_given =
-          all_left given left read.done
-          (subst (Consumes given left)
-          (ap (λ (t : List ℕ). read.done ++ t) end.0 ∙ append-nil read.done) read.lost)
-          (read.over end.2);
+          subst given
+          (append-nil (read.done ++ text.behind)
+          ∙ ap (λ (t : List ℕ). read.done ++ t) end.0 ∙ append-nil read.done)
+          (read.passed [] (read.over end.2));
       front = read.front;
       marks = read.marks;
     }

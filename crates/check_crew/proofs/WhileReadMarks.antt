@@ -435,7 +435,7 @@ ok_with P Q (Err fault) holds so = tt
 
 -- a part of a text that was judged where it stands, and posted
 pub part_posted : (case : CaseOf) (old new : BoardsOf) (target : Target) (front : List ℕ)
-    (before after : LabelledOf) (left rest : Option (List ℕ)) (read : ReadFinding)
+    (before after : LabelledOf) (left rest : List ℕ → Type 0) (read : ReadFinding)
     (finding : Finding) (posted : Bool)
     → IsPartRead case target front before after left rest read → old.case ≡ case
     → finding.case.now ≡ read.finding.case.now → finding.leaf ≡ read.finding.leaf

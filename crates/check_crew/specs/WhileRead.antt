@@ -1,8 +1,9 @@
 -- What a run over a bundle that is read once promises.
-use Rattle.std.specs.Prelude.{◌≡◌, ◌≢◌, ℕ, List, Option}
-use Rattle.byte_flow.specs.Device.{IsDeviceFault, IsLeft}
+use Rattle.std.specs.Prelude.{◌≡◌, ◌≢◌, ◌++◌, ℕ, List}
+use Rattle.byte_flow.specs.Device.{GrewBy, IsDeviceFault}
 use Rattle.byte_flow.specs.declared.fault.DeviceFault.TheVariants as flow
 use Rattle.case_core.specs.Bundle.{icnf_text}
+use Rattle.case_core.specs.Labelled.{LabelledOf}
 use Rattle.case_core.specs.Sections.{IsFaultOf}
 use Rattle.case_core.specs.declared.fault.CaseFault.TheVariants.{Memory}
 use Rattle.mark_board.specs.Boards.{BoardsOf}
@@ -12,10 +13,15 @@ use Rattle.check_crew.specs.declared.fault.CrewFault.TheVariants as crew
 use Rattle.check_crew.specs.declared.fault.ReadFault.{ReadFault}
 use Rattle.check_crew.specs.declared.fault.ReadFault.TheVariants.{Case, Device, Thread}
 
--- the boards have the marks of the bundle that was given, which has this iCNF text
-pub record IsAllRead (boards : BoardsOf) (icnf : List ℕ) (given : Option (List ℕ)) : Type 0 where
+-- the bundles with an iCNF text behind which a text stands: they go on with what is in memory of
+-- that text, and with what may be given behind it
+abbrev pub bundle_behind : List ℕ → LabelledOf → (List ℕ → Type 0) → List ℕ → Type 0
+bundle_behind icnf text gives = GrewBy gives (icnf ++ text.behind)
+
+-- the boards have the marks of a bundle that may be given, which has this iCNF text
+pub record IsAllRead (boards : BoardsOf) (icnf : List ℕ) (given : List ℕ → Type 0) : Type 0 where
   pub bundle : List ℕ
-  pub is_given : IsLeft given bundle
+  pub is_given : given bundle
   pub front : icnf_text bundle ≡ icnf
   pub judged : IsJudgedAs bundle boards.case boards.marks
 
@@ -24,10 +30,10 @@ abbrev pub read_fault : CrewFault → ReadFault
 read_fault crew.Memory = Device flow.Memory
 read_fault crew.Thread = Thread
 
--- a fault of a label line is the first one of the bundle that was given, which has this iCNF text
-abbrev pub IsReadRefused : List ℕ → Option (List ℕ) → ReadFault → Type 0
+-- a fault of a label line is the first one of a bundle that may be given, which has this iCNF text
+abbrev pub IsReadRefused : List ℕ → (List ℕ → Type 0) → ReadFault → Type 0
 IsReadRefused icnf given (Case fault) =
-    (bundle : List ℕ) × IsLeft given bundle × (icnf_text bundle ≡ icnf)
+    (bundle : List ℕ) × given bundle × (icnf_text bundle ≡ icnf)
     × (fault ≢ Memory → IsFaultOf bundle fault)
 IsReadRefused icnf given (Device fault) = Unit {0}
 IsReadRefused icnf given Thread = Unit {0}

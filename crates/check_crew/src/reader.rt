@@ -3,7 +3,7 @@
 
 ghost use Rattle.std.specs.Prelude.{◌≡◌, ◌≢◌, ◌<◌, ◌^◌, ◌-◌, [], None, Some, IfSome, IfOk, IfErr};
 ghost use Rattle.std.specs.Prelude.{OnOk, get_or, length, ℕ, List, Option, true, false, slice_set};
-ghost use Rattle.byte_flow.specs.Device.{IsDeviceFault};
+ghost use Rattle.byte_flow.specs.Device.{GrewBy, IsDeviceFault};
 ghost use Rattle.case_core.specs.Case.{SectionOf, proof_for};
 ghost use Rattle.case_core.specs.Finding.{HasSection};
 ghost use Rattle.case_core.specs.Leaves.{HasTarget, IsTargetAt};
@@ -11,7 +11,7 @@ ghost use Rattle.mark_board.specs.Marking.{mark_at};
 ghost use Rattle.mark_board.specs.declared.mark.Mark.TheVariants.{Open};
 ghost use Rattle.board_hall.specs.Halls.{core_of};
 ghost use Rattle.board_hall.specs.declared.view.Proofs.TheVariants.{Elsewhere};
-ghost use Rattle.check_crew.specs.WhileRead.{IsReadFault, IsReadRefused};
+ghost use Rattle.check_crew.specs.WhileRead.{IsReadFault, IsReadRefused, bundle_behind};
 ghost use Rattle.check_crew.specs.Inner.WhileRead.{AreMarksBut, IsAllBut, IsBelow, IsBelowLabel};
 ghost use Rattle.check_crew.specs.Inner.WhileRead.{IsFree, IsPartPosted, IsPutOut, IsReader};
 ghost use Rattle.check_crew.specs.Inner.WhileRead.{IsReadOn, KeepsMarks};
@@ -22,7 +22,7 @@ use crate::gate::Gate;
 use crate::handed::{HandedProof, NamesCase};
 use crate::worker::{JudgedProof, post, tell};
 use board_hall::{Core, Pass};
-use byte_flow::{DeviceFault, Source};
+use byte_flow::{DeviceFault, Stream};
 use case_core::{Case, Examiner, LabelLine, LabelledText, ReadFinding, Target};
 use crossbeam_channel::{Receiver, Sender};
 use mark_board::{Boards, Mark};
@@ -294,7 +294,7 @@ impl<'a, 'c, R: Wait, G: Gate, J: NamesCase> Reader<'a, 'c, R, G, J> {
 
     /// Judges the proof of a target that begins with these lines, which were taken of a text, and
     /// goes on with the text up to its next label line, or up to its end; and posts what is found.
-    fn judge_part<S: Source>(
+    fn judge_part<S: Stream>(
         &mut self,
         examiner: &mut Examiner<'c>,
         target: Target,
@@ -313,8 +313,8 @@ impl<'a, 'c, R: Wait, G: Gate, J: NamesCase> Reader<'a, 'c, R, G, J> {
         ensures cut { self.new.kept.boards.cut ≡ self.old.kept.boards.cut }
         ensures given { self.new.kept.given ≡ self.old.kept.given }
         ensures posted { OnOk result (IsPartPosted self.old.kept.boards self.new.kept.boards
-            target front.now text.old text.new (S.remaining source.old)
-            (S.remaining source.new)) }
+            target front.now text.old text.new (S.gives source.old)
+            (S.gives source.new)) }
         ensures ok { OnOk result (S.failures source.new ≡ S.failures source.old) }
         ensures err { IfErr result
             (λ fault. IsDeviceFault (S.failures source.old) (S.failures source.new) fault) }
@@ -328,7 +328,7 @@ impl<'a, 'c, R: Wait, G: Gate, J: NamesCase> Reader<'a, 'c, R, G, J> {
     }
 
     /// Reads the section of a target: a short one is handed to another worker where there is one.
-    fn read_section<S: Source>(
+    fn read_section<S: Stream>(
         &mut self,
         examiner: &mut Examiner<'c>,
         target: Target,
@@ -344,11 +344,11 @@ impl<'a, 'c, R: Wait, G: Gate, J: NamesCase> Reader<'a, 'c, R, G, J> {
         ensures reader { IsReader J.case self.new }
         ensures examiner { examiner.new ≡ examiner.old }
         ensures cut { self.new.kept.boards.cut ≡ self.old.kept.boards.cut }
-        ensures read { OnOk result ((icnf : List ℕ) (given : Option (List ℕ))
-            → IsBelow self.old.kept.boards self.old.kept.given.items icnf given
-            (S.remaining source.old) text.old target
-            → IsReadOn self.new.kept.boards self.new.kept.given.items icnf given
-            (S.remaining source.new) text.new) }
+        ensures read { OnOk result ((icnf begun : List ℕ) (start : S)
+            → IsBelow self.old.kept.boards self.old.kept.given.items icnf
+            (GrewBy (S.gives start) begun) (S.gives source.old) text.old target
+            → IsReadOn self.new.kept.boards self.new.kept.given.items icnf
+            (GrewBy (S.gives start) begun) (S.gives source.new) text.new) }
         ensures ready { OnOk result (text.new.ready ≡ []) }
         ensures ok { OnOk result (S.failures source.new ≡ S.failures source.old) }
         ensures err { IfErr result
@@ -367,7 +367,7 @@ impl<'a, 'c, R: Wait, G: Gate, J: NamesCase> Reader<'a, 'c, R, G, J> {
     }
 
     /// Reads the section below a label line that was passed.
-    fn read_labelled<S: Source>(
+    fn read_labelled<S: Stream>(
         &mut self,
         examiner: &mut Examiner<'c>,
         label: &LabelLine,
@@ -380,20 +380,23 @@ impl<'a, 'c, R: Wait, G: Gate, J: NamesCase> Reader<'a, 'c, R, G, J> {
         ensures reader { IsReader J.case self.new }
         ensures examiner { examiner.new ≡ examiner.old }
         ensures cut { self.new.kept.boards.cut ≡ self.old.kept.boards.cut }
-        ensures read { OnOk result ((icnf : List ℕ) (given : Option (List ℕ))
-            → IsBelowLabel self.old.kept.boards self.old.kept.given.items icnf given
-            (S.remaining source.old) text.old label.now.line.items label.now.lines
-            → IsReadOn self.new.kept.boards self.new.kept.given.items icnf given
-            (S.remaining source.new) text.new) }
+        ensures read { OnOk result ((icnf begun : List ℕ) (start : S)
+            → IsBelowLabel self.old.kept.boards self.old.kept.given.items icnf
+            (GrewBy (S.gives start) begun) (S.gives source.old) text.old
+            label.now.line.items label.now.lines
+            → IsReadOn self.new.kept.boards self.new.kept.given.items icnf
+            (GrewBy (S.gives start) begun) (S.gives source.new) text.new) }
         ensures ready { OnOk result (text.new.ready ≡ []) }
-        ensures refused { IfErr result (λ fault. (icnf : List ℕ) (given : Option (List ℕ))
-            → IsBelowLabel self.old.kept.boards self.old.kept.given.items icnf given
-            (S.remaining source.old) text.old label.now.line.items label.now.lines
-            → IsReadRefused icnf given fault) }
+        ensures refused { IfErr result (λ fault. (icnf begun : List ℕ) (start : S)
+            → IsBelowLabel self.old.kept.boards self.old.kept.given.items icnf
+            (GrewBy (S.gives start) begun) (S.gives source.old) text.old
+            label.now.line.items label.now.lines
+            → IsReadRefused icnf (GrewBy (S.gives start) begun) fault) }
         ensures ok { OnOk result (S.failures source.new ≡ S.failures source.old) }
         ensures err { IfErr result
             (λ fault. IsReadFault (S.failures source.old) (S.failures source.new) fault) }
     {
+        source.has_text();
         let target = label.target(self.site.alloc, self.site.case)?;
         let asked = target;
         if self.kept.is_named(asked) {
@@ -404,7 +407,7 @@ impl<'a, 'c, R: Wait, G: Gate, J: NamesCase> Reader<'a, 'c, R, G, J> {
 
     /// Reads the sections of a text that stands at its first label line, or has none. The examiner,
     /// which holds the formula once more, is made where there is one.
-    pub(crate) fn read_all<S: Source>(
+    pub(crate) fn read_all<S: Stream>(
         &mut self,
         text: &mut LabelledText,
         source: &mut S,
@@ -414,14 +417,16 @@ impl<'a, 'c, R: Wait, G: Gate, J: NamesCase> Reader<'a, 'c, R, G, J> {
         requires count { S.failures source.old < 2 ^ 64 - 1 }
         ensures case { self.new.kept.boards.case ≡ self.old.kept.boards.case }
         ensures cut { self.new.kept.boards.cut ≡ self.old.kept.boards.cut }
-        ensures all { OnOk result ((icnf : List ℕ) (given : Option (List ℕ))
-            → IsReadOn self.old.kept.boards self.old.kept.given.items icnf given
-            (S.remaining source.old) text.old
-            → IsAllBut self.new.kept.boards self.new.kept.given.items icnf given) }
-        ensures refused { IfErr result (λ fault. (icnf : List ℕ) (given : Option (List ℕ))
-            → IsReadOn self.old.kept.boards self.old.kept.given.items icnf given
-            (S.remaining source.old) text.old
-            → IsReadRefused icnf given fault) }
+        ensures all { OnOk result ((icnf : List ℕ)
+            → IsReadOn self.old.kept.boards self.old.kept.given.items icnf
+            (bundle_behind icnf text.old (S.gives source.old)) (S.gives source.old) text.old
+            → IsAllBut self.new.kept.boards self.new.kept.given.items icnf
+            (bundle_behind icnf text.old (S.gives source.old))) }
+        ensures refused { IfErr result (λ fault. (icnf : List ℕ)
+            → IsReadOn self.old.kept.boards self.old.kept.given.items icnf
+            (bundle_behind icnf text.old (S.gives source.old)) (S.gives source.old) text.old
+            → IsReadRefused icnf
+            (bundle_behind icnf text.old (S.gives source.old)) fault) }
         ensures ok { OnOk result (S.failures source.new ≡ S.failures source.old) }
         ensures err { IfErr result
             (λ fault. IsReadFault (S.failures source.old) (S.failures source.new) fault) }
@@ -435,7 +440,7 @@ impl<'a, 'c, R: Wait, G: Gate, J: NamesCase> Reader<'a, 'c, R, G, J> {
     }
 
     /// Reads the section below a label line that was passed, and those behind it.
-    fn read_from<S: Source>(
+    fn read_from<S: Stream>(
         &mut self,
         examiner: &mut Examiner<'c>,
         first: LabelLine,
@@ -448,14 +453,17 @@ impl<'a, 'c, R: Wait, G: Gate, J: NamesCase> Reader<'a, 'c, R, G, J> {
         ensures reader { IsReader J.case self.new }
         ensures examiner { examiner.new ≡ examiner.old }
         ensures cut { self.new.kept.boards.cut ≡ self.old.kept.boards.cut }
-        ensures all { OnOk result ((icnf : List ℕ) (given : Option (List ℕ))
-            → IsBelowLabel self.old.kept.boards self.old.kept.given.items icnf given
-            (S.remaining source.old) text.old first.line.items first.lines
-            → IsAllBut self.new.kept.boards self.new.kept.given.items icnf given) }
-        ensures refused { IfErr result (λ fault. (icnf : List ℕ) (given : Option (List ℕ))
-            → IsBelowLabel self.old.kept.boards self.old.kept.given.items icnf given
-            (S.remaining source.old) text.old first.line.items first.lines
-            → IsReadRefused icnf given fault) }
+        ensures all { OnOk result ((icnf begun : List ℕ) (start : S)
+            → IsBelowLabel self.old.kept.boards self.old.kept.given.items icnf
+            (GrewBy (S.gives start) begun) (S.gives source.old) text.old
+            first.line.items first.lines
+            → IsAllBut self.new.kept.boards self.new.kept.given.items icnf
+            (GrewBy (S.gives start) begun)) }
+        ensures refused { IfErr result (λ fault. (icnf begun : List ℕ) (start : S)
+            → IsBelowLabel self.old.kept.boards self.old.kept.given.items icnf
+            (GrewBy (S.gives start) begun) (S.gives source.old) text.old
+            first.line.items first.lines
+            → IsReadRefused icnf (GrewBy (S.gives start) begun) fault) }
         ensures ok { OnOk result (S.failures source.new ≡ S.failures source.old) }
         ensures err { IfErr result
             (λ fault. IsReadFault (S.failures source.old) (S.failures source.new) fault) }

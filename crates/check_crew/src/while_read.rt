@@ -3,13 +3,14 @@
 ghost use Rattle.std.specs.Prelude.{◌≡◌, ◌<◌, ◌≤◌, ◌^◌, ◌-◌, [], None, All, IfOk, IfErr, OnOk};
 ghost use Rattle.std.specs.Prelude.{get_or, replicate, ℕ, List, Option, vec_len, vec_capacity};
 ghost use Rattle.std.specs.Prelude.{true};
-ghost use Rattle.case_core.specs.Labelled.{IsPart, fresh_text};
+ghost use Rattle.case_core.specs.Labelled.{IsBehindFront};
 ghost use Rattle.case_core.specs.Sections.{IsCaseOf};
 ghost use Rattle.case_core.specs.SplitTree.{size};
 ghost use Rattle.mark_board.specs.declared.mark.Mark.TheVariants.{Open};
 ghost use Rattle.board_hall.specs.Halls.{hall_of, shared_of, IsNewPass};
 ghost use Rattle.proof_folder.specs.Given.{IsJudgedAs};
-ghost use Rattle.check_crew.specs.WhileRead.{IsAllRead, IsReadFault, IsReadRefused, read_fault};
+ghost use Rattle.check_crew.specs.WhileRead.{IsAllRead, IsReadFault, IsReadRefused};
+ghost use Rattle.check_crew.specs.WhileRead.{bundle_behind, read_fault};
 ghost use Rattle.check_crew.specs.Inner.WhileRead.{AreMarksBut, IsFree, IsReadBy};
 ghost use Rattle.check_crew.specs.Inner.WhileRead.{IsReadOrNot, IsReader, IsSite};
 
@@ -20,7 +21,7 @@ use crate::handed::{HandedProof, NamesCase};
 use crate::reader::{Kept, Reader, ReadingSite, post_read};
 use crate::settings::Settings;
 use board_hall::{Hall, Pass};
-use byte_flow::Source;
+use byte_flow::Stream;
 use case_core::{Case, Examiner, LabelledText};
 use crossbeam_channel::{Receiver, Sender, bounded};
 use mark_board::Boards;
@@ -54,8 +55,8 @@ struct ReadBundle<'c, J: NamesCase, L> {
 /// A source that is lent to a reader while others work. It is handed over as a type parameter,
 /// since a closure hands no reference back.
 trait LendsSource: Drop {
-    // What reads will give from here on, and how many calls have failed so far.
-    ghost remaining: { Self → Option (List ℕ) };
+    // The texts that reads may give from here on, and how many calls have failed so far.
+    ghost gives: { Self → List ℕ → Type 0 };
 
     ghost failures: { Self → ℕ };
 
@@ -71,7 +72,7 @@ trait LendsSource: Drop {
         requires reader { IsReader J.case reader }
         requires ready { text.ready ≡ [] }
         requires count { failures self < 2 ^ 64 - 1 }
-        ensures { IsReadBy remaining failures is_back reader.entry.kept.boards
+        ensures { IsReadBy gives failures is_back reader.entry.kept.boards
             reader.entry.kept.given.items text self result };
 }
 
@@ -81,8 +82,8 @@ struct Lent<'s, S> {
     source: &'s mut S,
 }
 
-impl<'s, S: Source> LendsSource for Lent<'s, S> {
-    ghost remaining = { λ lent. S.remaining lent.source.now };
+impl<'s, S: Stream> LendsSource for Lent<'s, S> {
+    ghost gives = { λ lent. S.gives lent.source.now };
 
     ghost failures = { λ lent. S.failures lent.source.now };
 
@@ -240,7 +241,7 @@ where
     requires reader { IsReader J.case reader }
     requires ready { text.ready ≡ [] }
     requires count { L.failures lent < 2 ^ 64 - 1 }
-    ensures { IsReadOrNot L.remaining L.failures L.is_back reader.entry.kept.boards
+    ensures { IsReadOrNot L.gives L.failures L.is_back reader.entry.kept.boards
         reader.entry.kept.given.items text lent result.0 }
 {
     let count = helpers.len();
@@ -274,7 +275,7 @@ where
     requires reader { IsReader J.case reader }
     requires ready { text.ready ≡ [] }
     requires count { L.failures lent < 2 ^ 64 - 1 }
-    ensures { IsReadOrNot L.remaining L.failures L.is_back reader.entry.kept.boards
+    ensures { IsReadOrNot L.gives L.failures L.is_back reader.entry.kept.boards
         reader.entry.kept.given.items text lent result.0 }
 {
     thread::scope(
@@ -286,7 +287,7 @@ where
             requires reader { IsReader J.case reader }
             requires ready { text.ready ≡ [] }
             requires count { L.failures lent < 2 ^ 64 - 1 }
-            ensures { IsReadOrNot L.remaining L.failures L.is_back reader.entry.kept.boards
+            ensures { IsReadOrNot L.gives L.failures L.is_back reader.entry.kept.boards
                 reader.entry.kept.given.items text lent result.0 }
         { start_and_read(scope, site, helpers, reader, text, lent) },
     )
@@ -427,23 +428,25 @@ pub fn conquer_while_read<'c, R, G, S>(
 where
     R: Threads + Wait + Sync,
     G: Gate + Sync,
-    S: Source,
+    S: Stream,
     // The text stands at a label line or its end, and the case is that of the iCNF text before it.
     requires ready { text.ready ≡ [] }
     requires of { (icnf : List ℕ) × IsCaseOf icnf case.now }
     requires bare { case.now.sections ≡ [] }
     // One more failed read can be counted.
     requires count { S.failures source.old < 2 ^ 64 - 1 }
-    // The boards have the marks of all that was given, the bundle with that iCNF text.
-    ensures boards { (icnf : List ℕ) (given : Option (List ℕ)) → IsCaseOf icnf case.now
-        → IsPart (fresh_text []) text given (S.remaining source.old) icnf
-        → IfOk result (λ boards. IsAllRead boards icnf given) }
+    // The boards have the marks of the bundle that was given: that text, and what is behind it.
+    ensures boards { (icnf : List ℕ) → IsCaseOf icnf case.now
+        → IsBehindFront icnf text (S.gives source.old)
+        → IfOk result (λ boards. IsAllRead boards icnf
+        (bundle_behind icnf text (S.gives source.old))) }
     // They are those of that case and cut.
     ensures case { IfOk result (λ boards. (boards.case ≡ case.now) × (boards.cut ≡ settings.cut)) }
     // A fault of a label line is the first one of that bundle.
-    ensures refused { (icnf : List ℕ) (given : Option (List ℕ)) → IsCaseOf icnf case.now
-        → IsPart (fresh_text []) text given (S.remaining source.old) icnf
-        → IfErr result (λ fault. IsReadRefused icnf given fault) }
+    ensures refused { (icnf : List ℕ) → IsCaseOf icnf case.now
+        → IsBehindFront icnf text (S.gives source.old)
+        → IfErr result (λ fault. IsReadRefused icnf
+        (bundle_behind icnf text (S.gives source.old)) fault) }
     // The device is at fault exactly where a read failed.
     ensures ok { OnOk result (S.failures source.new ≡ S.failures source.old) }
     ensures err { IfErr result
@@ -473,19 +476,21 @@ where
     J: NamesCase + Send + Sync,
     R: Threads + Wait + Sync,
     G: Gate + Sync,
-    S: Source,
+    S: Stream,
     requires named { case.now ≡ J.case }
     requires ready { text.ready ≡ [] }
     requires of { (icnf : List ℕ) × IsCaseOf icnf case.now }
     requires bare { case.now.sections ≡ [] }
     requires count { S.failures source.old < 2 ^ 64 - 1 }
-    ensures boards { (icnf : List ℕ) (given : Option (List ℕ)) → IsCaseOf icnf case.now
-        → IsPart (fresh_text []) text given (S.remaining source.old) icnf
-        → IfOk result (λ boards. IsAllRead boards icnf given) }
+    ensures boards { (icnf : List ℕ) → IsCaseOf icnf case.now
+        → IsBehindFront icnf text (S.gives source.old)
+        → IfOk result (λ boards. IsAllRead boards icnf
+        (bundle_behind icnf text (S.gives source.old))) }
     ensures case { IfOk result (λ boards. (boards.case ≡ case.now) × (boards.cut ≡ settings.cut)) }
-    ensures refused { (icnf : List ℕ) (given : Option (List ℕ)) → IsCaseOf icnf case.now
-        → IsPart (fresh_text []) text given (S.remaining source.old) icnf
-        → IfErr result (λ fault. IsReadRefused icnf given fault) }
+    ensures refused { (icnf : List ℕ) → IsCaseOf icnf case.now
+        → IsBehindFront icnf text (S.gives source.old)
+        → IfErr result (λ fault. IsReadRefused icnf
+        (bundle_behind icnf text (S.gives source.old)) fault) }
     ensures ok { OnOk result (S.failures source.new ≡ S.failures source.old) }
     ensures err { IfErr result
         (λ fault. IsReadFault (S.failures source.old) (S.failures source.new) fault) }

@@ -1,15 +1,10 @@
 -- What is said of a run on one proof, in the place of cubes and proofs.
-use Rattle.std.proofs.Common.{◌≡◌, ◌∙◌, ◌++◌, ap₂, refl, subst, sym, ℕ, Bool, List, length}
-use Rattle.std.proofs.Common.{take, drop}
-use Rattle.std.proofs.Common.{Option, None, Some, Result, Ok, Err, IfOk, IfErr, true}
-use Rattle.std.proofs.Math.Seq.{take-append_seam, drop-append_seam}
-use Rattle.case_core.specs.Binary.{proof_text}
+use Rattle.std.proofs.Common.{◌≡◌, refl, subst, ℕ, Bool, List}
+use Rattle.std.proofs.Common.{Option, None, Some, Result, Ok, Err, IfOk}
 use Rattle.cube_report.specs.declared.fault.Fault.{Fault}
-use Rattle.cube_report.specs.Faults.{IsInputFault}
-use Rattle.bundle_files.specs.Files.{Held, IsAppended, IsTextAt, lies_in}
+use Rattle.bundle_files.specs.Files.{Held, IsTextAt}
 use Rattle.bundle_files.specs.Formula.{IsBundleBy, IsBundleOf}
-use Rattle.cube_command.specs.Headline.{IsRefutedFrom}
-use Rattle.cube_command.specs.Sources.{IsProofAt, IsSoBy, file_at, sources_of}
+use Rattle.cube_command.specs.Sources.{IsSoBy, sources_of}
 use Rattle.cube_command.specs.Words.{Asked}
 use Rattle.cube_command.specs.Inner.Recorded.{IsRecordedFor, IsRecordedFrom}
 use Rattle.cube_command.specs.declared.program.Recorded.{Recorded}

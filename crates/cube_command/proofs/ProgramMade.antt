@@ -172,7 +172,7 @@ module _ (has : List ℕ → List ℕ → Type 0) (asked : Asked) (input : Optio
     (begun : BegunBundle) (gives : List ℕ → Type 0)
     (is : IsFront has asked.formula begun.said begun.text.items)
     (texts : (text : List ℕ) → gives text → IsTextAt has asked.file input text) where
-  pub below_read : (bundle : List ℕ) → IsBundleBelow begun gives bundle
+  below_read : (bundle : List ℕ) → IsBundleBelow begun gives bundle
       → IsBundleBy has asked.formula asked.file input bundle
   below_read bundle ((text, given, whole), count) =
       bundle_read has asked.formula begun.said begun.text.items bundle asked.file input is
@@ -182,21 +182,33 @@ module _ (held : Held) (asked : Asked) (input : Option (List ℕ)) (begun : Begu
     (gives : List ℕ → Type 0) (folder : asked.folder ≡ None)
     (is : IsFront (lies_in held) asked.formula begun.said begun.text.items)
     (texts : (text : List ℕ) → gives text → IsTextAt (lies_in held) asked.file input text) where
-  pub recorded_below : (report map : List ℕ) (answer : Bool) (made : List ℕ)
-      → IsRunRecorded (IsBundleBelow begun gives) asked report map answer made
-      → IsRecordedFrom held asked input report map answer made
-  recorded_below =
-      recorded_alone (IsBundleBelow begun gives) held asked input folder
-      (below_read (lies_in held) asked input begun gives is texts)
+  reads : (bundle : List ℕ) → IsBundleBelow begun gives bundle
+      → IsBundleBy (lies_in held) asked.formula asked.file input bundle
+  reads = below_read (lies_in held) asked input begun gives is texts
 
-  pub refused_below : (fault : Fault) → IsRefusedBelow begun gives fault
+  refused_below : (fault : Fault) → IsRefusedBelow begun gives fault
       → IsRefusedFrom held asked input fault
   refused_below fault (inl refused) =
-      refused_alone (IsBundleBelow begun gives) held asked input folder
-      (below_read (lies_in held) asked input begun gives is texts) fault refused
+      refused_alone (IsBundleBelow begun gives) held asked input folder reads fault refused
   refused_below fault (inr (bundle, (text, given, whole), other)) =
       inr (count_refused held asked.formula begun.said begun.text.items bundle asked.file input
       fault is (text, texts text given, whole) other)
+
+  pub made_below : (run : Result Recorded Fault)
+      → IfOk run (λ made. IsRunRecorded (IsBundleBelow begun gives) asked made.outcome.text.items
+      made.outcome.map.items made.outcome.refuted made.bytes.items)
+      → IfOk run (λ made. IsRecordedFrom held asked input made.outcome.text.items
+      made.outcome.map.items made.outcome.refuted made.bytes.items)
+  made_below (Ok made) recorded =
+      recorded_alone (IsBundleBelow begun gives) held asked input folder reads
+      made.outcome.text.items made.outcome.map.items made.outcome.refuted made.bytes.items recorded
+  made_below (Err fault) recorded = tt
+
+  pub fault_below : (run : Result Recorded Fault)
+      → IfErr run (λ fault. IsInputFault fault → IsRefusedBelow begun gives fault)
+      → IfErr run (λ fault. IsInputFault fault → IsRefusedFrom held asked input fault)
+  fault_below (Ok made) refused = tt
+  fault_below (Err fault) refused = λ of_input. refused_below fault (refused of_input)
 
 module _ (has : List ℕ → List ℕ → Type 0) (file input : Option (List ℕ)) (text : List ℕ) where
   pub of_input : file ≡ None → IsLeft input text → IsTextAt has file input text
@@ -235,6 +247,20 @@ handed_alone gives hands asked input report map answer made reads run says =
           handed_formula hands (λ _. None) asked.formula asked.file input None run.bundle run.bundle
           run.outcome.correct.case is refl run.outcome.correct.judged.case_is none;
     }
+
+-- of a bundle that was begun, and goes on with a text that was given so
+pub handed_below : (run : Result Recorded Fault) (has : List ℕ → List ℕ → Type 0) (asked : Asked)
+    (input : Option (List ℕ)) (begun : BegunBundle) (gives : List ℕ → Type 0)
+    → IsFront has asked.formula begun.said begun.text.items
+    → ((text : List ℕ) → gives text → IsTextAt has asked.file input text)
+    → IfOk run (λ made. IsRunRecorded (IsBundleBelow begun gives) asked made.outcome.text.items
+    made.outcome.map.items made.outcome.refuted made.bytes.items)
+    → IfOk run (λ made. made.outcome.refuted ≡ true → IsRefutedFrom has asked input)
+handed_below (Ok made) has asked input begun gives is texts recorded = λ says.
+    handed_alone (IsBundleBelow begun gives) has asked input made.outcome.text.items
+    made.outcome.map.items made.outcome.refuted made.bytes.items
+    (below_read has asked input begun gives is texts) recorded says
+handed_below (Err fault) has asked input begun gives is texts recorded = tt
 
 -- of a bundle whose proofs were read one by one
 pub handed_section : (run : Result (Option Recorded) Fault) (hands : List ℕ → List ℕ → Type 0)

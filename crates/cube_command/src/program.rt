@@ -29,9 +29,9 @@ use crate::one_proof::judge_one;
 use crate::open::{names_asked, shown};
 use crate::record::{begin_record, end_record};
 use crate::telling::{tell_refused, tell_run};
-use crate::while_read::{is_without_folder, judge_alone};
+use crate::while_read::judge_once;
 use bundle_files::{
-    BundleOutline, Inputs, ReadBundle, Spared, Store, judge_by_section, judge_given,
+    BundleOutline, Inputs, ReadBundle, Spared, Store, judge_by_section, judge_with_folder,
     outline_bundle, read_from,
 };
 use command_words::{Request, request_of};
@@ -415,10 +415,8 @@ where
     }
 }
 
-/// The same with cubes and their proofs. Where the bundle is a file's, and no folder adds proofs to
-/// it, its proofs are read one by one from their places. Where that can't be, or the bundle is the
-/// input's, it is judged while it is read. It is read whole first only where a folder's proofs go
-/// with it.
+/// The same with cubes and their proofs. The bundle is read whole first only where a folder's
+/// proofs go with it.
 fn judge_cubes<R, D, I, G, X>(
     rt: &R,
     store: &mut D,
@@ -449,21 +447,61 @@ where
     ensures err { IfErr result (IsJudgingFault (D.failures store.old + I.failures input.old)
         (D.failures store.new + I.failures input.new)) }
 {
-    if let Some(made) = judge_file(rt, store, request, gate, telling)? {
-        return Ok(made);
+    match request.proofs {
+        Some(folder) => judge_read(rt, store, request, folder, input, gate, telling),
+        None => judge_alone(rt, store, request, input, gate, telling),
     }
-    if let Some(made) = judge_alone(rt, store, request, input, gate, telling)? {
-        return Ok(made);
-    }
-    judge_read(rt, store, request, input, gate, telling)
 }
 
-/// What is said of the bundle of a file whose proofs are read one by one; `None` where it has to be
-/// read in order.
+/// The same without a folder's proofs. Where the bundle is a file's, its proofs are read one by one
+/// from their places. Where that can't be, or the bundle is the input's, it is judged while it is
+/// read.
+fn judge_alone<R, D, I, G, X>(
+    rt: &R,
+    store: &mut D,
+    request: &Request<'_>,
+    input: &mut I,
+    gate: &G,
+    telling: &mut Telling<'_, X>,
+) -> Result<Recorded, Fault>
+where
+    R: AllocGlobal + Threads + Wait + Sync,
+    D: Store,
+    I: Source,
+    G: Gate + Sync,
+    X: Explain,
+    requires store { D.failures store.old < 2 ^ 64 - 1 }
+    requires input { I.failures input.old < 2 ^ 64 - 1 }
+    requires alone { (asked_in request.now).folder ≡ None }
+    ensures held { D.held store.new ≡ D.held store.old }
+    ensures allowed { StaysAllowed (D.allows store.old) (D.allows store.new) }
+    ensures made { IfOk result (λ made. IsRecordedFrom (D.held store.old) (asked_in request.now)
+        (I.remaining input.old) made.outcome.text.items made.outcome.map.items
+        made.outcome.refuted made.bytes.items) }
+    ensures handed { IfOk result (λ made. made.outcome.refuted ≡ true → IsRefutedFrom D.hands
+        (asked_in request.now) (I.remaining input.old)) }
+    ensures fault { IfErr result (λ fault. IsInputFault fault → IsRefusedFrom (D.held store.old)
+        (asked_in request.now) (I.remaining input.old) fault) }
+    ensures ok { OnOk result ((D.failures store.new ≡ D.failures store.old)
+        × (I.failures input.new ≡ I.failures input.old)) }
+    ensures err { IfErr result (IsJudgingFault (D.failures store.old + I.failures input.old)
+        (D.failures store.new + I.failures input.new)) }
+{
+    if let Some(path) = request.file
+        && let Some(made) = judge_file(rt, store, request, path, gate, telling)?
+    {
+        return Ok(made);
+    }
+    judge_once(rt, store, request, input, gate, telling)
+}
+
+/// What is said of the bundle of the file at this path, the proofs of which are read one by one;
+/// `None` where it has to be read in order.
 fn judge_file<R, D, G, X>(
     rt: &R,
     store: &mut D,
     request: &Request<'_>,
+    path: &str,
     gate: &G,
     telling: &mut Telling<'_, X>,
 ) -> Result<Option<Recorded>, Fault>
@@ -473,6 +511,8 @@ where
     G: Gate + Sync,
     X: Explain,
     requires count { D.failures store.old < 2 ^ 64 - 1 }
+    requires file { (asked_in request.now).file ≡ Some path.now }
+    requires alone { (asked_in request.now).folder ≡ None }
     ensures held { D.held store.new ≡ D.held store.old }
     ensures allowed { StaysAllowed (D.allows store.old) (D.allows store.new) }
     ensures made { IfOk result (λ some. IfSome some (λ made. (input : Option (List ℕ))
@@ -484,9 +524,6 @@ where
     ensures ok { OnOk result (D.failures store.new ≡ D.failures store.old) }
     ensures err { IfErr result (IsJudgingFault (D.failures store.old) (D.failures store.new)) }
 {
-    let Some(path) = file_alone(request) else {
-        return Ok(None);
-    };
     match outline_bundle(rt.alloc(), store, request.formula, path)? {
         Some(outlined) => judge_outlined(rt, store, outlined, path, request, gate, telling),
         None => Ok(None),
@@ -540,24 +577,12 @@ where
     }
 }
 
-/// The file with the bundle, where no folder adds proofs to it.
-fn file_alone<'a>(request: &Request<'a>) -> Option<&'a str>
-    ensures { IfSome result (λ path.
-        ((asked_in request.now).file ≡ Some path.now)
-        × ((asked_in request.now).folder ≡ None)) }
-{
-    if is_without_folder(request) {
-        request.file
-    } else {
-        None
-    }
-}
-
-/// What is said of the request's bundle, all of which is read first.
+/// What is said of the request's bundle, which is read whole, with the proofs of this folder.
 fn judge_read<R, D, I, G, X>(
     rt: &R,
     store: &mut D,
     request: &Request<'_>,
+    folder: &str,
     input: &mut I,
     gate: &G,
     telling: &mut Telling<'_, X>,
@@ -570,6 +595,7 @@ where
     X: Explain,
     requires store { D.failures store.old < 2 ^ 64 - 1 }
     requires input { I.failures input.old < 2 ^ 64 - 1 }
+    requires folder { (asked_in request.now).folder ≡ Some folder.now }
     ensures held { D.held store.new ≡ D.held store.old }
     ensures allowed { StaysAllowed (D.allows store.old) (D.allows store.new) }
     ensures made { IfOk result (λ made. IsRecordedFrom (D.held store.old) (asked_in request.now)
@@ -584,17 +610,18 @@ where
     ensures err { IfErr result (IsJudgingFault (D.failures store.old + I.failures input.old)
         (D.failures store.new + I.failures input.new)) }
 {
-    let wants_case = request.proofs.is_some();
-    let read = read_from(
-        rt.alloc(),
-        store,
-        input,
-        request.formula,
-        request.file,
-        wants_case,
-    )?;
+    let (formula, file) = (request.formula, request.file);
+    let read = read_from(rt.alloc(), store, input, formula, file, true)?;
     telling.tell_bundle(rt.alloc(), &read.bundle);
-    judge_recorded(rt, store, read, request, gate, request.map.is_some())
+    judge_recorded(
+        rt,
+        store,
+        read,
+        request,
+        folder,
+        gate,
+        request.map.is_some(),
+    )
 }
 
 /// Judges what was read, and makes the record where a file for it is asked for.
@@ -603,6 +630,7 @@ fn judge_recorded<R, D, G>(
     store: &mut D,
     read: ReadBundle,
     request: &Request<'_>,
+    folder: &str,
     gate: &G,
     draws: bool,
 ) -> Result<Recorded, Fault>
@@ -612,6 +640,7 @@ where
     G: Gate + Sync,
     requires count { D.failures store.old < 2 ^ 64 - 1 }
     requires case { IfSome read.case (IsCaseOf read.bundle.items) }
+    requires folder { (asked_in request.now).folder ≡ Some folder.now }
     ensures held { D.held store.new ≡ D.held store.old }
     ensures allowed { StaysAllowed (D.allows store.old) (D.allows store.new) }
     ensures outcome { IfOk result (λ made. IsOutcomeOf (D.held store.old)
@@ -626,15 +655,8 @@ where
     ensures err { IfErr result (IsJudgingFault (D.failures store.old) (D.failures store.new)) }
 {
     let mut made = begin_record(rt.alloc(), request.out, icnf_part(&read.bundle))?;
-    let outcome = judge_given(
-        rt,
-        store,
-        read,
-        request.proofs,
-        request.settings,
-        gate,
-        draws,
-    )?;
+    let settings = request.settings;
+    let outcome = judge_with_folder(rt, store, read, folder, settings, gate, draws)?;
     end_record(&mut made, request.out, &outcome.text)?;
     Ok(Recorded {
         outcome,

@@ -26,15 +26,15 @@ use std::thread::Threads;
 
 /// What is said of the bundle of a file, or of the input where none is asked for, below a formula's
 /// own file where there is one, and the record of it where a file for that is asked for: it is
-/// judged while it is read. `None` where a folder's proofs go with it. Then nothing was read.
-pub(crate) fn judge_alone<R, D, I, G, X>(
+/// judged while it is read.
+pub(crate) fn judge_once<R, D, I, G, X>(
     rt: &R,
     store: &mut D,
     request: &Request<'_>,
     input: &mut I,
     gate: &G,
     telling: &mut Telling<'_, X>,
-) -> Result<Option<Recorded>, Fault>
+) -> Result<Recorded, Fault>
 where
     R: AllocGlobal + Threads + Wait + Sync,
     D: Store,
@@ -43,38 +43,26 @@ where
     X: Explain,
     requires store { D.failures store.old < 2 ^ 64 - 1 }
     requires input { I.failures input.old < 2 ^ 64 - 1 }
+    requires alone { (asked_in request.now).folder ≡ None }
     ensures held { D.held store.new ≡ D.held store.old }
     ensures allowed { StaysAllowed (D.allows store.old) (D.allows store.new) }
-    ensures made { IfOk result (λ some. IfSome some (λ made. IsRecordedFrom (D.held store.old)
-        (asked_in request.now) (I.remaining input.old) made.outcome.text.items
-        made.outcome.map.items made.outcome.refuted made.bytes.items)) }
-    ensures handed { IfOk result (λ some. IfSome some (λ made. made.outcome.refuted ≡ true
-        → IsRefutedFrom D.hands (asked_in request.now) (I.remaining input.old))) }
+    ensures made { IfOk result (λ made. IsRecordedFrom (D.held store.old) (asked_in request.now)
+        (I.remaining input.old) made.outcome.text.items made.outcome.map.items
+        made.outcome.refuted made.bytes.items) }
+    ensures handed { IfOk result (λ made. made.outcome.refuted ≡ true → IsRefutedFrom D.hands
+        (asked_in request.now) (I.remaining input.old)) }
     ensures fault { IfErr result (λ fault. IsInputFault fault → IsRefusedFrom (D.held store.old)
         (asked_in request.now) (I.remaining input.old) fault) }
-    ensures unread { IfOk result (λ some. some ≡ None → input.new ≡ input.old) }
-    ensures none { IfOk result (λ some. some ≡ None → (asked_in request.now).folder ≢ None) }
     ensures ok { OnOk result ((D.failures store.new ≡ D.failures store.old)
         × (I.failures input.new ≡ I.failures input.old)) }
     ensures err { IfErr result (IsJudgingFault (D.failures store.old + I.failures input.old)
         (D.failures store.new + I.failures input.new)) }
 {
-    if !is_without_folder(request) {
-        return Ok(None);
-    }
     let begun = begin_bundle(rt.alloc(), store, request.formula)?;
     match request.file {
-        Some(path) => Ok(Some(judge_at(rt, store, request, begun, path, gate, telling)?)),
-        None => Ok(Some(judge_source(rt, request, begun, input, gate, telling)?)),
+        Some(path) => judge_at(rt, store, request, begun, path, gate, telling),
+        None => judge_source(rt, request, begun, input, gate, telling),
     }
-}
-
-/// Whether no folder adds proofs.
-pub(crate) fn is_without_folder(request: &Request<'_>) -> bool
-    ensures without { OnTrue result ((asked_in request.now).folder ≡ None) }
-    ensures with { OnFalse result ((asked_in request.now).folder ≢ None) }
-{
-    request.proofs.is_none()
 }
 
 /// The same of a bundle that is begun so, and goes on with the file at this path, which is opened

@@ -7,7 +7,7 @@ mod fault;
 mod laws;
 mod report;
 
-pub use byte_flow::{Counted, DeviceFault, Sink, Source, read_all, read_to_end, write_all};
+pub use byte_flow::{Counted, DeviceFault, Sink, Source, Stream, read_all, read_to_end, write_all};
 pub use case_core::{Case, Judged, Leaf, NodeId, Target, Tree, icnf_part};
 pub use check_crew::{
     Elsewhere, Found, Gate, NoGate, OneWorker, ReadFault, Settings, TargetProofs,

@@ -1,35 +1,35 @@
 -- Blocks of whole lines that are handed over one after the other.
 use Rattle.std.proofs.Common.{◌≡◌, ◌∙◌, ap, sym, subst, refl, ℕ, List, [], ◌∷◌, ◌++◌, Bool, true}
-use Rattle.std.proofs.Common.{false, Option, Some, None, inl, inr, append_assoc, append-nil}
-use Rattle.std.proofs.Common.{IfSome, Result, Ok, Err, IfOk}
-use Rattle.std.proofs.KnownBytes.{Consumes-nil, Consumes-trans}
-use Rattle.std.specs.Io.KnownBytes.{Consumes, IsAtEnd}
+use Rattle.std.proofs.Common.{false, Option, inl, inr, append_assoc, append-nil}
+use Rattle.std.proofs.Common.{Result, Ok, Err, IfOk}
+use Rattle.byte_flow.specs.Device.{HasGiven, IsLeft}
+use Rattle.byte_flow.proofs.DeviceGiven.{given_both, given_none}
 use Rattle.byte_flow.specs.Lines.{LinesOf, IsNextBlock}
 use Rattle.case_core.specs.Outline.{OutlineOf, IsOutlineOf, AreWholeLines}
 use Rattle.file_store.specs.Files.{GivesOneOf}
 use Rattle.file_store.specs.Parts.{GoesOnWith}
 
--- ---- a source that is read to its end
+-- ---- a stream that is read to its end
 
--- What a source has given so far was handed over to an outline that was begun, up to a line that
+-- What a stream has given so far was handed over to an outline that was begun, up to a line that
 -- is begun.
-pub record OutlinesSoFar (first now : Option (List ℕ)) (front outline : OutlineOf)
+pub record OutlinesSoFar (first now : List ℕ → Type 0) (front outline : OutlineOf)
     (begun : List ℕ) : Type 0 where
   pub lines : List ℕ
   pub whole : AreWholeLines lines
   pub handed : (text : List ℕ) → AreWholeLines text → IsOutlineOf front text →
       IsOutlineOf outline (text ++ lines)
-  pub lost : Consumes first now (lines ++ begun)
+  pub given : HasGiven first now (lines ++ begun)
 
 -- nothing was handed over yet
-pub nothing_read : (first : Option (List ℕ)) (front : OutlineOf) (begun : List ℕ) → begun ≡ []
+pub nothing_read : (first : List ℕ → Type 0) (front : OutlineOf) (begun : List ℕ) → begun ≡ []
     → OutlinesSoFar first first front front begun
 nothing_read first front begun none = record {
   lines = [];
   whole = inl refl;
   handed = λ text whole is.
       subst (λ (t : List ℕ). IsOutlineOf front t) (sym (append-nil text)) is;
-  lost = rw none (Consumes-nil first);
+  given = rw none (given_none first);
 }
 
 -- whole lines behind whole lines
@@ -43,26 +43,25 @@ both_whole text lines whole (inr some) =
       ap (λ (l : List ℕ). text ++ l) some.1 ∙ sym (append_assoc text some.0 (10 ∷ [])),
     )
 
--- what the next block has, and what is begun behind it, was lost now or stood begun
-block_lost : (first now next : Option (List ℕ)) (lines begun read block rest : List ℕ)
-    → Consumes first now (lines ++ begun) → Consumes now next read
-    → begun ++ read ≡ block ++ rest → Consumes first next ((lines ++ block) ++ rest)
-block_lost first now next lines begun read block rest lost more parts =
-    subst (Consumes first next)
+-- what the next block has, and what is begun behind it, was given now or stood begun
+block_given : (first now next : List ℕ → Type 0) (lines begun read block rest : List ℕ)
+    → HasGiven first now (lines ++ begun) → HasGiven now next read
+    → begun ++ read ≡ block ++ rest → HasGiven first next ((lines ++ block) ++ rest)
+block_given first now next lines begun read block rest given more parts =
+    subst (HasGiven first next)
     (append_assoc lines begun read ∙ ap (λ (t : List ℕ). lines ++ t) parts
     ∙ sym (append_assoc lines block rest))
-    (Consumes-trans first now next (lines ++ begun) read lost more)
+    (given_both first now next (lines ++ begun) read given more)
 
-all_lost : (first now : Option (List ℕ)) (read none : List ℕ) → none ≡ []
-    → Consumes first now (read ++ none) → IsAtEnd now → IfSome first (λ text. read ≡ text)
-all_lost None now read none empty lost end = tt
-all_lost (Some xs) None read none empty lost end = absurd lost
-all_lost (Some xs) (Some ys) read none empty lost end =
-    sym (lost ∙ ap (λ (y : List ℕ). (read ++ none) ++ y) end ∙ append-nil (read ++ none)
-    ∙ ap (λ (n : List ℕ). read ++ n) empty ∙ append-nil read)
+all_given : (first now : List ℕ → Type 0) (read none : List ℕ) → none ≡ []
+    → HasGiven first now (read ++ none) → now [] → first read
+all_given first now read none empty given end =
+    subst first
+    (append-nil (read ++ none) ∙ ap (λ (n : List ℕ). read ++ n) empty ∙ append-nil read)
+    (given [] end)
 
 -- the next block, which goes to the outline
-module _ (first now next : Option (List ℕ)) (front old new : OutlineOf)
+module _ (first now next : List ℕ → Type 0) (front old new : OutlineOf)
     (begun : List ℕ) (lines : LinesOf) (is_whole : Bool) (block : List ℕ)
     (so_far : OutlinesSoFar first now front old begun)
     (is : IsNextBlock now next begun lines is_whole) (same : block ≡ lines.block)
@@ -83,18 +82,18 @@ module _ (first now next : Option (List ℕ)) (front old new : OutlineOf)
     lines = so_far.lines ++ lines.block;
     whole = both_whole so_far.lines lines.block so_far.whole (inr (is.whole more));
     handed = goes_on;
-    lost = block_lost first now next so_far.lines begun is.read lines.block lines.begun so_far.lost
-        is.lost is.parts;
+    given = block_given first now next so_far.lines begun is.read lines.block lines.begun
+        so_far.given is.given is.parts;
   }
 
   -- it is the last
   pub all_read : is_whole ≡ false →
-      GoesOnWith (λ text. IfSome first (λ known. text ≡ known)) front new
+      GoesOnWith first front new
   all_read last = (
     so_far.lines ++ lines.block,
-    all_lost first next (so_far.lines ++ lines.block) lines.begun (is.last last).0
-        (block_lost first now next so_far.lines begun is.read lines.block lines.begun so_far.lost
-        is.lost is.parts) (is.last last).1,
+    all_given first next (so_far.lines ++ lines.block) lines.begun (is.last last).0
+        (block_given first now next so_far.lines begun is.read lines.block lines.begun
+        so_far.given is.given is.parts) (is.last last).1,
     goes_on,
   )
 
@@ -103,7 +102,7 @@ module _ (first now next : Option (List ℕ)) (front old new : OutlineOf)
 -- what a file gives that was opened is one of these texts
 pub given_outlined : {E : Type 0} (run : Result OutlineOf E) (texts : List ℕ → Type 0)
     (left : Option (List ℕ)) (front : OutlineOf) → GivesOneOf texts left
-    → IfOk run (GoesOnWith (λ text. IfSome left (λ known. text ≡ known)) front)
+    → IfOk run (GoesOnWith (IsLeft left) front)
     → IfOk run (GoesOnWith texts front)
 given_outlined (Ok outline) texts left front gives on = (on.0, gives on.0 on.1, on.2)
 given_outlined (Err error) texts left front gives on = tt

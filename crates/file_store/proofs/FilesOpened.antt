@@ -4,8 +4,8 @@ use Rattle.std.proofs.Common.{Result, Ok, Err, OnOk}
 use Rattle.std.specs.Prelude.{option_map}
 use Rattle.case_core.specs.Binary.{proof_text}
 use Rattle.proof_folder.specs.TargetProofs.{IsLeftOf, IsOpenedOf, left_text}
-use Rattle.byte_flow.specs.Device.{IsReadOf}
-use Rattle.file_store.specs.Files.{GivesOneOf, GrewBy, IsFound}
+use Rattle.byte_flow.specs.Device.{GrewBy, IsReadOf}
+use Rattle.file_store.specs.Files.{GivesOneOf, IsFound}
 
 -- a file that was opened is found with the bytes that were read to its end
 pub opened_is_found : (known : Option (Option (List ℕ))) (remaining : Option (List ℕ))

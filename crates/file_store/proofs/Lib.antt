@@ -3,4 +3,6 @@ mod FilesOpened
 mod FilesPaths
 mod BlocksLines
 pub mod PartsOpened
+mod FolderGiven
+mod FolderNames
 mod ProofsTurned

@@ -2,10 +2,10 @@
 -- that a folder has for its leaves.
 use Rattle.std.specs.Prelude.{◌≡◌, ◌≢◌, ℕ, zero, suc, Bool, List, [], ◌∷◌, ◌++◌, map, length}
 use Rattle.std.specs.Prelude.{decimal, Option, None, Some, IfSome, is_some, unwrap_or, ◌⊎◌}
-use Rattle.std.specs.Prelude.{true, false, codes, drop, if◌then◌else◌}
+use Rattle.std.specs.Prelude.{true, false, codes, drop}
 use Rattle.std.specs.Prelude.{option_map}
 use Rattle.std.specs.List.{All, flat_map}
-use Rattle.byte_flow.specs.Device.{IsLeft}
+use Rattle.byte_flow.specs.Device.{GrewBy, IsLeft}
 use Rattle.case_core.specs.Binary.{proof_text}
 use Rattle.case_core.specs.SplitTree.{SplitTree}
 use Rattle.case_core.specs.Target.{Target}
@@ -105,10 +105,6 @@ held_for held folder (Node node) = Some None
 -- what is left to be read is one of these texts
 abbrev pub GivesOneOf : (List ℕ → Type 0) → Option (List ℕ) → Type 0
 GivesOneOf texts left = (text : List ℕ) → IsLeft left text → texts text
-
--- bytes grew by one of these texts
-abbrev pub GrewBy : (List ℕ → Type 0) → List ℕ → List ℕ → Type 0
-GrewBy texts old new = (text : List ℕ) × texts text × (new ≡ old ++ text)
 
 -- bytes grew by the text of the file, or of the input where no file is asked for
 abbrev pub IsAppended : (List ℕ → List ℕ → Type 0) → Option (List ℕ) → Option (List ℕ) →

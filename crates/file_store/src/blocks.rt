@@ -1,13 +1,13 @@
 //! A file that is read block by block.
 ghost use Rattle.std.specs.Prelude.{◌≡◌, ◌<◌, ◌^◌, ◌-◌, ◌++◌, List, ℕ};
-ghost use Rattle.std.specs.Prelude.{IfOk, IfErr, IfSome, OnOk};
+ghost use Rattle.std.specs.Prelude.{IfOk, IfErr, OnOk};
 ghost use Rattle.byte_flow.specs.Device.{IsDeviceFault};
 ghost use Rattle.case_core.specs.Outline.{IsOutlineOf, AreWholeLines};
 ghost use Rattle.file_store.specs.Files.{StaysAllowed, lies_in};
 ghost use Rattle.file_store.specs.Parts.{GoesOnWith};
 
 use crate::store::Store;
-use byte_flow::{DeviceFault, LineBuffer, Source};
+use byte_flow::{DeviceFault, LineBuffer, Stream};
 use case_core::Outline;
 use std::alloc::{AllocError, Global};
 
@@ -45,14 +45,13 @@ pub fn outline_file<D: Store>(
 /// in memory.
 ///
 /// `Device` where a read failed, `Memory` where a growth was refused.
-pub(crate) fn outline_of<S: Source>(
+pub(crate) fn outline_of<S: Stream>(
     alloc: Global,
     front: Outline,
     source: &mut S,
 ) -> Result<Outline, DeviceFault>
     requires { S.failures source.old < 2 ^ 64 - 1 }
-    ensures outline { IfOk result (GoesOnWith
-        (λ text. IfSome (S.remaining source.old) (λ known. text ≡ known)) front) }
+    ensures outline { IfOk result (GoesOnWith (S.gives source.old) front) }
     ensures ok { OnOk result (S.failures source.new ≡ S.failures source.old) }
     ensures err { IfErr result
         (λ fault. IsDeviceFault (S.failures source.old) (S.failures source.new) fault) }

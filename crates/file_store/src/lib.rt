@@ -16,7 +16,7 @@ mod system;
 pub use blocks::outline_file;
 pub use byte_flow::DeviceFault;
 pub use case_core::{Outline, OutlinedCase, Stretch};
-pub use folder::{add_proofs, proof_path, write_label};
+pub use folder::FolderText;
 pub use inputs::{FileId, Inputs, Spared};
 pub use opener::{Opener, SystemFiles};
 pub use part::Part;

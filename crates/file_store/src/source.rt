@@ -1,8 +1,8 @@
 //! What is read whole: a file, or the program's input.
 ghost use Rattle.std.specs.Prelude.{◌≡◌, ◌<◌, ◌^◌, ◌-◌, ◌+◌, option_map, IfSome};
 ghost use Rattle.std.specs.Prelude.{IfErr, OnOk};
-ghost use Rattle.byte_flow.specs.Device.{IsDeviceFault};
-ghost use Rattle.file_store.specs.Files.{GrewBy, IsAppended, StaysAllowed, lies_in};
+ghost use Rattle.byte_flow.specs.Device.{GrewBy, IsDeviceFault};
+ghost use Rattle.file_store.specs.Files.{IsAppended, StaysAllowed, lies_in};
 
 use crate::store::Store;
 use byte_flow::{DeviceFault, Source, read_to_end};

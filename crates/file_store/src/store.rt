@@ -6,17 +6,18 @@ ghost use Rattle.byte_flow.specs.Device.{IsDeviceFault};
 ghost use Rattle.proof_folder.specs.TargetProofs.{IsOpenedOf};
 ghost use Rattle.file_store.specs.Files.{Gives, GivesOneOf, IsFound, IsOpenedAt, StaysAllowed};
 ghost use Rattle.file_store.specs.Files.{StaysAllowedBeside, lies_in};
-ghost use Rattle.file_store.specs.Files.{as_proofs, held_if};
+ghost use Rattle.file_store.specs.Files.{AreAdded, as_proofs, held_if, leaf_names};
 ghost use Rattle.case_core.specs.Binary.{proof_text};
 ghost use Rattle.file_store.specs.Files.{held_for};
 ghost use Rattle.file_store.specs.Parts.{held_in};
 
+use crate::folder::FolderText;
 use crate::inputs::{Inputs, Spared, is_clash, is_none_written};
 use crate::opener::Opener;
 use crate::reader::ProofReader;
 use crate::sections::SectionReader;
-use byte_flow::{Counted, DeviceFault, Source, read_to_end, write_all};
-use case_core::{OutlinedCase, turn_from};
+use byte_flow::{Counted, DeviceFault, Source, Stream, read_to_end, write_all};
+use case_core::{OutlinedCase, Tree, turn_from};
 use proof_folder::TargetProofs;
 use std::alloc::{AllocError, Global};
 use std::io::ErrorKind;
@@ -71,28 +72,33 @@ pub trait Store {
         ensures allowed { StaysAllowed (allows self.old) (allows self.new) }
         ensures failures { failures self.new ≡ failures self.old + Self.Opened.failures file };
 
-    /// Reads the proof at this path again: appends its text, and answers whether a file is there;
-    /// where there is none, nothing changes. If its first byte says that a proof is binary, its
-    /// text is the one that it stands for. What can be read but once, as a pipe, isn't opened, also
-    /// if nobody has read it yet.
+    /// A bundle with a folder's proofs, as one text that is read once.
+    type Folder: Stream + Drop;
+
+    /// The text of this bundle with the proofs that lie in this folder for the leaves of this tree,
+    /// with no failed read yet. If a proof's first byte says that it is binary, its text is the one
+    /// that it stands for.
     ///
-    /// `Device` where a file is there and can't be opened or read, or can be read but once.
-    /// `Memory` where a growth was refused. The count of failed calls, which has to be below its
-    /// greatest value, rises by one exactly with `Device`.
-    fn read_proof(
-        &mut self,
+    /// What can be read but once, as a pipe, isn't opened, also if nobody has read it yet: there a
+    /// read of the text fails. An error is a refused growth.
+    fn folder(
+        &self,
         alloc: Global,
-        path: &str,
-        bytes: &mut Vec<u8>,
-    ) -> Result<bool, DeviceFault>
-        requires { failures self.old < 2 ^ 64 - 1 }
+        bundle: Vec<u8>,
+        folder: &str,
+        tree: &Tree,
+    ) -> Result<Self::Folder, AllocError>
+        ensures gives { IfOk result (λ text. (whole : List ℕ) → Self.Folder.gives text whole
+            → AreAdded (as_proofs (held self.now)) folder.now (leaf_names tree.now) bundle.items
+            whole) }
+        ensures none { IfOk result (λ text. Self.Folder.failures text ≡ 0) };
+
+    /// Takes such a text back: its failed reads count as failed calls of the store's.
+    fn settle_folder(&mut self, text: Self::Folder)
+        requires { failures self.old + Self.Folder.failures text < 2 ^ 64 }
         ensures held { held self.new ≡ held self.old }
         ensures allowed { StaysAllowed (allows self.old) (allows self.new) }
-        ensures found { IfOk result (λ there. IsFound (as_proofs (held self.old) path.now)
-            bytes.old.items bytes.new.items there) }
-        ensures ok { OnOk result (failures self.new ≡ failures self.old) }
-        ensures err { IfErr result
-            (λ fault. IsDeviceFault (failures self.old) (failures self.new) fault) };
+        ensures failures { failures self.new ≡ failures self.old + Self.Folder.failures text };
 
     /// The files that a run has to spare which reads these and writes at these paths; none where it
     /// writes nothing. It is called before anything is made. Then nothing changes.
@@ -330,8 +336,12 @@ impl<F: Opener> FileStore<F> {
         }
     }
 
-    /// Appends the text of the proof at this path, and answers whether there is one, as
-    /// `Store::read_proof` owes it. What can be read but once isn't opened.
+    /// Appends the text of the proof at this path, and answers whether there is one. If its first
+    /// byte says that a proof is binary, its text is the one that it stands for. What can be read
+    /// but once, as a pipe, isn't opened.
+    ///
+    /// `Device` where it is there and can't be opened or read, or can be read but once; `Memory`
+    /// where a growth was refused.
     pub(crate) fn read_proof_file(
         &mut self,
         alloc: Global,
@@ -373,6 +383,8 @@ where
 
     type Reader = ProofReader<F>;
 
+    type Folder = FolderText<F>;
+
     type Sections = SectionReader<F>;
 
     ghost held = { λ s path. held_if (F.knows s.opener) (F.files s.opener path) };
@@ -394,13 +406,20 @@ where
         self.failed += file.failed();
     }
 
-    fn read_proof(
-        &mut self,
+    fn folder(
+        &self,
         alloc: Global,
-        path: &str,
-        bytes: &mut Vec<u8>,
-    ) -> Result<bool, DeviceFault> {
-        self.read_proof_file(alloc, path, bytes)
+        bundle: Vec<u8>,
+        folder: &str,
+        tree: &Tree,
+    ) -> Result<FolderText<F>, AllocError> {
+        let opener = self.opener.another(alloc)?;
+        let folder = String::from_str(alloc, folder)?;
+        Ok(FolderText::new(alloc, opener, bundle, folder, tree))
+    }
+
+    fn settle_folder(&mut self, text: FolderText<F>) {
+        self.failed += text.failed();
     }
 
     fn spare(

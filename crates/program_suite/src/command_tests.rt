@@ -220,9 +220,8 @@ const SECTION_IN_FILE: &[File<'static>] = &[
     ("D/m2.lrat", b"7 0 5 6 1 0\n"),
 ];
 
-/// The paths of the proofs of `MIXED` where they are read a third time.
-const THRICE: &[u8] = b"D/1.lrat\nD/1.lrat\nD/2.lrat\nD/m1.lrat\nD/m2.lrat\n\
-D/1.lrat\nD/2.lrat\nD/m1.lrat\nD/m2.lrat\n";
+/// The paths of the proofs of `MIXED` where they are read again.
+const AGAIN: &[u8] = b"D/1.lrat\nD/1.lrat\nD/2.lrat\nD/m1.lrat\nD/m2.lrat\n";
 
 /// Files, words and an input; how the program ends, and the paths that it has asked for.
 type Call = (
@@ -257,9 +256,8 @@ const CALLS: &[Call] = &[
     // Without a folder no proof is looked for.
     (ALL_FILES, &[], MIXED, (1, BARE_REPORT, b""), b""),
     (ALL_FILES, &["FILE"], b"", (1, BARE_REPORT, b""), b"FILE\n"),
-    // Where a file has the section of another leaf, and the bundle with all proofs has no fault,
-    // they are read a third time, for the run on it.
-    (SECTION_IN_FILE, ALONE, MIXED, (0, ALL_REPORT, b""), THRICE),
+    // Where a file has the section of another leaf, all are read again, once.
+    (SECTION_IN_FILE, ALONE, MIXED, (0, ALL_REPORT, b""), AGAIN),
     // One proof of the whole formula: of a file, of the input, and of a file that isn't there.
     (ONE_PROOF, OF_FILE, b"", (0, ONE_REPORT, b""), b"CNF\nP\n"),
     (

@@ -35,9 +35,8 @@ struct Part {
 /// of the tree's weight is still open. It tells that at most once a second while the workers are at
 /// work, and once when they have ended; a run that is made anew counts anew. As a meter it tells,
 /// once a second at most, how much was read so far: before the workers start, while proofs are
-/// judged of which nobody knows how long they are, or how many, and again where all proofs are read
-/// before they are judged. Of so many as nobody knows it tells how many are judged.
-/// What it can't write is left out.
+/// judged of which nobody knows how long they are, or how many, and where all proofs are read
+/// again. Of so many as nobody knows it tells how many are judged. What it can't write is left out.
 #[derive(Drop)]
 pub struct Progress<'a, R> {
     device: &'a R,
@@ -244,7 +243,7 @@ fn share_of(open: u64, total: u64) -> u64 {
 }
 
 impl<'a, R: Eprint> Progress<'a, R> {
-    /// Says that the proof of a leaf has all proofs of the folder read before the first is judged.
+    /// Says that the proof of a leaf has all proofs of the folder read again, one after the other.
     fn tell_whole(&self, leaf: Leaf) {
         let (kind, number) = match leaf {
             Leaf::Cube(number) => ("", number),
@@ -252,7 +251,7 @@ impl<'a, R: Eprint> Progress<'a, R> {
         };
         let _ = eprint!(self.device;
             "cubeboard: {kind}{number}.lrat has a label line or is a second proof, \
-             so all proofs are read before they are judged\n"
+             so all proofs are read again, one after the other\n"
         );
     }
 
@@ -260,7 +259,7 @@ impl<'a, R: Eprint> Progress<'a, R> {
     fn tell_node_whole(&self) {
         let _ = eprint!(self.device;
             "cubeboard: a proof of an inner node has a label line, \
-             so all proofs are read before they are judged\n"
+             so all proofs are read again, one after the other\n"
         );
     }
 }

@@ -1,5 +1,5 @@
 -- How a text that stands at its label lines is kept in memory.
-use Rattle.std.specs.Prelude.{◌≡◌, ◌≢◌, ℕ, ◌≤◌, Bool, true, false, List, [], ◌∷◌, ◌++◌, Option}
+use Rattle.std.specs.Prelude.{◌≡◌, ◌≢◌, ℕ, ◌≤◌, Bool, true, false, List, [], ◌∷◌, ◌++◌}
 use Rattle.std.specs.Prelude.{length, take, drop}
 use Rattle.byte_flow.specs.Lines.{LinesOf}
 use Rattle.case_core.specs.Bundle.{BeginsWithLabel}
@@ -42,7 +42,7 @@ pub record IsTextKept (buffer : LinesOf) (at end : ℕ) (is_last : Bool) : Type 
   pub last : is_last ≡ true → buffer.begun ≡ []
 
 -- A text went on behind what was ready. More is ready, or it stands at its end or a label line.
-pub record HasAdvanced (old new : LabelledOf) (before after : Option (List ℕ)) (more : Bool)
+pub record HasAdvanced (old new : LabelledOf) (before after : List ℕ → Type 0) (more : Bool)
     : Type 0 where
   pub passed : HasPassed old new before after old.ready
   pub whole : more ≡ true → AreWholeLines old.ready

@@ -62,7 +62,7 @@ pub record IsRestJudged (left : Option (List ℕ)) (begun : JudgingOf) (handed :
   pub long : read.length ≡ handed + length bytes
 
 -- the front of a part of a text was handed over to a judging
-pub record HasFrontJudged (old new : LabelledOf) (before after : Option (List ℕ))
+pub record HasFrontJudged (old new : LabelledOf) (before after : List ℕ → Type 0)
     (begun j : JudgingOf) (size : ℕ) : Type 0 where
   pub bytes : List ℕ
   pub front : HasFront old new before after bytes
@@ -70,7 +70,7 @@ pub record HasFrontJudged (old new : LabelledOf) (before after : Option (List �
   pub long : size ≡ length bytes
 
 -- a part of a text is judged so
-pub record IsPartJudged (old new : LabelledOf) (before after : Option (List ℕ)) (begun : JudgingOf)
+pub record IsPartJudged (old new : LabelledOf) (before after : List ℕ → Type 0) (begun : JudgingOf)
     (read : JudgedText) : Type 0 where
   pub bytes : List ℕ
   pub part : IsPart old new before after bytes

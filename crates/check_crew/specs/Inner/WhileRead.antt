@@ -1,8 +1,7 @@
 -- A bundle that is read section by section, while others judge some of its proofs.
 use Rattle.std.specs.Prelude.{◌≡◌, ◌<◌, ◌⊎◌, ℕ, List, [], ◌++◌, Option, None, Some, true}
 use Rattle.std.specs.Prelude.{Err, IfErr, OnOk, count_by, get_or, length, slice_set}
-use Rattle.std.specs.Io.KnownBytes.{Consumes}
-use Rattle.byte_flow.specs.Device.{IsLeft}
+use Rattle.byte_flow.specs.Device.{HasGiven}
 use Rattle.case_core.specs.Bundle.{icnf_text}
 use Rattle.case_core.specs.Case.{CaseOf, SectionOf, proof_for}
 use Rattle.case_core.specs.Label.{IsTargetOf, label_name}
@@ -21,7 +20,7 @@ use Rattle.board_hall.specs.Halls.{core_of, shared_of, view_of, IsPassOf}
 use Rattle.board_hall.specs.declared.pass.Pass.{Pass}
 use Rattle.board_hall.specs.declared.view.Proofs.TheVariants.{Elsewhere}
 use Rattle.check_crew.specs.One.{IsFoundOn}
-use Rattle.check_crew.specs.WhileRead.{IsReadFault, IsReadRefused, read_fault}
+use Rattle.check_crew.specs.WhileRead.{IsReadFault, IsReadRefused, bundle_behind, read_fault}
 use Rattle.check_crew.specs.declared.fault.CrewFault.{CrewFault}
 use Rattle.check_crew.specs.declared.reader.Reader.{Reader}
 use Rattle.check_crew.specs.declared.reader.ReadingSite.{ReadingSite}
@@ -97,7 +96,7 @@ pub record KeepsMarks (old new : BoardsOf) (out now : List (Option SectionOf)) :
 
 -- the mark of a target is that of its judgement by these lines and, behind them, a part of a text
 pub record IsPartPosted (old new : BoardsOf) (target : Target) (front : List ℕ)
-    (before after : LabelledOf) (left rest : Option (List ℕ)) : Type 0 where
+    (before after : LabelledOf) (left rest : List ℕ → Type 0) : Type 0 where
   pub bytes : List ℕ
   pub part : IsPart before after left rest bytes
   pub found : IsFoundOn old new target (front ++ bytes)
@@ -105,12 +104,12 @@ pub record IsPartPosted (old new : BoardsOf) (target : Target) (front : List ℕ
 -- ---- how far a bundle is read
 
 -- The boards have the marks of what was read of a text up to where it stands, but for proofs that
--- others have. It has this iCNF text, and a source had this to give and has that left.
+-- others have. It has this iCNF text; which bundles might be given, and what may be left of them.
 pub record IsReadOn (boards : BoardsOf) (out : List (Option SectionOf))
-    (icnf : List ℕ) (given left : Option (List ℕ)) (text : LabelledOf) : Type 0 where
+    (icnf : List ℕ) (given left : List ℕ → Type 0) (text : LabelledOf) : Type 0 where
   pub done : List ℕ
   pub front : icnf_text done ≡ icnf
-  pub lost : Consumes given left (done ++ text.behind)
+  pub passed : HasGiven given left (done ++ text.behind)
   pub over : IsOverWith text left
   pub ready : text.ready ≡ []
   pub stands : Stands done text
@@ -119,7 +118,7 @@ pub record IsReadOn (boards : BoardsOf) (out : List (Option SectionOf))
 
 -- so it was before the text went on behind this label line
 pub record IsBelowLabel (boards : BoardsOf) (out : List (Option SectionOf))
-    (icnf : List ℕ) (given left : Option (List ℕ)) (text : LabelledOf) (line : List ℕ) (lines : ℕ)
+    (icnf : List ℕ) (given left : List ℕ → Type 0) (text : LabelledOf) (line : List ℕ) (lines : ℕ)
     : Type 0 where
   pub before : LabelledOf
   pub read : IsReadOn boards out icnf given left before
@@ -127,7 +126,7 @@ pub record IsBelowLabel (boards : BoardsOf) (out : List (Option SectionOf))
 
 -- and the line names this target, which has no section above it
 pub record IsBelow (boards : BoardsOf) (out : List (Option SectionOf))
-    (icnf : List ℕ) (given left : Option (List ℕ)) (text : LabelledOf) (target : Target)
+    (icnf : List ℕ) (given left : List ℕ → Type 0) (text : LabelledOf) (target : Target)
     : Type 0 where
   pub line : List ℕ
   pub lines : ℕ
@@ -137,9 +136,9 @@ pub record IsBelow (boards : BoardsOf) (out : List (Option SectionOf))
 
 -- all that was given is read, and the boards have its marks, but for proofs that others have
 pub record IsAllBut (boards : BoardsOf) (out : List (Option SectionOf))
-    (icnf : List ℕ) (given : Option (List ℕ)) : Type 0 where
+    (icnf : List ℕ) (given : List ℕ → Type 0) : Type 0 where
   pub bundle : List ℕ
-  pub is_given : IsLeft given bundle
+  pub is_given : given bundle
   pub front : icnf_text bundle ≡ icnf
   pub marks : AreMarksBut boards out bundle
 
@@ -147,24 +146,26 @@ pub record IsAllBut (boards : BoardsOf) (out : List (Option SectionOf))
 
 -- It hands back the boards of all that a source gave, or the first fault of that; and the source,
 -- of which it tells whether a read failed.
-pub record IsReadBy {J L : Type 0} (remaining : L → Option (List ℕ)) (failures : L → ℕ)
+pub record IsReadBy {J L : Type 0} (gives : L → List ℕ → Type 0) (failures : L → ℕ)
     (is_back : L → L → Type 0) (boards : BoardsOf) (out : List (Option SectionOf))
     (text : LabelledOf) (lent : L) (read : ReadBundle J L) : Type 0 where
   pub back : is_back lent read.lent
   pub case : read.kept.boards.case ≡ boards.case
   pub cut : read.kept.boards.cut ≡ boards.cut
-  pub all : OnOk read.end ((icnf : List ℕ) (given : Option (List ℕ))
-      → IsReadOn boards out icnf given (remaining lent) text
-      → IsAllBut read.kept.boards read.kept.given.items icnf given)
-  pub refused : IfErr read.end (λ fault. (icnf : List ℕ) (given : Option (List ℕ))
-      → IsReadOn boards out icnf given (remaining lent) text → IsReadRefused icnf given fault)
+  pub all : OnOk read.end ((icnf : List ℕ)
+      → IsReadOn boards out icnf (bundle_behind icnf text (gives lent)) (gives lent) text
+      → IsAllBut read.kept.boards read.kept.given.items icnf
+      (bundle_behind icnf text (gives lent)))
+  pub refused : IfErr read.end (λ fault. (icnf : List ℕ)
+      → IsReadOn boards out icnf (bundle_behind icnf text (gives lent)) (gives lent) text
+      → IsReadRefused icnf (bundle_behind icnf text (gives lent)) fault)
   pub ok : OnOk read.end (failures read.lent ≡ failures lent)
   pub err : IfErr read.end (IsReadFault (failures lent) (failures read.lent))
 
 -- or nothing was read, for a fault of the crew
-abbrev pub IsReadOrNot : {J L : Type 0} → (L → Option (List ℕ)) → (L → ℕ) → (L → L → Type 0)
+abbrev pub IsReadOrNot : {J L : Type 0} → (L → List ℕ → Type 0) → (L → ℕ) → (L → L → Type 0)
     → BoardsOf → List (Option SectionOf) → LabelledOf → L → ReadBundle J L → Type 0
-IsReadOrNot remaining failures is_back boards out text lent read =
-    IsReadBy remaining failures is_back boards out text lent read
+IsReadOrNot gives failures is_back boards out text lent read =
+    IsReadBy gives failures is_back boards out text lent read
     ⊎ ((read.lent ≡ lent) × (read.kept.boards ≡ boards)
     × ((fault : CrewFault) × (read.end ≡ Err (read_fault fault))))

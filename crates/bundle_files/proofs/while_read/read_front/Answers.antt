@@ -14,7 +14,7 @@ returns-clause-front g c =
       icnf = icnf;
       part =
           front_part begin c.in_ok-cubes.cubes.items c.extend_from_slice.new.self.items
-          (g.S.Source.remaining c.args.source.now) (g.S.Source.remaining c.front.new.source)
+          (g.S.Stream.gives c.args.source.now) (g.S.Stream.gives c.front.new.source)
           c.in_ok-text.text c.front.new.self
           (c.in_ok-text.ensures ∙ ap text_below c.deref.ensures.value) c.requires.plain
           c.in_ok-cubes.ensures.part icnf;

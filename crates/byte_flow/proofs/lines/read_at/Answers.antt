@@ -1,10 +1,10 @@
 use Rattle.std.proofs.Common.{take, rules}
-use Rattle.byte_flow.proofs.LinesFilled.{read_behind}
+use Rattle.byte_flow.proofs.LinesFilled.{result_behind}
 use Rattle.byte_flow.proofs.lines.read_at.Goals as goal
 
-pub returns-in-Ok-clause-read : goal.returns-in-Ok-clause-read
-returns-in-Ok-clause-read g c =
-    read_behind (g.S.Source.remaining c.args.source.now) (g.S.Source.remaining c.read.new.self)
-    (take c.args.from c.args.room.now) c.split_at_mut-rest.result.0.now c.read.new.buffer
-    c.args.from c.in-Ok.count (search rules) (search rules) (search rules)
-    c.in-Ok.ensures.bytes.0 (λ none. c.in-Ok.ensures.bytes.1 none (search rules))
+pub returns-clause-read : goal.returns-clause-read
+returns-clause-read g c =
+    result_behind c.read.result (g.S.Stream.gives c.args.source.now)
+    (g.S.Stream.gives c.read.new.self) (take c.args.from c.args.room.now)
+    c.split_at_mut-rest.result.0.now c.read.new.buffer c.args.from (search rules) (search rules)
+    (search rules) c.read.ensures.bound c.read.ensures.bytes c.read.ensures.end

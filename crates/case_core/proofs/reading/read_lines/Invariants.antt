@@ -5,9 +5,9 @@ use Rattle.case_core.proofs.reading.read_lines.Given as goal
 abbrev pub invariant-loop-longer : goal.invariant-loop-longer
 invariant-loop-longer g l = record {
   same : l.judging.formula ≡ l.initial.judging.formula;
-  count : g.S.Source.failures l.source ≡ g.S.Source.failures l.initial.source;
-  read : HasFrontJudged l.initial.text l.text (g.S.Source.remaining l.initial.source)
-      (g.S.Source.remaining l.source) l.initial.judging l.judging l.length;
+  count : g.S.Stream.failures l.source ≡ g.S.Stream.failures l.initial.source;
+  read : HasFrontJudged l.initial.text l.text (g.S.Stream.gives l.initial.source)
+      (g.S.Stream.gives l.source) l.initial.judging l.judging l.length;
 }
 
 abbrev pub decreases-loop-longer : goal.decreases-loop-longer

@@ -10,7 +10,7 @@ use Rattle.cube_command.proofs.while_read.judge_source.Goals as goal
 
 pub judge_while_read-requires-clause-front : goal.judge_while_read-requires-clause-front
 judge_while_read-requires-clause-front g c = λ κs within.
-    (c.args.begun, (g.S.Source.remaining c.args.source.now, c.in_ok-front.ensures.front))
+    (c.args.begun, (c.args.source.now, c.in_ok-front.ensures.front))
 
 pub returns-in_err-outcome-clause-fault : goal.returns-in_err-outcome-clause-fault
 returns-in_err-outcome-clause-fault g c =
@@ -18,8 +18,8 @@ returns-in_err-outcome-clause-fault g c =
     (λ fault. IsInputFault fault
     → IsRefusedBelow c.args.begun (IsLeft (g.S.Source.remaining c.args.source.now)) fault)
     c.in_err-outcome.field-0.0
-    (c.in_err-outcome.ensures.fault c.args.begun (g.S.Source.remaining c.args.source.now)
-    c.in_ok-front.ensures.front) c.from_residual-in_err-outcome.ensures.1
+    (c.in_err-outcome.ensures.fault c.args.begun c.args.source.now c.in_ok-front.ensures.front)
+    c.from_residual-in_err-outcome.ensures.1
 
 pub returns-clause-made : goal.returns-clause-made
 returns-clause-made g c =
@@ -28,8 +28,7 @@ returns-clause-made g c =
     c.in_ok-outcome.outcome.text.items c.in_ok-outcome.outcome.map.items
     c.in_ok-front.front.icnf.items c.in_ok-outcome.outcome.refuted c.in_ok-bytes.bytes.items
     c.end_record.new.begun.items c.end_record.new.begun.items c.deref.result.now
-    (c.in_ok-outcome.ensures.outcome c.args.begun (g.S.Source.remaining c.args.source.now)
-    c.in_ok-front.ensures.front)
+    (c.in_ok-outcome.ensures.outcome c.args.begun c.args.source.now c.in_ok-front.ensures.front)
     (some_mapped (λ (text : Bor (List ℕ)). text.now) c.args.request.now.map
     c.is_some-draws.result c.is_some-draws.ensures)
     c.deref.ensures.value refl (rw c.icnf-icnf.ensures at c.in_ok-bytes.ensures)

@@ -4,8 +4,8 @@ use Rattle.byte_flow.proofs.lines.LineBuffer.refill.Given as goal
 
 abbrev pub invariant-loop-count : goal.invariant-loop-count
 invariant-loop-count g l = record {
-  same : g.S.Source.failures l.source ≡ g.S.Source.failures l.initial.source;
-  read : IsBegunFurther (g.S.Source.remaining l.initial.source) (g.S.Source.remaining l.source)
+  same : g.S.Stream.failures l.source ≡ g.S.Stream.failures l.initial.source;
+  read : IsBegunFurther (g.S.Stream.gives l.initial.source) (g.S.Stream.gives l.source)
       l.initial.self.begun l.self;
 }
 

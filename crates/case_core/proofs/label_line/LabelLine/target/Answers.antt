@@ -3,7 +3,7 @@ use Rattle.cnf_text.specs.Tokens.{words}
 use Rattle.split_tree.specs.SplitTree.{SplitTree}
 use Rattle.case_core.specs.Label.{label_name}
 use Rattle.case_core.specs.Inner.Label.{NamesNone}
-use Rattle.case_core.proofs.ScanWhole.{case_limited}
+use Rattle.case_core.proofs.SectionsOneMeaning.{case_limited}
 use Rattle.case_core.proofs.SectionsMore.{fault_named}
 use Rattle.case_core.proofs.label_line.LabelLine.target.Goals as goal
 

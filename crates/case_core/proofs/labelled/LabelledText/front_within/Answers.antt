@@ -7,8 +7,8 @@ use Rattle.case_core.proofs.labelled.LabelledText.front_within.Goals as goal
 
 -- what was taken where the text goes on
 taken : (g : Over) (c : After-len g)
-    → HasFront c.args.self.now c.advance.new.self (g.S.Source.remaining c.args.source.now)
-    (g.S.Source.remaining c.advance.new.source) c.extend_from_slice.new.self.items
+    → HasFront c.args.self.now c.advance.new.self (g.S.Stream.gives c.args.source.now)
+    (g.S.Stream.gives c.advance.new.source) c.extend_from_slice.new.self.items
 taken g c =
     let more : c.in_ok-advance.field-0 ≡ true = search rules in
     let added : c.extend_from_slice.new.self.items

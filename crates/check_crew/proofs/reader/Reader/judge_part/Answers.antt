@@ -5,7 +5,7 @@ pub returns-clause-posted : goal.returns-clause-posted
 returns-clause-posted g c =
     part_posted g.J.NamesCase.case c.args.self.now.kept.boards c.post.new.self c.args.target
     c.args.front.now c.args.text.now c.examine_part.new.text
-    (g.S.Source.remaining c.args.source.now) (g.S.Source.remaining c.examine_part.new.source)
+    (g.S.Stream.gives c.args.source.now) (g.S.Stream.gives c.examine_part.new.source)
     c.in_ok-read.read c.again.result c.post.result
     (rw c.requires.examiner at c.in_ok-read.ensures.read) c.requires.reader.boards
     c.again.ensures.case c.again.ensures.leaf c.again.ensures.node c.again.ensures.judged
