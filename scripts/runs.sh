@@ -236,7 +236,8 @@ read_with() {
 }
 
 # Each read of such a pipe fails in turn, until there are no more; the last one says that the pipe has ended. What it is, how many bytes a read gives at
-# most, what the pipe gives, what is wanted if no read fails (a path without .out, .err and .status), then the words.
+# most, what the pipe gives, what is wanted if no read fails (a path without .out, .err and .status), then the words. `$reads` is how their number has to
+# compare with that of the pieces and one more: -ge if it isn't set, since of a pipe a read may give less.
 each_read_fails() {
     what=$1
     size=$2
@@ -254,8 +255,7 @@ each_read_fails() {
         n=$((n + 1))
     done
     compare "$what by $((n - 1)) reads of $size bytes" "$whole.out" "$whole.err" "$whole.status"
-    # (of a pipe a read may give less)
-    [ $((n - 1)) -ge $((($(wc -c < "$from") + size - 1) / size + 1)) ]
+    [ $((n - 1)) "${reads:--ge}" $((($(wc -c < "$from") + size - 1) / size + 1)) ]
     count "$what, each of the reads of $size bytes fails once" $?
     rm -f "$here/run/a.record"
 }
