@@ -26,6 +26,10 @@ use memchr::{memchr, memrchr};
 use split_tree::{Tree, build};
 use std::alloc::Global;
 
+/// In so many bytes at a time line ends are counted: a byte has room for their number, and they are
+/// a multiple of what fits into a vector.
+const COUNTED: usize = 224;
+
 /// Whether a line is a label line.
 #[tactic(auto, unfolding(crate::specs::Bundle::is_label))]
 fn is_label(line: &[u8]) -> bool
@@ -107,7 +111,28 @@ pub fn line_ends(text: &[u8]) -> usize
     // No more than its bytes.
     ensures within { result ≤ length text.now }
 {
-    text.iter().filter(|byte| **byte == b'\n').count()
+    let mut rest = text;
+    let mut count = 0;
+    while !rest.is_empty() {
+        let (part, more) = rest.split_at(rest.len().min(COUNTED));
+        count += usize::from(few_line_ends(part));
+        rest = more;
+    }
+    count
+}
+
+/// How many lines end in so few bytes. (Such a counter is one that the compiler makes vectors of.)
+fn few_line_ends(bytes: &[u8]) -> u8
+    requires { length bytes.now ≤ 224 }
+    ensures { result ≡ count_by is_line_end bytes.now }
+{
+    let mut count = 0;
+    for at in 0..bytes.len() {
+        if bytes[at] == b'\n' {
+            count += 1;
+        }
+    }
+    count
 }
 
 /// A label line, the section below it, and the text from the next label line on, if there is one.
