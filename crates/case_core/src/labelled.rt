@@ -182,7 +182,7 @@ impl LabelledText {
         ensures err { IfErr result
             (λ fault. IsDeviceFault (S.failures source.old) (S.failures source.new) fault) }
     {
-        let TakenLines { lines, is_part } = self.front_within(alloc, source, usize::MAX)?;
+        let TakenLines { lines, is_part } = self.front_within(Vec::new(alloc), source, usize::MAX)?;
         // (no lines in memory are more than so many bytes)
         if !is_part {
             unreachable!()
@@ -194,11 +194,13 @@ impl LabelledText {
     /// they don't end with the block that makes them more than `most` bytes, it is only what they
     /// begin with, up to that block's end, and the text goes on behind it.
     ///
+    /// They are put into a list that was used, of which nothing stays but its room.
+    ///
     /// `Device` where a read failed, `Memory` where a growth was refused, or the lines are too many
     /// to be counted.
     pub fn front_within<S: Stream>(
         &mut self,
-        alloc: Global,
+        used: Vec<u8>,
         source: &mut S,
         most: usize,
     ) -> Result<TakenLines, DeviceFault>
@@ -209,7 +211,8 @@ impl LabelledText {
         ensures err { IfErr result
             (λ fault. IsDeviceFault (S.failures source.old) (S.failures source.new) fault) }
     {
-        let mut lines = Vec::new(alloc);
+        let mut lines = used;
+        lines.clear();
         loop {
             lines.extend_from_slice(self.ready())?;
             if !self.advance(source)? {

@@ -38,6 +38,12 @@ impl<'c, J: NamesCase> FoundProof<'c, J> {
         &self.proof
     }
 
+    /// The list that has its text, where nobody else has the proof any more.
+    pub(crate) fn into_list(self) -> Option<Vec<u8>> {
+        let FoundProof { proof, .. } = self;
+        proof.into_list()
+    }
+
     /// What was found.
     pub(crate) fn finding(&self) -> Finding<'c>
         ensures case { result.case.now ≡ J.case }

@@ -87,6 +87,12 @@ impl<J: NamesCase> HandedProof<J> {
         self.target
     }
 
+    /// The list that has its text, where nobody else has the proof any more.
+    pub(crate) fn into_list(self) -> Option<Vec<u8>> {
+        let HandedProof { text, .. } = self;
+        Arc::into_inner(text)
+    }
+
     /// Its text.
     pub(crate) fn text(&self) -> &[u8]
         ensures { result.now ≡ self.now.proof }

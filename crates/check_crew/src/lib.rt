@@ -13,6 +13,7 @@ mod no_proofs;
 mod one;
 mod order;
 mod reader;
+mod rooms;
 mod settings;
 mod target_order;
 mod targets;

@@ -20,6 +20,7 @@ use crate::fault::ReadFault;
 use crate::found::{FoundProof, judge_handed};
 use crate::gate::Gate;
 use crate::handed::{HandedProof, NamesCase};
+use crate::rooms::Rooms;
 use crate::worker::{JudgedProof, post, tell};
 use board_hall::{Core, Pass};
 use byte_flow::{DeviceFault, Stream};
@@ -84,6 +85,8 @@ pub(crate) struct Kept<'c, J: NamesCase> {
     pub(crate) bytes: usize,
     /// What others have found.
     pub(crate) found: Receiver<FoundProof<'c, J>>,
+    /// Lists that proofs were handed out in.
+    pub(crate) rooms: Rooms,
 }
 
 /// A place without a proof.
@@ -176,7 +179,7 @@ impl<'c, J: NamesCase> Kept<'c, J> {
 
     /// Posts on the boards what was found by a proof that was handed out. Of another one nothing is
     /// posted.
-    fn settle(&mut self, found: &FoundProof<'c, J>)
+    fn take_back(&mut self, found: &FoundProof<'c, J>)
         requires { self.old.boards.case ≡ J.case }
         ensures { KeepsMarks self.old.boards self.new.boards self.old.given.items
             self.new.given.items }
@@ -185,6 +188,18 @@ impl<'c, J: NamesCase> Kept<'c, J> {
             let _ = self.boards.post(found.finding());
             self.given[place] = None;
             self.bytes = self.bytes.saturating_sub(found.proof().text().len());
+        }
+    }
+
+    /// The same, and the proof's list is kept for another one.
+    fn settle(&mut self, found: FoundProof<'c, J>)
+        requires { self.old.boards.case ≡ J.case }
+        ensures { KeepsMarks self.old.boards self.new.boards self.old.given.items
+            self.new.given.items }
+    {
+        self.take_back(&found);
+        if let Some(list) = found.into_list() {
+            self.rooms.keep(list);
         }
     }
 
@@ -198,7 +213,7 @@ impl<'c, J: NamesCase> Kept<'c, J> {
             let Ok(found) = self.found.try_recv(rt) else {
                 return;
             };
-            self.settle(&found);
+            self.settle(found);
         }
     }
 
@@ -260,8 +275,9 @@ impl<'a, 'c, R: Wait, G: Gate, J: NamesCase> Reader<'a, 'c, R, G, J> {
     {
         self.site.gate.before(0, proof.target());
         let found = judge_handed(self.site.alloc, examiner, proof)?;
-        self.kept.settle(&found);
-        post_read(self.site, 0, &mut self.pass, found.read());
+        let read = found.read();
+        self.kept.settle(found);
+        post_read(self.site, 0, &mut self.pass, read);
         Ok(())
     }
 
@@ -358,7 +374,7 @@ impl<'a, 'c, R: Wait, G: Gate, J: NamesCase> Reader<'a, 'c, R, G, J> {
         if most == 0 {
             return self.judge_part(examiner, target, &[], text, source);
         }
-        let taken = text.front_within(self.site.alloc, source, most)?;
+        let taken = text.front_within(self.kept.rooms.take(self.site.alloc), source, most)?;
         if !taken.is_part {
             return self.judge_part(examiner, target, &taken.lines, text, source);
         }

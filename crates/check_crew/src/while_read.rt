@@ -19,6 +19,7 @@ use crate::found::{FoundProof, judge_handed};
 use crate::gate::{Elsewhere, Gate};
 use crate::handed::{HandedProof, NamesCase};
 use crate::reader::{Kept, Reader, ReadingSite, post_read};
+use crate::rooms::Rooms;
 use crate::settings::Settings;
 use board_hall::{Hall, Pass};
 use byte_flow::Stream;
@@ -340,13 +341,14 @@ fn open<'a, 'c, R, G, J: NamesCase>(
         unreachable!()
     };
     let helpers = helpers_of(site, passes, &not_taken, &to_reader)?;
+    let most = if count == 1 { 0 } else { HANDED * count };
     let kept = Kept {
         boards: Boards::new(site.alloc, site.case, cut)?,
         given: no_proofs(site.alloc, 8 * count)?,
         bytes: 0,
         found,
+        rooms: Rooms::new(site.alloc, 8 * count, most)?,
     };
-    let most = if count == 1 { 0 } else { HANDED * count };
     let reader = Reader {
         site,
         kept,

@@ -174,7 +174,7 @@ fn pass_part<F: Read + Drop>(
     ensures ready { OnOk result (text.new.ready ≡ []) }
 {
     for _ in 0..u64::MAX {
-        let taken = text.front_within(alloc, file, BLOCK)?;
+        let taken = text.front_within(Vec::new(alloc), file, BLOCK)?;
         if let Some(walk) = &mut walk {
             walk.pass(alloc, &taken.lines)?;
         }

@@ -40,7 +40,8 @@ fn taken(
     requires { pieces.old.failed ≡ 0 }
     ensures { pieces.new.failed ≡ 0 }
 {
-    text.front_within(alloc, pieces, most).expect(rt, "a fault")
+    text.front_within(Vec::new(alloc), pieces, most)
+        .expect(rt, "a fault")
 }
 
 /// Ends the test where other lines of the text are left up to its label line, or its end.
@@ -84,7 +85,7 @@ fn taken_by_bytes(rt: HostRuntime) {
 fn a_read_fails(rt: HostRuntime) {
     let mut pieces = Pieces::new(TEXT, 4, 3);
     let mut text = LabelledText::below(rt.alloc(), b"").expect(&rt, "memory");
-    let taken = text.front_within(rt.alloc(), &mut pieces, 100);
+    let taken = text.front_within(Vec::new(rt.alloc()), &mut pieces, 100);
     assert!(rt; matches!(taken, Err(DeviceFault::Device)));
 }
 

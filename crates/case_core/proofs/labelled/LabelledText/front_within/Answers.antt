@@ -20,7 +20,7 @@ taken g c =
 pub loop-lines-init : goal.loop-lines-init
 loop-lines-init g c = record {
   count = refl;
-  read = rw c.new-lines.ensures.items (front_none c.args.self.now _);
+  read = rw c.clear.ensures.items (front_none c.args.self.now _);
 }
 
 pub returns-then-not-branch-clause-taken : goal.returns-then-not-branch-clause-taken

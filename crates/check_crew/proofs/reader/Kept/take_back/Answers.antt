@@ -1,6 +1,6 @@
 use Rattle.std.proofs.Common.{◌≡◌, ◌∙◌, sym}
 use Rattle.check_crew.proofs.WhileReadMarks.{settled}
-use Rattle.check_crew.proofs.reader.Kept.settle.Goals as goal
+use Rattle.check_crew.proofs.reader.Kept.take_back.Goals as goal
 
 pub returns-in-Some : goal.returns-in-Some
 returns-in-Some g c =
