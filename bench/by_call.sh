@@ -1,10 +1,8 @@
 #!/bin/bash
 # by_call.sh PROGRAM
 # Runs PROGRAM with four workers on the same 32 proofs of 1.9 MB in one file by calls with other
-# words, and by a pipe with one worker, too, and says how much memory each took. The status is 1 if a
-# report isn't that all is refuted, or if a call that judges each proof where it reads it took more
-# than 1.2 times what the plain one did. (By a pipe four workers have copies of short proofs; so they
-# have of a folder's files if one of these has a label line.)
+# words, and with one worker, too, and says how much memory each took. The status is 1 if a report
+# isn't that all is refuted, or if a call took more than 1.2 times the memory of the plain one.
 # What is made is in TMPDIR (/tmp), 250 MB, and removed.
 set -eu
 program=$(realpath "${1:?a program}")
@@ -50,10 +48,10 @@ rm "$folder/labelled/32.lrat"
 
 failed=0
 plain=0
-# A run on these words, which is named so; while it reads where the first word says so.
+# A run on these words, which is named so.
 measure() {
-    is_placed=$1 name=$2
-    shift 2
+    name=$1
+    shift
     read -r wall processor kilobytes status <<< "$(bin/measure -i "$folder/out" "$program" --workers "${workers:-4}" "$@")"
     [ "$plain" -ne 0 ] || plain=$kilobytes
     echo "$name: $((kilobytes * 1024 / 100000 / 10)).$((kilobytes * 1024 / 100000 % 10)) MB, $((processor / 1000)) ms of processor time"
@@ -61,22 +59,23 @@ measure() {
         echo "$name: not all is refuted (status $status)"
         failed=1
     fi
-    if [ "$is_placed" = places ] && [ $((kilobytes * 10)) -gt $((plain * 12)) ]; then
+    if [ $((kilobytes * 10)) -gt $((plain * 12)) ]; then
         echo "$name: more than 1.2 times the plain call's memory"
         failed=1
     fi
 }
-measure places "FILE" "$folder/bundle"
-measure places "FILE with --record" --record "$folder/record" "$folder/bundle"
-measure places "FILE with --formula" --formula "$folder/formula.cnf" "$folder/cubes"
-measure places "FILE with --formula and --record" --formula "$folder/formula.cnf" --record "$folder/record" "$folder/cubes"
-measure places "FILE with --map, --log and --record" --map "$folder/map" --log "$folder/log" --record "$folder/record" "$folder/bundle"
-measure places "FILE with a proof for an inner node" "$folder/inner"
-measure places "--proofs DIR" --proofs "$folder/proofs" "$folder/case.icnf"
-measure copies "--proofs DIR with a label line in a file" --proofs "$folder/labelled" "$folder/case.icnf"
-measure copies "standard input" < <(cat "$folder/bundle")
-measure copies "standard input with --formula" --formula "$folder/formula.cnf" < <(cat "$folder/cubes")
-workers=1 measure places "standard input, one worker" < <(cat "$folder/bundle")
-measure whole "FILE as a named pipe" <(cat "$folder/bundle")
-measure places "FILE with --explain" --explain "$folder/bundle" 2> /dev/null
+measure "FILE" "$folder/bundle"
+measure "FILE with --record" --record "$folder/record" "$folder/bundle"
+measure "FILE with --formula" --formula "$folder/formula.cnf" "$folder/cubes"
+measure "FILE with --formula and --record" --formula "$folder/formula.cnf" --record "$folder/record" "$folder/cubes"
+measure "FILE with --map, --log and --record" --map "$folder/map" --log "$folder/log" --record "$folder/record" "$folder/bundle"
+measure "FILE with a proof for an inner node" "$folder/inner"
+measure "--proofs DIR" --proofs "$folder/proofs" "$folder/case.icnf"
+measure "--proofs DIR with a label line in a file" --proofs "$folder/labelled" "$folder/case.icnf"
+measure "standard input" < <(cat "$folder/bundle")
+measure "standard input with --formula" --formula "$folder/formula.cnf" < <(cat "$folder/cubes")
+workers=1 measure "FILE, one worker" "$folder/bundle"
+workers=1 measure "standard input, one worker" < <(cat "$folder/bundle")
+measure "FILE as a named pipe" <(cat "$folder/bundle")
+measure "FILE with --explain" --explain "$folder/bundle" 2> /dev/null
 exit "$failed"

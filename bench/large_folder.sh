@@ -60,7 +60,7 @@ measure "a folder" --proofs "$folder/proofs" "$folder/case.icnf" < /dev/null
         cat "$folder/proofs/$number.lrat"
     done
 } > "$folder/bundle.icnf"
-measure "a file" "$folder/bundle.icnf" < /dev/null
+limit=64 measure "a file" "$folder/bundle.icnf" < /dev/null
 limit=64 measure "standard input" < <(cat "$folder/bundle.icnf")
 workers=1 measure "standard input, one worker," < <(cat "$folder/bundle.icnf")
 if [ "$proofs" -eq 1 ]; then

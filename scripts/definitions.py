@@ -149,14 +149,14 @@ RECORD's digest and its marks are those of one text.""",
       "cube_join/laws.rt a_split_run_is_one_run -"]),
     ("bundle_files: the bundle that is judged", """
 The bundle is the file's or the input's, with the proofs of a folder added for the leaves of its tree, in order and each
-under its own label. A run may read each of these proofs when a worker comes to its leaf. What such a run says is what a
-run on this bundle promises.""",
+under its own label. A run may read each of these proofs when a worker comes to its leaf. A bundle without a folder's
+proofs is judged while it is read, and so is the one proof of a formula. What such a run says is what a run on this bundle
+promises.""",
      ["file_store/source.rt append_given held appended handed ok err kept",
       "bundle_files/formula.rt begin_bundle held read handed plain fault ok err",
       "bundle_files/formula.rt read_from held bundle handed case fault ok err kept",
-      "bundle_files/outlined.rt outline_bundle held read handed fault ok err",
-      "bundle_files/by_section.rt judge_by_section held outcome handed fault ok err",
       "bundle_files/judge.rt judge_with_folder held outcome fault ok err",
+      "bundle_files/judge.rt of_input ok err",
       "bundle_files/one_proof.rt begin_one held read handed case tree free fault ok err",
       "bundle_files/one_proof.rt judge_proof_of outcome fault ok err",
       "bundle_files/while_read.rt read_front front ok err",
@@ -164,7 +164,6 @@ run on this bundle promises.""",
       "file_store/store.rt Store::open held lies none ok err",
       "file_store/store.rt Store::close held failures",
       "file_store/source.rt append_file held read handed ok err",
-      "file_store/blocks.rt outline_file held outline handed ok err",
       "file_store/store.rt Store::write written elsewhere nothing ok err",
       "file_store/store.rt Store::write_counted written elsewhere ok err failed",
       "file_store/store.rt Store::reader held binary none",
@@ -242,19 +241,24 @@ hall ends.""",
       "board_hall/closing.rt Hall::close all boards same"]),
     ("cube_jobs and check_crew: one report for every number of threads", """
 Each section's place is claimed once. Once all workers are joined, each node of the boards has the mark of its finding,
-for every number of workers, every cut, every gate and every schedule. `command` makes the report by `judge_with_folder` of
-bundle_files, over `conquer` of check_crew, and writes it by `write_all` of byte_flow.
+for every number of workers, every cut, every gate and every schedule. That is `conquer` of check_crew, by which `run_io` of
+cube_report makes its report.
 
-With DIR, or from FILE, each proof is judged while a worker reads it, when the worker comes to its target. That goes
-over `conquer_elsewhere`, in a hall for FILE's case whose proofs lie elsewhere. There the laws of board_hall hold word for
-word, and what a board marks refuted has no model. That a target is marked by the judgement of its own proof is no law
-of that hall. It is compared, for each node, when all workers are joined, and `conquer_elsewhere` gives boards only if it
-is so.""",
+`command` makes the report by `judge_while_read` of bundle_files, over `conquer_while_read`: a bundle of FILE or of the
+input is judged by all workers while one of them reads it. The boards of the one that reads have the mark of each finding,
+whatever the others do.
+
+With DIR `command` makes it by `judge_with_folder` of bundle_files. Each proof is judged while a worker reads it, when the
+worker comes to its leaf. That goes over `conquer_elsewhere`, in a hall for FILE's case whose proofs lie elsewhere. There
+the laws of board_hall hold word for word, and what a board marks refuted has no model. That a target is marked by the
+judgement of its own proof is no law of that hall. It is compared, for each node, when all workers are joined, and
+`conquer_elsewhere` gives boards only if it is so. Each report is written by `write_all` of byte_flow.""",
      ["cube_jobs/jobs.rt Jobs::fill sections count passes",
       "cube_jobs/jobs.rt Jobs::claim same place later claimed none",
       "cube_jobs/jobs.rt Jobs::finish exactly once",
       "check_crew/crew.rt conquer case findings",
-      "check_crew/elsewhere.rt conquer_elsewhere apart failed"]),
+      "check_crew/elsewhere.rt conquer_elsewhere apart failed",
+      "check_crew/while_read.rt conquer_while_read case boards"]),
     ("tree_map: the picture of a tree", """
 The bytes are one picture, fixed by the case and by the mark of each node.""",
      ["tree_map/picture.rt map_of -"]),

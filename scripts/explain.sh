@@ -291,7 +291,8 @@ proof for n 0: step 1 is rejected: case.icnf, line 20012: "5 0 1"
 *; look for *
 TOLD
 
-# A section of 30 MB that is rejected at its end: neither the run nor what is told of it holds it.
+# A section of 30 MB that is rejected at its end: neither the run of one worker nor what is told of
+# it holds it.
 measured_program
 with_bundle "$tree"
 {
@@ -301,7 +302,7 @@ with_bundle "$tree"
 } >> "$here/run/case.icnf"
 echo none > "$here/peak"
 program=$here/measured
-run "$here/none" --explain case.icnf
+run "$here/none" --workers 1 --explain case.icnf
 program=$built
 told "a section of 30 MB" 1 << 'TOLD'
 case.icnf: clauses: 3; *

@@ -14,9 +14,9 @@
 # - the record, the picture and the log of such a run;
 # - proofs of 100 MB, and a folder of as many with a label line: the program takes 64 MB of memory at
 #   most.
-# So it is with bundles: what is wanted of them is what four workers say of the same bytes in a file,
-# which they read in another way; tests/rows have what that has to be. And so it is with folders that
-# have pipes.
+# So it is with bundles, also in a plain file: what is wanted of them is what four workers say of the
+# same bytes with a folder that isn't there, for which they hold the bundle, and read it in another
+# way; tests/rows have what that has to be. And so it is with folders that have pipes.
 # Above each part stands which wrong programs it is there to refuse. A run that hasn't ended after a
 # minute is ended, and fails. The last line counts.
 root=$(CDPATH= cd -- "$(dirname -- "$0")/.." && pwd) || exit 1
@@ -633,16 +633,18 @@ large "a text of 100 MB whose ids rise" by_pipe
 # label line or a fault, that write a report where there is one, that lose what another worker finds,
 # and that hold a bundle.
 
-# What four workers say of the bundle in $here/bundle as a file: further words.
-as_a_file() {
-    cp "$here/bundle" "$here/run/bundle.icnf" && run "$here/none" "$@" bundle.icnf
+# What four workers say of the bundle in $here/bundle that they hold: further words.
+held() {
+    cp "$here/bundle" "$here/run/bundle.icnf" && run "$here/none" --proofs none "$@" bundle.icnf
     for it in out err status; do cp "$here/$it" "$here/wanted.$it"; done
 }
-# The bundle by a pipe, and by a named pipe with one worker: its name, and further words.
+# The bundle in a file, by a pipe, and by a named pipe with one worker: its name, and further words.
 bundle() {
     what=$1
     shift
-    as_a_file "$@"
+    held "$@"
+    run "$here/none" "$@" bundle.icnf
+    compares "$what, in a file"
     fed "$here/bundle" "$@"
     compares "$what, by a pipe"
     named "$here/bundle" --workers 1 "$@" text.pipe
@@ -722,11 +724,16 @@ for lines in 3000 10000; do
 done
 # The record, the picture and the log.
 cp "$here/whole" "$here/bundle" && cp "$here/bundle" "$here/run/bundle.icnf"
-run "$here/none" --record f.record --map f.svg --log f.log bundle.icnf
+run "$here/none" --proofs none --record f.record --map f.svg --log f.log bundle.icnf
 sort "$here/run/f.log" > "$here/lines"
-for way in fed named; do
-    [ "$way" = fed ] && file= || file=text.pipe
-    "$way" "$here/bundle" --record a.record --map a.svg --log a.log $file
+for way in run fed named; do
+    case $way in
+        run) set -- "$here/none" bundle.icnf ;;
+        fed) set -- "$here/bundle" ;;
+        named) set -- "$here/bundle" text.pipe ;;
+    esac
+    from=$1 && shift
+    "$way" "$from" --record a.record --map a.svg --log a.log "$@"
     for file in record svg; do
         cmp -s "$here/run/a.$file" "$here/run/f.$file"
         count "the $file of a bundle, $way" $?
@@ -741,6 +748,8 @@ rm -f "$here"/run/[af].*
 by_both_pipes() {
     what=$1
     shift
+    cp "$here/cubes" "$here/run/cubes.icnf" && run "$here/none" --formula formula.cnf "$@" cubes.icnf
+    compares "$what below a formula, in a file"
     fed "$here/cubes" --formula formula.cnf "$@"
     compares "$what below a formula, by a pipe"
     named "$here/cubes" --workers 1 --formula formula.cnf "$@" text.pipe
@@ -748,7 +757,7 @@ by_both_pipes() {
 }
 below() {
     { echo 'p inccnf' && tail -n +2 "$here/formula" && echo && cat "$here/cubes"; } > "$here/bundle"
-    as_a_file
+    held
     by_both_pipes "$@"
 }
 { printf 'a 1 0\na -1 0\nl 1\n' && cat "$here/first" && echo 'l 2' && cat "$here/second"; } > "$here/sections"
@@ -786,7 +795,7 @@ by_both_pipes "no file"
 cp "$here/formula" "$here/run/formula.cnf"
 # Each read that fails in turn.
 if preload device "the reads of a bundle that are short or fail"; then
-    cp "$here/whole" "$here/bundle" && as_a_file
+    cp "$here/whole" "$here/bundle" && held
     keeps
     each_read_fails "a bundle" 1 "$here/bundle" "$here/right" --workers 1
     each_read_fails "a bundle, by four workers" 7 "$here/bundle" "$here/right" --workers 4

@@ -209,6 +209,6 @@ if preload refuse "requests for memory, reads that are interrupted and the test 
     next_step
 fi
 little_room two_cubes_refuted
-# (from a pipe, from a file's places, and from a folder: all start their threads once, and each refused start is told)
+# (from standard input, from a file, and from a folder: all start their threads once, and each refused start is told)
 for name in two_cubes_refuted binary_proof_in_a_section_of_a_file folder_of_proofs; do few_threads "$name"; done
 finish

@@ -1,6 +1,6 @@
 #!/bin/sh
-# Runs the built program on small random bundles, which scripts/soak.awk makes, each by one worker with `--cut 0`, from standard input, where it is read whole, and by a random number of
-# workers with a random cut, as FILE, of which each proof is read at its place, and looks whether report, standard error and status are the same, and of the form that docs/FORMATS.md says
+# Runs the built program on small random bundles, which scripts/soak.awk makes, each by one worker with `--cut 0`, from standard input, which is held as a whole since a folder is asked
+# for (which isn't there), and by a random number of workers with a random cut, as FILE, which is judged while it is read, and looks whether report, standard error and status are the same, and of the form that docs/FORMATS.md says
 # (scripts/form.awk): a report with the status of its last line and nothing on standard error, or no report, the status 3 and the line of a
 # fault. So it tries the claim that the report is the same for every number of workers, every cut and every schedule; what the report has to
 # be, the rows say. From 200 runs on, each of the three kinds of answer has to occur: refuted, open and refused. Each bundle is tried once more, taken apart into FILE
@@ -45,7 +45,7 @@ has_form() {
 both() {
     number=$1
     shift
-    timeout 20 "$program" --workers 1 --cut 0 < "$here/$number.in" > "$here/one.out" 2> "$here/one.err"
+    timeout 20 "$program" --workers 1 --cut 0 --proofs "$here/absent" < "$here/$number.in" > "$here/one.out" 2> "$here/one.err"
     one=$?
     timeout 20 "$program" "$@" "$here/$number.in" > "$here/out" 2> "$here/err"
     status=$?

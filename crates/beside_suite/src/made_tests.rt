@@ -151,8 +151,8 @@ const CUBES: &[u8] = b"a 1 0\na -1 0\nl 1\n6 0 5 3 4 0\nl 2\n6 0 5 1 2 0\n";
 /// and the two cubes' lines.
 const BELOW_LINE: &[u8] = b"i abfdd049e6def4894652cb5e0aa36d4085d99facbbbd9430ed3c4d1e8d242837\n";
 
-/// The program on these words and these files, whose lengths are told, makes the record that begins
-/// with this line, and asks for these paths.
+/// The program on these words and these files makes the record that begins with this line, and asks
+/// for these paths.
 fn records<R: AllocGlobal + Abort + Threads + Wait + Sync>(
     rt: &R,
     words: &[&str],
@@ -164,7 +164,7 @@ fn records<R: AllocGlobal + Abort + Threads + Wait + Sync>(
         ("CNF", FORMULA),
         ("CUBES", CUBES),
     ];
-    let mut store = FileStore::new(Shelf::new(rt.alloc(), &files)?.with_lengths());
+    let mut store = FileStore::new(Shelf::new(rt.alloc(), &files)?);
     ends_with(rt, &mut store, words, b"", 0, REPORTED);
     let asked = store.opener().asked()?;
     assert!(rt; asked.as_slice() == paths, "{words:?}");
@@ -181,20 +181,19 @@ fn records<R: AllocGlobal + Abort + Threads + Wait + Sync>(
     Ok(())
 }
 
-// A bundle in a file is read once for its outline, and then each proof at its place: the record is
-// the same.
+// A bundle in a file is read once.
 #[test]
 fn a_record_of_a_file(rt: HostRuntime) -> Result<(), Fail> {
     records(
         &rt,
         &["--record", "a.record", "--workers", "1", "FILE"],
         BOTH_CUBES_LINE,
-        b"FILE\nFILE\nFILE\n",
+        b"FILE\n",
     )?;
     records(
         &rt,
         &["--record", "a.record", "--formula", "CNF", "CUBES"],
         BELOW_LINE,
-        b"CNF\nCUBES\nCUBES\nCUBES\n",
+        b"CNF\nCUBES\n",
     )
 }

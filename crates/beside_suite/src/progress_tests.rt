@@ -170,18 +170,21 @@ fn nothing_else_changes(rt: HostRuntime) {
     tells(&rt, &["--progress"], FOUR_CUBES, broken, FOUR_REFUTED, "");
 }
 
-/// The program, on these words and a file that gives 16 bytes a read, ends so, and tells its
-/// progress on the device.
+/// The program, on these words and a file that gives 16 bytes a read, whose length may be told,
+/// ends so, and tells its progress on the device.
 fn ends_telling_of_file<R: AllocGlobal + Abort + Threads + Wait + Sync>(
     rt: &R,
     words: &[&str],
-    file: File<'_>,
+    (file, has_length): (File<'_>, bool),
     device: &Device<'_, R>,
     on_terminal: bool,
     ending: Ending<'_>,
 ) {
     let files = [file];
-    let shelf = Shelf::new(rt.alloc(), &files).expect(rt, "no memory");
+    let mut shelf = Shelf::new(rt.alloc(), &files).expect(rt, "no memory");
+    if has_length {
+        shelf = shelf.with_lengths();
+    }
     let progress = &Progress::new(device, on_terminal);
     let store = &mut FileStore::new(MeteredFiles::new(shelf, progress));
     let input = &mut Counted::new(Metered::new(b"".as_slice(), progress));
@@ -193,7 +196,7 @@ fn ends_telling_of_file<R: AllocGlobal + Abort + Threads + Wait + Sync>(
 fn tells_of_file<R: AllocGlobal + Abort + Threads + Wait + Sync>(
     rt: &R,
     words: &[&str],
-    file: File<'_>,
+    file: (File<'_>, bool),
     step: u64,
     on_terminal: bool,
     ending: Ending<'_>,
@@ -214,25 +217,25 @@ fn how_much_was_read(rt: HostRuntime) {
                 cubeboard: reading: 128 bytes so far\n\
                 cubeboard: 4 of 4 judged, 48 of 48 bytes, 4 refuted, 0 rejected, 0.000 % open\n\
                 cubeboard: 4 of 4 judged, 48 of 48 bytes, 4 refuted, 0 rejected, 0.000 % open\n";
-    let file = ("four.icnf", FOUR_CUBES.as_bytes());
+    let file = (("four.icnf", FOUR_CUBES.as_bytes()), false);
     tells_of_file(&rt, &words, file, 300, false, FOUR_REFUTED, told);
 }
 
-// The same clock, and the same file alone, of which no length is known: it is judged while it is
-// read. Four reads are 64 bytes, for which a line is due. The fifth has the first label line, and
-// the pause begins anew. Each of the next three ends a section with the label line of the next one.
-// The ninth has the rest of the last section, and the tenth says that the file is at its end. The
-// clock is looked at with each read, and with each section when it is judged. So a line is due at
-// the second section, the fourth look, and at the tenth read, the fourth from there. Nobody knows
-// how many sections there are, so a line has as many as are judged.
+// The same clock, and the same file alone, whose length is told: it is judged while it is read.
+// Four reads are 64 bytes, for which a line is due. The fifth has the first label line, and the
+// pause begins anew. Each of the next three ends a section with the label line of the next one. The
+// ninth has the rest of the last section, and the tenth says that the file is at its end. The clock
+// is looked at with each read, and with each section when it is judged. So a line is due at the
+// second section, the fourth look, and at the tenth read, the fourth from there. Nobody knows how
+// many sections there are, so a line has as many as are judged.
 #[test]
 fn judged_while_it_is_read(rt: HostRuntime) {
     let words = ["--workers", "1", "--progress", "four.icnf"];
-    let told = "cubeboard: reading: 64 bytes so far\n\
+    let told = "cubeboard: reading: 64 of 137 bytes so far\n\
                 cubeboard: 2 of 2 judged, 24 of 24 bytes, 2 refuted, 0 rejected, 50.000 % open\n\
-                cubeboard: reading: 137 bytes so far\n\
+                cubeboard: reading: 137 of 137 bytes so far\n\
                 cubeboard: 4 of 4 judged, 48 of 48 bytes, 4 refuted, 0 rejected, 0.000 % open\n";
-    let file = ("four.icnf", FOUR_CUBES.as_bytes());
+    let file = (("four.icnf", FOUR_CUBES.as_bytes()), true);
     tells_of_file(&rt, &words, file, 300, false, FOUR_REFUTED, told);
 }
 
@@ -243,13 +246,13 @@ fn a_fault_behind_reading(rt: HostRuntime) {
     let words = ["--progress", "cnf.icnf"];
     let told = "\rcubeboard: reading: 10 bytes so far\x1b[K\
                 \rcubeboard: reading: 10 bytes so far\x1b[K\r\x1b[K";
-    let file = ("cnf.icnf", b"p cnf 1 0\n".as_slice());
+    let file = (("cnf.icnf", b"p cnf 1 0\n".as_slice()), false);
     tells_of_file(&rt, &words, file, 1000, true, (3, b"", HEADER), told);
 }
 
 // Without the word nothing is told of reading.
 #[test]
 fn no_word_on_reading(rt: HostRuntime) {
-    let file = ("four.icnf", FOUR_CUBES.as_bytes());
+    let file = (("four.icnf", FOUR_CUBES.as_bytes()), true);
     tells_of_file(&rt, &["four.icnf"], file, 1000, false, FOUR_REFUTED, "");
 }

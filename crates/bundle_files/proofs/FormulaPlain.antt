@@ -4,7 +4,7 @@ use Rattle.std.proofs.Common.{◌∷◌, ◌++◌, append_assoc}
 use Rattle.std.specs.List.{AllByRecursion}
 use Rattle.std.proofs.lemmas.Bool.{cases_Bool}
 use Rattle.case_core.specs.Bundle.{icnf_text, is_label, labelled, lines_of, text_before}
-use Rattle.case_core.proofs.OutlineLines.{plain_text}
+use Rattle.case_core.proofs.BundleLines.{plain_text}
 use Rattle.proof_folder.proofs.AddedLines.{with_ends}
 
 abbrev pub ArePlain : List (List ℕ) → Type 0

@@ -14,7 +14,7 @@ use Rattle.case_core.specs.Case.{CaseOf}
 use Rattle.case_core.specs.Sections.{IsCaseOf}
 use Rattle.case_core.proofs.BundleMore.{lines_more}
 use Rattle.case_core.proofs.IcnfUnique.{one_text}
-use Rattle.case_core.proofs.OutlineLines.{empty_line}
+use Rattle.case_core.proofs.BundleLines.{empty_line}
 use Rattle.cube_report.specs.declared.fault.Fault.{Fault}
 use Rattle.cube_report.specs.declared.fault.Fault.TheVariants.{Counts}
 use Rattle.cube_report.specs.Faults.{IsInputFault}
@@ -23,7 +23,6 @@ use Rattle.file_store.specs.Files.{Held, IsRead, IsTextAt, lies_in}
 use Rattle.bundle_files.specs.Formula.{ArePlainLines, HasCount, HasOtherCount, IsBundleBy, IsFront}
 use Rattle.bundle_files.specs.Formula.{IsFormulaFault, IsFormulaRead, IsOverwritten}
 use Rattle.bundle_files.specs.Inner.Formula.{IsFaultyFormula, IsOtherCount}
-use Rattle.bundle_files.specs.Inner.Outlined.{IsCounted}
 use Rattle.bundle_files.specs.declared.formula.BegunBundle.{BegunBundle}
 use Rattle.bundle_files.proofs.FormulaPlain.{plain_labels, plain_more}
 use Rattle.bundle_files.proofs.FormulaText.{over_plain}
@@ -97,13 +96,6 @@ counted_by_case bundle case formula count is same counted items stands =
     ap (λ (xs : List Item). length (clauses_of xs))
     (one_text (icnf_text bundle) items is.items stands is.text)
     ∙ ap length (sym (same ∙ is.formula)) ∙ counted
-
--- so they are all where a problem line says that
-pub case_counted : (bundle : List ℕ) (case : CaseOf) (said : Option code.Problem)
-    → IsCaseOf bundle case → IsCounted said case.formula → HasCount said bundle
-case_counted bundle case None is counted = tt
-case_counted bundle case (Some said) is counted =
-    counted_by_case bundle case case.formula said.clauses is refl counted
 
 -- ---- the bundle
 

@@ -9,8 +9,4 @@ mod JudgingFaults
 mod JudgingRuns
 mod OneProof
 mod OneProofCube
-mod OutlinedBehind
-mod OutlinedFronts
-mod SectionsHead
-mod SectionsJudged
 mod WhileRead

@@ -5,7 +5,7 @@ use Rattle.std.proofs.Common.{None, Some, inr}
 use Rattle.std.specs.Prelude.{count_by, replicate, slice_set}
 use Rattle.std.proofs.lemmas.List.Sums.{sum_by-append}
 use Rattle.std.specs.Fmt.{digits}
-use Rattle.case_core.proofs.OutlineLines.{whole_both}
+use Rattle.case_core.proofs.BundleLines.{whole_both}
 use Rattle.case_core.specs.Binary.{proof_text}
 use Rattle.case_core.specs.Judged.{Judged}
 use Rattle.case_core.specs.Judgement.{judgement}
@@ -22,7 +22,7 @@ use Rattle.case_core.specs.Case.{CaseOf, SectionOf, proof_for}
 use Rattle.case_core.specs.Finding.{HasSection, IsFoundBy}
 use Rattle.case_core.specs.Label.{IsTargetOf, label_name}
 use Rattle.case_core.specs.Labelled.{IsBehindLabel}
-use Rattle.case_core.specs.Outline.{AreWholeLines}
+use Rattle.case_core.specs.Bundle.{AreWholeLines}
 use Rattle.case_core.specs.Tokens.{is_line_end, words}
 use Rattle.case_core.specs.Sections.{IsCaseOf, IsFaultOf}
 use Rattle.case_core.specs.Reading.{IsFirstLabel}

@@ -7,14 +7,14 @@ use Rattle.case_core.specs.Icnf.{StandsFor}
 use Rattle.case_core.specs.Problem as code
 use Rattle.case_core.specs.Labelled.{IsBehindFront, IsBehindLabel, IsOverWith, IsPart, LabelledOf}
 use Rattle.case_core.specs.Labelled.{Stands, fresh_text, text_below}
-use Rattle.case_core.specs.Outline.{AreWholeLines}
+use Rattle.case_core.specs.Bundle.{AreWholeLines}
 use Rattle.case_core.specs.Tokens.{is_line_end}
 use Rattle.case_core.specs.Sections.{InCubes, InLabels, InText, IsFaultOf}
 use Rattle.case_core.specs.declared.fault.CaseFault.{CaseFault}
 use Rattle.case_core.specs.declared.fault.CaseFault.TheVariants as case
 use Rattle.case_core.specs.declared.fault.CaseFault.TheVariants.{Memory}
 use Rattle.case_core.proofs.LabelledParts.{RestOf, front_passed, memory_on, part_behind, some_rest}
-use Rattle.case_core.proofs.OutlineLines.{plain_text}
+use Rattle.case_core.proofs.BundleLines.{plain_text}
 use Rattle.case_core.proofs.SectionsMore.{icnf_same}
 use Rattle.cube_report.specs.Device.{GrewBy, HasGiven}
 use Rattle.cube_report.specs.DeviceFault.TheVariants as flow
@@ -30,7 +30,8 @@ use Rattle.cube_report.proofs.CorrectReports.{outcome}
 use Rattle.cube_report.proofs.ReportSame.{written_is_stated}
 use Rattle.bundle_files.specs.Judging.{IsJudgingFault}
 use Rattle.bundle_files.specs.Formula.{ArePlainLines, HasCount, HasOtherCount}
-use Rattle.bundle_files.specs.WhileRead.{IsBundleBelow, IsFrontOf, IsRefusedBelow, IsRunBehind}
+use Rattle.bundle_files.specs.WhileRead.{IsBundleBelow, IsFrontOf, IsRefusedBelow, IsRefusedBy}
+use Rattle.bundle_files.specs.WhileRead.{IsRunBehind}
 use Rattle.bundle_files.specs.Inner.WhileRead.{IsFrontFault}
 use Rattle.bundle_files.specs.declared.formula.BegunBundle.{BegunBundle}
 use Rattle.bundle_files.specs.declared.while_read.BundleFront.{BundleFront}
@@ -241,6 +242,15 @@ module _ (begun : BegunBundle) (given left : List ℕ → Type 0) (front : Bundl
             (written_is_stated made.whole boards.case boards.marks draws report map answer
             made.formula made.tree made.findings by);
       }
+
+-- a bundle that was begun with nothing is what is given
+pub nothing_begun : (begun : BegunBundle) (gives : List ℕ → Type 0) (fault : Fault)
+    → begun.text.items ≡ [] → begun.said ≡ None → IsRefusedBelow begun gives fault
+    → IsRefusedBy gives fault
+nothing_begun begun gives fault empty none (inl (bundle, ((text, given, whole), count), first)) =
+    (bundle, subst gives (sym (whole ∙ ap (λ (t : List ℕ). t ++ text) empty)) given, first)
+nothing_begun begun gives fault empty none (inr (bundle, given, other)) =
+    absurd (subst (λ (s : Option code.Problem). HasOtherCount s bundle fault) none other)
 
 -- a fault of the iCNF text is one of its case, where it has no other clauses than is said
 pub case_refused : (said : Option code.Problem) (text : List ℕ) (kind : CaseFault) (fault : Fault)

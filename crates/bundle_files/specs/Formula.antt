@@ -10,7 +10,7 @@ use Rattle.case_core.specs.Dimacs.{greatest_of, told, told_problem, IsDimacs, Is
 use Rattle.case_core.specs.DimacsFault.{DimacsFault}
 use Rattle.case_core.specs.Problem as code
 use Rattle.case_core.specs.Bundle.{icnf_text, labels_of, lines_of}
-use Rattle.case_core.specs.Outline.{AreWholeLines}
+use Rattle.case_core.specs.Bundle.{AreWholeLines}
 use Rattle.cube_report.specs.declared.fault.Fault.{Fault}
 use Rattle.cube_report.specs.declared.fault.Fault.TheVariants.{Counts}
 use Rattle.cube_report.specs.Faults.{fault_of_dimacs}

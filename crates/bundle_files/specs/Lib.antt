@@ -1,10 +1,7 @@
 pub mod Formula
 pub mod Laws
 pub mod Judging
-pub mod Outlined
 pub mod WhileRead
 pub mod Inner
-pub use Rattle.case_core.specs.Outline
 pub use Rattle.case_core.specs.Sections
 pub use Rattle.file_store.specs.Files
-pub use Rattle.file_store.specs.Parts

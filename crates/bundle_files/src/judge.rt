@@ -1,7 +1,7 @@
 //! What is said of a bundle that was read, with the proofs of a folder.
 
 ghost use Rattle.std.specs.Prelude.{◌≡◌, ◌≢◌, ◌<◌, ◌^◌, ◌-◌, ◌+◌, ◌⊎◌, ℕ, List, All, IfOk, IfErr};
-ghost use Rattle.std.specs.Prelude.{IfSome, OnOk, option_map, Some, vec_len};
+ghost use Rattle.std.specs.Prelude.{IfSome, OnOk, option_map, Some, vec_len, []};
 ghost use Rattle.cube_report.specs.Faults.{IsInputFault};
 ghost use Rattle.cube_report.specs.Mark.{Mark};
 ghost use Rattle.cube_report.specs.Stated.{IsWrittenBy};
@@ -132,19 +132,33 @@ where
     let front = read_front(rt.alloc(), begun, source)?;
     match judge_while_read(rt, front, source, settings, gate, draws) {
         Ok(outcome) => Ok(outcome),
-        Err(Fault::Memory) => Err(Fault::Memory),
-        Err(Fault::Device) => Err(Fault::Device),
-        Err(Fault::Thread) => Err(Fault::Thread),
         Err(fault) => {
+            let fault = of_input(fault)?;
             pass_rest(source)?;
             Err(fault)
         }
     }
 }
 
+/// A fault of the input, as it is. Any other is told at once.
+pub fn of_input(fault: Fault) -> Result<Fault, Fault>
+    // One of the input comes of itself.
+    ensures ok { IfOk result (λ kept. (kept ≡ fault) × IsInputFault kept) }
+    // Any other fault is the one that is told.
+    ensures err { IfErr result (λ told. (told ≡ fault) × (¬ IsInputFault told)) }
+{
+    match fault {
+        Fault::Memory => Err(Fault::Memory),
+        Fault::Device => Err(Fault::Device),
+        Fault::Thread => Err(Fault::Thread),
+        fault => Ok(fault),
+    }
+}
+
 /// Reads what a stream gives up to its end, and drops it.
 fn pass_rest<S: Stream>(source: &mut S) -> Result<(), DeviceFault>
     requires { S.failures source.old < 2 ^ 64 - 1 }
+    ensures over { OnOk result (S.gives source.new []) }
     ensures ok { OnOk result (S.failures source.new ≡ S.failures source.old) }
     ensures err { IfErr result
         (λ fault. IsDeviceFault (S.failures source.old) (S.failures source.new) fault) }

@@ -12,15 +12,13 @@ ghost use Rattle.case_core.specs.SplitTree.{cube};
 ghost use Rattle.case_core.specs.Target.TheVariants.{Leaf as Named};
 ghost use Rattle.cube_report.specs.Faults.{IsInputFault};
 ghost use Rattle.file_store.specs.Files.{StaysAllowed};
-ghost use Rattle.bundle_files.specs.Formula.{HasCount, IsBundleBy, IsReadBy};
+ghost use Rattle.bundle_files.specs.Formula.{IsBundleBy, IsReadBy};
 ghost use Rattle.bundle_files.specs.Judging.{IsJudgingFault, IsOutcomeWith, IsRefusedWith};
 ghost use Rattle.bundle_files.specs.Judging.{IsRefusedWithEach};
-ghost use Rattle.bundle_files.specs.Inner.WhileRead.{IsFrontFault};
 
-use crate::formula::{BegunBundle, begin_bundle, count_or_read};
-use case_core::{
-    Case, CaseFault, LabelLine, Leaf, Problem, ProofForm, Target, line_ends, read_bundle,
-};
+use crate::formula::{BegunBundle, begin_bundle};
+use crate::while_read::case_of_front;
+use case_core::{Case, CaseFault, LabelLine, Leaf, ProofForm, Target, line_ends};
 use cube_report::{Elsewhere, Fault, Gate, OneWorker, Outcome, Settings, Source, written_by};
 use file_store::Store;
 use std::alloc::Global;
@@ -72,22 +70,8 @@ pub fn begin_one<D: Store>(
     let BegunBundle { text, said } = begin_bundle(alloc, store, formula)?;
     let mut bundle = text;
     bundle.extend_from_slice(b"a 0")?;
-    let case = counted_case(alloc, &bundle, said)?;
+    let case = case_of_front(alloc, bundle.to_vec(alloc)?, said)?;
     Ok(OneCube { bundle, case })
-}
-
-/// The case of a bundle, which has as many clauses as a problem line says, where there is one.
-fn counted_case(alloc: Global, bundle: &[u8], said: Option<Problem>) -> Result<Case, Fault>
-    ensures case { IfOk result (IsCaseOf bundle.now) }
-    ensures counted { OnOk result (HasCount said bundle.now) }
-    ensures fault { IfErr result (λ fault. IsInputFault fault
-        → IsFrontFault said bundle.now fault) }
-    ensures memory { IfErr result (λ fault. fault ≢ Fault.Device) }
-{
-    if let Some(case) = count_or_read(alloc, bundle, said, true)? {
-        return Ok(case);
-    }
-    Ok(read_bundle(alloc, bundle)?)
 }
 
 /// What a run says of a bundle whose tree is cube 1 alone, with the proof that a source gives below

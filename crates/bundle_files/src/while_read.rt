@@ -70,7 +70,11 @@ pub fn read_front<S: Stream>(
 
 /// The case of a bundle's iCNF text, which has as many clauses as a problem line says, where there
 /// is one.
-fn case_of_front(alloc: Global, icnf: Vec<u8>, said: Option<Problem>) -> Result<Case, Fault>
+pub(crate) fn case_of_front(
+    alloc: Global,
+    icnf: Vec<u8>,
+    said: Option<Problem>,
+) -> Result<Case, Fault>
     ensures case { IfOk result (IsCaseOf icnf.items) }
     ensures counted { OnOk result (HasCount said icnf.items) }
     ensures fault { IfErr result (λ fault. IsInputFault fault

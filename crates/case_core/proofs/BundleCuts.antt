@@ -10,7 +10,7 @@ use Rattle.cnf_text.specs.Tokens.{is_line_end}
 use Rattle.case_core.specs.Bundle.{lines_of, is_label, line_onto, text_before, labelled}
 use Rattle.case_core.specs.Case.{part_in}
 use Rattle.case_core.specs.Inner.Bundle.{EndsWith, HasNoLabel, FirstLabel, IsCutAtLine}
-use Rattle.case_core.specs.Outline.{AreWholeLines}
+use Rattle.case_core.specs.Bundle.{AreWholeLines}
 
 -- What is cut off the front so far: nothing but lines that are no label lines.
 pub record CutOff (text rest : List ℕ) : Type 0 where

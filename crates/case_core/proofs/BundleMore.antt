@@ -89,18 +89,3 @@ lines_end text = ap (lines_from 1) (lines_more text []) ∙ from_more 1 (lines_o
 pub header_end : (text : List ℕ) →
     after_header (token_lines 1 (text ++ 10 ∷ [])) ≡ after_header (token_lines 1 text)
 header_end text = ap after_header (lines_end text) ∙ header_more (token_lines 1 text)
-
-same_header : (text longer : List ℕ) → (longer ≡ text) ⊎ (longer ≡ text ++ 10 ∷ []) →
-    after_header (token_lines 1 longer) ≡ after_header (token_lines 1 text)
-same_header text longer (inl same) = ap (λ (t : List ℕ). after_header (token_lines 1 t)) same
-same_header text longer (inr more) =
-    ap (λ (t : List ℕ). after_header (token_lines 1 t)) more ∙ header_end text
-
--- nor do a label line and more behind its lines
-pub header_before_label : (lines : List (List ℕ)) (label : List ℕ) (more : List (List ℕ)) →
-    is_label label ≡ true
-    → after_header (token_lines 1 (text_before (lines ++ label ∷ more)))
-    ≡ after_header (token_lines 1 (text_before lines))
-header_before_label lines label more is =
-    same_header (text_before lines) (text_before (lines ++ label ∷ more))
-    (one_end lines label more is)

@@ -8,11 +8,11 @@ use Rattle.std.proofs.lemmas.List.Splits.{length-slice_split, slice_split_none}
 use Rattle.cnf_text.specs.Tokens.{is_line_end}
 use Rattle.case_core.specs.Bundle.{lines_of, is_label, labelled}
 use Rattle.case_core.specs.Bundle.{BeginsWithLabel}
-use Rattle.case_core.specs.Outline.{AreWholeLines}
+use Rattle.case_core.specs.Bundle.{AreWholeLines}
 use Rattle.case_core.specs.Inner.Bundle.{HasNoLabel}
 use Rattle.case_core.proofs.BundleMore.{lines_more}
-use Rattle.case_core.proofs.OutlineLines.{HasNoEnd, empty_line, first_no_end}
-use Rattle.case_core.proofs.OutlineLines.{labels_plain, whole_lines, with_more}
+use Rattle.case_core.proofs.BundleLines.{HasNoEnd, empty_line, first_no_end}
+use Rattle.case_core.proofs.BundleLines.{labels_plain, whole_lines, with_more}
 
 -- ---- lines without a label line, and more of them
 

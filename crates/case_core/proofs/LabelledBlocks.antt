@@ -17,10 +17,10 @@ use Rattle.case_core.specs.Inner.Bundle.{FirstLabel, HasNoLabel, IsCutAtLine}
 use Rattle.case_core.specs.Inner.Labelled.{HasAdvanced, IsCutFrom, IsTextKept, between}
 use Rattle.case_core.specs.Inner.Labelled.{labelled_text, some_bytes}
 use Rattle.case_core.specs.Labelled.{IsAtLabel, IsBehindLabel, IsLabelTaken, LabelledOf, Stands}
-use Rattle.case_core.specs.Outline.{AreWholeLines}
+use Rattle.case_core.specs.Bundle.{AreWholeLines}
 use Rattle.case_core.proofs.LabelFirst.{IsSplit, line_begins, no_label, not_whole}
 use Rattle.case_core.proofs.LabelFirst.{whole_behind}
-use Rattle.case_core.proofs.OutlineLines.{first_no_end, front_plain, join, join_lines}
+use Rattle.case_core.proofs.BundleLines.{first_no_end, front_plain, join, join_lines}
 
 -- ---- places
 

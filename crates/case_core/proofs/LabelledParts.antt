@@ -11,9 +11,9 @@ use Rattle.case_core.specs.Inner.Labelled.{HasAdvanced}
 use Rattle.case_core.specs.Labelled.{HasFront, HasPassed, IsBehindLabel, IsPart, LabelledOf, Stands}
 use Rattle.case_core.specs.Bundle.{labels_of}
 use Rattle.case_core.specs.Labelled.{IsOverWith, fresh_text, left_of, text_below}
-use Rattle.case_core.specs.Outline.{AreWholeLines}
+use Rattle.case_core.specs.Bundle.{AreWholeLines}
 use Rattle.case_core.proofs.LabelFirst.{no_label, plain_both, plain_of}
-use Rattle.case_core.proofs.OutlineLines.{whole_both}
+use Rattle.case_core.proofs.BundleLines.{whole_both}
 
 -- what is passed are the next bytes of all that was left
 pub left_passed : (old new : LabelledOf) (before after : List ℕ → Type 0) (bytes : List ℕ)

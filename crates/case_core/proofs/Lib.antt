@@ -12,12 +12,8 @@ mod BundleLetters
 pub mod ReadingParts
 mod BinaryLines
 pub mod BundleMore
-mod OutlineAlike
-pub mod OutlineLines
-mod OutlineOnly
-mod OutlineSteps
+pub mod BundleLines
 mod TargetHas
-mod OutlineCase
 mod LabelFirst
 mod LabelledBlocks
 pub mod LabelledParts

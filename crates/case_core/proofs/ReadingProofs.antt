@@ -19,7 +19,7 @@ use Rattle.case_core.specs.Bundle.{labels_of}
 use Rattle.case_core.specs.Case.{CaseOf}
 use Rattle.case_core.specs.Finding.{IsFoundBy, target_of}
 use Rattle.case_core.specs.Labelled.{IsLabelTaken, LabelledOf, Stands, fresh_text}
-use Rattle.case_core.specs.Outline.{AreWholeLines}
+use Rattle.case_core.specs.Bundle.{AreWholeLines}
 use Rattle.case_core.specs.Reading.{IsFirstLabel, IsPartRead, IsReadProof}
 use Rattle.case_core.specs.Inner.Bundle.{HasNoLabel}
 use Rattle.case_core.specs.Inner.Finding.{IsJudgement}

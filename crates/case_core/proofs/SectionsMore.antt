@@ -10,7 +10,7 @@ use Rattle.case_core.specs.Bundle.{Labelled, icnf_text, labelled, labels_of, lin
 use Rattle.case_core.specs.Bundle.{text_before}
 use Rattle.case_core.specs.Case.{CaseOf, proof_for}
 use Rattle.case_core.specs.Label.{IsNamed, IsTargetOf, Name, label_name}
-use Rattle.case_core.specs.Outline.{AreWholeLines}
+use Rattle.case_core.specs.Bundle.{AreWholeLines}
 use Rattle.case_core.specs.Labelled.{IsBehindLabel}
 use Rattle.case_core.specs.Sections.{IsCaseOf, IsFaultOf, LabelFaultAt}
 use Rattle.case_core.specs.Sections.{InLabels}
@@ -23,8 +23,8 @@ use Rattle.case_core.specs.Inner.Bundle.{HasNoLabel, at_line}
 use Rattle.case_core.specs.Inner.Label.{NamesNone, told}
 use Rattle.case_core.proofs.CaseTables.{sections_more}
 use Rattle.case_core.proofs.LabelFirst.{plain_of}
-use Rattle.case_core.proofs.OutlineLines.{before_label, first_no_end}
-use Rattle.case_core.proofs.OutlineLines.{labels_label, plain_text, Whole, whole_lines}
+use Rattle.case_core.proofs.BundleLines.{before_label, first_no_end}
+use Rattle.case_core.proofs.BundleLines.{labels_label, plain_text, Whole, whole_lines}
 use Rattle.case_core.proofs.SectionsReading.{labelled_more}
 
 -- ---- a label line and what stands below it

@@ -1,7 +1,7 @@
 -- A bundle: an iCNF text, and behind it sections, each below a label line. (iCNF: HVC 2011; the
 -- labels are this project's own profile.)
 use Rattle.std.specs.Prelude.{◌≡◌, ℕ, ◌+◌, Bool, true, false, codes, if◌then◌else◌, List}
-use Rattle.std.specs.Prelude.{[], ◌∷◌, ◌++◌}
+use Rattle.std.specs.Prelude.{[], ◌∷◌, ◌++◌, ◌⊎◌}
 use Rattle.std.specs.List.{slice_split}
 use Rattle.std.specs.Str.{bytes_eq}
 use Rattle.cnf_text.specs.Tokens.{is_line_end, words}
@@ -57,3 +57,7 @@ pub record BeginsWithLabel (text : List ℕ) : Type 0 where
   pub others : List (List ℕ)
   pub lines : lines_of text ≡ line ∷ others
   pub is : is_label line ≡ true
+
+-- a text that ends where a line begins
+abbrev pub AreWholeLines : List ℕ → Type 0
+AreWholeLines text = (text ≡ []) ⊎ ((lines : List ℕ) × (text ≡ lines ++ 10 ∷ []))

@@ -4,6 +4,5 @@ pub mod Finding
 pub mod Label
 pub mod Bundle
 pub mod Sections
-pub mod Outline
 pub mod Reading
 pub mod Labelled

@@ -5,7 +5,7 @@ use Rattle.std.specs.Coded.{Coded, code_by, coded×, coded_ℕ, coded_bool, code
 use Rattle.byte_flow.specs.Device.{GrewBy, HasGiven}
 use Rattle.cnf_text.specs.Tokens.{is_line_end}
 use Rattle.case_core.specs.Bundle.{is_label, labels_of, lines_of}
-use Rattle.case_core.specs.Outline.{AreWholeLines}
+use Rattle.case_core.specs.Bundle.{AreWholeLines}
 
 -- A text from where it stands: lines that are ready, none of which is a label line, and what was
 -- read behind them; whether that begins with a label line that is read whole, whether no more is to

@@ -7,7 +7,6 @@ pub mod FindingOf
 pub mod Faults
 pub mod Sections
 pub mod Laws
-pub mod Outline
 pub mod Reading
 pub mod Labelled
 pub mod Inner

@@ -24,7 +24,7 @@ impl LabelLine {
     ghost use Rattle.case_core.specs.Case.{CaseOf};
     ghost use Rattle.case_core.specs.Finding.{HasSection};
     ghost use Rattle.case_core.specs.Label.{IsTargetOf, label_name};
-    ghost use Rattle.case_core.specs.Outline.{AreWholeLines};
+    ghost use Rattle.case_core.specs.Bundle.{AreWholeLines};
     ghost use Rattle.case_core.specs.Labelled.{IsBehindLabel};
 
     /// The same line where so many lines stand above its text. `AllocError` where the lines are too

@@ -11,7 +11,6 @@ mod label;
 mod label_line;
 mod labelled;
 mod laws;
-mod outline;
 mod reading;
 mod sections;
 mod target;
@@ -32,6 +31,5 @@ pub use laws::{
     case_or_a_fault, no_fault_beside_a_case, no_label_in_a_binary_proof, one_case, one_fault,
 };
 pub use lrat_binary::{ProofForm, binary_text, turn_from};
-pub use outline::{Outline, OutlinedCase, Stretch};
 pub use split_tree::{Leaf, NodeId, Target, Tree};
 pub use target::has_target;

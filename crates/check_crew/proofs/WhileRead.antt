@@ -14,7 +14,7 @@ use Rattle.case_core.specs.Label.{IsTargetOf, label_name}
 use Rattle.case_core.specs.Labelled.{IsAtLabel, IsBehindFront, IsBehindLabel, IsPart, LabelledOf}
 use Rattle.case_core.specs.Labelled.{Stands}
 use Rattle.case_core.specs.Leaves.{HasTarget}
-use Rattle.case_core.specs.Outline.{AreWholeLines}
+use Rattle.case_core.specs.Bundle.{AreWholeLines}
 use Rattle.case_core.specs.Sections.{IsCaseOf, IsFaultOf}
 use Rattle.case_core.specs.SplitTree.{size}
 use Rattle.case_core.specs.Target.{Target}
@@ -22,7 +22,7 @@ use Rattle.case_core.specs.Tokens.{is_line_end, words}
 use Rattle.case_core.specs.declared.fault.CaseFault.{CaseFault}
 use Rattle.case_core.specs.declared.fault.CaseFault.TheVariants.{Memory}
 use Rattle.case_core.proofs.LabelledParts.{RestOf, memory_on, some_rest}
-use Rattle.case_core.proofs.OutlineLines.{empty_line, plain_text, whole_both}
+use Rattle.case_core.proofs.BundleLines.{empty_line, plain_text, whole_both}
 use Rattle.case_core.proofs.SectionsMore.{icnf_same}
 use Rattle.mark_board.specs.Boards.{BoardsOf}
 use Rattle.mark_board.specs.declared.mark.Mark.TheVariants.{Open}

@@ -18,7 +18,7 @@ use Rattle.case_core.specs.Reading.{IsPartRead}
 use Rattle.case_core.specs.declared.examiner.ReadFinding.{ReadFinding}
 use Rattle.case_core.specs.Leaves.{HasTarget, IsPathOf, IsTargetAt}
 use Rattle.case_core.specs.Literal.{Literal}
-use Rattle.case_core.specs.Outline.{AreWholeLines}
+use Rattle.case_core.specs.Bundle.{AreWholeLines}
 use Rattle.case_core.specs.Sections.{AreLabelled, IsCaseOf}
 use Rattle.case_core.specs.SplitTree.{SplitTree, size}
 use Rattle.case_core.specs.Target.{Target}

@@ -1,22 +1,18 @@
 -- What a run says of the bundle that is asked for.
-use Rattle.std.proofs.Common.{◌≡◌, ◌∙◌, ◌++◌, sym, refl, subst, ℕ, Bool}
+use Rattle.std.proofs.Common.{◌≡◌, ◌++◌, sym, refl, subst, ℕ, Bool}
 use Rattle.std.proofs.Common.{List, Option, None, Some, Result, Ok, Err, IfErr, IfOk, true}
 use Rattle.std.proofs.Common.{inl, inr}
 use Rattle.std.specs.Prelude.{IfSome, is_some}
-use Rattle.bundle_files.specs.Outline.{IsOutlineOf}
 use Rattle.bundle_files.specs.Files.{Held, IsJudgedOf, IsTextAt, lies_in}
-use Rattle.bundle_files.specs.Formula.{IsBundleBy, IsBundleOf, IsFront, IsReadBy, IsReadFrom}
+use Rattle.bundle_files.specs.Formula.{IsBundleBy, IsBundleOf, IsFront, IsReadFrom}
 use Rattle.bundle_files.specs.WhileRead.{IsBundleBelow, IsRefusedBelow, IsRefusedBy, IsRunBehind}
 use Rattle.bundle_files.specs.declared.formula.BegunBundle.{BegunBundle}
 use Rattle.bundle_files.proofs.FormulaReading.{bundle_read, count_refused}
 use Rattle.cube_report.specs.Device.{IsLeft}
 use Rattle.cube_command.specs.Program.{IsRefusedFrom}
-use Rattle.bundle_files.specs.Outlined.{IsOutlinedBy, IsRefutedBy, IsRunBy}
-use Rattle.bundle_files.specs.declared.outlined.BundleOutline.{BundleOutline}
 use Rattle.bundle_files.proofs.LawsFormula.{judged_unsatisfiable}
 use Rattle.bundle_files.proofs.FormulaText.{published}
 use Rattle.bundle_files.specs.Judging.{IsOutcomeOf}
-use Rattle.cube_report.specs.Bundle.{icnf_text}
 use Rattle.cube_report.specs.Case.{CaseOf}
 use Rattle.cube_report.specs.Correct.{IsOutcome, IsUnsatisfiable}
 use Rattle.bundle_files.specs.Sections.{IsCaseOf}
@@ -51,40 +47,10 @@ made_of (Ok made) held asked input read draws is_read drawn outcome recorded = r
   recorded = recorded;
 }
 
--- ---- of a bundle whose proofs were read one by one
-
 pub file_judged : (held : Held) (folder : Option (List ℕ)) (bundle : List ℕ) → folder ≡ None →
     IsJudgedOf held folder bundle bundle
 file_judged held folder bundle none =
     subst (λ (f : Option (List ℕ)). IsJudgedOf held f bundle bundle) (sym none) refl
-
--- the bundle of a file and of a formula's
-abbrev pub reads_at : Held → Option (List ℕ) → List ℕ → List ℕ → Type 0
-reads_at held formula path bundle =
-    (input : Option (List ℕ)) → IsReadBy held formula (Some path) input bundle
-
--- what is asked for, where the record is that of the bundle
-pub run_recorded : (held : Held) (formula : Option (List ℕ)) (path : List ℕ)
-    (outlined : BundleOutline) (asked : Asked) (draws : Bool) (report map icnf : List ℕ)
-    (answer : Bool) (begun ended made text : List ℕ)
-    → IsRunBy held formula path outlined draws report map answer
-    → IsOutlinedBy (lies_in held) formula path outlined → draws ≡ is_some asked.picture
-    → ((text : List ℕ) → IsOutlineOf outlined.outline text → icnf ≡ icnf_text text)
-    → text ≡ report → made ≡ ended
-    → ((at : List ℕ) → asked.out ≡ Some at → begun ≡ digest_line icnf)
-    → ((at : List ℕ) → asked.out ≡ Some at → ended ≡ begun ++ text)
-    → IsRunRecorded (reads_at held formula path) asked report map answer made
-run_recorded held formula path outlined asked draws report map icnf answer begun ended made text run
-    by drawn icnf_is same ends first last = record {
-      bundle = run.bundle;
-      given = run.read;
-      outcome =
-          subst (λ (d : Bool). IsOutcome run.bundle d report map answer) drawn run.outcome;
-      recorded =
-          whole_record asked.out run.bundle report icnf text begun ended made
-          (icnf_is (by.front ++ by.text) by.outline
-          ∙ sym (run.icnf (by.front ++ by.text) by.outline)) same ends first last;
-    }
 
 -- ---- of a bundle that was given so
 
@@ -135,22 +101,6 @@ module _ (gives : List ℕ → Type 0) (held : Held) (asked : Asked) (input : Op
     bundle = read_alone is.0 is.1;
     first = is.2;
   })
-
-pub made_by_section : (run : Result (Option Recorded) Fault) (held : Held) (asked : Asked)
-    (path : List ℕ) → asked.file ≡ Some path → asked.folder ≡ None
-    → IfOk run (λ some. IfSome some (λ made. IsRunRecorded (reads_at held asked.formula path) asked
-    made.outcome.text.items made.outcome.map.items made.outcome.refuted made.bytes.items))
-    → IfOk run (λ some. IfSome some (λ made. (input : Option (List ℕ))
-    → IsRecordedFrom held asked input made.outcome.text.items made.outcome.map.items
-    made.outcome.refuted made.bytes.items))
-made_by_section (Err fault) held asked path file folder made = tt
-made_by_section (Ok None) held asked path file folder made = tt
-made_by_section (Ok (Some recorded)) held asked path file folder made = λ input.
-    recorded_alone (reads_at held asked.formula path) held asked input folder
-    (λ bundle given.
-    subst (λ (f : Option (List ℕ)). IsReadBy held asked.formula f input bundle) (sym file)
-    (given input)) recorded.outcome.text.items recorded.outcome.map.items
-    recorded.outcome.refuted recorded.bytes.items made
 
 -- ---- of a bundle that was begun, and goes on with a text of the input or of a file
 
@@ -261,28 +211,6 @@ handed_below (Ok made) has asked input begun gives is texts recorded = λ says.
     made.outcome.map.items made.outcome.refuted made.bytes.items
     (below_read has asked input begun gives is texts) recorded says
 handed_below (Err fault) has asked input begun gives is texts recorded = tt
-
--- of a bundle whose proofs were read one by one
-pub handed_section : (run : Result (Option Recorded) Fault) (hands : List ℕ → List ℕ → Type 0)
-    (asked : Asked) (path : List ℕ) → asked.file ≡ Some path
-    → IfOk run (λ some. IfSome some (λ made. made.outcome.refuted ≡ true
-    → IsRefutedBy hands asked.formula path))
-    → IfOk run (λ some. IfSome some (λ made. made.outcome.refuted ≡ true
-    → (input : Option (List ℕ)) → IsRefutedFrom hands asked input))
-handed_section (Err fault) hands asked path file handed = tt
-handed_section (Ok None) hands asked path file handed = tt
-handed_section (Ok (Some made)) hands asked path file handed = λ says input.
-    let by = handed says in
-    record {
-      read = by.bundle;
-      handed =
-          subst (λ (f : Option (List ℕ)). IsBundleBy hands asked.formula f input by.bundle)
-          (sym file) (by.handed input);
-      none = by.none;
-      formula =
-          handed_formula hands (λ _. None) asked.formula (Some path) input None by.bundle by.bundle
-          by.case (by.handed input) refl by.is by.none;
-    }
 
 -- of a bundle that was read whole
 pub handed_read : (run : Result Recorded Fault) (hands : List ℕ → List ℕ → Type 0) (held : Held)

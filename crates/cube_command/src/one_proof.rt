@@ -22,7 +22,7 @@ ghost use Rattle.cube_command.specs.Inner.Recorded.{IsRecordedFrom, IsRecordedWi
 use crate::asked::Telling;
 use crate::program::Recorded;
 use crate::record::{begin_record, end_record};
-use bundle_files::{OneCube, Store, begin_one, judge_proof_of, told_whole};
+use bundle_files::{OneCube, Store, begin_one, judge_proof_of, of_input};
 use command_words::Request;
 use cube_report::{DeviceFault, Explain, Fault, Gate, Source, icnf_part};
 use std::alloc::{AllocError, Global};
@@ -77,7 +77,7 @@ where
     match begin_one(rt.alloc(), store, request.formula) {
         Ok(one) => judge_below(rt, store, request, one, path, input, gate, telling),
         Err(fault) => {
-            told_whole::<Recorded>(fault)?;
+            let fault = of_input(fault)?;
             find_proof(store, path)?;
             Err(fault)
         }

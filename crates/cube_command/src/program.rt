@@ -8,7 +8,6 @@ ghost use Rattle.cube_report.specs.Device.{AppendsBeginning, IsDeviceFault};
 ghost use Rattle.bundle_files.specs.Files.{StaysAllowed, lies_in};
 ghost use Rattle.bundle_files.specs.Formula.{IsReadBy};
 ghost use Rattle.bundle_files.specs.Judging.{IsOutcomeOf, IsRefusedOf, IsJudgingFault};
-ghost use Rattle.bundle_files.specs.Outlined.{IsOutlinedBy, IsRefutedBy};
 ghost use Rattle.bundle_files.specs.Sections.{IsCaseOf};
 ghost use Rattle.cube_report.specs.Faults.{IsInputFault};
 ghost use Rattle.cube_command.specs.Headline.{IsPublished, IsRefutedAsHanded, IsSound};
@@ -30,10 +29,7 @@ use crate::open::{names_asked, shown};
 use crate::record::{begin_record, end_record};
 use crate::telling::{tell_refused, tell_run};
 use crate::while_read::judge_once;
-use bundle_files::{
-    BundleOutline, Inputs, ReadBundle, Spared, Store, judge_by_section, judge_with_folder,
-    outline_bundle, read_from,
-};
+use bundle_files::{Inputs, ReadBundle, Spared, Store, judge_with_folder, read_from};
 use command_words::{Request, request_of};
 use cube_report::{DeviceFault, Explain, Fault, Gate, Outcome, Sink, Source, icnf_part, write_all};
 use run_watch::{Beside, Log, Watch};
@@ -449,131 +445,7 @@ where
 {
     match request.proofs {
         Some(folder) => judge_read(rt, store, request, folder, input, gate, telling),
-        None => judge_alone(rt, store, request, input, gate, telling),
-    }
-}
-
-/// The same without a folder's proofs. Where the bundle is a file's, its proofs are read one by one
-/// from their places. Where that can't be, or the bundle is the input's, it is judged while it is
-/// read.
-fn judge_alone<R, D, I, G, X>(
-    rt: &R,
-    store: &mut D,
-    request: &Request<'_>,
-    input: &mut I,
-    gate: &G,
-    telling: &mut Telling<'_, X>,
-) -> Result<Recorded, Fault>
-where
-    R: AllocGlobal + Threads + Wait + Sync,
-    D: Store,
-    I: Source,
-    G: Gate + Sync,
-    X: Explain,
-    requires store { D.failures store.old < 2 ^ 64 - 1 }
-    requires input { I.failures input.old < 2 ^ 64 - 1 }
-    requires alone { (asked_in request.now).folder ≡ None }
-    ensures held { D.held store.new ≡ D.held store.old }
-    ensures allowed { StaysAllowed (D.allows store.old) (D.allows store.new) }
-    ensures made { IfOk result (λ made. IsRecordedFrom (D.held store.old) (asked_in request.now)
-        (I.remaining input.old) made.outcome.text.items made.outcome.map.items
-        made.outcome.refuted made.bytes.items) }
-    ensures handed { IfOk result (λ made. made.outcome.refuted ≡ true → IsRefutedFrom D.hands
-        (asked_in request.now) (I.remaining input.old)) }
-    ensures fault { IfErr result (λ fault. IsInputFault fault → IsRefusedFrom (D.held store.old)
-        (asked_in request.now) (I.remaining input.old) fault) }
-    ensures ok { OnOk result ((D.failures store.new ≡ D.failures store.old)
-        × (I.failures input.new ≡ I.failures input.old)) }
-    ensures err { IfErr result (IsJudgingFault (D.failures store.old + I.failures input.old)
-        (D.failures store.new + I.failures input.new)) }
-{
-    if let Some(path) = request.file
-        && let Some(made) = judge_file(rt, store, request, path, gate, telling)?
-    {
-        return Ok(made);
-    }
-    judge_once(rt, store, request, input, gate, telling)
-}
-
-/// What is said of the bundle of the file at this path, the proofs of which are read one by one;
-/// `None` where it has to be read in order.
-fn judge_file<R, D, G, X>(
-    rt: &R,
-    store: &mut D,
-    request: &Request<'_>,
-    path: &str,
-    gate: &G,
-    telling: &mut Telling<'_, X>,
-) -> Result<Option<Recorded>, Fault>
-where
-    R: AllocGlobal + Threads + Wait + Sync,
-    D: Store,
-    G: Gate + Sync,
-    X: Explain,
-    requires count { D.failures store.old < 2 ^ 64 - 1 }
-    requires file { (asked_in request.now).file ≡ Some path.now }
-    requires alone { (asked_in request.now).folder ≡ None }
-    ensures held { D.held store.new ≡ D.held store.old }
-    ensures allowed { StaysAllowed (D.allows store.old) (D.allows store.new) }
-    ensures made { IfOk result (λ some. IfSome some (λ made. (input : Option (List ℕ))
-        → IsRecordedFrom (D.held store.old) (asked_in request.now) input made.outcome.text.items
-        made.outcome.map.items made.outcome.refuted made.bytes.items)) }
-    ensures handed { IfOk result (λ some. IfSome some (λ made. made.outcome.refuted ≡ true
-        → (input : Option (List ℕ)) → IsRefutedFrom D.hands (asked_in request.now) input)) }
-    ensures fault { IfErr result (λ fault. ¬ IsInputFault fault) }
-    ensures ok { OnOk result (D.failures store.new ≡ D.failures store.old) }
-    ensures err { IfErr result (IsJudgingFault (D.failures store.old) (D.failures store.new)) }
-{
-    match outline_bundle(rt.alloc(), store, request.formula, path)? {
-        Some(outlined) => judge_outlined(rt, store, outlined, path, request, gate, telling),
-        None => Ok(None),
-    }
-}
-
-/// The same of the bundle's outline: the record begins with what that has.
-fn judge_outlined<R, D, G, X>(
-    rt: &R,
-    store: &mut D,
-    outlined: BundleOutline,
-    path: &str,
-    request: &Request<'_>,
-    gate: &G,
-    telling: &mut Telling<'_, X>,
-) -> Result<Option<Recorded>, Fault>
-where
-    R: AllocGlobal + Threads + Wait + Sync,
-    D: Store,
-    G: Gate + Sync,
-    X: Explain,
-    requires { D.failures store.old < 2 ^ 64 - 1 }
-    ensures held { D.held store.new ≡ D.held store.old }
-    ensures allowed { StaysAllowed (D.allows store.old) (D.allows store.new) }
-    ensures run { (formula : Option (List ℕ))
-        → IsOutlinedBy (lies_in (D.held store.old)) formula path.now outlined
-        → IfOk result (λ some. IfSome some (λ made. IsRunRecorded (λ bundle.
-        (input : Option (List ℕ))
-        → IsReadBy (D.held store.old) formula (Some path.now) input bundle)
-        (asked_in request.now) made.outcome.text.items made.outcome.map.items
-        made.outcome.refuted made.bytes.items)) }
-    ensures handed { (formula : Option (List ℕ))
-        → IsOutlinedBy (lies_in (D.held store.old)) formula path.now outlined
-        → IsOutlinedBy D.hands formula path.now outlined
-        → IfOk result (λ some. IfSome some (λ made. made.outcome.refuted ≡ true
-        → IsRefutedBy D.hands formula path.now)) }
-    ensures fault { IfErr result (λ fault. ¬ IsInputFault fault) }
-    ensures ok { OnOk result (D.failures store.new ≡ D.failures store.old) }
-    ensures err { IfErr result (IsJudgingFault (D.failures store.old) (D.failures store.new)) }
-{
-    let icnf = outlined.icnf();
-    telling.tell_read(rt.alloc(), icnf, b"");
-    let mut bytes = begin_record(rt.alloc(), request.out, icnf)?;
-    let draws = request.map.is_some();
-    match judge_by_section(rt, store, outlined, path, request.settings, gate, draws)? {
-        Some(outcome) => {
-            end_record(&mut bytes, request.out, &outcome.text)?;
-            Ok(Some(Recorded { outcome, bytes }))
-        }
-        None => Ok(None),
+        None => judge_once(rt, store, request, input, gate, telling),
     }
 }
 

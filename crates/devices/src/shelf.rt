@@ -3,7 +3,7 @@ ghost use Rattle.std.specs.Prelude.{Some, None, true, ◌≡◌, ℕ, List, map,
 ghost use Rattle.std.specs.String.{string_bytes};
 ghost use Rattle.std.specs.Prelude.{IfErr};
 ghost use Rattle.std.specs.IoError.{error_kind};
-ghost use Rattle.bundle_files.specs.Files.{IsOpenedAt};
+ghost use Rattle.bundle_files.specs.Files.{IsOpened};
 ghost use Rattle.devices.specs.Shelf.{bytes_at, lies_at};
 
 use bundle_files::{FileId, Inputs, Opener, Spared};
@@ -201,14 +201,14 @@ impl<'t> Shelf<'t> {
         }
     }
 
-    /// The file at this path, which is read from a place on; the call is noted and counted.
-    fn pages_of(&mut self, path: &str, place: usize) -> io::Result<Pages<'t>>
+    /// The file at this path, which is read from its beginning; the call is noted and counted.
+    fn pages_of(&mut self, path: &str) -> io::Result<Pages<'t>>
         ensures files { self.new.files.now ≡ self.old.files.now }
         ensures made { self.new.made ≡ self.old.made }
-        ensures opened { IfOk result (λ pages. IsOpenedAt
+        ensures opened { IfOk result (λ pages. IsOpened
             (lies_at (option_map (λ made. (string_bytes made.path, made.bytes.items)) self.old.made)
             (map (λ file. (file.0.now, file.1.now)) self.old.files.now) path.now)
-            place (Some pages.left.now)) }
+            (Some pages.left.now)) }
         ensures absent { IfErr result (λ error. error_kind error ≡ ErrorKind.NotFound
             → lies_at (option_map (λ made. (string_bytes made.path, made.bytes.items))
             self.old.made) (map (λ file. (file.0.now, file.1.now)) self.old.files.now) path.now
@@ -226,7 +226,7 @@ impl<'t> Shelf<'t> {
         }
         match bytes_at(self.files, path) {
             Some(bytes) => Ok(Pages {
-                left: &bytes[place.min(bytes.len())..],
+                left: bytes,
                 is_broken,
                 is_begun: false,
             }),
@@ -256,11 +256,7 @@ impl<'t> Opener for Shelf<'t> {
     ghost makes = { λ s path. option_map (λ made. string_bytes made.path) s.made ≡ Some path };
 
     fn open(&mut self, path: &str) -> io::Result<Pages<'t>> {
-        self.pages_of(path, 0)
-    }
-
-    fn open_at(&mut self, path: &str, place: u64) -> io::Result<Pages<'t>> {
-        self.pages_of(path, place as usize)
+        self.pages_of(path)
     }
 
     fn create(&mut self, path: &str, _spared: &Spared) -> io::Result<Vec<u8>> {

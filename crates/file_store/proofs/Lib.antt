@@ -1,8 +1,6 @@
 pub mod FilesSections
 mod FilesOpened
 mod FilesPaths
-mod BlocksLines
-pub mod PartsOpened
 mod FolderGiven
 mod FolderNames
 mod ProofsTurned

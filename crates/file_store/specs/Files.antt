@@ -2,7 +2,7 @@
 -- that a folder has for its leaves.
 use Rattle.std.specs.Prelude.{◌≡◌, ◌≢◌, ℕ, zero, suc, Bool, List, [], ◌∷◌, ◌++◌, map, length}
 use Rattle.std.specs.Prelude.{decimal, Option, None, Some, IfSome, is_some, unwrap_or, ◌⊎◌}
-use Rattle.std.specs.Prelude.{true, false, codes, drop}
+use Rattle.std.specs.Prelude.{true, false, codes}
 use Rattle.std.specs.Prelude.{option_map}
 use Rattle.std.specs.List.{All, flat_map}
 use Rattle.byte_flow.specs.Device.{GrewBy, IsLeft}
@@ -119,12 +119,6 @@ held_if true lies = Some lies
 -- a file that was opened: it lies there, and its bytes are what is left to read
 abbrev pub IsOpened : Option (List ℕ) → Option (List ℕ) → Type 0
 IsOpened lies remaining = (bytes : List ℕ) × (lies ≡ Some bytes) × (remaining ≡ Some bytes)
-
--- a file that was opened at a place: it lies there, and its bytes from the place on are what is
--- left to read
-abbrev pub IsOpenedAt : Option (List ℕ) → ℕ → Option (List ℕ) → Type 0
-IsOpenedAt lies place remaining =
-    (bytes : List ℕ) × (lies ≡ Some bytes) × (remaining ≡ Some (drop place bytes))
 
 -- reading a path appended the bytes of its file, or nothing where there is none
 abbrev pub IsFound : Option (Option (List ℕ)) → List ℕ → List ℕ → Bool → Type 0

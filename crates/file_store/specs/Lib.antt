@@ -1,3 +1,2 @@
 pub mod Files
 pub mod Folder
-pub mod Parts

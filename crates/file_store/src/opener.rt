@@ -3,12 +3,12 @@
 ghost use Rattle.std.specs.Prelude.{◌≡◌, ◌≢◌, ℕ, List, [], Bool, true, Option, None, Some, IfOk};
 ghost use Rattle.std.specs.Prelude.{IfErr, OnOk};
 ghost use Rattle.std.specs.IoError.{error_kind};
-ghost use Rattle.file_store.specs.Files.{IsOpened, IsOpenedAt};
+ghost use Rattle.file_store.specs.Files.{IsOpened};
 
 use crate::inputs::{FileId, Inputs, Spared};
 use crate::system::{file_at, files_to_spare, is_one, is_read_once, make_anew};
 use std::alloc::{AllocError, Global};
-use std::io::{ErrorKind, Read, Seek, SeekFrom, Write};
+use std::io::{ErrorKind, Read, Write};
 use std::rt::Files;
 use std::{fs, io};
 
@@ -39,15 +39,6 @@ pub trait Opener {
             → IsOpened (files self.old path.now) (Self.Opened.remaining file)) }
         ensures absent { IfErr result (λ error. knows self.old ≡ true
             → error_kind error ≡ ErrorKind.NotFound → files self.old path.now ≡ None) };
-
-    /// Opens the file at this path, which is read from a place on, counted in bytes from 0. It
-    /// fails where the file can't be opened, with `NotFound` and `OutOfMemory` as `open` has them,
-    /// or the place can't be gone to; nothing changes.
-    fn open_at(&mut self, path: &str, place: u64) -> io::Result<Self::Opened>
-        ensures knows { knows self.new ≡ knows self.old }
-        ensures files { files self.new ≡ files self.old }
-        ensures opened { IfOk result (λ file. knows self.old ≡ true
-            → IsOpenedAt (files self.old path.now) place (Self.Opened.remaining file)) };
 
     /// Makes the file at this path anew, with no bytes yet; no other file changes. It fails where
     /// the path names one of the spared files, and then nothing changes. A fault of the kind
@@ -127,12 +118,6 @@ impl<'a, R: Files + AllocGlobal + Clone + Drop> Opener for SystemFiles<'a, R> {
 
     fn open(&mut self, path: &str) -> io::Result<R::File> {
         fs::open(self.files, path)
-    }
-
-    fn open_at(&mut self, path: &str, place: u64) -> io::Result<R::File> {
-        let mut file = fs::open(self.files, path)?;
-        file.seek(SeekFrom::Start(place))?;
-        Ok(file)
     }
 
     fn create(&mut self, path: &str, spared: &Spared) -> io::Result<R::File> {

@@ -4,24 +4,21 @@ ghost use Rattle.std.specs.Prelude.{IfOk, IfErr, IfSome, OnOk, OnErr, true, opti
 ghost use Rattle.case_core.specs.Target.{Target};
 ghost use Rattle.byte_flow.specs.Device.{IsDeviceFault};
 ghost use Rattle.proof_folder.specs.TargetProofs.{IsOpenedOf};
-ghost use Rattle.file_store.specs.Files.{Gives, GivesOneOf, IsFound, IsOpenedAt, StaysAllowed};
+ghost use Rattle.file_store.specs.Files.{Gives, GivesOneOf, IsFound, StaysAllowed};
 ghost use Rattle.file_store.specs.Files.{StaysAllowedBeside, lies_in};
 ghost use Rattle.file_store.specs.Files.{AreAdded, as_proofs, held_if, leaf_names};
 ghost use Rattle.case_core.specs.Binary.{proof_text};
 ghost use Rattle.file_store.specs.Files.{held_for};
-ghost use Rattle.file_store.specs.Parts.{held_in};
 
 use crate::folder::FolderText;
 use crate::inputs::{Inputs, Spared, is_clash, is_none_written};
 use crate::opener::Opener;
 use crate::reader::ProofReader;
-use crate::sections::SectionReader;
 use byte_flow::{Counted, DeviceFault, Source, Stream, read_to_end, write_all};
-use case_core::{OutlinedCase, Tree, turn_from};
+use case_core::{Tree, turn_from};
 use proof_folder::TargetProofs;
 use std::alloc::{AllocError, Global};
 use std::io::ErrorKind;
-use std::sync::Arc;
 
 /// What can be read by its path, FILE and a folder's proofs alike, and what is written by its path.
 /// The proofs' paths, the order of the leaves and the label lines are made above it, so they stand
@@ -175,30 +172,6 @@ pub trait Store {
     /// the length to the file's bytes.
     fn length(&self, path: &str) -> Option<u64>;
 
-    /// What a worker reads the proofs of a case by that are parts of one file.
-    type Sections: TargetProofs + Send + Drop;
-
-    /// A reader of the proofs of a case that are parts of the file at this path, for one worker,
-    /// with no failed read yet. In the text of the case so many bytes stand before the file's.
-    fn sections(
-        &self,
-        alloc: Global,
-        path: &str,
-        outlined: &Arc<OutlinedCase>,
-        before: usize,
-    ) -> Result<Self::Sections, AllocError>
-        ensures held { IfOk result (λ reader. (target : Target) → Self.Sections.held reader target
-            ≡ held_in before (held self.now path.now) outlined.now.value.sections target) }
-        ensures none { IfOk result (λ reader. Self.Sections.failures reader ≡ 0) };
-
-    /// Takes such a reader back: its failed reads count as failed calls of the store's.
-    fn settle_sections(&mut self, sections: Self::Sections)
-        requires { failures self.old + Self.Sections.failures sections < 2 ^ 64 }
-        ensures held { held self.new ≡ held self.old }
-        ensures allowed { StaysAllowed (allows self.old) (allows self.new) }
-        ensures failures { failures self.new
-            ≡ failures self.old + Self.Sections.failures sections };
-
     /// Takes a reader back: its failed reads count as failed calls of the store's.
     fn settle(&mut self, reader: Self::Reader)
         requires { failures self.old + Self.Reader.failures reader < 2 ^ 64 }
@@ -287,32 +260,6 @@ impl<F: Opener> FileStore<F> {
         }
     }
 
-    /// Opens the file at this path, which is read from a place on.
-    ///
-    /// `Device` where it can't be opened or the place can't be gone to, `Memory` where memory was
-    /// refused.
-    pub(crate) fn open_file_at(
-        &mut self,
-        path: &str,
-        start: usize,
-    ) -> Result<F::Opened, DeviceFault>
-        requires { self.old.failed < 2 ^ 64 - 1 }
-        ensures knows { F.knows self.new.opener ≡ F.knows self.old.opener }
-        ensures files { F.files self.new.opener ≡ F.files self.old.opener }
-        ensures opened { IfOk result (λ file. F.knows self.old.opener ≡ true → IsOpenedAt
-            (F.files self.old.opener path.now) start (F.Opened.remaining file)) }
-        ensures ok { OnOk result (self.new.failed ≡ self.old.failed) }
-        ensures err { IfErr result (λ fault. IsDeviceFault self.old.failed self.new.failed fault) }
-    {
-        match self.opener.open_at(path, start as u64) {
-            Ok(file) => Ok(file),
-            Err(error) => match error.kind() {
-                ErrorKind::OutOfMemory => Err(DeviceFault::Memory),
-                _ => Err(self.broken()),
-            },
-        }
-    }
-
     /// Appends the bytes of the file at this path, and answers whether there is one.
     ///
     /// `Device` where it is there and can't be opened or read, `Memory` where a growth was refused.
@@ -384,8 +331,6 @@ where
     type Reader = ProofReader<F>;
 
     type Folder = FolderText<F>;
-
-    type Sections = SectionReader<F>;
 
     ghost held = { λ s path. held_if (F.knows s.opener) (F.files s.opener path) };
 
@@ -477,23 +422,6 @@ where
 
     fn length(&self, path: &str) -> Option<u64> {
         self.file_length(path)
-    }
-
-    fn sections(
-        &self,
-        alloc: Global,
-        path: &str,
-        outlined: &Arc<OutlinedCase>,
-        before: usize,
-    ) -> Result<SectionReader<F>, AllocError> {
-        let opener = self.opener.another(alloc)?;
-        let path = String::from_str(alloc, path)?;
-        let outlined = Arc::try_clone(outlined)?;
-        Ok(SectionReader::new(opener, path, outlined, before))
-    }
-
-    fn settle_sections(&mut self, sections: SectionReader<F>) {
-        self.failed += sections.failed();
     }
 
     fn settle(&mut self, reader: ProofReader<F>) {

@@ -1,5 +1,5 @@
-//! Bundles in a file whose proofs are read one by one, each at its place. The expected reports are
-//! written by hand from the formats.
+//! Bundles in a file, which is opened once. The expected reports are written by hand from the
+//! formats.
 
 use crate::command_tests::{
     ALL_REPORT, BARE_REPORT, DEVICE, Ending, FAILING, FAULTS, MIXED, WITHOUT_M1_REPORT, Words,
@@ -37,36 +37,26 @@ const INNER: &[u8] = b"l n 1 0\n6 0 5 3 4 0\n";
 const INNER_REPORT: &[u8] = b"t 2 2 1152921504606846976\na 1 open\na 2 open\n\
 m 1 1 -2 0 open\nm 2 -1 -2 0 open\nn 1 0 refuted\no -1 0\nw 576460752303423488\ns OPEN\n";
 
-/// Sections of `MIXED`, how the program ends, and the file's path as often as it has opened it.
-type Sections = (&'static [u8], Ending<'static>, &'static [u8]);
+/// Sections of `MIXED`, and how the program ends.
+type Sections = (&'static [u8], Ending<'static>);
 
-/// Bundles whose file is opened for the label lines, and then for each proof that has a byte.
-const AT_THEIR_PLACES: &[Sections] = &[
-    (ALL, (0, ALL_REPORT, b""), b"FILE\nFILE\nFILE\nFILE\nFILE\n"),
-    (
-        ALL_WITHOUT_END,
-        (0, ALL_REPORT, b""),
-        b"FILE\nFILE\nFILE\nFILE\nFILE\n",
-    ),
-    (
-        NO_M1,
-        (1, WITHOUT_M1_REPORT, b""),
-        b"FILE\nFILE\nFILE\nFILE\n",
-    ),
-    (BARE_LABEL, (1, BARE_LABEL_REPORT, b""), b"FILE\nFILE\n"),
-    (b"", (1, BARE_REPORT, b""), b"FILE\n"),
+/// Bundles in a file.
+const BUNDLES: &[Sections] = &[
+    (ALL, (0, ALL_REPORT, b"")),
+    (ALL_WITHOUT_END, (0, ALL_REPORT, b"")),
+    (NO_M1, (1, WITHOUT_M1_REPORT, b"")),
+    (BARE_LABEL, (1, BARE_LABEL_REPORT, b"")),
+    (b"", (1, BARE_REPORT, b"")),
+    (INNER, (1, INNER_REPORT, b"")),
 ];
 
-/// A bundle with a proof of an inner node.
-const WHOLE: &[Sections] = &[(INNER, (1, INNER_REPORT, b""), b"FILE\nFILE\n")];
-
-/// Words, and what the program is tried on with them. That something is told changes nothing.
-const CALLS: &[(Words, &[Sections])] = &[
-    (&["--workers=1", "FILE"], AT_THEIR_PLACES),
-    (&["FILE", "--workers", "1", "--cut", "2"], AT_THEIR_PLACES),
-    (&["FILE"], WHOLE),
-    (&["FILE", "--explain"], WHOLE),
-    (&["--workers=1", "FILE", "--explain"], AT_THEIR_PLACES),
+/// Words that the program is tried on with them. That something is told changes nothing.
+const CALLS: &[Words] = &[
+    &["--workers=1", "FILE"],
+    &["FILE", "--workers", "1", "--cut", "2"],
+    &["FILE"],
+    &["FILE", "--explain"],
+    &["--workers=1", "FILE", "--explain"],
 ];
 
 /// The bundle `MIXED` with these sections.
@@ -77,92 +67,30 @@ fn mixed_with(rt: &impl Abort, alloc: Global, sections: &[u8]) -> Vec<u8> {
     bundle
 }
 
-/// The program on this bundle, as a file whose length is told, one of whose calls may fail, ends so
-/// after it has asked for these paths.
-fn ends_opened<R: AllocGlobal + Abort + Threads + Wait + Sync>(
-    rt: &R,
-    words: Words,
-    bundle: &[u8],
-    fails: (u64, DeviceFault),
-    ending: Ending<'_>,
-    paths: &[u8],
-) {
-    let (at, fault) = fails;
-    let files = [("FILE", bundle)];
-    let shelf = Shelf::failing(rt.alloc(), &files, at, fault).expect(rt, "memory");
-    leaves_input(rt, shelf.with_lengths(), words, ending, paths);
-}
-
-/// No call fails.
-const NEVER: (u64, DeviceFault) = (0, DeviceFault::Device);
-
-/// The program on `MIXED` with each of these sections, as such a file, no call of which fails, ends
-/// so.
-fn each_ends<R: AllocGlobal + Abort + Threads + Wait + Sync>(
-    rt: &R,
-    words: Words,
-    sections: &[Sections],
-) {
-    for (text, ending, paths) in sections {
+/// The program on `MIXED` with each of the sections, in a file that is opened once, ends so.
+fn each_ends<R: AllocGlobal + Abort + Threads + Wait + Sync>(rt: &R, words: Words) {
+    for (text, ending) in BUNDLES {
         let bundle = mixed_with(rt, rt.alloc(), text);
-        ends_opened(rt, words, &bundle, NEVER, *ending, paths);
+        let files = [("FILE", bundle.as_slice())];
+        let shelf = Shelf::new(rt.alloc(), &files).expect(rt, "memory");
+        leaves_input(rt, shelf, words, *ending, b"FILE\n");
     }
 }
 
 #[test]
-fn each_proof_at_its_place(rt: HostRuntime) {
-    for (words, sections) in CALLS {
-        each_ends(&rt, words, sections);
+fn each_bundle_of_a_file(rt: HostRuntime) {
+    for words in CALLS {
+        each_ends(&rt, words);
     }
 }
 
-// A bundle with a fault, which is told, is read in order behind its outline.
+// A bundle with a fault, which is told.
 #[test]
 fn faults(rt: HostRuntime) {
     for (bundle, line) in FAULTS {
-        let ending = (3, b"".as_slice(), *line);
-        ends_opened(&rt, &["FILE"], bundle, NEVER, ending, b"FILE\nFILE\n");
-    }
-}
-
-// A file with no length is read at once, as a pipe has to be; so is one that isn't there.
-#[test]
-fn no_length(rt: HostRuntime) {
-    let files = [("FILE", MIXED)];
-    let shelf = Shelf::new(rt.alloc(), &files).expect(&rt, "memory");
-    leaves_input(&rt, shelf, &["FILE"], (1, BARE_REPORT, b""), b"FILE\n");
-    ends_opened(&rt, &["OTHER"], MIXED, NEVER, (5, b"", DEVICE), b"OTHER\n");
-}
-
-/// The words for one worker and the file.
-const ALONE: &[&str] = &["FILE", "--workers", "1"];
-
-/// The paths up to each call on the file.
-const OPENED: [&[u8]; 5] = [
-    b"FILE\n",
-    b"FILE\nFILE\n",
-    b"FILE\nFILE\nFILE\n",
-    b"FILE\nFILE\nFILE\nFILE\n",
-    b"FILE\nFILE\nFILE\nFILE\nFILE\n",
-];
-
-/// Each call fails in turn with this fault, and no other follows it.
-fn each_call_fails<R: AllocGlobal + Abort + Threads + Wait + Sync>(
-    rt: &R,
-    bundle: &[u8],
-    fault: DeviceFault,
-    ending: Ending<'_>,
-) {
-    for (call, paths) in OPENED.iter().enumerate() {
-        ends_opened(rt, ALONE, bundle, (call as u64 + 1, fault), ending, paths);
-    }
-}
-
-#[test]
-fn a_call_fails(rt: HostRuntime) {
-    let bundle = mixed_with(&rt, rt.alloc(), ALL);
-    for (fault, ending) in FAILING {
-        each_call_fails(&rt, &bundle, fault, ending);
+        let files = [("FILE", *bundle)];
+        let shelf = Shelf::new(rt.alloc(), &files).expect(&rt, "memory");
+        leaves_input(&rt, shelf, &["FILE"], (3, b"", *line), b"FILE\n");
     }
 }
 
@@ -190,37 +118,26 @@ const BELOW: Words = &["--formula", "CNF", "FILE", "--workers", "1"];
 /// A formula's file and a bundle's below it, how the program ends, and the paths that it has asked
 /// for.
 const FORMULAS: &[(&[u8], &[u8], Ending<'static>, &[u8])] = &[
-    // Each proof is read at its place, which is counted from the bundle's file.
-    (
-        FORMULA,
-        CUBES,
-        (0, ALL_REPORT, b""),
-        b"CNF\nFILE\nFILE\nFILE\nFILE\nFILE\n",
-    ),
+    (FORMULA, CUBES, (0, ALL_REPORT, b""), b"CNF\nFILE\n"),
     (
         FORMULA,
         CUBES_NO_M1,
         (1, WITHOUT_M1_REPORT, b""),
-        b"CNF\nFILE\nFILE\nFILE\nFILE\n",
+        b"CNF\nFILE\n",
     ),
-    // A fault is told where all is read in order: one of the formula's file before all others.
+    // A fault of the formula's file is told before all others.
     (
         b"c none\n",
         CUBES,
         (3, b"", b"cubeboard: F16 no DIMACS header\n"),
-        b"CNF\nCNF\n",
+        b"CNF\n",
     ),
-    (
-        FORMULA,
-        CLAUSE_MORE,
-        (3, b"", COUNTS),
-        b"CNF\nFILE\nCNF\nFILE\n",
-    ),
+    (FORMULA, CLAUSE_MORE, (3, b"", COUNTS), b"CNF\nFILE\n"),
     (
         FORMULA,
         b"a 1 2 0\na -1 2 0\nl x\n",
         (3, b"", b"cubeboard: F10 bad label, line 10\n"),
-        b"CNF\nFILE\nCNF\nFILE\n",
+        b"CNF\nFILE\n",
     ),
 ];
 
@@ -229,47 +146,39 @@ fn below_a_formula(rt: HostRuntime) {
     for (formula, bundle, ending, paths) in FORMULAS {
         let files = [("CNF", *formula), ("FILE", *bundle)];
         let shelf = Shelf::new(rt.alloc(), &files).expect(&rt, "memory");
-        leaves_input(&rt, shelf.with_lengths(), BELOW, *ending, paths);
+        leaves_input(&rt, shelf, BELOW, *ending, paths);
     }
 }
 
-// A formula's file that isn't there, or has no length, is touched only where all is read in order.
+// A file that isn't there.
 #[test]
-fn no_formula(rt: HostRuntime) {
+fn no_file(rt: HostRuntime) {
     let files = [("FILE", CUBES)];
     let shelf = Shelf::new(rt.alloc(), &files).expect(&rt, "memory");
-    leaves_input(&rt, shelf.with_lengths(), BELOW, (5, b"", DEVICE), b"CNF\n");
-    let files = [("CNF", FORMULA), ("FILE", CUBES)];
+    leaves_input(&rt, shelf, BELOW, (5, b"", DEVICE), b"CNF\n");
     let shelf = Shelf::new(rt.alloc(), &files).expect(&rt, "memory");
-    leaves_input(&rt, shelf, BELOW, (0, ALL_REPORT, b""), b"CNF\nFILE\n");
+    leaves_input(&rt, shelf, &["OTHER"], (5, b"", DEVICE), b"OTHER\n");
 }
 
 /// The paths up to each call below a formula.
-const BELOW_OPENED: [&[u8]; 6] = [
-    b"CNF\n",
-    b"CNF\nFILE\n",
-    b"CNF\nFILE\nFILE\n",
-    b"CNF\nFILE\nFILE\nFILE\n",
-    b"CNF\nFILE\nFILE\nFILE\nFILE\n",
-    b"CNF\nFILE\nFILE\nFILE\nFILE\nFILE\n",
-];
+const OPENED: [&[u8]; 2] = [b"CNF\n", b"CNF\nFILE\n"];
 
 /// Each call below a formula fails in turn with this fault, and no other follows it.
-fn each_call_below_fails<R: AllocGlobal + Abort + Threads + Wait + Sync>(
+fn each_call_fails<R: AllocGlobal + Abort + Threads + Wait + Sync>(
     rt: &R,
     fault: DeviceFault,
     ending: Ending<'_>,
 ) {
     let files = [("CNF", FORMULA), ("FILE", CUBES)];
-    for (call, paths) in BELOW_OPENED.iter().enumerate() {
+    for (call, paths) in OPENED.iter().enumerate() {
         let shelf = Shelf::failing(rt.alloc(), &files, call as u64 + 1, fault).expect(rt, "memory");
-        leaves_input(rt, shelf.with_lengths(), BELOW, ending, paths);
+        leaves_input(rt, shelf, BELOW, ending, paths);
     }
 }
 
 #[test]
-fn a_call_below_a_formula_fails(rt: HostRuntime) {
+fn a_call_fails(rt: HostRuntime) {
     for (fault, ending) in FAILING {
-        each_call_below_fails(&rt, fault, ending);
+        each_call_fails(&rt, fault, ending);
     }
 }

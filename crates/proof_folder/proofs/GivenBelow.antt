@@ -15,7 +15,7 @@ use Rattle.case_core.specs.Label.{label_name, IsTargetOf}
 use Rattle.case_core.specs.Case.{CaseOf, SectionOf, AreSections, section_at, proof_for, same_target}
 use Rattle.case_core.specs.Sections.{IsCaseOf, AreLabelled}
 use Rattle.case_core.proofs.CaseTables.{same_target-true}
-use Rattle.case_core.proofs.OutlineLines.{HaveNoEnds}
+use Rattle.case_core.proofs.BundleLines.{HaveNoEnds}
 use Rattle.mark_board.specs.declared.mark.Mark.{Mark}
 use Rattle.mark_board.specs.Marking.{mark_at}
 use Rattle.mark_board.specs.Findings.{IsMarkOf}

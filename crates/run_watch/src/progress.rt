@@ -34,9 +34,10 @@ struct Part {
 /// how many, how many of their bytes, of how many, how many are refuted and rejected, and how much
 /// of the tree's weight is still open. It tells that at most once a second while the workers are at
 /// work, and once when they have ended; a run that is made anew counts anew. As a meter it tells,
-/// once a second at most, how much was read so far: before the workers start, while proofs are
-/// judged of which nobody knows how long they are, or how many, and where all proofs are read
-/// again. Of so many as nobody knows it tells how many are judged. What it can't write is left out.
+/// once a second at most, how much was read so far, and of how much, as far as lengths of files
+/// say so: before the workers start, while proofs are judged of which nobody knows how long they
+/// are, or how many, and where all proofs are read again. Of so many as nobody knows it tells how
+/// many are judged. What it can't write is left out.
 #[derive(Drop)]
 pub struct Progress<'a, R> {
     device: &'a R,
@@ -59,6 +60,9 @@ pub struct Progress<'a, R> {
     /// it has read so.
     is_reading: AtomicBool,
     bytes_read: AtomicU64,
+    /// Whether the lengths of the files that are opened are summed up, and their sum.
+    sums_lengths: AtomicBool,
+    lengths: AtomicU64,
     /// Whether a line on that stands on the terminal.
     is_shown: AtomicBool,
 }
@@ -85,6 +89,8 @@ impl<'a, R> Progress<'a, R> {
             told_at: AtomicU64::new(0),
             is_reading: AtomicBool::new(false),
             bytes_read: AtomicU64::new(0),
+            sums_lengths: AtomicBool::new(false),
+            lengths: AtomicU64::new(0),
             is_shown: AtomicBool::new(false),
         }
     }
@@ -254,34 +260,44 @@ impl<'a, R: Eprint> Progress<'a, R> {
              so all proofs are read again, one after the other\n"
         );
     }
-
-    /// Says so of the proof of an inner node, which is none of a folder.
-    fn tell_node_whole(&self) {
-        let _ = eprint!(self.device;
-            "cubeboard: a proof of an inner node has a label line, \
-             so all proofs are read again, one after the other\n"
-        );
-    }
 }
 
 impl<'a, R: Clock + Eprint> Progress<'a, R> {
-    /// Begins to tell how much is read.
-    fn begin_reading(&self) {
+    /// Begins to tell how much is read, of how much where the lengths of files are summed up.
+    fn begin_reading(&self, sums_lengths: bool) {
         self.bytes_read.store(0, Ordering::SeqCst);
+        self.lengths.store(0, Ordering::SeqCst);
+        self.sums_lengths.store(sums_lengths, Ordering::SeqCst);
         self.told_at.store(self.now(), Ordering::SeqCst);
         self.is_reading.store(true, Ordering::SeqCst);
     }
 
-    /// Writes how much was read so far.
+    /// Writes how much was read so far; of how much, where no more was read than the files that
+    /// were opened are long.
     fn tell_read(&self) {
         let bytes = self.bytes_read.load(Ordering::SeqCst);
+        let all = self.lengths.load(Ordering::SeqCst);
         let (front, back) = self.around(false);
-        let _ = eprint!(self.device; "{front}cubeboard: reading: {bytes} bytes so far{back}");
+        let _ = if 0 < all && bytes <= all {
+            eprint!(self.device; "{front}cubeboard: reading: {bytes} of {all} bytes so far{back}")
+        } else {
+            eprint!(self.device; "{front}cubeboard: reading: {bytes} bytes so far{back}")
+        };
         self.is_shown.store(self.on_terminal, Ordering::SeqCst);
     }
 }
 
 impl<'a, R: Clock + Eprint> Meter for Progress<'a, R> {
+    fn is_counting(&self) -> bool {
+        self.is_reading.load(Ordering::SeqCst)
+    }
+
+    fn expect(&self, length: u64) {
+        if self.sums_lengths.load(Ordering::SeqCst) {
+            self.lengths.fetch_add(length, Ordering::SeqCst);
+        }
+    }
+
     fn count(&self, bytes: usize) {
         if !self.is_reading.load(Ordering::SeqCst) {
             return;
@@ -295,7 +311,7 @@ impl<'a, R: Clock + Eprint> Meter for Progress<'a, R> {
 
 impl<'a, R: Clock + Eprint> Watch for Progress<'a, R> {
     fn begins_to_read(&self) {
-        self.begin_reading();
+        self.begin_reading(true);
     }
 
     fn is_over(&self) {
@@ -343,11 +359,10 @@ impl<'a, R: Clock + Eprint> Gate for Progress<'a, R> {
     }
 
     fn falls_back(&self, target: Target) {
-        match target {
-            Target::Leaf(leaf) => self.tell_whole(leaf),
-            Target::Node(_) => self.tell_node_whole(),
+        if let Target::Leaf(leaf) = target {
+            self.tell_whole(leaf);
         }
-        self.begin_reading();
+        self.begin_reading(false);
     }
 
     fn end(&self) {

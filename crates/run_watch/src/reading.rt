@@ -21,6 +21,12 @@ impl Watch for NoGate {}
 
 /// What is told how many bytes readers give.
 pub trait Meter {
+    /// Whether it counts bytes now.
+    fn is_counting(&self) -> bool;
+
+    /// A file of this length was opened, which may be read to its end.
+    fn expect(&self, length: u64);
+
     /// A read gave so many bytes.
     fn count(&self, bytes: usize);
 }
@@ -54,7 +60,8 @@ impl<'a, T: Read, M: Meter> Read for Metered<'a, T, M> {
     }
 }
 
-/// An opener whose files tell a meter how much is read of them.
+/// An opener whose files tell a meter how much is read of them, and which tells it how long they
+/// are, as far as that can be told, while it counts.
 #[derive(Drop)]
 pub struct MeteredFiles<'a, F, M> {
     files: F,
@@ -84,11 +91,11 @@ impl<'a, F: Opener, M: Meter> Opener for MeteredFiles<'a, F, M> {
 
     fn open(&mut self, path: &str) -> io::Result<Metered<'a, F::Opened, M>> {
         let file = self.files.open(path)?;
-        Ok(Metered::new(file, self.meter))
-    }
-
-    fn open_at(&mut self, path: &str, place: u64) -> io::Result<Metered<'a, F::Opened, M>> {
-        let file = self.files.open_at(path, place)?;
+        if self.meter.is_counting()
+            && let Some(length) = self.files.length(path)
+        {
+            self.meter.expect(length);
+        }
         Ok(Metered::new(file, self.meter))
     }
 

@@ -28,8 +28,6 @@ mod lrat_text_tests;
 #[cfg(test)]
 mod map_tests;
 #[cfg(test)]
-mod outline_tests;
-#[cfg(test)]
 mod parts_tests;
 #[cfg(test)]
 mod plain;

@@ -2,7 +2,7 @@
 use Rattle.std.specs.Prelude.{◌≡◌, ℕ, ◌+◌, ◌==◌, List, [], ◌∷◌, ◌++◌, length, false, All}
 use Rattle.cnf_text.specs.Tokens.{words}
 use Rattle.case_core.specs.Bundle.{lines_of, Labelled, labelled, BeginsWithLabel}
-use Rattle.case_core.specs.Outline.{AreWholeLines}
+use Rattle.case_core.specs.Bundle.{AreWholeLines}
 
 -- a text and its end
 pub record EndsWith (text end : List ℕ) : Type 0 where

@@ -5,7 +5,7 @@ use Rattle.byte_flow.specs.Lines.{LinesOf}
 use Rattle.case_core.specs.Bundle.{BeginsWithLabel}
 use Rattle.case_core.specs.Inner.Bundle.{HasNoLabel}
 use Rattle.case_core.specs.Labelled.{HasPassed, LabelledOf, Stands}
-use Rattle.case_core.specs.Outline.{AreWholeLines}
+use Rattle.case_core.specs.Bundle.{AreWholeLines}
 
 -- whether there are bytes
 abbrev pub some_bytes : List ℕ → Bool

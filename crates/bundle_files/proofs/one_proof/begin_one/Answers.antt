@@ -31,7 +31,8 @@ returns-in_err-case-clause-fault g c =
     (λ of_input.
     refused_with_each held formula begun.said begun.text.items c.extend_from_slice.new.self.items
     c.in_err-case.field-0.0 c.in_ok-text.ensures.read c.in_ok-extend_from_slice.ensures.items
-    (rw c.deref.ensures.value at c.in_err-case.ensures.fault of_input))
+    (rw (c.in_ok-to_vec.ensures.items_if_clones_equal (λ x y e. e), c.deref.ensures.value)
+    at c.in_err-case.ensures.fault of_input))
     c.from_residual-in_err-case.ensures.1
 
 pub returns-clause-read : goal.returns-clause-read
@@ -40,25 +41,30 @@ returns-clause-read g c =
     one_read (lies_in (g.D.Store.held c.args.store.now)) _ begun.said begun.text.items
     c.extend_from_slice.new.self.items c.in_ok-text.ensures.read
     c.in_ok-extend_from_slice.ensures.items
-    (rw c.deref.ensures.value at c.in_ok-case.ensures.counted)
+    (rw (c.in_ok-to_vec.ensures.items_if_clones_equal (λ x y e. e), c.deref.ensures.value)
+    at c.in_ok-case.ensures.counted)
 
 pub returns-clause-handed : goal.returns-clause-handed
 returns-clause-handed g c =
     let begun = c.in_ok-text.field-0 in
     one_read g.D.Store.hands _ begun.said begun.text.items c.extend_from_slice.new.self.items
     c.in_ok-text.ensures.handed c.in_ok-extend_from_slice.ensures.items
-    (rw c.deref.ensures.value at c.in_ok-case.ensures.counted)
+    (rw (c.in_ok-to_vec.ensures.items_if_clones_equal (λ x y e. e), c.deref.ensures.value)
+    at c.in_ok-case.ensures.counted)
 
 pub returns-clause-tree : goal.returns-clause-tree
 returns-clause-tree g c =
     let begun = c.in_ok-text.field-0 in
     one_tree g.D.Store.hands _ begun.said begun.text.items c.extend_from_slice.new.self.items
     c.in_ok-text.ensures.handed c.in_ok-extend_from_slice.ensures.items c.in_ok-case.case
-    (rw c.deref.ensures.value at c.in_ok-case.ensures.case)
+    (rw (c.in_ok-to_vec.ensures.items_if_clones_equal (λ x y e. e), c.deref.ensures.value)
+    at c.in_ok-case.ensures.case)
 
 pub returns-clause-free : goal.returns-clause-free
 returns-clause-free g c =
     let begun = c.in_ok-text.field-0 in
     no_proof g.D.Store.hands _ begun.said begun.text.items c.extend_from_slice.new.self.items
     c.in_ok-text.ensures.handed c.in_ok-extend_from_slice.ensures.items c.in_ok-case.case
-    (Named (Cube 1)) (rw c.deref.ensures.value at c.in_ok-case.ensures.case)
+    (Named (Cube 1))
+    (rw (c.in_ok-to_vec.ensures.items_if_clones_equal (λ x y e. e), c.deref.ensures.value)
+    at c.in_ok-case.ensures.case)

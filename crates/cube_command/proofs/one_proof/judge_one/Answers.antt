@@ -27,9 +27,11 @@ returns-in-Ok-clause-fault g c =
 
 pub returns-in_ok-find_proof-in-Err-clause-fault :
     goal.returns-in_ok-find_proof-in-Err-clause-fault
-returns-in_ok-find_proof-in-Err-clause-fault g c = λ of_input.
+returns-in_ok-find_proof-in-Err-clause-fault g c =
     let input = g.I.Source.remaining c.args.input.now in
+    rw c.in_ok-fault-in-Err.ensures.ok.0
+    (λ of_input.
     refused_before (g.D.Store.held c.args.store.now) (asked_in c.args.request.now)
     c.args.path.now input c.in-Err.fault c.requires.alone.0 c.requires.alone.1
     (c.in-Err.ensures.fault of_input)
-    (rw c.in-Err.ensures.held at c.in_ok-find_proof-in-Err.ensures.found input)
+    (rw c.in-Err.ensures.held at c.in_ok-find_proof-in-Err.ensures.found input))

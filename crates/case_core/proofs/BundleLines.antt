@@ -9,7 +9,7 @@ use Rattle.std.proofs.lemmas.List.Splits.{slice_split-cons_no}
 use Rattle.cnf_text.specs.Tokens.{is_line_end, is_blank, words}
 use Rattle.case_core.specs.Bundle.{lines_of, is_label, line_onto, text_before, Labelled, labelled}
 use Rattle.case_core.specs.Inner.Bundle.{HasNoLabel, at_line}
-use Rattle.case_core.specs.Outline.{AreWholeLines}
+use Rattle.case_core.specs.Bundle.{AreWholeLines}
 use Rattle.case_core.proofs.BundleMore.{lines_more, no_lines}
 
 pub empty_line : is_label [] ≡ false
