@@ -43,8 +43,7 @@ use std::thread::Threads;
 /// OUT] [--log LOG] [FILE]`. It reads a bundle from FILE, or from `input` where there is none, and
 /// writes the report to `output` or, where there is no report, one line to `errors`. Files are
 /// found by `store`. Both writers have to write at once, without a buffer of their own. A bundle of
-/// `input`, or of a FILE that can't be read at places, as a pipe, is judged while it is read,
-/// unless `--proofs` is there.
+/// `input` or of FILE is judged while it is read, unless `--proofs` is there.
 ///
 /// With `--formula CNF` the clauses come from that file, a DIMACS text, and FILE adds cubes and
 /// sections, and no clause: the bundle is that text with its problem line overwritten by `p inccnf`
@@ -58,19 +57,19 @@ use std::thread::Threads;
 /// With `--proofs DIR` the proofs of that folder are added to the bundle: for each cube K and after
 /// that for each missing leaf J, in order, the file `DIR/K.lrat` or `DIR/mJ.lrat`, where it is
 /// there, as the section of its leaf. Each of them is read when a worker comes to its leaf, and
-/// dropped when it is judged; all are read beforehand only where one has a label line, or is for a
-/// leaf with a section of its own. N workers check the proofs, with boards cut at the depth D;
-/// `gate` is called beside each section, and with `--progress` also `watch`, from the first read
-/// on, which may tell a person how far the run is, on a device that it is lent: what it does there
-/// is not `errors`. With `--explain` so may `explain` tell what was read, and where rejections and
-/// a fault come from; for that the iCNF text of the bundle is kept. With `--map SVG` a picture of
-/// the tree is written to that file, made anew, before the report; with `--record OUT` then a
-/// record to that one: the line `i ` with the SHA-256 of the iCNF text of the bundle that was read,
-/// and the report. With `--log LOG` that file is made anew by `log` before anything is read, and
-/// gets the report's line of each proof when it is judged; a run that is made anew, with all proofs
-/// read beforehand, logs them once more. What `log` does is not `store`'s. No two of the three can
-/// be one file, nor one that is read: CNF, FILE, LRAT or `DIR/NAME.lrat`, as their paths are
-/// written.
+/// dropped when it is judged. Where one has a label line, or is for a leaf with a section of its
+/// own, all are read again, one after the other, and judged while they are read. N workers check
+/// the proofs, with boards cut at the depth D; `gate` is called beside each section, and with
+/// `--progress` also `watch`, from the first read on, which may tell a person how far the run is,
+/// on a device that it is lent: what it does there is not `errors`. With `--explain` so may
+/// `explain` tell what was read, and where rejections and a fault come from; for that the iCNF text
+/// of the bundle is kept. With `--map SVG` a picture of the tree is written to that file, made
+/// anew, before the report; with `--record OUT` then a record to that one: the line `i ` with the
+/// SHA-256 of the iCNF text of the bundle that was read, and the report. With `--log LOG` that file
+/// is made anew by `log` before anything is read, and gets the report's line of each proof when it
+/// is judged; a run for which all are read again logs them once more. What `log` does is not
+/// `store`'s. No two of the three can be one file, nor one that is read: CNF, FILE, LRAT or
+/// `DIR/NAME.lrat`, as their paths are written.
 ///
 /// With `--list-open` `output` gets, in the report's place and in its order, the leaves that it
 /// doesn't call refuted: a line K for cube K, mJ for missing leaf J. The record has the report.

@@ -8,11 +8,12 @@ ghost use Rattle.case_core.specs.Binary.{proof_text};
 ghost use Rattle.file_store.specs.Files.{AreAdded, IsFound, held_if, leaf_names};
 ghost use Rattle.file_store.specs.Folder.{IsSectionOf, folder_gives, names_left};
 ghost use Rattle.proof_folder.specs.Added.{proof_path};
+ghost use Rattle.proof_folder.specs.Given.{name_of};
 
 use crate::opener::Opener;
 use crate::store::FileStore;
 use byte_flow::{DeviceFault, Stream};
-use case_core::Tree;
+use case_core::{Leaf, Tree};
 use std::alloc::{AllocError, Global};
 
 /// The leaves of a tree in the order of their names 1, 2, .. for the cubes, and m1, m2, .. for the
@@ -45,12 +46,10 @@ impl LeavesLeft {
             × (names_left self.now ≡ string_bytes name ∷ behind))) }
     {
         if self.cubes_done < self.cubes {
-            let number = self.cubes_done + 1;
-            return Ok(Some(format!(in alloc; "{number}")?));
+            return Ok(Some(leaf_name(alloc, Leaf::Cube(self.cubes_done + 1))?));
         }
         if self.missing_done < self.missing {
-            let number = self.missing_done + 1;
-            return Ok(Some(format!(in alloc; "m{number}")?));
+            return Ok(Some(leaf_name(alloc, Leaf::Missing(self.missing_done + 1))?));
         }
         Ok(None)
     }
@@ -160,17 +159,11 @@ impl<F: Opener> FolderText<F> {
         self.at = 0;
         let folder = self.folder.as_str();
         let read = read_section(self.alloc, &mut self.files, folder, name, &mut self.part);
-        match read {
-            Ok(true) => Ok(()),
-            Ok(false) => {
-                self.part.clear();
-                Ok(())
-            }
-            Err(fault) => {
-                self.part.clear();
-                Err(fault)
-            }
+        if !matches!(read, Ok(true)) {
+            self.part.clear();
         }
+        read?;
+        Ok(())
     }
 
     /// Reads what the next leaf adds, where all that is in memory was given; answers whether there
@@ -249,6 +242,16 @@ fn read_section<F: Opener>(
     let path = proof_path(alloc, folder, name)?;
     write_label(name, bytes)?;
     files.read_proof_file(alloc, path.as_str(), bytes)
+}
+
+/// The name of a leaf: K for cube K, mJ for missing leaf J.
+pub(crate) fn leaf_name(alloc: Global, leaf: Leaf) -> Result<String, AllocError>
+    ensures { IfOk result (λ name. string_bytes name ≡ name_of leaf) }
+{
+    match leaf {
+        Leaf::Cube(number) => format!(in alloc; "{number}"),
+        Leaf::Missing(number) => format!(in alloc; "m{number}"),
+    }
 }
 
 /// The path of the proof of the leaf of this name.

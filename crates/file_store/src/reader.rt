@@ -5,10 +5,11 @@ ghost use Rattle.proof_folder.specs.Given.{name_of};
 ghost use Rattle.proof_folder.specs.Added.{proof_path};
 ghost use Rattle.file_store.specs.Files.{Held, as_proofs, held_for};
 
+use crate::folder::{leaf_name, proof_path};
 use crate::opener::Opener;
 use crate::store::FileStore;
 use byte_flow::{Counted, DeviceFault};
-use case_core::{Leaf, ProofForm, Target};
+use case_core::{ProofForm, Target};
 use proof_folder::TargetProofs;
 use std::alloc::{AllocError, Global};
 
@@ -94,18 +95,10 @@ fn path_of(alloc: Global, folder: &str, target: Target) -> Result<Option<String>
         → held_for held folder.now target ≡ Some None)) }
 {
     match target {
-        Target::Leaf(leaf) => Ok(Some(leaf_path(alloc, folder, leaf)?)),
+        Target::Leaf(leaf) => {
+            let name = leaf_name(alloc, leaf)?;
+            Ok(Some(proof_path(alloc, folder, name.as_str())?))
+        }
         Target::Node(_) => Ok(None),
-    }
-}
-
-/// The path of the proof of this leaf.
-fn leaf_path(alloc: Global, folder: &str, leaf: Leaf) -> Result<String, AllocError>
-    ensures { IfOk result
-        (λ path. string_bytes path ≡ proof_path folder.now (name_of leaf)) }
-{
-    match leaf {
-        Leaf::Cube(number) => format!(in alloc; "{folder}/{number}.lrat"),
-        Leaf::Missing(number) => format!(in alloc; "{folder}/m{number}.lrat"),
     }
 }
