@@ -1,7 +1,7 @@
 -- What a worker hands back.
 use Rattle.std.proofs.Common.{◌≡◌, ℕ, List, Option, All, Result, Ok, Err}
 use Rattle.std.proofs.Common.{ap, subst, sym, true, ◌∙◌}
-use Rattle.std.specs.Prelude.{MatchOption, OnOk}
+use Rattle.std.specs.Prelude.{IfOk, MatchOption, OnOk}
 use Rattle.std.proofs.lemmas.List.Elements.{All-weaker}
 use Rattle.case_core.specs.Case.{CaseOf}
 use Rattle.case_core.specs.Target.{Target}
@@ -14,10 +14,12 @@ use Rattle.proof_folder.specs.TargetProofs.{Known}
 use Rattle.check_crew.specs.Examined.{IsExamined}
 use Rattle.byte_flow.specs.Device.{IsDeviceFault}
 use Rattle.check_crew.specs.declared.crew.Crew.{Crew}
+use Rattle.check_crew.specs.declared.worker.Job.{Job}
 use Rattle.check_crew.specs.declared.worker.Shift.{Shift}
+use Rattle.check_crew.specs.declared.worker.Site.{Site}
 use Rattle.check_crew.specs.declared.targets.ExaminedTarget.{ExaminedTarget}
 use Rattle.check_crew.specs.Inner.Apart.{IsListOf}
-use Rattle.check_crew.specs.Inner.Crew.{HasSeenTurn, IsHandedBy}
+use Rattle.check_crew.specs.Inner.Crew.{HasSeenTurn, IsDealtBy, IsHandedBy, IsShiftOf}
 use Rattle.check_crew.proofs.SeenTurns.{section_stays}
 use Rattle.cube_jobs.specs.Jobs.{JobPassOf}
 
@@ -59,3 +61,21 @@ list_of hall case held known pass examined of own each same = record {
       subst (λ (k : Option (Option (List ℕ))). IsExamined k (view_of pass) one.target one.examined)
       (same one.target)) examined each;
 }
+
+-- what a worker hands back for a job that was dealt
+pub handed_by : {R G P : Type 0} (crew : Crew R G P) (held : P → Known) (failures : P → ℕ)
+    (job : Job R G P) (shift : Shift P) → IsDealtBy crew failures job
+    → IsShiftOf job.site (held job.proofs) failures shift → IsHandedBy crew held failures shift
+handed_by {R} {G} {P} crew held failures job shift dealt is = record {
+  reader = job.proofs;
+  among = dealt.among;
+  is = subst (λ (site : Site R G). IsShiftOf site (held job.proofs) failures shift) dealt.site is;
+}
+
+pub own_handed_by : {R G P E : Type 0} (crew : Crew R G P) (held : P → Known) (failures : P → ℕ)
+    (job : Job R G P) (end : Result (Shift P) E) → IsDealtBy crew failures job
+    → IfOk end (IsShiftOf job.site (held job.proofs) failures)
+    → IfOk end (IsHandedBy crew held failures)
+own_handed_by crew held failures job (Ok shift) dealt is =
+    handed_by crew held failures job shift dealt is
+own_handed_by crew held failures job (Err fault) dealt is = tt

@@ -11,7 +11,7 @@ ghost use Rattle.mark_board.specs.Findings.{AreFindings};
 ghost use Rattle.proof_folder.specs.TargetProofs.{Known};
 ghost use Rattle.check_crew.specs.Seen.{HaveSeenSections};
 ghost use Rattle.check_crew.specs.Inner.Apart.{IsListOf};
-ghost use Rattle.check_crew.specs.Inner.Crew.{IsReady, IsJobOf, IsDealtBy, IsShiftOf, IsHandedBy};
+ghost use Rattle.check_crew.specs.Inner.Crew.{IsReady, IsDealtBy, IsHandedBy, IsJobOf, IsShiftOf};
 ghost use Rattle.check_crew.specs.Inner.Crew.{IsHandedIn, IsRunFault, AreClosed};
 
 use crate::fault::{CrewFault, RunFault};
@@ -20,7 +20,8 @@ use crate::no_proofs::NoProofs;
 use crate::order::long_proofs_first;
 use crate::settings::Settings;
 use crate::targets::{ExaminedTarget, end_targets};
-use crate::worker::{Job, Shift, Site, work};
+use crate::threads::work_beside;
+use crate::worker::{Job, Shift, Site, work, work_or_leave};
 use board_hall::{Core, Hall, Pass};
 use byte_flow::DeviceFault;
 use case_core::{Case, Target};
@@ -31,8 +32,7 @@ use std::alloc::{AllocError, Global};
 use std::snapshot::Snapshot;
 use std::sync::Wait;
 use std::sync::atomic::AtomicU64;
-use std::thread;
-use std::thread::{Promise, PromisedHandle, Scope, Threads};
+use std::thread::{Promise, Threads};
 
 /// A site, and what its workers read proofs of targets by, as it was before they began. As a
 /// promise it says what each of them hands back.
@@ -55,8 +55,6 @@ impl<'a, R, G, P: TargetProofs> Promise<Shift<P>> for Crew<'a, R, G, P> {
 
     ghost kept_by = { λ crew shift. IsHandedBy crew P.held P.failures shift };
 }
-
-type Handle<'a, R, G, P> = PromisedHandle<Shift<P>, Crew<'a, R, G, P>>;
 
 /// The boards of `case` at the cut of `settings` with the findings of all its sections, by as many
 /// workers as `settings` says. The calling thread is worker 0, and each other worker has a thread
@@ -258,28 +256,27 @@ fn run_crew<R: Threads + Wait + Sync, G: Gate + Sync, P: TargetProofs + Send + D
         (IsHandedIn site.entry P.held proofs.items (vec_len proofs)) }
     ensures failed { IfErr result (IsRunFault P.failures) }
 {
-    let count = proofs.len();
     let readers = Snapshot::of(&proofs);
     let crew = Crew {
         site,
         readers: &readers,
     };
+    let count = proofs.len();
     let jobs = deal(crew, passes, job_passes, proofs)?;
-    let shifts = failed_first(run_all(crew, jobs)?)?;
-    if shifts.len() < count {
-        return Err(RunFault::Crew(CrewFault::Thread));
-    }
+    let (own, shifts) = work_all(crew, jobs)?;
+    let shifts = all_handed(crew, own, shifts, count)?;
     Ok(hand_in(crew, shifts)?)
 }
 
 /// Gives each worker a pass of the hall, one of the queue, and what it reads proofs by. The last
 /// one is worker 0.
-fn deal<R, G, P: TargetProofs + Drop>(
-    crew: Crew<'_, R, G, P>,
+fn deal<'a, R, G, P: TargetProofs + Drop>(
+    crew: Crew<'a, R, G, P>,
     mut passes: Vec<Pass>,
     mut job_passes: Vec<JobPass>,
     proofs: Vec<P>,
-) -> Result<Vec<Job<P>>, AllocError>
+) -> Result<Vec<Job<'a, R, G, P>>, AllocError>
+    requires ready { IsReady crew.site }
     requires readers { crew.readers.now.value.items ≡ proofs.items }
     requires few { vec_len proofs ≤ 32 }
     requires pairs { (vec_len passes ≡ vec_len proofs) × (vec_len job_passes ≡ vec_len proofs) }
@@ -300,6 +297,7 @@ fn deal<R, G, P: TargetProofs + Drop>(
         };
         worker -= 1;
         jobs.push_reserved(Job {
+            site: crew.site,
             worker,
             pass,
             job_pass,
@@ -309,115 +307,63 @@ fn deal<R, G, P: TargetProofs + Drop>(
     Ok(jobs)
 }
 
-/// Runs a worker for each job, the last job's in the calling thread. Answers fewer shifts than
-/// there are jobs where the start of one was refused.
-fn run_all<R: Threads + Wait + Sync, G: Gate + Sync, P: TargetProofs + Send + Drop>(
-    crew: Crew<'_, R, G, P>,
-    jobs: Vec<Job<P>>,
-) -> Result<Vec<Shift<P>>, AllocError>
-    requires ready { IsReady crew.site }
-    requires count { (0 < vec_len jobs) × (vec_len jobs ≤ 32) }
+/// Has the last job done in the calling thread, and the others in threads of their own. Answers
+/// what the calling thread hands back, or why not all others could be started; and what the others
+/// do.
+fn work_all<'a, R: Threads + Wait + Sync, G: Gate + Sync, P: TargetProofs + Send + Drop>(
+    crew: Crew<'a, R, G, P>,
+    mut jobs: Vec<Job<'a, R, G, P>>,
+) -> Result<(Result<Shift<P>, CrewFault>, Vec<Shift<P>>), AllocError>
+    requires count { 0 < vec_len jobs }
     requires jobs { All (IsDealtBy crew P.failures) jobs.items }
-    ensures count { IfOk result (λ shifts. vec_len shifts ≤ vec_len jobs) }
-    ensures kept { IfOk result (λ shifts.
-        All (IsHandedBy crew.entry P.held P.failures) shifts.items) }
+    ensures count { IfOk result (λ ran. vec_len ran.1 < vec_len jobs.entry) }
+    ensures room { IfOk result (λ ran. vec_len ran.1 < vec_capacity ran.1) }
+    ensures own { IfOk result (λ ran. IfOk ran.0 (IsHandedBy crew.entry P.held P.failures)) }
+    ensures kept { IfOk result (λ ran.
+        All (IsHandedBy crew.entry P.held P.failures) ran.1.items) }
 {
-    thread::scope(
-        thread::scope_env(),
-        crew.site.rt,
-        move |scope| -> Result<Vec<Shift<P>>, AllocError>
-            requires ready { IsReady crew.site }
-            requires count { (0 < vec_len jobs) × (vec_len jobs ≤ 32) }
-            requires jobs { All (IsDealtBy crew P.failures) jobs.items }
-            ensures count { IfOk result (λ shifts. vec_len shifts ≤ vec_len jobs) }
-            ensures kept { IfOk result (λ shifts.
-                All (IsHandedBy crew.entry P.held P.failures) shifts.items) }
-        { start_and_join(scope, crew, jobs) },
-    )
-}
-
-/// Starts a worker for each job but the last, works by the last, and joins all that were started.
-/// Where the start of one was refused, it doesn't work itself, and nobody takes another target.
-fn start_and_join<
-    's,
-    'e: 's,
-    R: Threads + Wait + Sync,
-    G: Gate + Sync,
-    P: TargetProofs + Send + Drop + 'e,
->(
-    scope: &'s Scope<'s, &'e ()>,
-    crew: Crew<'e, R, G, P>,
-    mut jobs: Vec<Job<P>>,
-) -> Result<Vec<Shift<P>>, AllocError>
-    requires ready { IsReady crew.site }
-    requires count { (0 < vec_len jobs) × (vec_len jobs ≤ 32) }
-    requires jobs { All (IsDealtBy crew P.failures) jobs.items }
-    ensures count { IfOk result (λ shifts. vec_len shifts ≤ vec_len jobs) }
-    ensures kept { IfOk result (λ shifts.
-        All (IsHandedBy crew.entry P.held P.failures) shifts.items) }
-{
-    let count = jobs.len();
-    let mut shifts = Vec::with_capacity(crew.site.alloc, count)?;
-    let handles = Vec::with_capacity(crew.site.alloc, count)?;
+    let site = crew.site;
+    let shifts = Vec::with_capacity(site.alloc, jobs.len())?;
     let Some(job) = jobs.pop() else {
         unreachable!()
     };
-    let handles = start(scope, crew, jobs, handles);
-    if handles.len() + 1 < count {
-        end_targets(crew.site);
-        return Ok(join_all(crew, handles, shifts));
-    }
-    shifts.push_reserved(work(crew.site, job));
-    Ok(join_all(crew, handles, shifts))
+    let duty = |job: Job<R, G, P>| -> Shift<P>
+        requires { IsJobOf P.failures job }
+        ensures { IsShiftOf job.entry.site (P.held job.entry.proofs) P.failures result }
+    { work(job) };
+    let own = move |fault: Option<CrewFault>| -> Result<Shift<P>, CrewFault>
+        requires { IsJobOf P.failures job }
+        ensures { IfOk result (IsShiftOf job.entry.site (P.held job.entry.proofs) P.failures) }
+    { work_or_leave(job, fault) };
+    Ok(work_beside(site.rt, site.alloc, crew, &duty, jobs, own, shifts))
 }
 
-/// Starts a worker for each job, until the start of one is refused. It asks for room for their
-/// handles.
-fn start<'s, 'e: 's, R: Threads + Wait + Sync, G: Gate + Sync, P: TargetProofs + Send + Drop + 'e>(
-    scope: &'s Scope<'s, &'e ()>,
-    crew: Crew<'e, R, G, P>,
-    jobs: Vec<Job<P>>,
-    mut handles: Vec<Handle<'e, R, G, P>>,
-) -> Vec<Handle<'e, R, G, P>>
-    requires ready { IsReady crew.site }
-    requires jobs { All (IsDealtBy crew P.failures) jobs.items }
-    requires room { (vec_len handles ≡ 0) × (vec_len jobs ≤ vec_capacity handles) }
-    ensures count { vec_len result ≤ vec_len jobs }
-    ensures promised { All (λ handle. handle.promise ≡ crew.entry) result.items }
-{
-    let site = crew.site;
-    for job in jobs {
-        let Ok(handle) = scope.spawn_with(
-            crew,
-            move || -> Shift<P>
-                requires ready { IsReady site }
-                requires job { IsJobOf site P.failures job }
-                ensures { IsShiftOf site.entry (P.held job.proofs) P.failures result }
-            { work(site, job) },
-        ) else {
-            break;
-        };
-        handles.push_reserved(handle);
-    }
-    handles
-}
-
-/// Joins all threads, and puts what they hand back to `shifts`. It asks for room for it.
-fn join_all<'a, R: Threads, G, P: TargetProofs + Drop>(
-    crew: Crew<'a, R, G, P>,
-    handles: Vec<Handle<'a, R, G, P>>,
+/// What all of so many workers hand back. A failed read stands before a refused start.
+fn all_handed<R, G, P: TargetProofs + Drop>(
+    crew: Crew<'_, R, G, P>,
+    own: Result<Shift<P>, CrewFault>,
     mut shifts: Vec<Shift<P>>,
-) -> Vec<Shift<P>>
-    requires room { vec_len shifts + vec_len handles ≤ vec_capacity shifts }
-    requires promised { All (λ handle. handle.promise ≡ crew) handles.items }
+    count: usize,
+) -> Result<Vec<Shift<P>>, RunFault<P>>
+    requires count { vec_len shifts < count }
+    requires room { vec_len shifts < vec_capacity shifts }
+    requires own { IfOk own (IsHandedBy crew P.held P.failures) }
     requires kept { All (IsHandedBy crew P.held P.failures) shifts.items }
-    ensures count { vec_len result ≡ vec_len shifts + vec_len handles.entry }
-    ensures kept { All (IsHandedBy crew.entry P.held P.failures) result.items }
+    ensures count { IfOk result (λ all. vec_len all ≡ count) }
+    ensures kept { IfOk result (λ all.
+        All (IsHandedBy crew.entry P.held P.failures) all.items) }
+    ensures failed { IfErr result (IsRunFault P.failures) }
 {
-    for handle in handles {
-        shifts.push_reserved(handle.join(crew.site.rt));
+    let mut fault = CrewFault::Thread;
+    match own {
+        Ok(shift) => shifts.push_reserved(shift),
+        Err(refused) => fault = refused,
     }
-    shifts
+    let shifts = failed_first(shifts)?;
+    if shifts.len() < count {
+        return Err(RunFault::Crew(fault));
+    }
+    Ok(shifts)
 }
 
 /// The first of what workers read by that has met a failed read, or else all that they hand back.

@@ -17,6 +17,7 @@ mod rooms;
 mod settings;
 mod target_order;
 mod targets;
+mod threads;
 mod while_read;
 mod worker;
 

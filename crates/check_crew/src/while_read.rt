@@ -1,7 +1,7 @@
 //! A run over a bundle that is read once: it is judged while it is read.
 
 ghost use Rattle.std.specs.Prelude.{◌≡◌, ◌<◌, ◌≤◌, ◌^◌, ◌-◌, [], None, All, IfOk, IfErr, OnOk};
-ghost use Rattle.std.specs.Prelude.{get_or, replicate, ℕ, List, Option, vec_len, vec_capacity};
+ghost use Rattle.std.specs.Prelude.{get_or, replicate, ℕ, List, Option, vec_len};
 ghost use Rattle.std.specs.Prelude.{true};
 ghost use Rattle.case_core.specs.Labelled.{IsBehindFront};
 ghost use Rattle.case_core.specs.Sections.{IsCaseOf};
@@ -11,7 +11,7 @@ ghost use Rattle.board_hall.specs.Halls.{hall_of, shared_of, IsNewPass};
 ghost use Rattle.proof_folder.specs.Given.{IsJudgedAs};
 ghost use Rattle.check_crew.specs.WhileRead.{IsAllRead, IsReadFault, IsReadRefused};
 ghost use Rattle.check_crew.specs.WhileRead.{bundle_behind, read_fault};
-ghost use Rattle.check_crew.specs.Inner.WhileRead.{AreMarksBut, IsFree, IsReadBy};
+ghost use Rattle.check_crew.specs.Inner.WhileRead.{AreMarksBut, IsHelper, IsReadBy};
 ghost use Rattle.check_crew.specs.Inner.WhileRead.{IsReadOrNot, IsReader, IsSite};
 
 use crate::fault::{CrewFault, ReadFault};
@@ -21,6 +21,7 @@ use crate::handed::{HandedProof, NamesCase};
 use crate::reader::{Kept, Reader, ReadingSite, post_read};
 use crate::rooms::Rooms;
 use crate::settings::Settings;
+use crate::threads::work_beside;
 use board_hall::{Hall, Pass};
 use byte_flow::Stream;
 use case_core::{Case, Examiner, LabelledText};
@@ -29,15 +30,15 @@ use mark_board::Boards;
 use std::alloc::{AllocError, Global};
 use std::marker::Brand;
 use std::sync::Wait;
-use std::thread;
-use std::thread::{JoinHandle, Scope, Threads};
+use std::thread::{Promise, Threads};
 
 /// So many bytes of proofs others may have at a time, for each worker of the run.
 const HANDED: usize = 5 << 20;
 
 /// A worker that judges what is handed to it.
 #[derive(Drop)]
-struct Helper<'c, J: NamesCase> {
+struct Helper<'a, 'c, R, G, J: NamesCase> {
+    site: ReadingSite<'a, 'c, R, G>,
     worker: u32,
     pass: Pass,
     proofs: Receiver<HandedProof<J>>,
@@ -138,17 +139,16 @@ fn take_back<T>(_source: &mut T)
 /// Judges a proof that was handed to it, and hands back what is found by it. An error is a refused
 /// growth.
 fn judge_next<'c, R: Wait, G: Gate, J: NamesCase>(
-    site: ReadingSite<'_, 'c, R, G>,
-    helper: &mut Helper<'c, J>,
+    helper: &mut Helper<'_, 'c, R, G, J>,
     examiner: &mut Examiner<'c>,
     proof: HandedProof<J>,
 ) -> Result<(), AllocError>
-    requires site { IsSite J.case site }
-    requires free { IsFree site helper.old.pass }
+    requires helper { IsHelper J.case helper.old }
     requires examiner { examiner.old ≡ J.case }
-    ensures free { IsFree site.entry helper.new.pass }
+    ensures helper { IsHelper J.case helper.new }
     ensures examiner { examiner.new ≡ examiner.old }
 {
+    let site = helper.site;
     site.gate.before(helper.worker, proof.target());
     let found = judge_handed(site.alloc, examiner, proof)?;
     let read = found.read();
@@ -160,21 +160,30 @@ fn judge_next<'c, R: Wait, G: Gate, J: NamesCase>(
 }
 
 /// Judges what is handed to it until no more comes. An error is a refused growth.
-fn help<'c, R: Wait, G: Gate, J: NamesCase>(
-    site: ReadingSite<'_, 'c, R, G>,
-    mut helper: Helper<'c, J>,
-) -> Result<(), AllocError>
-    requires site { IsSite J.case site }
-    requires free { IsFree site helper.pass }
+fn help<R: Wait, G: Gate, J: NamesCase>(helper: Helper<'_, '_, R, G, J>) -> Result<(), AllocError>
+    requires { IsHelper J.case helper }
 {
-    let Ok(first) = helper.proofs.recv(site.rt) else {
+    let mut helper = helper;
+    let Ok(first) = helper.proofs.recv(helper.site.rt) else {
         return Ok(());
     };
-    let mut examiner = Examiner::over(site.alloc, site.case)?;
+    let mut examiner = Examiner::over(helper.site.alloc, helper.site.case)?;
+    help_from(&mut helper, &mut examiner, first)
+}
+
+/// Judges this proof, and what is handed to it behind it.
+fn help_from<'c, R: Wait, G: Gate, J: NamesCase>(
+    helper: &mut Helper<'_, 'c, R, G, J>,
+    examiner: &mut Examiner<'c>,
+    first: HandedProof<J>,
+) -> Result<(), AllocError>
+    requires helper { IsHelper J.case helper.old }
+    requires examiner { examiner.old ≡ J.case }
+{
     let mut proof = first;
-    for _ in site.rt.forever() {
-        judge_next(site, &mut helper, &mut examiner, proof)?;
-        let Ok(following) = helper.proofs.recv(site.rt) else {
+    for _ in helper.site.rt.forever() {
+        judge_next(helper, examiner, proof)?;
+        let Ok(following) = helper.proofs.recv(helper.site.rt) else {
             return Ok(());
         };
         proof = following;
@@ -182,86 +191,45 @@ fn help<'c, R: Wait, G: Gate, J: NamesCase>(
     unreachable!()
 }
 
-/// Starts each helper, until the start of one is refused. It asks for room for their handles.
-fn start<'s, 'e: 's, 'c: 'e, R, G, J>(
-    scope: &'s Scope<'s, &'e ()>,
-    site: ReadingSite<'e, 'c, R, G>,
-    helpers: Vec<Helper<'c, J>>,
-    mut handles: Vec<JoinHandle<Result<(), AllocError>>>,
-) -> Vec<JoinHandle<Result<(), AllocError>>>
-where
-    R: Wait + Sync,
-    G: Gate + Sync,
-    J: NamesCase + Send + Sync + 'e,
-    requires site { IsSite J.case site }
-    requires helpers { All (λ helper. IsFree site helper.pass) helpers.items }
-    requires room { (vec_len handles ≡ 0) × (vec_len helpers ≤ vec_capacity handles) }
-{
-    for helper in helpers {
-        let Ok(handle) = scope.spawn(
-            move || -> Result<(), AllocError>
-                requires site { IsSite J.case site }
-                requires free { IsFree site helper.pass }
-            { help(site, helper) },
-        ) else {
-            break;
-        };
-        handles.push_reserved(handle);
-    }
-    handles
+/// Nothing is promised of what a helper hands back.
+#[derive(Clone, Copy)]
+struct Unpromised;
+
+impl Promise<Result<(), AllocError>> for Unpromised {
+    ghost use Rattle.std.specs.Prelude.{⊤};
+
+    ghost kept_by = { λ _ _. ⊤ };
 }
 
-/// Joins all helpers; answers whether each of them ended well.
-fn join_all<R: Threads>(rt: &R, handles: Vec<JoinHandle<Result<(), AllocError>>>) -> bool {
-    let mut is_well = true;
-    for handle in handles {
-        if handle.join(rt).is_err() {
-            is_well = false;
-        }
+/// Has the reader read, or, for a fault of the crew, hands back what was lent and nothing read.
+fn read_or_not<'c, R, G, J, L>(
+    reader: Reader<'_, 'c, R, G, J>,
+    text: LabelledText,
+    lent: L,
+    fault: Option<CrewFault>,
+) -> ReadBundle<'c, J, L>
+where
+    R: Wait,
+    G: Gate,
+    J: NamesCase,
+    L: LendsSource,
+    requires reader { IsReader J.case reader }
+    requires ready { text.ready ≡ [] }
+    requires count { L.failures lent < 2 ^ 64 - 1 }
+    ensures { IsReadOrNot L.gives L.failures L.is_back reader.entry.kept.boards
+        reader.entry.kept.given.items text lent result }
+{
+    match fault {
+        Some(fault) => nothing_read(reader, lent, fault),
+        None => lent.read_by(reader, text),
     }
-    is_well
 }
 
 /// Starts the helpers, has the reader read, and joins all that were started; answers whether each
-/// of them ended well, too.
-fn start_and_read<'s, 'e: 's, 'c: 'e, R, G, J, L>(
-    scope: &'s Scope<'s, &'e ()>,
-    site: ReadingSite<'e, 'c, R, G>,
-    helpers: Vec<Helper<'c, J>>,
-    reader: Reader<'e, 'c, R, G, J>,
-    text: LabelledText,
-    lent: L,
-) -> (ReadBundle<'c, J, L>, bool)
-where
-    R: Threads + Wait + Sync,
-    G: Gate + Sync,
-    J: NamesCase + Send + Sync + 'e,
-    L: LendsSource,
-    requires site { IsSite J.case site }
-    requires helpers { All (λ helper. IsFree site helper.pass) helpers.items }
-    requires reader { IsReader J.case reader }
-    requires ready { text.ready ≡ [] }
-    requires count { L.failures lent < 2 ^ 64 - 1 }
-    ensures { IsReadOrNot L.gives L.failures L.is_back reader.entry.kept.boards
-        reader.entry.kept.given.items text lent result.0 }
-{
-    let count = helpers.len();
-    let Ok(handles) = Vec::with_capacity(site.alloc, count) else {
-        return (nothing_read(reader, lent, CrewFault::Memory), false);
-    };
-    let handles = start(scope, site, helpers, handles);
-    let read = if handles.len() < count {
-        nothing_read(reader, lent, CrewFault::Thread)
-    } else {
-        lent.read_by(reader, text)
-    };
-    (read, join_all(site.rt, handles))
-}
-
-/// The same in a scope of its own.
+/// of them ended well, too. Where the start of one is refused nothing is read.
 fn read_with<'e, 'c: 'e, R, G, J, L>(
     site: ReadingSite<'e, 'c, R, G>,
-    helpers: Vec<Helper<'c, J>>,
+    helpers: Vec<Helper<'e, 'c, R, G, J>>,
     reader: Reader<'e, 'c, R, G, J>,
     text: LabelledText,
     lent: L,
@@ -271,27 +239,38 @@ where
     G: Gate + Sync,
     J: NamesCase + Send + Sync + 'e,
     L: LendsSource,
-    requires site { IsSite J.case site }
-    requires helpers { All (λ helper. IsFree site helper.pass) helpers.items }
+    requires helpers { All (IsHelper J.case) helpers.items }
     requires reader { IsReader J.case reader }
     requires ready { text.ready ≡ [] }
     requires count { L.failures lent < 2 ^ 64 - 1 }
     ensures { IsReadOrNot L.gives L.failures L.is_back reader.entry.kept.boards
         reader.entry.kept.given.items text lent result.0 }
 {
-    thread::scope(
-        thread::scope_env(),
-        site.rt,
-        move |scope| -> (ReadBundle<J, L>, bool)
-            requires site { IsSite J.case site }
-            requires helpers { All (λ helper. IsFree site helper.pass) helpers.items }
-            requires reader { IsReader J.case reader }
-            requires ready { text.ready ≡ [] }
-            requires count { L.failures lent < 2 ^ 64 - 1 }
-            ensures { IsReadOrNot L.gives L.failures L.is_back reader.entry.kept.boards
-                reader.entry.kept.given.items text lent result.0 }
-        { start_and_read(scope, site, helpers, reader, text, lent) },
-    )
+    let Ok(ends) = Vec::with_capacity(site.alloc, helpers.len()) else {
+        return (nothing_read(reader, lent, CrewFault::Memory), false);
+    };
+    let duty = |helper: Helper<R, G, J>| -> Result<(), AllocError>
+        requires { IsHelper J.case helper }
+    { help(helper) };
+    let own = move |fault: Option<CrewFault>| -> ReadBundle<J, L>
+        requires reader { IsReader J.case reader }
+        requires ready { text.ready ≡ [] }
+        requires count { L.failures lent < 2 ^ 64 - 1 }
+        ensures { IsReadOrNot L.gives L.failures L.is_back reader.entry.kept.boards
+            reader.entry.kept.given.items text lent result }
+    { read_or_not(reader, text, lent, fault) };
+    let (read, ends) = work_beside(site.rt, site.alloc, Unpromised, &duty, helpers, own, ends);
+    (read, are_well(&ends))
+}
+
+/// Whether each of them ended well.
+fn are_well(ends: &[Result<(), AllocError>]) -> bool {
+    for end in ends {
+        if end.is_err() {
+            return false;
+        }
+    }
+    true
 }
 
 /// The boards of a bundle that was read to its end, where nobody has a proof any more.
@@ -320,7 +299,7 @@ fn open<'a, 'c, R, G, J: NamesCase>(
     site: ReadingSite<'a, 'c, R, G>,
     cut: u32,
     mut passes: Vec<Pass>,
-) -> Result<(Reader<'a, 'c, R, G, J>, Vec<Helper<'c, J>>), AllocError>
+) -> Result<(Reader<'a, 'c, R, G, J>, Vec<Helper<'a, 'c, R, G, J>>), AllocError>
     requires site { IsSite J.case site }
     requires cut { cut ≤ 6 }
     requires count { (0 < vec_len passes) × (vec_len passes ≤ 32) }
@@ -331,16 +310,14 @@ fn open<'a, 'c, R, G, J: NamesCase>(
         ≡ replicate (size J.case.tree) Open) }
     ensures given { IfOk result (λ opened. (place : ℕ)
         → get_or opened.0.kept.given.items place None ≡ None) }
-    ensures helpers { IfOk result
-        (λ opened. All (λ helper. IsFree site.entry helper.pass) opened.1.items) }
+    ensures helpers { IfOk result (λ opened. All (IsHelper J.case) opened.1.items) }
 {
     let count = passes.len();
     let (to_others, not_taken) = bounded(site.alloc, 4 * count)?;
-    let (to_reader, found) = found_channel(site.alloc, 8 * count)?;
     let Some(pass) = passes.pop() else {
         unreachable!()
     };
-    let helpers = helpers_of(site, passes, &not_taken, &to_reader)?;
+    let (helpers, found) = helpers_of(site, passes, &not_taken)?;
     let most = if count == 1 { 0 } else { HANDED * count };
     let kept = Kept {
         boards: Boards::new(site.alloc, site.case, cut)?,
@@ -360,32 +337,26 @@ fn open<'a, 'c, R, G, J: NamesCase>(
     Ok((reader, helpers))
 }
 
-/// A way to the reader for what others find, with room for so much of it.
-fn found_channel<'c, J: NamesCase>(
-    alloc: Global,
-    room: usize,
-) -> Result<(Sender<FoundProof<'c, J>>, Receiver<FoundProof<'c, J>>), AllocError> {
-    bounded(alloc, room)
-}
-
-/// A helper for each pass, by their numbers from 1.
-fn helpers_of<'a, 'b, 'c, R, G, J: NamesCase>(
-    site: ReadingSite<'a, 'b, R, G>,
+/// A helper for each pass, by their numbers from 1, and what comes from them: there is room for as
+/// much as they may have.
+fn helpers_of<'a, 'c, R, G, J: NamesCase>(
+    site: ReadingSite<'a, 'c, R, G>,
     passes: Vec<Pass>,
     proofs: &Receiver<HandedProof<J>>,
-    found: &Sender<FoundProof<'c, J>>,
-) -> Result<Vec<Helper<'c, J>>, AllocError>
+) -> Result<(Vec<Helper<'a, 'c, R, G, J>>, Receiver<FoundProof<'c, J>>), AllocError>
     requires site { IsSite J.case site }
     requires few { vec_len passes ≤ 32 }
     requires passes { All (IsNewPass (shared_of site.core.now)) passes.items }
-    ensures { IfOk result (λ helpers. All (λ helper. IsFree site.entry helper.pass) helpers.items) }
+    ensures { IfOk result (λ made. All (IsHelper J.case) made.0.items) }
 {
+    let (to_reader, found) = bounded(site.alloc, 8 * (passes.len() + 1))?;
     let mut helpers = Vec::with_capacity(site.alloc, passes.len())?;
     let mut worker = 1;
     for pass in passes {
         let proofs = proofs.clone()?;
-        let found = found.clone()?;
+        let found = to_reader.clone()?;
         helpers.push_reserved(Helper {
+            site,
             worker,
             pass,
             proofs,
@@ -393,7 +364,7 @@ fn helpers_of<'a, 'b, 'c, R, G, J: NamesCase>(
         });
         worker += 1;
     }
-    Ok(helpers)
+    Ok((helpers, found))
 }
 
 /// So many places without a proof.

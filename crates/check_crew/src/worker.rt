@@ -14,6 +14,7 @@ ghost use Rattle.check_crew.specs.Examined.{IsExamined};
 ghost use Rattle.check_crew.specs.Seen.{HasSeenMark, HasSeenSection};
 ghost use Rattle.check_crew.specs.Inner.Crew.{IsReady, IsJobOf, IsShiftOf, HasTaken, HasSeenTurn};
 
+use crate::fault::CrewFault;
 use crate::gate::{Found, Gate};
 use crate::targets::{ExaminedTarget, end_targets, examine_targets};
 use board_hall::{Core, Pass};
@@ -26,9 +27,11 @@ use std::alloc::{AllocError, Global};
 use std::sync::Wait;
 use std::sync::atomic::AtomicU64;
 
-/// What a worker begins with: its number, its passes, and what it reads proofs of targets by.
+/// What a worker begins with: what all share, its number, its passes, and what it reads proofs of
+/// targets by.
 #[derive(Drop)]
-pub(crate) struct Job<P> {
+pub(crate) struct Job<'a, R, G, P> {
+    pub(crate) site: Site<'a, R, G>,
     pub(crate) worker: u32,
     pub(crate) pass: Pass,
     pub(crate) job_pass: JobPass,
@@ -193,12 +196,12 @@ pub(crate) fn tell<G: Gate>(
 }
 
 /// Does a worker's part of the sections, and then its part of the targets.
-pub(crate) fn work<R: Wait, G: Gate, P: TargetProofs>(site: Site<'_, R, G>, job: Job<P>) -> Shift<P>
-    requires ready { IsReady site }
-    requires job { IsJobOf site P.failures job }
-    ensures { IsShiftOf site.entry (P.held job.proofs) P.failures result }
+pub(crate) fn work<R: Wait, G: Gate, P: TargetProofs>(job: Job<'_, R, G, P>) -> Shift<P>
+    requires { IsJobOf P.failures job }
+    ensures { IsShiftOf job.entry.site (P.held job.entry.proofs) P.failures result }
 {
     let Job {
+        site,
         worker,
         mut pass,
         mut job_pass,
@@ -222,6 +225,25 @@ pub(crate) fn work<R: Wait, G: Gate, P: TargetProofs>(site: Site<'_, R, G>, job:
         proofs,
         examined,
         fault,
+    }
+}
+
+/// The same, but for a fault: not all others could be started. Then it does nothing, and nobody
+/// takes a target any more.
+pub(crate) fn work_or_leave<R: Wait, G: Gate, P: TargetProofs + Drop>(
+    job: Job<'_, R, G, P>,
+    fault: Option<CrewFault>,
+) -> Result<Shift<P>, CrewFault>
+    requires { IsJobOf P.failures job }
+    ensures { IfOk result
+        (IsShiftOf job.entry.site (P.held job.entry.proofs) P.failures) }
+{
+    match fault {
+        Some(fault) => {
+            end_targets(job.site);
+            Err(fault)
+        }
+        None => Ok(work(job)),
     }
 }
 

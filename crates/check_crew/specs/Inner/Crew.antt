@@ -38,16 +38,17 @@ pub record IsReady {R G : Type 0} (site : Site R G) : Type 0 where
   pub elsewhere : 0 < length site.targets.now → (core_of site.core.now).proofs ≡ AnyElsewhere
 
 -- the passes of a worker have done nothing yet, and no call of what it reads by has failed
-pub record IsJobOf {R G P : Type 0} (site : Site R G) (failures : P → ℕ) (job : Job P)
-    : Type 0 where
-  pub pass : IsNewPass (shared_of site.core.now) job.pass
-  pub job_pass : job.job_pass ≡ new_pass site.jobs.now
+pub record IsJobOf {R G P : Type 0} (failures : P → ℕ) (job : Job R G P) : Type 0 where
+  pub ready : IsReady job.site
+  pub pass : IsNewPass (shared_of job.site.core.now) job.pass
+  pub job_pass : job.job_pass ≡ new_pass job.site.jobs.now
   pub fresh : failures job.proofs ≡ 0
 
--- it reads by one of the crew's readers
-pub record IsDealtBy {R G P : Type 0} (crew : Crew R G P) (failures : P → ℕ) (job : Job P)
+-- it is at the crew's site, and reads by one of the crew's readers
+pub record IsDealtBy {R G P : Type 0} (crew : Crew R G P) (failures : P → ℕ) (job : Job R G P)
     : Type 0 where
-  pub is : IsJobOf crew.site failures job
+  pub is : IsJobOf failures job
+  pub site : job.site ≡ crew.site
   pub among : Contains crew.readers.now.value.items job.proofs
 
 -- A worker's passes owe nothing. Where nothing stopped it, it went on until no job was left, and

@@ -24,6 +24,7 @@ use Rattle.check_crew.specs.WhileRead.{IsReadFault, IsReadRefused, bundle_behind
 use Rattle.check_crew.specs.declared.fault.CrewFault.{CrewFault}
 use Rattle.check_crew.specs.declared.reader.Reader.{Reader}
 use Rattle.check_crew.specs.declared.reader.ReadingSite.{ReadingSite}
+use Rattle.check_crew.specs.declared.while_read.Helper.{Helper}
 use Rattle.check_crew.specs.declared.while_read.ReadBundle.{ReadBundle}
 
 -- ---- workers
@@ -41,6 +42,11 @@ pub record IsSite {R G : Type 0} (case : CaseOf) (site : ReadingSite R G) : Type
 pub record IsFree {R G : Type 0} (site : ReadingSite R G) (pass : Pass) : Type 0 where
   pub own : IsPassOf (shared_of site.core.now) pass
   pub owes : (view_of pass).owes ≡ None
+
+-- a helper of a run on this case
+pub record IsHelper {R G J : Type 0} (case : CaseOf) (helper : Helper R G J) : Type 0 where
+  pub site : IsSite case helper.site
+  pub free : IsFree helper.site helper.pass
 
 -- a reader of this case
 pub record IsReader {R G J : Type 0} (case : CaseOf) (reader : Reader R G J) : Type 0 where

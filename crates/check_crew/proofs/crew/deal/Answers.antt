@@ -17,7 +17,7 @@ loop-one-init g c =
       worker = search rules;
       passes = c.requires.passes;
       job_passes = c.requires.job_passes;
-      fresh = search rules;
+      fresh = rw c.into_iter-one-iterator.ensures.into_iter_gives.0 c.requires.fresh;
       among = rw c.into_iter-one-iterator.ensures.into_iter_gives.0 all;
       jobs = rw c.in_ok-jobs.ensures.items (All-nil _);
     }
@@ -45,10 +45,12 @@ loop-one-preserved g c =
           rw c.push_reserved.ensures.items
           (All-push (IsDealtBy crew g.P.TargetProofs.failures) _ _ was.jobs (record {
             is = record {
+              ready = c.requires.ready;
               pass = pass.1;
               job_pass = job_pass.1;
               fresh = (rw next.0 at was.fresh) 0 c.in-Some.one (omega arith);
             };
+            site = search rules;
             among = (rw next.0 at was.among) 0 c.in-Some.one (omega arith);
           }));
     }

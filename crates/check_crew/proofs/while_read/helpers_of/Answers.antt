@@ -1,7 +1,7 @@
 use Rattle.std.proofs.Common.{arith, rules}
 use Rattle.std.proofs.lemmas.List.Elements.{All-nil, All-push, All-rest}
 use Rattle.board_hall.specs.Halls.{shared_of, IsNewPass}
-use Rattle.check_crew.specs.Inner.WhileRead.{IsFree}
+use Rattle.check_crew.specs.Inner.WhileRead.{IsHelper}
 use Rattle.check_crew.proofs.WhileReadRun.{new_free}
 use Rattle.check_crew.proofs.while_read.helpers_of.Goals as goal
 
@@ -24,6 +24,8 @@ loop-pass-preserved g c =
       rest = All-rest (IsNewPass (shared_of c.args.site.core.now)) _ _ _ next.0 was.rest;
       free =
           rw c.push_reserved.ensures.items
-          (All-push (λ helper. IsFree c.args.site helper.pass) _ _ was.free
-          (new_free c.args.site c.in-Some.pass new));
+          (All-push (IsHelper g.J.NamesCase.case) _ _ was.free (record {
+            site = c.requires.site;
+            free = new_free c.args.site c.in-Some.pass new;
+          }));
     }

@@ -1,7 +1,7 @@
 use Rattle.std.proofs.Common.{◌≡◌, ◌+◌, ◌≤◌, All, vec_len, vec_capacity}
 use Rattle.std.specs.Vec.Iter.{into_iter_items, into_iter_len}
 use Rattle.board_hall.specs.Halls.{shared_of, IsNewPass}
-use Rattle.check_crew.specs.Inner.WhileRead.{IsFree}
+use Rattle.check_crew.specs.Inner.WhileRead.{IsHelper}
 use Rattle.check_crew.proofs.while_read.helpers_of.Given as goal
 
 abbrev pub invariant-loop-pass : goal.invariant-loop-pass
@@ -10,5 +10,5 @@ invariant-loop-pass g l = record {
   room : vec_len l.fn.passes ≤ vec_capacity l.helpers;
   worker : l.worker ≡ vec_len l.helpers + 1;
   rest : All (IsNewPass (shared_of l.site.core.now)) (into_iter_items l.pass-iterator);
-  free : All (λ helper. IsFree l.site helper.pass) l.helpers.items;
+  free : All (IsHelper g.J.NamesCase.case) l.helpers.items;
 }
