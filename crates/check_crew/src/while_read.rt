@@ -12,7 +12,7 @@ ghost use Rattle.proof_folder.specs.Given.{IsJudgedAs};
 ghost use Rattle.check_crew.specs.WhileRead.{IsAllRead, IsReadFault, IsReadRefused};
 ghost use Rattle.check_crew.specs.WhileRead.{bundle_behind, read_fault};
 ghost use Rattle.check_crew.specs.Inner.WhileRead.{AreMarksBut, IsHelper, IsReadBy};
-ghost use Rattle.check_crew.specs.Inner.WhileRead.{IsReadOrNot, IsReader, IsSite};
+ghost use Rattle.check_crew.specs.Inner.WhileRead.{IsReadOn, IsReadOrNot, IsReader, IsSite};
 
 use crate::fault::{CrewFault, ReadFault};
 use crate::found::{FoundProof, judge_handed};
@@ -319,13 +319,7 @@ fn open<'a, 'c, R, G, J: NamesCase>(
     };
     let (helpers, found) = helpers_of(site, passes, &not_taken)?;
     let most = if count == 1 { 0 } else { HANDED * count };
-    let kept = Kept {
-        boards: Boards::new(site.alloc, site.case, cut)?,
-        given: no_proofs(site.alloc, 8 * count)?,
-        bytes: 0,
-        found,
-        rooms: Rooms::new(site.alloc, 8 * count, most)?,
-    };
+    let kept = nothing_kept(site, cut, 8 * count, most, found)?;
     let reader = Reader {
         site,
         kept,
@@ -335,6 +329,31 @@ fn open<'a, 'c, R, G, J: NamesCase>(
         not_taken,
     };
     Ok((reader, helpers))
+}
+
+/// What a reader keeps before it has read: nothing is found, and nobody has a proof, of which there
+/// may be so many, and so many bytes.
+fn nothing_kept<'c, R, G, J: NamesCase>(
+    site: ReadingSite<'_, 'c, R, G>,
+    cut: u32,
+    places: usize,
+    most: usize,
+    found: Receiver<FoundProof<'c, J>>,
+) -> Result<Kept<'c, J>, AllocError>
+    requires cut { cut ≤ 6 }
+    ensures boards { IfOk result (λ kept. (kept.boards.case ≡ site.entry.case.now)
+        × (kept.boards.cut ≡ cut)
+        × (kept.boards.marks ≡ replicate (size site.entry.case.now.tree) Open)) }
+    ensures given { IfOk result (λ kept. (place : ℕ)
+        → get_or kept.given.items place None ≡ None) }
+{
+    Ok(Kept {
+        boards: Boards::new(site.alloc, site.case, cut)?,
+        given: no_proofs(site.alloc, places)?,
+        bytes: 0,
+        found,
+        rooms: Rooms::new(site.alloc, places, most)?,
+    })
 }
 
 /// A helper for each pass, by their numbers from 1, and what comes from them: there is room for as
@@ -478,6 +497,42 @@ where
         gate,
     };
     let (reader, helpers) = open::<R, G, J>(site, settings.cut(), passes)?;
+    read_opened(site, helpers, reader, text, source)
+}
+
+/// The same of a hall with its reader and helpers, who have begun nothing yet.
+fn read_opened<'e, 'c: 'e, R, G, J, S>(
+    site: ReadingSite<'e, 'c, R, G>,
+    helpers: Vec<Helper<'e, 'c, R, G, J>>,
+    reader: Reader<'e, 'c, R, G, J>,
+    text: LabelledText,
+    source: &mut S,
+) -> Result<Boards<'c>, ReadFault>
+where
+    R: Threads + Wait + Sync,
+    G: Gate + Sync,
+    J: NamesCase + Send + Sync + 'e,
+    S: Stream,
+    requires helpers { All (IsHelper J.case) helpers.items }
+    requires reader { IsReader J.case reader }
+    requires ready { text.ready ≡ [] }
+    requires count { S.failures source.old < 2 ^ 64 - 1 }
+    ensures same { IfOk result (λ boards. (boards.case ≡ reader.entry.kept.boards.case)
+        × (boards.cut ≡ reader.entry.kept.boards.cut)) }
+    ensures boards { (icnf : List ℕ)
+        → IsReadOn reader.entry.kept.boards reader.entry.kept.given.items icnf
+        (bundle_behind icnf text (S.gives source.old)) (S.gives source.old) text
+        → IfOk result (λ boards. IsAllRead boards icnf
+        (bundle_behind icnf text (S.gives source.old))) }
+    ensures refused { (icnf : List ℕ)
+        → IsReadOn reader.entry.kept.boards reader.entry.kept.given.items icnf
+        (bundle_behind icnf text (S.gives source.old)) (S.gives source.old) text
+        → IfErr result (λ fault. IsReadRefused icnf
+        (bundle_behind icnf text (S.gives source.old)) fault) }
+    ensures ok { OnOk result (S.failures source.new ≡ S.failures source.old) }
+    ensures err { IfErr result
+        (λ fault. IsReadFault (S.failures source.old) (S.failures source.new) fault) }
+{
     let (read, is_well) = read_with(site, helpers, reader, text, Lent { source });
     let ReadBundle { end, kept, lent } = read;
     let Lent { source } = lent;
@@ -486,5 +541,5 @@ where
     if !is_well {
         return Err(ReadFault::from(AllocError));
     }
-    Ok(end_read(rt, kept)?)
+    Ok(end_read(site.rt, kept)?)
 }

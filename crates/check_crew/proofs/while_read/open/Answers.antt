@@ -12,5 +12,5 @@ returns-clause-reader g c =
           new_free site c.in-Some.pass
           (All-pop (IsNewPass (shared_of site.core.now)) _ _ (Some c.in-Some.pass)
           c.in-Some.ensures.items c.requires.passes).1;
-      boards = c.in_ok-new.ensures.case.0 ∙ c.requires.site.of_case;
+      boards = c.in_ok-kept.ensures.boards.0 ∙ c.requires.site.of_case;
     }
