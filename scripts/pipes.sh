@@ -58,7 +58,11 @@ fed() {
     feed=
 }
 by_pipe() { fed "$@" --formula formula.cnf --proof -; }
-# (what waits for the program at the named pipe goes on when the program has ended)
+# (a writer that still waits at a pipe when the program has ended is ended: no reader comes)
+end_writers() {
+    kill "$@" 2> /dev/null
+    wait "$@"
+}
 named() {
     text=$1
     shift
@@ -66,8 +70,7 @@ named() {
     mkfifo "$here/run/text.pipe"
     { "$writer" "$text" > "$here/run/text.pipe"; } 2> /dev/null &
     run "$here/none" "$@"
-    : <> "$here/run/text.pipe"
-    wait $!
+    end_writers $!
 }
 by_fifo() { named "$@" --formula formula.cnf --proof text.pipe; }
 
@@ -142,8 +145,7 @@ mkfifo "$here/run/formula.pipe"
 cat "$here/formula" > "$here/run/formula.pipe" &
 judged refuted
 fed "$here/proof" --formula formula.pipe --proof -
-: <> "$here/run/formula.pipe"
-wait $!
+end_writers $!
 compares "a formula by a named pipe and its proof by a pipe"
 rm "$here/run/formula.pipe"
 
@@ -890,7 +892,7 @@ writes() { cat "$1" > "$2"; }
 # (what the program reads of it is behind the moment in which the pipe's name has gone)
 takes_away() { { rm "$2" && cat "$1"; } > "$2"; }
 # A run on that folder, with what is wanted made before, by one worker and by four: the claim. A writer
-# of each pipe is there before the program, and goes on when it has ended, also if nobody opened the pipe.
+# of each pipe is there before the program, and is ended with it, also if nobody opened the pipe.
 pipes=writes
 in_folder() {
     for workers in 1 4; do
@@ -904,10 +906,7 @@ in_folder() {
             writers="$writers $!"
         done
         run "$here/none" --workers "$workers" --record a.record --map a.svg --proofs proofs case.icnf
-        for pipe in "$here"/run/proofs/*.lrat; do
-            [ ! -p "$pipe" ] || : <> "$pipe"
-        done
-        wait $writers
+        end_writers $writers
         compares "$1, $workers workers"
         if [ "$(cat "$here/wanted.status")" -eq 5 ]; then
             [ ! -e "$here/run/a.record" ] && [ ! -e "$here/run/a.svg" ]
