@@ -61,7 +61,7 @@ by_pipe() { fed "$@" --formula formula.cnf --proof -; }
 # (a writer that still waits at a pipe when the program has ended is ended: no reader comes)
 end_writers() {
     kill "$@" 2> /dev/null
-    wait "$@"
+    wait "$@" 2> /dev/null
 }
 named() {
     text=$1
