@@ -16,7 +16,7 @@ use Rattle.byte_flow.specs.Device.{IsDeviceFault}
 use Rattle.check_crew.specs.declared.crew.Crew.{Crew}
 use Rattle.check_crew.specs.declared.worker.Job.{Job}
 use Rattle.check_crew.specs.declared.worker.Shift.{Shift}
-use Rattle.check_crew.specs.declared.worker.Site.{Site}
+use Rattle.check_crew.specs.declared.worker.Turns.{Turns}
 use Rattle.check_crew.specs.declared.targets.ExaminedTarget.{ExaminedTarget}
 use Rattle.check_crew.specs.Inner.Apart.{IsListOf}
 use Rattle.check_crew.specs.Inner.Crew.{HasSeenTurn, IsDealtBy, IsHandedBy, IsShiftOf}
@@ -65,16 +65,18 @@ list_of hall case held known pass examined of own each same = record {
 -- what a worker hands back for a job that was dealt
 pub handed_by : {R G P : Type 0} (crew : Crew R G P) (held : P → Known) (failures : P → ℕ)
     (job : Job R G P) (shift : Shift P) → IsDealtBy crew failures job
-    → IsShiftOf job.site (held job.proofs) failures shift → IsHandedBy crew held failures shift
+    → IsShiftOf job.turns (held job.proofs) failures shift → IsHandedBy crew held failures shift
 handed_by {R} {G} {P} crew held failures job shift dealt is = record {
   reader = job.proofs;
   among = dealt.among;
-  is = subst (λ (site : Site R G). IsShiftOf site (held job.proofs) failures shift) dealt.site is;
+  is =
+      subst (λ (turns : Turns R G). IsShiftOf turns (held job.proofs) failures shift) dealt.turns
+      is;
 }
 
 pub own_handed_by : {R G P E : Type 0} (crew : Crew R G P) (held : P → Known) (failures : P → ℕ)
     (job : Job R G P) (end : Result (Shift P) E) → IsDealtBy crew failures job
-    → IfOk end (IsShiftOf job.site (held job.proofs) failures)
+    → IfOk end (IsShiftOf job.turns (held job.proofs) failures)
     → IfOk end (IsHandedBy crew held failures)
 own_handed_by crew held failures job (Ok shift) dealt is =
     handed_by crew held failures job shift dealt is

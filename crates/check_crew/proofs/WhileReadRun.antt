@@ -13,11 +13,11 @@ use Rattle.check_crew.specs.Inner.WhileRead.{IsAllBut, IsFree, IsReadOn, IsReadO
 use Rattle.check_crew.specs.declared.fault.CrewFault.{CrewFault}
 use Rattle.check_crew.specs.declared.fault.CrewFault.TheVariants.{Memory, Thread}
 use Rattle.check_crew.specs.declared.fault.ReadFault.{ReadFault}
-use Rattle.check_crew.specs.declared.reader.ReadingSite.{ReadingSite}
+use Rattle.check_crew.specs.declared.site.Site.{Site}
 use Rattle.check_crew.specs.declared.while_read.ReadBundle.{ReadBundle}
 
 -- a new pass owes nothing
-pub new_free : {R G : Type 0} (site : ReadingSite R G) (pass : Pass)
+pub new_free : {R G : Type 0} (site : Site R G) (pass : Pass)
     → IsNewPass (shared_of site.core.now) pass → IsFree site pass
 new_free site pass new = record {
   own = (

@@ -19,9 +19,10 @@ use crate::gate::{Elsewhere, Gate};
 use crate::no_proofs::NoProofs;
 use crate::order::long_proofs_first;
 use crate::settings::Settings;
+use crate::site::Site;
 use crate::targets::{ExaminedTarget, end_targets};
 use crate::threads::work_beside;
-use crate::worker::{Job, Shift, Site, work, work_or_leave};
+use crate::worker::{Job, Shift, Turns, work, work_or_leave};
 use board_hall::{Core, Hall, Pass};
 use byte_flow::DeviceFault;
 use case_core::{Case, Target};
@@ -34,10 +35,10 @@ use std::sync::Wait;
 use std::sync::atomic::AtomicU64;
 use std::thread::{Promise, Threads};
 
-/// A site, and what its workers read proofs of targets by, as it was before they began. As a
+/// Turns, and what workers read proofs of targets by, as it was before they began. As a
 /// promise it says what each of them hands back.
 struct Crew<'a, R, G, P> {
-    site: Site<'a, R, G>,
+    turns: Turns<'a, R, G>,
     readers: &'a Snapshot<Vec<P>>,
 }
 
@@ -186,12 +187,15 @@ fn examine_all<R: Threads + Wait + Sync, G: Gate + Sync, P: TargetProofs + Send 
         case,
         core,
         gate,
+    };
+    let turns = Turns {
+        site,
         jobs: &jobs,
         order: &order,
         targets,
         next: &next,
     };
-    let handed = run_crew(site, passes, job_passes, proofs)?;
+    let handed = run_crew(turns, passes, job_passes, proofs)?;
     if !jobs.finish(rt, handed.job_passes) {
         unreachable!()
     }
@@ -241,24 +245,24 @@ impl Handed {
 /// Has a worker for each of `proofs`, and puts together what they hand back. A failed read stands
 /// before a refused start, and that before want of memory.
 fn run_crew<R: Threads + Wait + Sync, G: Gate + Sync, P: TargetProofs + Send + Drop>(
-    site: Site<'_, R, G>,
+    turns: Turns<'_, R, G>,
     passes: Vec<Pass>,
     job_passes: Vec<JobPass>,
     proofs: Vec<P>,
 ) -> Result<Handed, RunFault<P>>
-    requires ready { IsReady site }
+    requires ready { IsReady turns }
     requires count { (0 < vec_len proofs) × (vec_len proofs ≤ 32) }
     requires pairs { (vec_len passes ≡ vec_len proofs) × (vec_len job_passes ≡ vec_len proofs) }
-    requires passes { All (IsNewPass (shared_of site.core.now)) passes.items }
-    requires job_passes { All (λ pass. pass ≡ new_pass site.jobs.now) job_passes.items }
+    requires passes { All (IsNewPass (shared_of turns.site.core.now)) passes.items }
+    requires job_passes { All (λ pass. pass ≡ new_pass turns.jobs.now) job_passes.items }
     requires fresh { All (λ one. P.failures one ≡ 0) proofs.items }
     ensures handed { IfOk result
-        (IsHandedIn site.entry P.held proofs.items (vec_len proofs)) }
+        (IsHandedIn turns.entry P.held proofs.items (vec_len proofs)) }
     ensures failed { IfErr result (IsRunFault P.failures) }
 {
     let readers = Snapshot::of(&proofs);
     let crew = Crew {
-        site,
+        turns,
         readers: &readers,
     };
     let count = proofs.len();
@@ -276,17 +280,17 @@ fn deal<'a, R, G, P: TargetProofs + Drop>(
     mut job_passes: Vec<JobPass>,
     proofs: Vec<P>,
 ) -> Result<Vec<Job<'a, R, G, P>>, AllocError>
-    requires ready { IsReady crew.site }
+    requires ready { IsReady crew.turns }
     requires readers { crew.readers.now.value.items ≡ proofs.items }
     requires few { vec_len proofs ≤ 32 }
     requires pairs { (vec_len passes ≡ vec_len proofs) × (vec_len job_passes ≡ vec_len proofs) }
-    requires passes { All (IsNewPass (shared_of crew.site.core.now)) passes.items }
-    requires job_passes { All (λ pass. pass ≡ new_pass crew.site.jobs.now) job_passes.items }
+    requires passes { All (IsNewPass (shared_of crew.turns.site.core.now)) passes.items }
+    requires job_passes { All (λ pass. pass ≡ new_pass crew.turns.jobs.now) job_passes.items }
     requires fresh { All (λ one. P.failures one ≡ 0) proofs.items }
     ensures count { IfOk result (λ jobs. vec_len jobs ≡ vec_len proofs) }
     ensures jobs { IfOk result (λ jobs. All (IsDealtBy crew.entry P.failures) jobs.items) }
 {
-    let mut jobs = Vec::with_capacity(crew.site.alloc, proofs.len())?;
+    let mut jobs = Vec::with_capacity(crew.turns.site.alloc, proofs.len())?;
     let mut worker = proofs.len() as u32;
     for one in proofs {
         let Some(pass) = passes.pop() else {
@@ -297,7 +301,7 @@ fn deal<'a, R, G, P: TargetProofs + Drop>(
         };
         worker -= 1;
         jobs.push_reserved(Job {
-            site: crew.site,
+            turns: crew.turns,
             worker,
             pass,
             job_pass,
@@ -322,27 +326,35 @@ fn work_all<'a, R: Threads + Wait + Sync, G: Gate + Sync, P: TargetProofs + Send
     ensures kept { IfOk result (λ ran.
         All (IsHandedBy crew.entry P.held P.failures) ran.1.items) }
 {
-    let site = crew.site;
-    let shifts = Vec::with_capacity(site.alloc, jobs.len())?;
+    let turns = crew.turns;
+    let shifts = Vec::with_capacity(turns.site.alloc, jobs.len())?;
     let Some(job) = jobs.pop() else {
         unreachable!()
     };
     let duty = |job: Job<R, G, P>| -> Shift<P>
         requires { IsJobOf P.failures job }
-        ensures { IsShiftOf job.entry.site (P.held job.entry.proofs) P.failures result }
+        ensures { IsShiftOf job.entry.turns (P.held job.entry.proofs) P.failures result }
     { work(job) };
     let own = move |fault: Option<CrewFault>| -> Result<Shift<P>, CrewFault>
         requires { IsJobOf P.failures job }
-        ensures { IfOk result (IsShiftOf job.entry.site (P.held job.entry.proofs) P.failures) }
+        ensures { IfOk result (IsShiftOf job.entry.turns (P.held job.entry.proofs) P.failures) }
     { work_or_leave(job, fault) };
-    Ok(work_beside(site.rt, site.alloc, crew, &duty, jobs, own, shifts))
+    Ok(work_beside(
+        turns.site.rt,
+        turns.site.alloc,
+        crew,
+        &duty,
+        jobs,
+        own,
+        shifts,
+    ))
 }
 
 /// What all of so many workers hand back. A failed read stands before a refused start.
 fn all_handed<R, G, P: TargetProofs + Drop>(
     crew: Crew<'_, R, G, P>,
     own: Result<Shift<P>, CrewFault>,
-    mut shifts: Vec<Shift<P>>,
+    shifts: Vec<Shift<P>>,
     count: usize,
 ) -> Result<Vec<Shift<P>>, RunFault<P>>
     requires count { vec_len shifts < count }
@@ -354,16 +366,33 @@ fn all_handed<R, G, P: TargetProofs + Drop>(
         All (IsHandedBy crew.entry P.held P.failures) all.items) }
     ensures failed { IfErr result (IsRunFault P.failures) }
 {
-    let mut fault = CrewFault::Thread;
-    match own {
-        Ok(shift) => shifts.push_reserved(shift),
-        Err(refused) => fault = refused,
-    }
+    let (shifts, fault) = with_own(crew, own, shifts);
     let shifts = failed_first(shifts)?;
     if shifts.len() < count {
         return Err(RunFault::Crew(fault));
     }
     Ok(shifts)
+}
+
+/// What others hand back with what the calling thread does, and why fewer may have been started.
+fn with_own<R, G, P: TargetProofs + Drop>(
+    crew: Crew<'_, R, G, P>,
+    own: Result<Shift<P>, CrewFault>,
+    mut shifts: Vec<Shift<P>>,
+) -> (Vec<Shift<P>>, CrewFault)
+    requires room { vec_len shifts < vec_capacity shifts }
+    requires own { IfOk own (IsHandedBy crew P.held P.failures) }
+    requires kept { All (IsHandedBy crew P.held P.failures) shifts.items }
+    ensures count { vec_len result.0 ≤ vec_len shifts + 1 }
+    ensures kept { All (IsHandedBy crew.entry P.held P.failures) result.0.items }
+{
+    match own {
+        Ok(shift) => {
+            shifts.push_reserved(shift);
+            (shifts, CrewFault::Thread)
+        }
+        Err(fault) => (shifts, fault),
+    }
 }
 
 /// The first of what workers read by that has met a failed read, or else all that they hand back.
@@ -392,15 +421,15 @@ fn hand_in<R, G, P: TargetProofs + Drop>(
     crew: Crew<'_, R, G, P>,
     shifts: Vec<Shift<P>>,
 ) -> Result<Handed, AllocError>
-    requires ready { IsReady crew.site }
+    requires ready { IsReady crew.turns }
     requires shifts { All (IsHandedBy crew P.held P.failures) shifts.items }
-    ensures { IfOk result (IsHandedIn crew.entry.site P.held crew.entry.readers.now.value.items
+    ensures { IfOk result (IsHandedIn crew.entry.turns P.held crew.entry.readers.now.value.items
         (vec_len shifts)) }
 {
     let mut handed = Handed {
-        passes: Vec::new(crew.site.alloc),
-        job_passes: Vec::new(crew.site.alloc),
-        lists: Vec::new(crew.site.alloc),
+        passes: Vec::new(crew.turns.site.alloc),
+        job_passes: Vec::new(crew.turns.site.alloc),
+        lists: Vec::new(crew.turns.site.alloc),
     };
     for shift in shifts {
         handed.add(shift)?;

@@ -15,6 +15,7 @@ mod order;
 mod reader;
 mod rooms;
 mod settings;
+mod site;
 mod target_order;
 mod targets;
 mod threads;

@@ -12,8 +12,8 @@ ghost use Rattle.check_crew.specs.One.{IsProofPosted};
 ghost use Rattle.check_crew.specs.Inner.One.{IsPosted};
 
 use crate::gate::Gate;
-use crate::reader::{ReadingSite, post_read};
 use crate::settings::Settings;
+use crate::site::{Site, post_found};
 use board_hall::{Hall, Pass};
 use byte_flow::{DeviceFault, Source};
 use case_core::{Case, Examiner, LabelLine, ProofForm, ReadFinding, ReadProof, Target};
@@ -151,13 +151,13 @@ impl<'c> OneWorker<'c> {
     {
         let case = self.case();
         let _ = self.boards.post(read.finding.again());
-        let site = ReadingSite {
+        let site = Site {
             rt,
             alloc,
             case,
             core: self.hall.core(),
             gate,
         };
-        post_read(site, 0, &mut self.pass, read);
+        post_found(site, 0, &mut self.pass, read);
     }
 }

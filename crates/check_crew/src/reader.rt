@@ -21,7 +21,7 @@ use crate::found::{FoundProof, judge_handed};
 use crate::gate::Gate;
 use crate::handed::{HandedProof, NamesCase};
 use crate::rooms::Rooms;
-use crate::worker::{JudgedProof, post, tell};
+use crate::site::{Site, post_found};
 use board_hall::{Core, Pass};
 use byte_flow::{DeviceFault, Stream};
 use case_core::{Case, Examiner, LabelLine, LabelledText, ReadFinding, Target};
@@ -29,50 +29,6 @@ use crossbeam_channel::{Receiver, Sender};
 use mark_board::{Boards, Mark};
 use std::alloc::{AllocError, Global};
 use std::sync::Wait;
-
-/// What the workers of such a run share: what they wait by and have memory from, the case, the hall
-/// and the gate.
-pub(crate) struct ReadingSite<'a, 'c, R, G> {
-    pub(crate) rt: &'a R,
-    pub(crate) alloc: Global,
-    pub(crate) case: &'c Case,
-    pub(crate) core: &'a Core,
-    pub(crate) gate: &'a G,
-}
-
-// A derive would ask that `R` and `G` are `Copy`, too.
-impl<'a, 'c, R, G> Clone for ReadingSite<'a, 'c, R, G> {
-    fn clone(&self) -> Result<Self, AllocError> {
-        Ok(*self)
-    }
-}
-
-impl<'a, 'c, R, G> Copy for ReadingSite<'a, 'c, R, G> {}
-
-/// Posts what a worker found of a proof in the hall, and tells the gate.
-pub(crate) fn post_read<'c, R: Wait, G: Gate>(
-    site: ReadingSite<'_, 'c, R, G>,
-    worker: u32,
-    pass: &mut Pass,
-    read: ReadFinding<'c>,
-)
-    requires case { site.case.now ≡ (core_of site.core.now).case }
-    requires takes { (core_of site.core.now).proofs ≡ Elsewhere }
-    requires read { read.finding.case.now ≡ site.case.now }
-    requires free { IsFree site pass.old }
-    ensures free { IsFree site.entry pass.new }
-{
-    let ReadFinding { finding, length } = read;
-    let proof = JudgedProof {
-        target: finding.target(),
-        node: finding.node(),
-        length,
-        judged: finding.judged(),
-    };
-    if post(site.rt, site.case, site.core, pass, finding) {
-        tell(site.case, site.core, site.gate, worker, pass, proof);
-    }
-}
 
 /// The boards of a bundle that is read, on which all that was found so far stands, and the proofs
 /// that others have.
@@ -249,7 +205,7 @@ impl<'c, J: NamesCase> Kept<'c, J> {
 /// The worker that reads. Its number is 0.
 #[derive(Drop)]
 pub(crate) struct Reader<'a, 'c, R, G, J: NamesCase> {
-    pub(crate) site: ReadingSite<'a, 'c, R, G>,
+    pub(crate) site: Site<'a, 'c, R, G>,
     pub(crate) kept: Kept<'c, J>,
     pub(crate) pass: Pass,
     /// So many bytes of proofs others may have at a time.
@@ -277,7 +233,7 @@ impl<'a, 'c, R: Wait, G: Gate, J: NamesCase> Reader<'a, 'c, R, G, J> {
         let found = judge_handed(self.site.alloc, examiner, proof)?;
         let read = found.read();
         self.kept.settle(found);
-        post_read(self.site, 0, &mut self.pass, read);
+        post_found(self.site, 0, &mut self.pass, read);
         Ok(())
     }
 
@@ -339,7 +295,7 @@ impl<'a, 'c, R: Wait, G: Gate, J: NamesCase> Reader<'a, 'c, R, G, J> {
         self.site.gate.before(0, announced);
         let read = examiner.examine_part(self.site.alloc, target, front, text, source)?;
         let _ = self.kept.boards.post(read.finding.again());
-        post_read(self.site, 0, &mut self.pass, read);
+        post_found(self.site, 0, &mut self.pass, read);
         Ok(())
     }
 

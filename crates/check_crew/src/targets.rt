@@ -17,7 +17,8 @@ ghost use Rattle.check_crew.specs.Inner.Apart.{IsFoundOf, found_in};
 ghost use Rattle.check_crew.specs.Inner.Crew.{IsReady};
 
 use crate::gate::Gate;
-use crate::worker::{JudgedProof, Site, post, tell};
+use crate::site::{Site, post_found};
+use crate::worker::Turns;
 use board_hall::Pass;
 use byte_flow::DeviceFault;
 use case_core::{Case, Examiner, Judged, ReadFinding, ReadProof, Target, has_target};
@@ -102,10 +103,9 @@ fn found_in(
     }
 }
 
-/// Posts what was found by the proof of a target, and then the part that is owed, if any, and tells
-/// the gate.
+/// Posts what was found by the proof of a target, and answers what became of it.
 fn post_target<'c, R: Wait, G: Gate>(
-    site: Site<'c, R, G>,
+    site: Site<'_, 'c, R, G>,
     worker: u32,
     pass: &mut Pass,
     target: Target,
@@ -125,32 +125,18 @@ fn post_target<'c, R: Wait, G: Gate>(
         → IsFoundOf known site.entry.case.now target read.entry
         → IsExamined known (view_of pass.new) target result }
 {
-    let Site {
-        rt,
-        case,
-        core,
-        gate,
-        ..
-    } = site;
-    let ReadFinding { finding, length } = read;
-    let judged = finding.judged();
-    let judged_proof = JudgedProof {
-        target,
-        node: finding.node(),
-        length,
-        judged,
-    };
-    if !post(rt, case, core, pass, finding) {
-        return Examined::Other;
+    let judged = read.finding.judged();
+    if post_found(site, worker, pass, read) {
+        Examined::Found(judged)
+    } else {
+        Examined::Other
     }
-    tell(case, core, gate, worker, pass, judged_proof);
-    Examined::Found(judged)
 }
 
 /// Judges the proof of a target while it is read, and posts what is found; the gate is called
 /// beside it.
 fn examine_target<'c, R: Wait, G: Gate, P: TargetProofs>(
-    site: Site<'c, R, G>,
+    site: Site<'_, 'c, R, G>,
     worker: u32,
     examiner: &mut Examiner<'c>,
     proofs: &mut P,
@@ -210,49 +196,51 @@ fn target_at_turn(case: &Case, order: &[Target], turn: u64) -> Option<Target>
 }
 
 /// Takes the next turn, which the workers count, and answers its target; `None` where none is left.
-fn next_target<R, G>(site: Site<'_, R, G>) -> Option<Target>
-    ensures { IfSome result (λ target. HasTarget site.entry.case.now.tree target
-        × (0 < length site.entry.targets.now)) }
+fn next_target<R, G>(turns: Turns<'_, R, G>) -> Option<Target>
+    ensures { IfSome result (λ target. HasTarget turns.entry.site.case.now.tree target
+        × (0 < length turns.entry.targets.now)) }
 {
-    let turn = site.next.fetch_add(1, Ordering::SeqCst);
-    target_at_turn(site.case, site.targets, turn)
+    let turn = turns.next.fetch_add(1, Ordering::SeqCst);
+    target_at_turn(turns.site.case, turns.targets, turn)
 }
 
 /// Lets nobody take another turn.
-pub(crate) fn end_targets<R, G>(site: Site<'_, R, G>) {
-    site.next.store(site.targets.len() as u64, Ordering::SeqCst);
+pub(crate) fn end_targets<R, G>(turns: Turns<'_, R, G>) {
+    turns
+        .next
+        .store(turns.targets.len() as u64, Ordering::SeqCst);
 }
 
 /// Does so where the run has to be made with all proofs in one bundle.
-fn end_at_other<R, G>(site: Site<'_, R, G>, found: Examined) {
+fn end_at_other<R, G>(turns: Turns<'_, R, G>, found: Examined) {
     if let Examined::Other = found {
-        end_targets(site);
+        end_targets(turns);
     }
 }
 
 /// Examines a target whose turn was taken, by its proof. Where the run has to be made with all
 /// proofs in one bundle, nobody takes another one.
 fn take_target<'c, R: Wait, G: Gate, P: TargetProofs>(
-    site: Site<'c, R, G>,
+    turns: Turns<'c, R, G>,
     worker: u32,
     examiner: &mut Examiner<'c>,
     proofs: &mut P,
     pass: &mut Pass,
     opened: OpenedTarget<P::Proof>,
 ) -> Result<ExaminedTarget, DeviceFault>
-    requires case { site.case.now ≡ (core_of site.core.now).case }
-    requires elsewhere { (core_of site.core.now).proofs ≡ AnyElsewhere }
-    requires examiner { examiner.old ≡ site.case.now }
-    requires target { HasTarget site.case.now.tree opened.target }
+    requires case { turns.site.case.now ≡ (core_of turns.site.core.now).case }
+    requires elsewhere { (core_of turns.site.core.now).proofs ≡ AnyElsewhere }
+    requires examiner { examiner.old ≡ turns.site.case.now }
+    requires target { HasTarget turns.site.case.now.tree opened.target }
     requires left { IsLeftOf (P.held proofs.old opened.target)
         (left_text P.takes_binary (P.Proof.remaining opened.proof)) }
     requires fresh { P.Proof.failures opened.proof ≡ 0 }
     requires count { P.failures proofs.old < 2 ^ 64 - 1 }
-    requires own { IsPassOf (shared_of site.core.now) pass.old }
+    requires own { IsPassOf (shared_of turns.site.core.now) pass.old }
     requires free { (view_of pass.old).owes ≡ None }
     ensures same { examiner.new ≡ examiner.old }
     ensures held { P.held proofs.new ≡ P.held proofs.old }
-    ensures own { IsPassOf (shared_of site.entry.core.now) pass.new }
+    ensures own { IsPassOf (shared_of turns.entry.site.core.now) pass.new }
     ensures owes { (view_of pass.new).owes ≡ None }
     ensures stays { Stays (view_of pass.old) (view_of pass.new) }
     ensures examined { IfOk result (λ one. IsExamined (P.held proofs.old one.target)
@@ -262,23 +250,23 @@ fn take_target<'c, R: Wait, G: Gate, P: TargetProofs>(
         (λ fault. IsDeviceFault (P.failures proofs.old) (P.failures proofs.new) fault) }
 {
     let target = opened.target;
-    let examined = examine_target(site, worker, examiner, proofs, pass, opened)?;
-    end_at_other(site, examined);
+    let examined = examine_target(turns.site, worker, examiner, proofs, pass, opened)?;
+    end_at_other(turns, examined);
     Ok(ExaminedTarget { target, examined })
 }
 
 /// Takes turns until a target has a proof, which is opened then, and answers it; those without one
 /// are noted. `None` where no turn is left.
 fn next_proof<R: Wait, G, P: TargetProofs>(
-    site: Site<'_, R, G>,
+    turns: Turns<'_, R, G>,
     proofs: &mut P,
     examined: &mut Vec<ExaminedTarget>,
 ) -> Result<Option<OpenedTarget<P::Proof>>, DeviceFault>
     requires count { P.failures proofs.old < 2 ^ 64 - 1 }
     ensures held { P.held proofs.new ≡ P.held proofs.old }
     ensures target { IfOk result (λ found. IfSome found
-        (λ opened. HasTarget site.entry.case.now.tree opened.target)) }
-    ensures some { IfOk result (λ found. IfSome found (λ _. 0 < length site.entry.targets.now)) }
+        (λ opened. HasTarget turns.entry.site.case.now.tree opened.target)) }
+    ensures some { IfOk result (λ found. IfSome found (λ _. 0 < length turns.entry.targets.now)) }
     ensures left { IfOk result (λ found. IfSome found (λ opened.
         IsLeftOf (P.held proofs.old opened.target)
         (left_text P.takes_binary (P.Proof.remaining opened.proof)))) }
@@ -293,8 +281,8 @@ fn next_proof<R: Wait, G, P: TargetProofs>(
     ensures err { IfErr result
         (λ fault. IsDeviceFault (P.failures proofs.old) (P.failures proofs.new) fault) }
 {
-    for _ in site.rt.forever() {
-        let Some(target) = next_target(site) else {
+    for _ in turns.site.rt.forever() {
+        let Some(target) = next_target(turns) else {
             return Ok(None);
         };
         let asked = target;
@@ -312,7 +300,7 @@ fn next_proof<R: Wait, G, P: TargetProofs>(
 /// Examines a target whose proof was opened, and then those of further turns, until none is left or
 /// a fault comes, by an examiner that is lent. One proof is open at a time.
 fn take_targets<'c, R: Wait, G: Gate, P: TargetProofs>(
-    site: Site<'c, R, G>,
+    turns: Turns<'c, R, G>,
     worker: u32,
     proofs: &mut P,
     examiner: &mut Examiner<'c>,
@@ -320,20 +308,20 @@ fn take_targets<'c, R: Wait, G: Gate, P: TargetProofs>(
     examined: &mut Vec<ExaminedTarget>,
     first: OpenedTarget<P::Proof>,
 ) -> Result<(), DeviceFault>
-    requires case { site.case.now ≡ (core_of site.core.now).case }
-    requires elsewhere { (core_of site.core.now).proofs ≡ AnyElsewhere }
-    requires examiner { examiner.old ≡ site.case.now }
-    requires first { HasTarget site.case.now.tree first.target }
+    requires case { turns.site.case.now ≡ (core_of turns.site.core.now).case }
+    requires elsewhere { (core_of turns.site.core.now).proofs ≡ AnyElsewhere }
+    requires examiner { examiner.old ≡ turns.site.case.now }
+    requires first { HasTarget turns.site.case.now.tree first.target }
     requires left { IsLeftOf (P.held proofs.old first.target)
         (left_text P.takes_binary (P.Proof.remaining first.proof)) }
     requires fresh { P.Proof.failures first.proof ≡ 0 }
-    requires own { IsPassOf (shared_of site.core.now) pass.old }
+    requires own { IsPassOf (shared_of turns.site.core.now) pass.old }
     requires free { (view_of pass.old).owes ≡ None }
     requires count { P.failures proofs.old < 2 ^ 64 - 1 }
     requires examined { All (λ one. IsExamined (P.held proofs.old one.target)
         (view_of pass.old) one.target one.examined) examined.old.items }
     ensures held { P.held proofs.new ≡ P.held proofs.old }
-    ensures own { IsPassOf (shared_of site.entry.core.now) pass.new }
+    ensures own { IsPassOf (shared_of turns.entry.site.core.now) pass.new }
     ensures owes { (view_of pass.new).owes ≡ None }
     ensures stays { OnOk result (Stays (view_of pass.old) (view_of pass.new)) }
     ensures examined { OnOk result (All (λ one. IsExamined (P.held proofs.old one.target)
@@ -343,10 +331,10 @@ fn take_targets<'c, R: Wait, G: Gate, P: TargetProofs>(
         (λ fault. IsDeviceFault (P.failures proofs.old) (P.failures proofs.new) fault) }
 {
     let mut opened = first;
-    for _ in site.rt.forever() {
-        let one = take_target(site, worker, examiner, proofs, pass, opened)?;
+    for _ in turns.site.rt.forever() {
+        let one = take_target(turns, worker, examiner, proofs, pass, opened)?;
         examined.push(one)?;
-        let Some(following) = next_proof(site, proofs, examined)? else {
+        let Some(following) = next_proof(turns, proofs, examined)? else {
             return Ok(());
         };
         opened = following;
@@ -358,19 +346,19 @@ fn take_targets<'c, R: Wait, G: Gate, P: TargetProofs>(
 /// formula once more, so it is made when a first proof was opened: a worker that meets none costs
 /// nothing.
 pub(crate) fn examine_targets<R: Wait, G: Gate, P: TargetProofs>(
-    site: Site<'_, R, G>,
+    turns: Turns<'_, R, G>,
     worker: u32,
     proofs: &mut P,
     pass: &mut Pass,
     examined: &mut Vec<ExaminedTarget>,
 ) -> Result<(), DeviceFault>
-    requires ready { IsReady site }
-    requires own { IsPassOf (shared_of site.core.now) pass.old }
+    requires ready { IsReady turns }
+    requires own { IsPassOf (shared_of turns.site.core.now) pass.old }
     requires free { (view_of pass.old).owes ≡ None }
     requires count { P.failures proofs.old < 2 ^ 64 - 1 }
     requires none { examined.old.items ≡ [] }
     ensures held { P.held proofs.new ≡ P.held proofs.old }
-    ensures own { IsPassOf (shared_of site.entry.core.now) pass.new }
+    ensures own { IsPassOf (shared_of turns.entry.site.core.now) pass.new }
     ensures owes { (view_of pass.new).owes ≡ None }
     ensures stays { OnOk result (Stays (view_of pass.old) (view_of pass.new)) }
     ensures examined { OnOk result (All (λ one. IsExamined (P.held proofs.old one.target)
@@ -379,9 +367,9 @@ pub(crate) fn examine_targets<R: Wait, G: Gate, P: TargetProofs>(
     ensures err { IfErr result
         (λ fault. IsDeviceFault (P.failures proofs.old) (P.failures proofs.new) fault) }
 {
-    let Some(first) = next_proof(site, proofs, examined)? else {
+    let Some(first) = next_proof(turns, proofs, examined)? else {
         return Ok(());
     };
-    let mut examiner = Examiner::over(site.alloc, site.case)?;
-    take_targets(site, worker, proofs, &mut examiner, pass, examined, first)
+    let mut examiner = Examiner::over(turns.site.alloc, turns.site.case)?;
+    take_targets(turns, worker, proofs, &mut examiner, pass, examined, first)
 }

@@ -18,9 +18,10 @@ use crate::fault::{CrewFault, ReadFault};
 use crate::found::{FoundProof, judge_handed};
 use crate::gate::{Elsewhere, Gate};
 use crate::handed::{HandedProof, NamesCase};
-use crate::reader::{Kept, Reader, ReadingSite, post_read};
+use crate::reader::{Kept, Reader};
 use crate::rooms::Rooms;
 use crate::settings::Settings;
+use crate::site::{Site, post_found};
 use crate::threads::work_beside;
 use board_hall::{Hall, Pass};
 use byte_flow::Stream;
@@ -38,7 +39,7 @@ const HANDED: usize = 5 << 20;
 /// A worker that judges what is handed to it.
 #[derive(Drop)]
 struct Helper<'a, 'c, R, G, J: NamesCase> {
-    site: ReadingSite<'a, 'c, R, G>,
+    site: Site<'a, 'c, R, G>,
     worker: u32,
     pass: Pass,
     proofs: Receiver<HandedProof<J>>,
@@ -155,7 +156,7 @@ fn judge_next<'c, R: Wait, G: Gate, J: NamesCase>(
     let Ok(()) = helper.found.send(site.rt, found) else {
         return Err(AllocError);
     };
-    post_read(site, helper.worker, &mut helper.pass, read);
+    post_found(site, helper.worker, &mut helper.pass, read);
     Ok(())
 }
 
@@ -228,7 +229,7 @@ where
 /// Starts the helpers, has the reader read, and joins all that were started; answers whether each
 /// of them ended well, too. Where the start of one is refused nothing is read.
 fn read_with<'e, 'c: 'e, R, G, J, L>(
-    site: ReadingSite<'e, 'c, R, G>,
+    site: Site<'e, 'c, R, G>,
     helpers: Vec<Helper<'e, 'c, R, G, J>>,
     reader: Reader<'e, 'c, R, G, J>,
     text: LabelledText,
@@ -296,7 +297,7 @@ fn end_read<'c, R: Wait, J: NamesCase>(
 
 /// A reader of a case and its helpers, with a pass of the hall for each.
 fn open<'a, 'c, R, G, J: NamesCase>(
-    site: ReadingSite<'a, 'c, R, G>,
+    site: Site<'a, 'c, R, G>,
     cut: u32,
     mut passes: Vec<Pass>,
 ) -> Result<(Reader<'a, 'c, R, G, J>, Vec<Helper<'a, 'c, R, G, J>>), AllocError>
@@ -334,7 +335,7 @@ fn open<'a, 'c, R, G, J: NamesCase>(
 /// What a reader keeps before it has read: nothing is found, and nobody has a proof, of which there
 /// may be so many, and so many bytes.
 fn nothing_kept<'c, R, G, J: NamesCase>(
-    site: ReadingSite<'_, 'c, R, G>,
+    site: Site<'_, 'c, R, G>,
     cut: u32,
     places: usize,
     most: usize,
@@ -359,7 +360,7 @@ fn nothing_kept<'c, R, G, J: NamesCase>(
 /// A helper for each pass, by their numbers from 1, and what comes from them: there is room for as
 /// much as they may have.
 fn helpers_of<'a, 'c, R, G, J: NamesCase>(
-    site: ReadingSite<'a, 'c, R, G>,
+    site: Site<'a, 'c, R, G>,
     passes: Vec<Pass>,
     proofs: &Receiver<HandedProof<J>>,
 ) -> Result<(Vec<Helper<'a, 'c, R, G, J>>, Receiver<FoundProof<'c, J>>), AllocError>
@@ -489,7 +490,7 @@ where
 {
     let workers = settings.workers() as usize;
     let (hall, passes) = Hall::open_for_proofs_elsewhere(alloc, case, settings.cut(), workers)?;
-    let site = ReadingSite {
+    let site = Site {
         rt,
         alloc,
         case,
@@ -502,7 +503,7 @@ where
 
 /// The same of a hall with its reader and helpers, who have begun nothing yet.
 fn read_opened<'e, 'c: 'e, R, G, J, S>(
-    site: ReadingSite<'e, 'c, R, G>,
+    site: Site<'e, 'c, R, G>,
     helpers: Vec<Helper<'e, 'c, R, G, J>>,
     reader: Reader<'e, 'c, R, G, J>,
     text: LabelledText,

@@ -15,13 +15,13 @@ ghost use Rattle.check_crew.specs.Seen.{HasSeenMark, HasSeenSection};
 ghost use Rattle.check_crew.specs.Inner.Crew.{IsReady, IsJobOf, IsShiftOf, HasTaken, HasSeenTurn};
 
 use crate::fault::CrewFault;
-use crate::gate::{Found, Gate};
+use crate::gate::Gate;
+use crate::site::{Site, post_found};
 use crate::targets::{ExaminedTarget, end_targets, examine_targets};
-use board_hall::{Core, Pass};
+use board_hall::Pass;
 use byte_flow::DeviceFault;
-use case_core::{Case, Examiner, Finding, Judged, NodeId, Target};
+use case_core::{Examiner, ReadFinding, Target};
 use cube_jobs::{JobPass, Jobs};
-use mark_board::Posted;
 use proof_folder::TargetProofs;
 use std::alloc::{AllocError, Global};
 use std::sync::Wait;
@@ -31,7 +31,7 @@ use std::sync::atomic::AtomicU64;
 /// targets by.
 #[derive(Drop)]
 pub(crate) struct Job<'a, R, G, P> {
-    pub(crate) site: Site<'a, R, G>,
+    pub(crate) turns: Turns<'a, R, G>,
     pub(crate) worker: u32,
     pub(crate) pass: Pass,
     pub(crate) job_pass: JobPass,
@@ -49,15 +49,11 @@ pub(crate) struct Shift<P> {
     pub(crate) fault: Option<DeviceFault>,
 }
 
-/// What all workers share: what they wait by and have memory from, the case, the hall and the gate;
-/// the queue, whose jobs are turns, and for each turn the place of its section; the targets in the
-/// order of their turns, and how many of these have been taken.
-pub(crate) struct Site<'a, R, G> {
-    pub(crate) rt: &'a R,
-    pub(crate) alloc: Global,
-    pub(crate) case: &'a Case,
-    pub(crate) core: &'a Core,
-    pub(crate) gate: &'a G,
+/// A site, and what workers take turns by: the queue, whose jobs are turns, and for each turn the
+/// place of its section; the targets in the order of their turns, and how many of these have been
+/// taken.
+pub(crate) struct Turns<'a, R, G> {
+    pub(crate) site: Site<'a, 'a, R, G>,
     pub(crate) jobs: &'a Jobs,
     pub(crate) order: &'a [usize],
     pub(crate) targets: &'a [Target],
@@ -65,28 +61,18 @@ pub(crate) struct Site<'a, R, G> {
 }
 
 // A derive would ask that `R` and `G` are `Copy`, too.
-impl<'a, R, G> Clone for Site<'a, R, G> {
+impl<'a, R, G> Clone for Turns<'a, R, G> {
     fn clone(&self) -> Result<Self, AllocError> {
         Ok(*self)
     }
 }
 
-impl<'a, R, G> Copy for Site<'a, R, G> {}
-
-/// A proof that was judged: whose it is, at which node that target stands, how many bytes the proof
-/// has, and what is said of it.
-#[derive(Clone, Copy)]
-pub(crate) struct JudgedProof {
-    pub(crate) target: Target,
-    pub(crate) node: NodeId,
-    pub(crate) length: usize,
-    pub(crate) judged: Judged,
-}
+impl<'a, R, G> Copy for Turns<'a, R, G> {}
 
 /// Examines the section at a place, posts what is found, and then the part that is owed, if any.
 /// `AllocError` where a growth was refused, and then nothing is posted.
 fn take_turn<R: Wait, G: Gate>(
-    site: Site<'_, R, G>,
+    site: Site<'_, '_, R, G>,
     worker: u32,
     examiner: &mut Examiner<'_>,
     pass: &mut Pass,
@@ -103,113 +89,32 @@ fn take_turn<R: Wait, G: Gate>(
     ensures stays { Stays (view_of pass.old) (view_of pass.new) }
     ensures seen { OnOk result (HasSeenSection (view_of pass.new) place) }
 {
-    let Site {
-        rt,
-        alloc,
-        case,
-        core,
-        gate,
-        ..
-    } = site;
-    let target = case.sections()[place].target;
+    let target = site.case.sections()[place].target;
     let announced = target;
-    let asked = target;
-    gate.before(worker, announced);
-    let Some(finding) = examiner.examine(alloc, asked)? else {
+    site.gate.before(worker, announced);
+    let Some(finding) = examiner.examine(site.alloc, target)? else {
         unreachable!()
     };
-    let proof = JudgedProof {
-        target,
-        node: finding.node(),
-        length: case.proof_at(place).len(),
-        judged: finding.judged(),
-    };
-    let _ = post(rt, case, core, pass, finding);
-    tell(case, core, gate, worker, pass, proof);
+    let length = site.case.proof_at(place).len();
+    post_found(site, worker, pass, ReadFinding { finding, length });
     Ok(())
-}
-
-/// Posts a finding, and then the part that is owed, if any; answers whether its target had none.
-pub(crate) fn post<'c, R: Wait>(
-    rt: &R,
-    case: &'c Case,
-    core: &Core,
-    pass: &mut Pass,
-    finding: Finding<'c>,
-) -> bool
-    requires case { case.now ≡ (core_of core.now).case }
-    requires finding { (finding_of finding).case ≡ case.now }
-    requires section { IsOfSection (core_of core.now) finding }
-    requires own { IsPassOf (shared_of core.now) pass.old }
-    requires free { (view_of pass.old).owes ≡ None }
-    ensures own { IsPassOf (shared_of core.now) pass.new }
-    ensures free { (view_of pass.new).owes ≡ None }
-    ensures stays { Stays (view_of pass.old) (view_of pass.new) }
-    // A section's finding has been seen then, whoever posted it.
-    ensures section { HasSection case.now (target_of finding.entry.leaf finding.entry.node)
-        → HasSeenMark (view_of pass.new) (finding_of finding.entry).node
-        (finding_of finding.entry).judged }
-    ensures new { IsTrue result → HasSeenMark (view_of pass.new) (finding_of finding.entry).node
-        (finding_of finding.entry).judged }
-{
-    match core.post(rt, case, pass, finding) {
-        Posted::Already(_) => false,
-        Posted::RootMarked(verdict) => {
-            let _ = core.post_part(rt, case, pass, verdict);
-            true
-        }
-        Posted::Marked | Posted::TopMarked => true,
-    }
-}
-
-/// Tells the gate what was found of a target, and has been seen on its board.
-pub(crate) fn tell<G: Gate>(
-    case: &Case,
-    core: &Core,
-    gate: &G,
-    worker: u32,
-    pass: &mut Pass,
-    proof: JudgedProof,
-)
-    requires case { case.now ≡ (core_of core.now).case }
-    requires here { IsTargetAt case.now.tree proof.node proof.target }
-    requires is { IsFinding case.now proof.target proof.judged }
-    requires own { IsPassOf (shared_of core.now) pass.old }
-    requires seen { HasSeenMark (view_of pass.old) proof.node proof.judged }
-    ensures own { IsPassOf (shared_of core.now) pass.new }
-    ensures stays { Stays (view_of pass.old) (view_of pass.new) }
-    ensures nothing { PostsNothing (view_of pass.old) (view_of pass.new) }
-{
-    let board = core.place_of(case, proof.node);
-    let weight = core.open_weight(pass, board);
-    let found = Found {
-        case,
-        target: proof.target,
-        node: proof.node,
-        length: proof.length,
-        judged: proof.judged,
-        place: board,
-        weight,
-        pass,
-    };
-    gate.after(worker, &found);
 }
 
 /// Does a worker's part of the sections, and then its part of the targets.
 pub(crate) fn work<R: Wait, G: Gate, P: TargetProofs>(job: Job<'_, R, G, P>) -> Shift<P>
     requires { IsJobOf P.failures job }
-    ensures { IsShiftOf job.entry.site (P.held job.entry.proofs) P.failures result }
+    ensures { IsShiftOf job.entry.turns (P.held job.entry.proofs) P.failures result }
 {
     let Job {
-        site,
+        turns,
         worker,
         mut pass,
         mut job_pass,
         mut proofs,
     } = job;
-    let mut examined = Vec::new(site.alloc);
+    let mut examined = Vec::new(turns.site.alloc);
     let fault = match take_both(
-        site,
+        turns,
         worker,
         &mut pass,
         &mut job_pass,
@@ -236,11 +141,11 @@ pub(crate) fn work_or_leave<R: Wait, G: Gate, P: TargetProofs + Drop>(
 ) -> Result<Shift<P>, CrewFault>
     requires { IsJobOf P.failures job }
     ensures { IfOk result
-        (IsShiftOf job.entry.site (P.held job.entry.proofs) P.failures) }
+        (IsShiftOf job.entry.turns (P.held job.entry.proofs) P.failures) }
 {
     match fault {
         Some(fault) => {
-            end_targets(job.site);
+            end_targets(job.turns);
             Err(fault)
         }
         None => Ok(work(job)),
@@ -250,28 +155,28 @@ pub(crate) fn work_or_leave<R: Wait, G: Gate, P: TargetProofs + Drop>(
 /// Takes turns of sections until none is left, and then turns of targets. Where memory is refused
 /// over sections, nobody takes another target.
 fn take_both<R: Wait, G: Gate, P: TargetProofs>(
-    site: Site<'_, R, G>,
+    turns: Turns<'_, R, G>,
     worker: u32,
     pass: &mut Pass,
     job_pass: &mut JobPass,
     proofs: &mut P,
     examined: &mut Vec<ExaminedTarget>,
 ) -> Result<(), DeviceFault>
-    requires ready { IsReady site }
-    requires pass { IsNewPass (shared_of site.core.now) pass.old }
-    requires job_pass { job_pass.old ≡ new_pass site.jobs.now }
+    requires ready { IsReady turns }
+    requires pass { IsNewPass (shared_of turns.site.core.now) pass.old }
+    requires job_pass { job_pass.old ≡ new_pass turns.jobs.now }
     requires fresh { P.failures proofs.old ≡ 0 }
     requires none { examined.old.items ≡ [] }
-    ensures taken { HasTaken site.entry pass.new job_pass.new result }
+    ensures taken { HasTaken turns.entry pass.new job_pass.new result }
     ensures examined { OnOk result (All (λ one. IsExamined (P.held proofs.old one.target)
         (view_of pass.new) one.target one.examined) examined.new.items) }
     ensures ok { OnOk result (P.failures proofs.new ≡ 0) }
     ensures err { IfErr result (λ fault. IsDeviceFault 0 (P.failures proofs.new) fault) }
 {
-    match take_all(site, worker, pass, job_pass) {
-        Ok(()) => examine_targets(site, worker, proofs, pass, examined),
+    match take_all(turns, worker, pass, job_pass) {
+        Ok(()) => examine_targets(turns, worker, proofs, pass, examined),
         Err(fault) => {
-            end_targets(site);
+            end_targets(turns);
             Err(DeviceFault::from(fault))
         }
     }
@@ -281,96 +186,96 @@ fn take_both<R: Wait, G: Gate, P: TargetProofs>(
 /// left. `AllocError` where a growth was refused. The examiner, which holds the formula once more,
 /// is made when a first turn has been claimed: a worker that finds none costs nothing.
 fn take_all<R: Wait, G: Gate>(
-    site: Site<'_, R, G>,
+    turns: Turns<'_, R, G>,
     worker: u32,
     pass: &mut Pass,
     job_pass: &mut JobPass,
 ) -> Result<(), AllocError>
-    requires ready { IsReady site }
-    requires pass { IsNewPass (shared_of site.core.now) pass.old }
-    requires job_pass { job_pass.old ≡ new_pass site.jobs.now }
-    ensures { HasTaken site.entry pass.new job_pass.new result }
+    requires ready { IsReady turns }
+    requires pass { IsNewPass (shared_of turns.site.core.now) pass.old }
+    requires job_pass { job_pass.old ≡ new_pass turns.jobs.now }
+    ensures { HasTaken turns.entry pass.new job_pass.new result }
 {
-    let Some(turn) = site.jobs.claim(site.rt, job_pass) else {
+    let Some(turn) = turns.jobs.claim(turns.site.rt, job_pass) else {
         return Ok(());
     };
-    let mut examiner = Examiner::over(site.alloc, site.case)?;
-    take_from(site, worker, &mut examiner, pass, job_pass, turn)
+    let mut examiner = Examiner::over(turns.site.alloc, turns.site.case)?;
+    take_from(turns, worker, &mut examiner, pass, job_pass, turn)
 }
 
 /// Examines the section of the first turn, which has been claimed, and then claims turns as
 /// `take_turns` does.
 fn take_from<R: Wait, G: Gate>(
-    site: Site<'_, R, G>,
+    turns: Turns<'_, R, G>,
     worker: u32,
     examiner: &mut Examiner<'_>,
     pass: &mut Pass,
     job_pass: &mut JobPass,
     turn: usize,
 ) -> Result<(), AllocError>
-    requires ready { IsReady site }
-    requires examiner { examiner.old ≡ site.case.now }
-    requires pass { IsNewPass (shared_of site.core.now) pass.old }
-    requires jobs { queue.IsPassOf site.jobs.now job_pass.old }
-    requires turn { turn < length site.order.now }
+    requires ready { IsReady turns }
+    requires examiner { examiner.old ≡ turns.site.case.now }
+    requires pass { IsNewPass (shared_of turns.site.core.now) pass.old }
+    requires jobs { queue.IsPassOf turns.jobs.now job_pass.old }
+    requires turn { turn < length turns.order.now }
     requires claimed { job_pass.old.claims ≡ turn ∷ [] }
-    ensures { HasTaken site.entry pass.new job_pass.new result }
+    ensures { HasTaken turns.entry pass.new job_pass.new result }
 {
-    let place = site.order[turn];
-    take_turn(site, worker, examiner, pass, place)?;
-    take_turns(site, worker, examiner, pass, job_pass)
+    let place = turns.order[turn];
+    take_turn(turns.site, worker, examiner, pass, place)?;
+    take_turns(turns, worker, examiner, pass, job_pass)
 }
 
 /// Claims a turn and examines its section; answers whether one was left. `AllocError` where a
 /// growth was refused.
 fn claim_turn<R: Wait, G: Gate>(
-    site: Site<'_, R, G>,
+    turns: Turns<'_, R, G>,
     worker: u32,
     examiner: &mut Examiner<'_>,
     pass: &mut Pass,
     job_pass: &mut JobPass,
 ) -> Result<bool, AllocError>
-    requires ready { IsReady site }
-    requires examiner { examiner.old ≡ site.case.now }
-    requires own { IsPassOf (shared_of site.core.now) pass.old }
+    requires ready { IsReady turns }
+    requires examiner { examiner.old ≡ turns.site.case.now }
+    requires own { IsPassOf (shared_of turns.site.core.now) pass.old }
     requires free { (view_of pass.old).owes ≡ None }
-    requires jobs { queue.IsPassOf site.jobs.now job_pass.old }
-    requires seen { All (HasSeenTurn site.order.now (view_of pass.old)) job_pass.old.claims }
+    requires jobs { queue.IsPassOf turns.jobs.now job_pass.old }
+    requires seen { All (HasSeenTurn turns.order.now (view_of pass.old)) job_pass.old.claims }
     ensures same { examiner.new ≡ examiner.old }
-    ensures own { IsPassOf (shared_of site.entry.core.now) pass.new }
+    ensures own { IsPassOf (shared_of turns.entry.site.core.now) pass.new }
     ensures free { (view_of pass.new).owes ≡ None }
-    ensures jobs { queue.IsPassOf site.entry.jobs.now job_pass.new }
+    ensures jobs { queue.IsPassOf turns.entry.jobs.now job_pass.new }
     ensures seen { OnOk result
-        (All (HasSeenTurn site.entry.order.now (view_of pass.new)) job_pass.new.claims) }
+        (All (HasSeenTurn turns.entry.order.now (view_of pass.new)) job_pass.new.claims) }
     ensures empty { IfOk result (λ taken. taken ≡ false → job_pass.new.found_empty ≡ true) }
 {
-    let Some(turn) = site.jobs.claim(site.rt, job_pass) else {
+    let Some(turn) = turns.jobs.claim(turns.site.rt, job_pass) else {
         return Ok(false);
     };
-    let place = site.order[turn];
-    take_turn(site, worker, examiner, pass, place)?;
+    let place = turns.order[turn];
+    take_turn(turns.site, worker, examiner, pass, place)?;
     Ok(true)
 }
 
 /// Claims turns until none is left, by an examiner and on passes that are lent. `AllocError` where
 /// a growth was refused.
 fn take_turns<R: Wait, G: Gate>(
-    site: Site<'_, R, G>,
+    turns: Turns<'_, R, G>,
     worker: u32,
     examiner: &mut Examiner<'_>,
     pass: &mut Pass,
     job_pass: &mut JobPass,
 ) -> Result<(), AllocError>
-    requires ready { IsReady site }
-    requires examiner { examiner.old ≡ site.case.now }
-    requires own { IsPassOf (shared_of site.core.now) pass.old }
+    requires ready { IsReady turns }
+    requires examiner { examiner.old ≡ turns.site.case.now }
+    requires own { IsPassOf (shared_of turns.site.core.now) pass.old }
     requires free { (view_of pass.old).owes ≡ None }
-    requires jobs { queue.IsPassOf site.jobs.now job_pass.old }
-    requires seen { All (HasSeenTurn site.order.now (view_of pass.old)) job_pass.old.claims }
-    ensures { HasTaken site.entry pass.new job_pass.new result }
+    requires jobs { queue.IsPassOf turns.jobs.now job_pass.old }
+    requires seen { All (HasSeenTurn turns.order.now (view_of pass.old)) job_pass.old.claims }
+    ensures { HasTaken turns.entry pass.new job_pass.new result }
 {
-    for _ in site.rt.forever() {
-        if !claim_turn(site, worker, examiner, pass, job_pass)? {
+    for _ in turns.site.rt.forever() {
+        if !claim_turn(turns, worker, examiner, pass, job_pass)? {
             return Ok(());
         }
     }

@@ -23,7 +23,7 @@ use Rattle.check_crew.specs.One.{IsFoundOn}
 use Rattle.check_crew.specs.WhileRead.{IsReadFault, IsReadRefused, bundle_behind, read_fault}
 use Rattle.check_crew.specs.declared.fault.CrewFault.{CrewFault}
 use Rattle.check_crew.specs.declared.reader.Reader.{Reader}
-use Rattle.check_crew.specs.declared.reader.ReadingSite.{ReadingSite}
+use Rattle.check_crew.specs.declared.site.Site.{Site}
 use Rattle.check_crew.specs.declared.while_read.Helper.{Helper}
 use Rattle.check_crew.specs.declared.while_read.ReadBundle.{ReadBundle}
 
@@ -31,7 +31,7 @@ use Rattle.check_crew.specs.declared.while_read.ReadBundle.{ReadBundle}
 
 -- the hall is of this case, which has no sections and is that of a bundle, and takes findings by
 -- proofs that the case doesn't hold
-pub record IsSite {R G : Type 0} (case : CaseOf) (site : ReadingSite R G) : Type 0 where
+pub record IsSite {R G : Type 0} (case : CaseOf) (site : Site R G) : Type 0 where
   pub of_case : site.case.now ≡ case
   pub of_hall : (core_of site.core.now).case ≡ case
   pub takes : (core_of site.core.now).proofs ≡ Elsewhere
@@ -39,7 +39,7 @@ pub record IsSite {R G : Type 0} (case : CaseOf) (site : ReadingSite R G) : Type
   pub of_bundle : (icnf : List ℕ) × IsCaseOf icnf case
 
 -- a pass of the hall that owes nothing
-pub record IsFree {R G : Type 0} (site : ReadingSite R G) (pass : Pass) : Type 0 where
+pub record IsFree {R G : Type 0} (site : Site R G) (pass : Pass) : Type 0 where
   pub own : IsPassOf (shared_of site.core.now) pass
   pub owes : (view_of pass).owes ≡ None
 

@@ -27,10 +27,10 @@ loop-one-preserved g c =
     let was = c.loop-one.invariant in let next = c.in-Some.ensures.steps in
     let crew = c.args.crew in
     let pass =
-    All-pop (IsNewPass (shared_of crew.site.core.now)) _ _ (Some c.in-Some-pop.pass)
+    All-pop (IsNewPass (shared_of crew.turns.site.core.now)) _ _ (Some c.in-Some-pop.pass)
     c.in-Some-pop.ensures.items was.passes in
     let job_pass =
-    All-pop (λ (pass : JobPassOf). pass ≡ new_pass crew.site.jobs.now) _ _
+    All-pop (λ (pass : JobPassOf). pass ≡ new_pass crew.turns.jobs.now) _ _
     (Some c.in-Some-pop-2.job_pass) c.in-Some-pop-2.ensures.items was.job_passes in record {
       passes_left = omega (arith, c.in-Some-pop.ensures.len, next.1, was.passes_left);
       job_passes_left = omega (arith, c.in-Some-pop-2.ensures.len, next.1, was.job_passes_left);
@@ -50,7 +50,7 @@ loop-one-preserved g c =
               job_pass = job_pass.1;
               fresh = (rw next.0 at was.fresh) 0 c.in-Some.one (omega arith);
             };
-            site = search rules;
+            turns = search rules;
             among = (rw next.0 at was.among) 0 c.in-Some.one (omega arith);
           }));
     }

@@ -12,8 +12,8 @@ invariant-loop-one g l = record {
   dealt : vec_len l.jobs + into_iter_len l.one-iterator ≡ vec_len l.fn.proofs;
   room : vec_len l.fn.proofs ≤ vec_capacity l.jobs;
   worker : l.worker ≡ into_iter_len l.one-iterator;
-  passes : All (IsNewPass (shared_of l.crew.site.core.now)) l.passes.items;
-  job_passes : All (λ pass. pass ≡ new_pass l.crew.site.jobs.now) l.job_passes.items;
+  passes : All (IsNewPass (shared_of l.crew.turns.site.core.now)) l.passes.items;
+  job_passes : All (λ pass. pass ≡ new_pass l.crew.turns.jobs.now) l.job_passes.items;
   fresh : All (λ one. g.P.TargetProofs.failures one ≡ 0) (into_iter_items l.one-iterator);
   among : All (Contains l.crew.readers.now.value.items) (into_iter_items l.one-iterator);
   jobs : All (IsDealtBy l.crew g.P.TargetProofs.failures) l.jobs.items;

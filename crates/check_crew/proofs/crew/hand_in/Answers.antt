@@ -15,7 +15,8 @@ pub loop-shift-preserved : goal.loop-shift-preserved
 loop-shift-preserved g c =
     let was = c.loop-shift.invariant in let next = c.in-Some.ensures.steps in
     let step = c.in_ok-add.ensures in let handed = c.loop-shift.handed in
-    let crew = c.args.crew in let site = crew.site in let shift = c.in-Some.shift in
+    let crew = c.args.crew in let turns = crew.turns in let site = turns.site in
+    let shift = c.in-Some.shift in
     let mine : IsHandedBy crew g.P.TargetProofs.held g.P.TargetProofs.failures shift =
     (rw next.0 at was.rest) 0 shift (omega arith) in record {
       passes_count = omega (arith, step.count.0, next.1, was.passes_count);
@@ -25,19 +26,19 @@ loop-shift-preserved g c =
           was.rest;
       own =
           rw step.passes
-          (All-push (IsPassOf (shared_of site.core.now)) _ _ was.own mine.is.own);
+          (All-push (IsPassOf (shared_of turns.site.core.now)) _ _ was.own mine.is.own);
       free =
           rw step.passes
           (All-push (λ (pass : Pass). (view_of pass).owes ≡ None) _ _ was.free mine.is.owes);
       jobs =
           rw step.job_passes
-          (All-push (queue.IsPassOf site.jobs.now) _ _ was.jobs mine.is.of_jobs);
+          (All-push (queue.IsPassOf turns.jobs.now) _ _ was.jobs mine.is.of_jobs);
       empty =
           rw step.job_passes
           (All-push (λ (pass : JobPassOf). pass.found_empty ≡ true) _ _ was.empty
           (mine.is.empty step.fault));
       seen = rw (step.passes, step.job_passes)
-          (claims_more site.order.now handed.passes.items handed.job_passes.items
+          (claims_more turns.order.now handed.passes.items handed.job_passes.items
           shift.pass shift.job_pass was.seen (mine.is.seen step.fault));
       lists = λ known all.
           rw step.lists

@@ -17,13 +17,13 @@ invariant-loop-shift g l = record {
       ≡ vec_len l.fn.shifts;
   rest : All (IsHandedBy l.crew g.P.TargetProofs.held g.P.TargetProofs.failures)
       (into_iter_items l.shift-iterator);
-  own : All (IsPassOf (shared_of l.crew.site.core.now)) l.handed.passes.items;
+  own : All (IsPassOf (shared_of l.crew.turns.site.core.now)) l.handed.passes.items;
   free : All (λ (pass : Pass). (view_of pass).owes ≡ None) l.handed.passes.items;
-  jobs : All (queue.IsPassOf l.crew.site.jobs.now) l.handed.job_passes.items;
+  jobs : All (queue.IsPassOf l.crew.turns.jobs.now) l.handed.job_passes.items;
   empty : All (λ (pass : JobPassOf). pass.found_empty ≡ true) l.handed.job_passes.items;
-  seen : HaveSeenClaims l.crew.site.order.now l.handed.passes.items l.handed.job_passes.items;
+  seen : HaveSeenClaims l.crew.turns.order.now l.handed.passes.items l.handed.job_passes.items;
   lists : (known : Known)
       → All (λ one. (target : Target) → g.P.TargetProofs.held one target ≡ known target)
       l.crew.readers.now.value.items
-      → All (λ list. IsListOf known l.crew.site.case.now list.items) l.handed.lists.items;
+      → All (λ list. IsListOf known l.crew.turns.site.case.now list.items) l.handed.lists.items;
 }

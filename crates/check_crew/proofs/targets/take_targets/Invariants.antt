@@ -8,14 +8,14 @@ use Rattle.check_crew.proofs.targets.take_targets.Given as goal
 
 abbrev pub invariant-loop : goal.invariant-loop
 invariant-loop g l = record {
-  examiner : l.examiner ≡ l.site.case.now;
-  target : HasTarget l.site.case.now.tree l.opened.target;
+  examiner : l.examiner ≡ l.turns.site.case.now;
+  target : HasTarget l.turns.site.case.now.tree l.opened.target;
   left : IsLeftOf (g.P.TargetProofs.held l.initial.proofs l.opened.target)
       (left_text g.P.TargetProofs.takes_binary (g.P.Proof.Source.remaining l.opened.proof));
   fresh : g.P.Proof.Source.failures l.opened.proof ≡ 0;
   held : g.P.TargetProofs.held l.proofs ≡ g.P.TargetProofs.held l.initial.proofs;
   count : g.P.TargetProofs.failures l.proofs ≡ g.P.TargetProofs.failures l.initial.proofs;
-  pass : IsPassOf (shared_of l.site.core.now) l.pass;
+  pass : IsPassOf (shared_of l.turns.site.core.now) l.pass;
   owes : (view_of l.pass).owes ≡ None;
   stays : Stays (view_of l.initial.pass) (view_of l.pass);
   examined : All (λ one. IsExamined (g.P.TargetProofs.held l.initial.proofs one.target)

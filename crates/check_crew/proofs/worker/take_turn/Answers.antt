@@ -3,7 +3,7 @@ use Rattle.board_hall.specs.declared.view.CutCase.{CutCase}
 use Rattle.board_hall.specs.Halls.{view_of}
 use Rattle.check_crew.proofs.SeenPosted.{seen_by_mark}
 use Rattle.check_crew.proofs.SeenSections.{section_here}
-use Rattle.check_crew.proofs.SeenTurns.{seen_stays, section_seen, stays_same, stays_on}
+use Rattle.check_crew.proofs.SeenTurns.{section_seen, stays_same}
 use Rattle.check_crew.proofs.worker.take_turn.Goals as goal
 
 pub examine-requires : goal.examine-requires
@@ -20,26 +20,10 @@ unreachable-requires g c =
     c.requires.place).proof
     (rw (c.in_default.is, c.requires.examiner) at c.in_ok-finding.ensures.found)
 
-pub post-requires-clause-section : goal.post-requires-clause-section
-post-requires-clause-section g c =
+pub post_found-requires-clause-section : goal.post_found-requires-clause-section
+post_found-requires-clause-section g c =
     let found = rw (c.in-Some.is, c.requires.examiner) at c.in_ok-finding.ensures.found in
     λ alone. rw (found.1, found.2) found.0
-
-pub tell-requires-clause-here : goal.tell-requires-clause-here
-tell-requires-clause-here g c =
-    let found = rw (c.in-Some.is, c.requires.examiner) at c.in_ok-finding.ensures.found in
-    rw (found.1, found.2) at c.node.ensures.here
-
-pub tell-requires-clause-is : goal.tell-requires-clause-is
-tell-requires-clause-is g c =
-    let found = rw (c.in-Some.is, c.requires.examiner) at c.in_ok-finding.ensures.found in
-    rw (found.1, found.2) at c.judged.ensures.is
-
-pub tell-requires-clause-seen : goal.tell-requires-clause-seen
-tell-requires-clause-seen g c =
-    let found = rw (c.in-Some.is, c.requires.examiner) at c.in_ok-finding.ensures.found in
-    rw (c.node.ensures.value, c.judged.ensures.value)
-    (c.post.ensures.section (rw found.2 found.0))
 
 pub returns-clause-seen : goal.returns-clause-seen
 returns-clause-seen g c =
@@ -49,15 +33,11 @@ returns-clause-seen g c =
     section_here c.args.site.case.now c.sections.result.now c.args.place
     c.index-sections-place.result c.sections.ensures.targets_are c.sections.ensures.targets
     c.requires.place in
-    let of_case = ap (λ (k : CutCase). k.case) c.tell.ensures.own.1 ∙ sym c.requires.case in
-    section_seen c.args.site.case.now (view_of c.tell.new.pass) c.args.place
+    let of_case = ap (λ (k : CutCase). k.case) c.post_found.ensures.own.1 ∙ sym c.requires.case in
+    section_seen c.args.site.case.now (view_of c.post_found.new.pass) c.args.place
     c.in-Some.finding.node _ of_case here.is (rw (same, found.2) at c.in-Some.finding.only)
-    (seen_stays _ _ c.tell.ensures.stays c.in-Some.finding.node
     (seen_by_mark _ c.in-Some.finding.node c.in-Some.finding.judged
-    (c.post.ensures.section (rw found.2 found.0))))
+    (c.post_found.ensures.section (rw found.2 found.0)))
 
 pub returns-in_err-finding-clause-stays : goal.returns-in_err-finding-clause-stays
 returns-in_err-finding-clause-stays g c = stays_same _
-
-pub returns-clause-stays : goal.returns-clause-stays
-returns-clause-stays g c = stays_on _ _ _ c.post.ensures.stays c.tell.ensures.stays

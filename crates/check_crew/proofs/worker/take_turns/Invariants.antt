@@ -6,9 +6,9 @@ use Rattle.check_crew.proofs.worker.take_turns.Given as goal
 
 abbrev pub invariant-loop : goal.invariant-loop
 invariant-loop g l = record {
-  examiner : l.examiner ≡ l.site.case.now;
-  pass : IsPassOf (shared_of l.site.core.now) l.pass;
+  examiner : l.examiner ≡ l.turns.site.case.now;
+  pass : IsPassOf (shared_of l.turns.site.core.now) l.pass;
   owes : (view_of l.pass).owes ≡ None;
-  job_pass : queue.IsPassOf l.site.jobs.now l.job_pass;
-  seen : All (HasSeenTurn l.site.order.now (view_of l.pass)) l.job_pass.claims;
+  job_pass : queue.IsPassOf l.turns.jobs.now l.job_pass;
+  seen : All (HasSeenTurn l.turns.order.now (view_of l.pass)) l.job_pass.claims;
 }
