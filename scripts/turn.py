@@ -135,15 +135,13 @@ class Prover(build.Prover):
 
     backend = "rattle"
 
+    def keeping(self, crate):
+        return ["--incremental", "out/incremental"]
+
     def prove(self, crate, jobs, log):
-        tool, folder = f"{self.kit.folder}/bin/rattle", self.kit.folder
-        words = [tool, "build", *self.words(crate), "--logic-built", f"{folder}/logic_built", "--incremental", "out/incremental"]
-        words += ["--jobs", str(jobs)]
         (crate.folder / "out").mkdir(exist_ok=True)
         with alone_in(crate.folder):
-            if not crate.is_program:
-                return self.call(crate, log, *words, "-o", str(self.kept.library(crate)))
-            return self.link(crate, log, words)
+            return super().prove(crate, jobs, log)
 
 
 @contextlib.contextmanager
