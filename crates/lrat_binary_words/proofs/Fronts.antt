@@ -6,7 +6,7 @@ use Rattle.lrat_text.specs.declared.words.Front.TheVariants as fronts
 use Rattle.lrat_text.proofs.GrammarDecoding.{nil_cons, no_step_alone}
 use Rattle.lrat_text.proofs.OpenMore.{front_alone}
 use Rattle.lrat_binary.specs.Binary.{capped, numbers_of}
-use Rattle.lrat_binary_law.specs.Symbols.{symbols_at}
+use Rattle.lrat_binary_words.specs.Symbols.{symbols_at}
 use Rattle.lrat_binary_words.specs.Words.{symbols_of}
 
 -- a number with nothing behind it

@@ -1,3 +1,9 @@
+mod SymbolsWords
+mod SymbolsNumerals
+mod SymbolsText
+mod EncodingEncoded
+mod EncodingDecoded
+mod EncodingRoundTrip
 mod Numerals
 mod Fronts
 pub mod WordsMore

@@ -3,7 +3,7 @@ use Rattle.std.proofs.Common.{◌≡◌, ℕ, suc, ◌/◌, ◌%◌, ◌<◌, �
 use Rattle.std.proofs.Common.{inr}
 use Rattle.std.proofs.lemmas.Bool.{ne_eqb, cases_Bool, eqb-true, eqb-false}
 use Rattle.lrat_text.specs.declared.words.Word.{Word}
-use Rattle.lrat_binary_law.specs.Symbols.{symbol_of}
+use Rattle.lrat_binary_words.specs.Symbols.{symbol_of}
 use Rattle.cnf_text.specs.Numbers.{Number}
 use Rattle.lrat_text.specs.Grammar.{Numeral, DeleteMark, Stray, positive, negative}
 use Rattle.lrat_text.specs.declared.words.Word.TheVariants as words

@@ -11,8 +11,8 @@ use Rattle.lrat_text.specs.StepWords.{proof_with}
 use Rattle.lrat_text.proofs.ProofUnique.{proof_is}
 use Rattle.lrat_binary.specs.Binary.{onto_first, capped, ends_behind, numbers_of, text_of}
 use Rattle.lrat_binary.specs.Numbers.{begun_with, begun_of}
-use Rattle.lrat_binary_law.specs.Symbols.{symbols_for, symbols_at}
-use Rattle.lrat_binary_law.proofs.TextWords.{symbols_are, symbols_of_text}
+use Rattle.lrat_binary_words.specs.Symbols.{symbols_for, symbols_at}
+use Rattle.lrat_binary_words.proofs.SymbolsText.{symbols_are, symbols_of_text}
 use Rattle.lrat_binary_words.specs.Words.{symbols_of, ends_after, cut_of, left_of, symbols_behind}
 
 -- a byte that isn't the last one of its number in front of bytes that go on

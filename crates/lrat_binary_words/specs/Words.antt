@@ -4,7 +4,7 @@ use Rattle.lrat_text.specs.Grammar.{StepSymbol}
 use Rattle.lrat_text.specs.StepWords.{Cut, Left}
 use Rattle.lrat_binary.specs.Binary.{capped, ends_behind, numbers_of}
 use Rattle.lrat_binary.specs.Numbers.{begun_of}
-use Rattle.lrat_binary_law.specs.Symbols.{symbols_at}
+use Rattle.lrat_binary_words.specs.Symbols.{symbols_at}
 
 -- the symbols of these bytes where so many end marks are still to come
 abbrev pub symbols_of : ℕ → List ℕ → List StepSymbol

@@ -2,7 +2,9 @@
 //! reader of steps: the proof is read straight from its bytes.
 #![tactic(auto)]
 
+mod laws;
 mod numeral;
 mod words;
 
+pub use laws::{round_trip, symbols_of_text};
 pub use words::BinaryWords;

@@ -4,7 +4,7 @@ use Rattle.lrat_text.specs.StepWords.{IsReadAs, HasId, ends_behind}
 use Rattle.lrat_text.specs.declared.words.Word.{Word}
 use Rattle.lrat_text.specs.declared.words.Word.TheVariants as words
 use Rattle.lrat_binary.specs.Binary as binary
-use Rattle.lrat_binary_law.specs.Symbols.{symbol_of}
+use Rattle.lrat_binary_words.specs.Symbols.{symbol_of}
 
 -- the word is that of the number's symbol, which is no mark of a deletion, and behind both as many
 -- end marks are to come

@@ -17,8 +17,8 @@ use Rattle.cnf_text.specs.Numbers as cnf
 use Rattle.cnf_text.specs.Numbers.{digits_value, number_of, negative_of, unsigned_of, Number}
 use Rattle.lrat_text.specs.Grammar.{step_symbol_of, Numeral, Stray, negative}
 use Rattle.lrat_binary.specs.Binary.{word_of}
-use Rattle.lrat_binary_law.specs.Symbols.{symbol_of}
-use Rattle.lrat_binary_law.proofs.Words.{AreVisible}
+use Rattle.lrat_binary_words.specs.Symbols.{symbol_of}
+use Rattle.lrat_binary_words.proofs.SymbolsWords.{AreVisible}
 
 number_below : (bs : List ℕ) → get_or bs 0 0 ≡ 45 →
     number_of bs ≡ negative_of (cnf.decimal (drop 1 bs))

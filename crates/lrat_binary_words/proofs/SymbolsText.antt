@@ -15,10 +15,11 @@ use Rattle.cnf_text.specs.Words.{words_left}
 use Rattle.cnf_text.proofs.WordsLeft.{nothing_left, words_of_tokens}
 use Rattle.lrat_text.specs.Grammar.{Stray, end_mark, step_symbol_of, step_symbols_of}
 use Rattle.lrat_binary.specs.Binary.{capped, ends_behind, numbers_of, text_at, text_of, word_of}
-use Rattle.lrat_binary_law.specs.Symbols.{symbols_at}
-use Rattle.lrat_binary_law.proofs.Words.{AreVisible, IsPlain, plain_left, word_and_space}
-use Rattle.lrat_binary_law.proofs.Words.{word_and_line}
-use Rattle.lrat_binary_law.proofs.Numerals.{Spelled, spelled, visible_digits, symbol_of_word}
+use Rattle.lrat_binary_words.specs.Symbols.{symbols_at}
+use Rattle.lrat_binary_words.proofs.SymbolsWords.{AreVisible, IsPlain, plain_left, word_and_space}
+use Rattle.lrat_binary_words.proofs.SymbolsWords.{word_and_line}
+use Rattle.lrat_binary_words.proofs.SymbolsNumerals.{Spelled, spelled, visible_digits}
+use Rattle.lrat_binary_words.proofs.SymbolsNumerals.{symbol_of_word}
 
 -- the word of a number: some bytes, none of which is a blank, and the first of which is no c
 record IsWord (w : List ℕ) : Type 0 where

@@ -1,8 +1,7 @@
 //! Laws of what binary LRAT proofs stand for.
-#![tactic(auto)]
 
-ghost use Rattle.lrat_binary_law.specs.Encoding.{RoundTrip};
-ghost use Rattle.lrat_binary_law.specs.Symbols.{SymbolsOfText};
+ghost use Rattle.lrat_binary_words.specs.Encoding.{RoundTrip};
+ghost use Rattle.lrat_binary_words.specs.Symbols.{SymbolsOfText};
 
 /// The symbols of the text of a binary proof are those of its numbers.
 pub fn symbols_of_text()

@@ -12,8 +12,8 @@ use Rattle.lrat_text.specs.Grammar.{IsGroup}
 use Rattle.lrat_text.specs.Grammar.{IsId, group_symbols, ProofStep, Add, Delete}
 use Rattle.lrat_text.specs.Decoding.{id_of, candidate_of, literal_in, is_id, is_variable}
 use Rattle.lrat_text.specs.Decoding.{run, hints_in, first_step, steps_in, front_of}
-use Rattle.lrat_binary_law.specs.Encoding.{IsWithin}
-use Rattle.lrat_binary_law.proofs.Encoded.{all_are, symbols_onto, all_symbols}
+use Rattle.lrat_binary_words.specs.Encoding.{IsWithin}
+use Rattle.lrat_binary_words.proofs.EncodingEncoded.{all_are, symbols_onto, all_symbols}
 
 id_test : (n : ℕ) → IsId n → is_id n ≡ true
 id_test n is = rw (ne_eqb n 0 (λ e. omega arith), le-leb n 4611686018427387904 is.1) refl

@@ -8,9 +8,9 @@ use Rattle.cnf_text.specs.Literal.{Literal, IsVariable}
 use Rattle.lrat_text.specs.Grammar.{StepSymbol, DeleteMark, positive, negative, signed, end_mark}
 use Rattle.lrat_text.specs.Grammar.{HintGroup, IsGroup, IsId, group_symbols, ProofStep, Add, Delete}
 use Rattle.lrat_binary.specs.Binary.{capped}
-use Rattle.lrat_binary_law.specs.Symbols.{symbol_of, symbols_at}
-use Rattle.lrat_binary_law.specs.Encoding.{id_number, literal_number, group_numbers, step_numbers}
-use Rattle.lrat_binary_law.specs.Encoding.{IsWithin}
+use Rattle.lrat_binary_words.specs.Symbols.{symbol_of, symbols_at}
+use Rattle.lrat_binary_words.specs.Encoding.{id_number, literal_number, group_numbers, step_numbers}
+use Rattle.lrat_binary_words.specs.Encoding.{IsWithin}
 
 pub all_are : {A : Type 0} (P Q : A → Type 0) → ((x : A) → P x → Q x) → (xs : List A)
     → AllByRecursion P xs → AllByRecursion Q xs

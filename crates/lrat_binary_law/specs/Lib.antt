@@ -1,2 +1,0 @@
-pub mod Symbols
-pub mod Encoding
