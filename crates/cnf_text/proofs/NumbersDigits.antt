@@ -142,7 +142,7 @@ decimal_of_digits bs n within some all =
     decimal_all (take n bs) n (omega arith) (λ none. some (sym count ∙ none)) (rw whole all)
     ∙ rw whole refl
 
-no_minus : (bs : List ℕ) (n : ℕ) → decimal bs ≡ Some n → slice_index bs 0 ≡ 45 → ⊥
+pub no_minus : (bs : List ℕ) (n : ℕ) → decimal bs ≡ Some n → slice_index bs 0 ≡ 45 → ⊥
 no_minus [] n h first = absurd (omega arith)
 no_minus (b ∷ bs) n h first =
     let none : decimal (b ∷ bs) ≡ None = no_decimal (b ∷ bs) 0 (omega arith) (rw first refl) in

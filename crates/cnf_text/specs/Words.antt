@@ -1,8 +1,9 @@
 -- The words of a text that are left, from a place within a line on, and what each is told as.
-use Rattle.std.specs.Prelude.{◌≡◌, ℕ, if◌then◌else◌, List, [], ◌∷◌, ◌++◌, Some, None}
+use Rattle.std.specs.Prelude.{◌≡◌, ℕ, if◌then◌else◌, List, [], ◌∷◌, ◌++◌, Some, None, not}
 use Rattle.std.specs.List.{slice_split, flat_map}
 use Rattle.std.specs.Option.{option_map}
-use Rattle.cnf_text.specs.Numbers.{number_of, capped}
+use Rattle.cnf_text.specs.Literal.{Literal, IsVariable}
+use Rattle.cnf_text.specs.Numbers.{Number, number_of, capped}
 use Rattle.cnf_text.specs.Tokens.{is_line_end, is_comment, words}
 use Rattle.cnf_text.specs.declared.words.Word.{Word}
 use Rattle.cnf_text.specs.declared.words.Word.TheVariants as told
@@ -30,3 +31,15 @@ IsToldAs bytes (told.Other other) = (number_of bytes ≡ None) × (other.now ≡
 -- the first word is told as this, and the others are left
 abbrev pub IsNextWord : List (List ℕ) → Word → List (List ℕ) → Type 0
 IsNextWord found word left = (bytes : List ℕ) × (found ≡ bytes ∷ left) × IsToldAs bytes word
+
+-- the number that stands for a literal
+abbrev pub of_literal : Literal → Number
+of_literal literal = record { negative = not literal.positive; magnitude = literal.variable }
+
+-- the first word spells this literal, and the others are left
+pub record IsNextLiteral (found : List (List ℕ)) (literal : Literal) (left : List (List ℕ))
+    : Type 0 where
+  pub variable : IsVariable literal.variable
+  pub word : List ℕ
+  pub first : found ≡ word ∷ left
+  pub spelled : number_of word ≡ Some (of_literal literal)

@@ -6,7 +6,9 @@ ghost use Rattle.std.specs.List.{slice_split};
 ghost use Rattle.cnf_text.specs.Tokens.{tokens_of, is_line_end, is_blank};
 ghost use Rattle.cnf_text.specs.Numbers.{decimal};
 ghost use Rattle.cnf_text.specs.Words.{words_of_lines, words_left, IsToldAs, IsNextWord};
+ghost use Rattle.cnf_text.specs.Words.{IsNextLiteral};
 
+use crate::literal::{Lit, MAX_VARIABLE};
 use crate::numbers::{Number, digits_at_front, read_number};
 use crate::tokens::{is_blank, is_comment, split_line, word_len};
 use std::marker::Model;
@@ -102,6 +104,36 @@ impl<'t> Words<'t> {
             None => next_elsewhere(self.text),
         }
     }
+
+    /// The literal with which the words begin at once, and the words behind it. `None` says nothing
+    /// of the words.
+    #[inline(always)]
+    pub fn next_literal(&self) -> Option<(Lit, Words<'t>)>
+        ensures { IfSome result (λ found. IsNextLiteral self.now found.0 found.1) }
+    {
+        match short_literal(self.text) {
+            Some((literal, rest)) => Some((literal, Words { text: rest })),
+            None => None,
+        }
+    }
+}
+
+/// The literal with which a text begins at once, and the text behind it. There is no branch on its
+/// sign, which is seldom foreseen. `None` says nothing of the text.
+#[inline(always)]
+fn short_literal(text: &[u8]) -> Option<(Lit, &[u8])>
+    ensures { IfSome result (λ found.
+        IsNextLiteral (words_left text.now) found.0 (words_left found.1.now)) }
+{
+    if text.len() < FRONT + 3 {
+        return None;
+    }
+    let negative = text[0] == b'-';
+    let (magnitude, rest) = short_number(&text[usize::from(negative)..])?;
+    if magnitude == 0 || magnitude > u64::from(MAX_VARIABLE) {
+        return None;
+    }
+    Some((Lit::from_parts(magnitude as u32, !negative), rest))
 }
 
 /// The number with which a text begins at once, and the text behind it. It is without a sign and

@@ -1,7 +1,7 @@
 -- Numbers as symbols.
 use Rattle.std.proofs.Common.{◌≡◌, ℕ, ◌≤◌, ◌<◌, List, [], ◌∷◌, drop, refl, sym, ◌∙◌, ap, arith}
 use Rattle.std.proofs.Common.{Bool, true, false, Option, Some, None, inl, inr}
-use Rattle.std.specs.Prelude.{min, codes, slice_index, ◌==◌}
+use Rattle.std.specs.Prelude.{min, codes, slice_index, ◌==◌, IfSome}
 use Rattle.std.specs.Option.{option_map}
 use Rattle.std.specs.Str.{bytes_eq}
 use Rattle.std.proofs.lemmas.Slice.Eq.{bytes_eq-Decides}
@@ -9,8 +9,11 @@ use Rattle.std.proofs.lemmas.Bool.{cases_Bool, false≢true, eqb-false}
 use Rattle.cnf_text.specs.declared.numbers.Number as code
 use Rattle.cnf_text.specs.Numbers.{Number, number_of, negative_of, unsigned_of, decimal, capped}
 use Rattle.lrat_text.specs.declared.words.Word.TheVariants as words
-use Rattle.lrat_text.specs.Grammar.{step_symbol_of, Numeral, DeleteMark}
-use Rattle.lrat_text.specs.StepWords.{IsReadAs}
+use Rattle.cnf_text.specs.Literal.{Literal}
+use Rattle.cnf_text.specs.Words.{of_literal, IsNextLiteral}
+use Rattle.lrat_text.specs.Grammar.{step_symbol_of, Numeral, DeleteMark, signed}
+use Rattle.lrat_text.specs.StepWords.{IsReadAs, IsLiteralFirst, no_cut}
+use Rattle.lrat_text.specs.Decoding.{symbols}
 
 some_none : {A : Type 0} (a : A) → None ≡ Some a → ⊥
 some_none a e = cc
@@ -30,6 +33,25 @@ no_mark bytes n h = elim (cases_Bool (bytes_eq bytes (codes "d"))) [
       (sym no_letter ∙ sym (ap number_of ((bytes_eq-Decides bytes (codes "d")).0 same)) ∙ h))
   | inr other ↦ other
 ]
+
+-- a word that spells a literal is its symbol
+pub literal_symbol : (word : List ℕ) (literal : Literal)
+    → number_of word ≡ Some (of_literal literal) → step_symbol_of word ≡ signed literal
+literal_symbol word literal is = rw (no_mark word (of_literal literal) is, is) refl
+
+-- a literal that was told is the first symbol
+pub literal_told : (found : Option (Literal × List (List ℕ))) (words : List (List ℕ))
+    → IfSome found (λ it. IsNextLiteral words it.0 it.1)
+    → IfSome found (λ it. IsLiteralFirst it.0 (symbols words) (symbols it.1) × (no_cut ≡ no_cut))
+literal_told None words is = tt
+literal_told (Some it) words is = (
+  (
+    is.variable,
+    ap symbols is.first
+        ∙ ap (λ s. s ∷ symbols it.1) (literal_symbol is.word it.0 is.spelled),
+  ),
+  refl,
+)
 
 not_zero_below : (found : Option ℕ) (n : Number) → negative_of found ≡ Some n → 1 ≤ n.magnitude
 not_zero_below None n h = absurd (some_none n h)

@@ -92,35 +92,78 @@ pub hints_of_run : (t : List StepSymbol) → ((run : List ℕ) × IsRun t run st
 hints_of_run t run =
     (run.0, [], (run.1.0, tt, run.1.2 ∙ sym (hints_nil run.0 (end_mark ∷ []))))
 
--- literals, of which this is the last
-pub literals_end : (t left : List StepSymbol) (ls : List Literal) (l : Literal)
-    (symbol : StepSymbol) → t ≡ map signed ls ++ symbol ∷ left → symbol ≡ signed l → left ≡ [] →
-    AllByRecursion (λ literal. IsVariable literal.variable) ls → IsVariable l.variable →
-    (literals : List Literal) × IsLiterals (t ++ end_mark ∷ []) literals []
-literals_end t left ls l symbol is last none all is_variable = (
-  ls ++ l ∷ [],
+-- literals behind which nothing is left
+pub literals_end : (t left : List StepSymbol) (ls : List Literal) → t ≡ map signed ls ++ left
+    → left ≡ [] → AllByRecursion (λ literal. IsVariable literal.variable) ls
+    → (literals : List Literal) × IsLiterals (t ++ end_mark ∷ []) literals []
+literals_end t left ls is none all = (
+  ls,
   (
-    all_push (λ literal. IsVariable literal.variable) ls l all is_variable,
-    ap (λ s. s ++ end_mark ∷ [])
-        (is ∙ ap (λ s. map signed ls ++ s ∷ left) last
-        ∙ ap (λ s. map signed ls ++ signed l ∷ s) none
-        ∙ sym (map-append signed ls (l ∷ []))),
+    all,
+    ap (λ s. s ++ end_mark ∷ []) (is ∙ ap (λ s. map signed ls ++ s) none)
+        ∙ append_assoc (map signed ls) [] (end_mark ∷ []),
   ),
 )
 
--- one literal more, and the word behind it
-pub literals_on : (whole left : List StepSymbol) (ls : List Literal) (l : Literal)
-    (symbol next : StepSymbol) (between : ℕ → List StepSymbol) (word : Word) →
+-- one literal more
+literal_on : (whole : List StepSymbol) (ls : List Literal) (l : Literal) (symbol : StepSymbol)
+    (between : ℕ → List StepSymbol) (word : Word) →
     whole ≡ map signed ls ++ symbol ∷ between (ends_behind word 1) → symbol ≡ signed l →
-    (word ≡ words.End → ⊥) → between 2 ≡ next ∷ left →
-    whole ≡ map signed (ls ++ l ∷ []) ++ next ∷ left
-literals_on whole left ls l symbol next between word is last other more =
+    (word ≡ words.End → ⊥) → whole ≡ map signed (ls ++ l ∷ []) ++ between 2
+literal_on whole ls l symbol between word is last other =
     is
     ∙ ap (λ s. map signed ls ++ s ∷ between (ends_behind word 1)) last
-    ∙ ap (λ s. map signed ls ++ signed l ∷ s)
-    (ap between (none_ended word 1 other) ∙ more)
-    ∙ sym (append_assoc (map signed ls) (signed l ∷ []) (next ∷ left))
-    ∙ ap (λ s. s ++ next ∷ left) (sym (map-append signed ls (l ∷ [])))
+    ∙ ap (λ s. map signed ls ++ signed l ∷ s) (ap between (none_ended word 1 other))
+    ∙ sym (append_assoc (map signed ls) (signed l ∷ []) (between 2))
+    ∙ ap (λ s. s ++ between 2) (sym (map-append signed ls (l ∷ [])))
+
+-- some literals more
+pub run_on : (whole between left : List StepSymbol) (ls run : List Literal) →
+    whole ≡ map signed ls ++ between → between ≡ map signed run ++ left →
+    whole ≡ map signed (ls ++ run) ++ left
+run_on whole between left ls run is more =
+    is
+    ∙ ap (λ s. map signed ls ++ s) more
+    ∙ sym (append_assoc (map signed ls) (map signed run) left)
+    ∙ ap (λ s. s ++ left) (sym (map-append signed ls run))
+
+-- one literal more, and some behind it
+pub literals_on : (whole left : List StepSymbol) (ls run pushed all : List Literal) (l : Literal)
+    (symbol : StepSymbol) (between : ℕ → List StepSymbol) (word : Word) →
+    whole ≡ map signed ls ++ symbol ∷ between (ends_behind word 1) → symbol ≡ signed l →
+    (word ≡ words.End → ⊥) → pushed ≡ ls ++ l ∷ [] → all ≡ pushed ++ run
+    → between 2 ≡ map signed run ++ left → whole ≡ map signed all ++ left
+literals_on whole left ls run pushed all l symbol between word is last other push more run_is =
+    rw (more, push)
+    (run_on whole (between 2) left (ls ++ l ∷ []) run
+    (literal_on whole ls l symbol between word is last other) run_is)
+
+-- and the word behind these
+pub literals_next : (whole left after : List StepSymbol) (ls run pushed all : List Literal)
+    (l : Literal) (symbol : StepSymbol) (between : ℕ → List StepSymbol) (word : Word) →
+    whole ≡ map signed ls ++ symbol ∷ between (ends_behind word 1) → symbol ≡ signed l →
+    (word ≡ words.End → ⊥) → pushed ≡ ls ++ l ∷ [] → all ≡ pushed ++ run
+    → between 2 ≡ map signed run ++ left → left ≡ after → whole ≡ map signed all ++ after
+literals_next whole left after ls run pushed all l symbol between word is last other push more
+    run_is next =
+    literals_on whole left ls run pushed all l symbol between word is last other push more run_is
+    ∙ ap (λ s. map signed all ++ s) next
+
+all_both : (ls run : List Literal) → AllByRecursion (λ literal. IsVariable literal.variable) ls
+    → AllByRecursion (λ literal. IsVariable literal.variable) run
+    → AllByRecursion (λ literal. IsVariable literal.variable) (ls ++ run)
+all_both [] run all more = more
+all_both (l ∷ ls) run all more = (all.0, all_both ls run all.1 more)
+
+-- all of them have variables
+pub all_on : (ls run pushed all : List Literal) (l : Literal)
+    → AllByRecursion (λ literal. IsVariable literal.variable) ls → IsVariable l.variable
+    → AllByRecursion (λ literal. IsVariable literal.variable) run → pushed ≡ ls ++ l ∷ []
+    → all ≡ pushed ++ run → AllByRecursion (λ literal. IsVariable literal.variable) all
+all_on ls run pushed all l each one more push is =
+    rw (is, push)
+    (all_both (ls ++ l ∷ []) run
+    (all_push (λ literal. IsVariable literal.variable) ls l each one) more)
 
 -- an addition of literals without hints
 pub literals_then : (id : ℕ) (first : StepSymbol) (t : List StepSymbol) → IsId id →

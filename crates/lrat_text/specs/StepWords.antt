@@ -1,11 +1,13 @@
 -- What the words of a proof stand for, as the reader of its steps takes them.
 use Rattle.std.specs.Prelude.{◌≡◌, ℕ, suc, ◌≤◌, List, [], ◌∷◌, ◌++◌}
+use Rattle.cnf_text.specs.Literal.{Literal, IsVariable}
 use Rattle.cnf_text.specs.Numbers.{Number}
 use Rattle.lrat_text.specs.declared.words.Word.{Word}
 use Rattle.lrat_text.specs.declared.words.Word.TheVariants as words
 use Rattle.lrat_text.specs.declared.words.Front.{Front}
 use Rattle.lrat_text.specs.declared.words.Front.TheVariants as fronts
 use Rattle.lrat_text.specs.Grammar.{StepSymbol, Numeral, DeleteMark, positive, negative, end_mark}
+use Rattle.lrat_text.specs.Grammar.{signed}
 use Rattle.lrat_text.specs.Grammar.{greatest_id, IsId, ProofStep, BeginsWith}
 use Rattle.lrat_text.specs.Proof.{Proof}
 use Rattle.lrat_text.specs.Decoding.{proof_in}
@@ -37,6 +39,11 @@ HasId words.Stray = Unit {0}
 abbrev pub IsNext : Word → List StepSymbol → List StepSymbol → Type 0
 IsNext word symbols left =
     HasId word × ((symbol : StepSymbol) × IsReadAs word symbol × (symbols ≡ symbol ∷ left))
+
+-- the first symbol is this literal, and the others are left
+abbrev pub IsLiteralFirst : Literal → List StepSymbol → List StepSymbol → Type 0
+IsLiteralFirst literal symbols left =
+    IsVariable literal.variable × (symbols ≡ signed literal ∷ left)
 
 -- where the words of a proof that may go on are cut off: how many end marks are still to come in
 -- the step that is begun there, and the bytes of a word that is begun

@@ -8,10 +8,11 @@ ghost use Rattle.cnf_text.specs.Numbers.{number_of, capped};
 ghost use Rattle.cnf_text.specs.Words.{IsToldAs};
 ghost use Rattle.lrat_text.specs.Grammar.{StepSymbol, step_symbol_of, positive, greatest_id, IsId};
 ghost use Rattle.lrat_text.specs.StepWords.{IsReadAs, HasId, IsNext, IsFront, ends_behind};
-ghost use Rattle.lrat_text.specs.StepWords.{Cut, no_cut, IsCutBehind};
+ghost use Rattle.lrat_text.specs.StepWords.{Cut, no_cut, IsCutBehind, IsLiteralFirst};
 ghost use Rattle.lrat_text.specs.Decoding.{symbols};
 
 use crate::step::MAX_ID;
+use cnf_text::literal::Lit;
 use cnf_text::numbers::Number;
 use cnf_text::words as told;
 use cnf_text::words::Words;
@@ -63,6 +64,16 @@ pub trait StepWords: Drop {
             (λ found. IsNext found.0 (ahead (suc ends) self)
             (ahead (ends_behind found.0 ends) found.1)
             × (cut (suc ends) self ≡ cut (ends_behind found.0 ends) found.1)) };
+
+    /// The literal with which the words begin at once, within a step, and the words behind it.
+    /// `None` says nothing of the words.
+    fn next_literal(&self) -> Option<(Lit, Self)>
+        ensures { (ends : ℕ) → IfSome result (λ found.
+            IsLiteralFirst found.0 (ahead (suc ends) self.now) (ahead (suc ends) found.1)
+            × (cut (suc ends) self.now ≡ cut (suc ends) found.1)) }
+    {
+        None
+    }
 
     /// What stands at the front of the next step, and the words behind it; `None` where no word is
     /// left.
@@ -160,6 +171,11 @@ impl<'t> StepWords for Words<'t> {
     fn next_word(self) -> Option<(Word, Self)> {
         let (told, rest) = self.next()?;
         Some((word_of(told), rest))
+    }
+
+    #[inline(always)]
+    fn next_literal(&self) -> Option<(Lit, Self)> {
+        Words::next_literal(self)
     }
 
     #[inline(always)]
