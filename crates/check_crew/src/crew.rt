@@ -88,7 +88,7 @@ pub fn conquer<'c, R: Threads + Wait + Sync, G: Gate + Sync>(
             bytes: 0,
         },
     };
-    match run(rt, alloc, case, settings.cut(), gate, opened, proofs) {
+    match run(rt, alloc, settings.cut(), gate, opened, proofs) {
         Ok((boards, _)) => Ok(boards),
         Err(RunFault::Crew(fault)) => Err(fault),
         Err(RunFault::Read(_)) => unreachable!(),
@@ -111,14 +111,12 @@ pub(crate) struct Opened<'c> {
 pub(crate) fn run<'c, R: Threads + Wait + Sync, G: Gate + Sync, P: TargetProofs + Send + Drop>(
     rt: &R,
     alloc: Global,
-    case: &'c Case,
     cut: u32,
     gate: &G,
     opened: Opened<'c>,
     proofs: Vec<P>,
 ) -> Result<(Boards<'c>, Vec<Vec<ExaminedTarget>>), RunFault<P>>
     requires cut { cut ≤ 6 }
-    requires case { case.now ≡ (hall_of opened.hall).of.case }
     requires elsewhere { 0 < vec_len opened.targets
         → (hall_of opened.hall).of.proofs ≡ AnyElsewhere }
     requires count { (0 < vec_len proofs) × (vec_len proofs ≤ 32) }
@@ -129,7 +127,8 @@ pub(crate) fn run<'c, R: Threads + Wait + Sync, G: Gate + Sync, P: TargetProofs 
     ensures closed { IfOk result (λ run. AreClosed (hall_of opened.entry.hall) run.0) }
     ensures lists { (known : Known)
         → All (λ one. (target : Target) → P.held one target ≡ known target) proofs.items
-        → IfOk result (λ run. All (λ list. IsListOf known case.now list.items) run.1.items) }
+        → IfOk result (λ run. All (λ list.
+        IsListOf known (hall_of opened.entry.hall).of.case list.items) run.1.items) }
     ensures failed { IfErr result (IsRunFault P.failures) }
 {
     let Opened {
@@ -138,8 +137,15 @@ pub(crate) fn run<'c, R: Threads + Wait + Sync, G: Gate + Sync, P: TargetProofs 
         targets,
         elsewhere,
     } = opened;
-    gate.start(alloc, case, cut, elsewhere)?;
-    let examined = examine_all(rt, alloc, case, hall.core(), gate, &targets, passes, proofs);
+    let site = Site {
+        rt,
+        alloc,
+        case: hall.case(),
+        core: hall.core(),
+        gate,
+    };
+    gate.start(alloc, site.case, cut, elsewhere)?;
+    let examined = examine_all(site, &targets, passes, proofs);
     gate.end();
     let (passes, lists) = examined?;
     match hall.close(passes) {
@@ -153,41 +159,32 @@ pub(crate) fn run<'c, R: Threads + Wait + Sync, G: Gate + Sync, P: TargetProofs 
 /// what was found of each section is among what one of them has seen; beside them there is a list
 /// of targets of each worker.
 fn examine_all<R: Threads + Wait + Sync, G: Gate + Sync, P: TargetProofs + Send + Drop>(
-    rt: &R,
-    alloc: Global,
-    case: &Case,
-    core: &Core,
-    gate: &G,
+    site: Site<'_, '_, R, G>,
     targets: &[Target],
     passes: Vec<Pass>,
     proofs: Vec<P>,
 ) -> Result<(Vec<Pass>, Vec<Vec<ExaminedTarget>>), RunFault<P>>
-    requires case { case.now ≡ (core_of core.now).case }
-    requires elsewhere { 0 < length targets.now → (core_of core.now).proofs ≡ AnyElsewhere }
+    requires case { site.case.now ≡ (core_of site.core.now).case }
+    requires elsewhere { 0 < length targets.now → (core_of site.core.now).proofs ≡ AnyElsewhere }
     requires count { (0 < vec_len proofs) × (vec_len proofs ≤ 32) }
     requires pairs { vec_len passes ≡ vec_len proofs }
-    requires new { All (IsNewPass (shared_of core.now)) passes.items }
+    requires new { All (IsNewPass (shared_of site.core.now)) passes.items }
     requires fresh { All (λ one. P.failures one ≡ 0) proofs.items }
     ensures count { IfOk result (λ handed. vec_len handed.0 ≡ vec_len proofs) }
-    ensures own { IfOk result (λ handed. All (IsPassOf (shared_of core.now)) handed.0.items) }
+    ensures own { IfOk result
+        (λ handed. All (IsPassOf (shared_of site.entry.core.now)) handed.0.items) }
     ensures free { IfOk result
         (λ handed. All (λ pass. (view_of pass).owes ≡ None) handed.0.items) }
-    ensures seen { IfOk result (λ handed. HaveSeenSections case.now handed.0.items) }
+    ensures seen { IfOk result (λ handed. HaveSeenSections site.entry.case.now handed.0.items) }
     ensures lists { (known : Known)
         → All (λ one. (target : Target) → P.held one target ≡ known target) proofs.items
-        → IfOk result (λ handed. All (λ list. IsListOf known case.now list.items) handed.1.items) }
+        → IfOk result (λ handed.
+        All (λ list. IsListOf known site.entry.case.now list.items) handed.1.items) }
     ensures failed { IfErr result (IsRunFault P.failures) }
 {
-    let order = long_proofs_first(alloc, case)?;
-    let (jobs, job_passes) = Jobs::fill(rt, alloc, case, passes.len())?;
+    let order = long_proofs_first(site.alloc, site.case)?;
+    let (jobs, job_passes) = Jobs::fill(site.rt, site.alloc, site.case, passes.len())?;
     let next = AtomicU64::new(0);
-    let site = Site {
-        rt,
-        alloc,
-        case,
-        core,
-        gate,
-    };
     let turns = Turns {
         site,
         jobs: &jobs,
@@ -196,7 +193,7 @@ fn examine_all<R: Threads + Wait + Sync, G: Gate + Sync, P: TargetProofs + Send 
         next: &next,
     };
     let handed = run_crew(turns, passes, job_passes, proofs)?;
-    if !jobs.finish(rt, handed.job_passes) {
+    if !jobs.finish(site.rt, handed.job_passes) {
         unreachable!()
     }
     Ok((handed.passes, handed.lists))
@@ -339,15 +336,7 @@ fn work_all<'a, R: Threads + Wait + Sync, G: Gate + Sync, P: TargetProofs + Send
         requires { IsJobOf P.failures job }
         ensures { IfOk result (IsShiftOf job.entry.turns (P.held job.entry.proofs) P.failures) }
     { work_or_leave(job, fault) };
-    Ok(work_beside(
-        turns.site.rt,
-        turns.site.alloc,
-        crew,
-        &duty,
-        jobs,
-        own,
-        shifts,
-    ))
+    Ok(work_beside(turns.site.rt, crew, &duty, jobs, own, shifts))
 }
 
 /// What all of so many workers hand back. A failed read stands before a refused start.

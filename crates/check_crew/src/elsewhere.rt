@@ -100,7 +100,7 @@ fn run_apart<'c, R: Threads + Wait + Sync, G: Gate + Sync, P: TargetProofs + Sen
         targets,
         elsewhere,
     };
-    let (boards, lists) = run(rt, alloc, case, settings.cut(), gate, opened, proofs)?;
+    let (boards, lists) = run(rt, alloc, settings.cut(), gate, opened, proofs)?;
     Ok(right_alone(alloc, boards, &lists, &absent)?)
 }
 

@@ -4,7 +4,6 @@ ghost use Rattle.std.specs.Prelude.{◌≡◌, ◌≤◌, Option, All, vec_len, 
 ghost use Rattle.check_crew.specs.declared.fault.CrewFault.{CrewFault};
 
 use crate::fault::CrewFault;
-use std::alloc::Global;
 use std::sync::Wait;
 use std::thread;
 use std::thread::{Promise, PromisedHandle, Scope, Threads};
@@ -15,7 +14,6 @@ use std::thread::{Promise, PromisedHandle, Scope, Threads};
 /// `own` is called with that fault.
 pub(crate) fn work_beside<'e, R, W, T, F, O, U, K>(
     rt: &R,
-    alloc: Global,
     promise: K,
     duty: &'e F,
     others: Vec<W>,
@@ -52,7 +50,7 @@ where
             ensures count { vec_len result.1 ≤ vec_len others }
             ensures kept { All (K.kept_by promise) result.1.items }
             ensures room { vec_capacity result.1 ≡ vec_capacity results }
-        { start_and_join(scope, rt, alloc, promise, duty, others, own, results) },
+        { start_and_join(scope, rt, promise, duty, others, own, results) },
     )
 }
 
@@ -60,7 +58,6 @@ where
 fn start_and_join<'s, 'e: 's, R, W, T, F, O, U, K>(
     scope: &'s Scope<'s, &'e ()>,
     rt: &R,
-    alloc: Global,
     promise: K,
     duty: &'e F,
     others: Vec<W>,
@@ -85,7 +82,7 @@ where
     ensures room { vec_capacity result.1 ≡ vec_capacity results }
 {
     let count = others.len();
-    let Ok(handles) = Vec::with_capacity(alloc, count) else {
+    let Ok(handles) = Vec::with_capacity(*results.allocator(), count) else {
         return (own(Some(CrewFault::Memory)), results);
     };
     let handles = start(scope, promise, duty, others, handles);

@@ -260,7 +260,7 @@ where
         ensures { IsReadOrNot L.gives L.failures L.is_back reader.entry.kept.boards
             reader.entry.kept.given.items text lent result }
     { read_or_not(reader, text, lent, fault) };
-    let (read, ends) = work_beside(site.rt, site.alloc, Unpromised, &duty, helpers, own, ends);
+    let (read, ends) = work_beside(site.rt, Unpromised, &duty, helpers, own, ends);
     (read, are_well(&ends))
 }
 
@@ -445,49 +445,6 @@ where
     ensures err { IfErr result
         (λ fault. IsReadFault (S.failures source.old) (S.failures source.new) fault) }
 {
-    let elsewhere = Elsewhere {
-        proofs: 0,
-        bytes: 0,
-    };
-    gate.start(alloc, case, settings.cut(), elsewhere)?;
-    let boards = read_named::<Brand, R, G, S>(rt, alloc, case, settings, gate, text, source);
-    gate.end();
-    boards
-}
-
-/// The same between the gate's start and its end, of the case that `J` names.
-fn read_named<'c, J, R, G, S>(
-    rt: &R,
-    alloc: Global,
-    case: &'c Case,
-    settings: Settings,
-    gate: &G,
-    text: LabelledText,
-    source: &mut S,
-) -> Result<Boards<'c>, ReadFault>
-where
-    J: NamesCase + Send + Sync,
-    R: Threads + Wait + Sync,
-    G: Gate + Sync,
-    S: Stream,
-    requires named { case.now ≡ J.case }
-    requires ready { text.ready ≡ [] }
-    requires of { (icnf : List ℕ) × IsCaseOf icnf case.now }
-    requires bare { case.now.sections ≡ [] }
-    requires count { S.failures source.old < 2 ^ 64 - 1 }
-    ensures boards { (icnf : List ℕ) → IsCaseOf icnf case.now
-        → IsBehindFront icnf text (S.gives source.old)
-        → IfOk result (λ boards. IsAllRead boards icnf
-        (bundle_behind icnf text (S.gives source.old))) }
-    ensures case { IfOk result (λ boards. (boards.case ≡ case.now) × (boards.cut ≡ settings.cut)) }
-    ensures refused { (icnf : List ℕ) → IsCaseOf icnf case.now
-        → IsBehindFront icnf text (S.gives source.old)
-        → IfErr result (λ fault. IsReadRefused icnf
-        (bundle_behind icnf text (S.gives source.old)) fault) }
-    ensures ok { OnOk result (S.failures source.new ≡ S.failures source.old) }
-    ensures err { IfErr result
-        (λ fault. IsReadFault (S.failures source.old) (S.failures source.new) fault) }
-{
     let workers = settings.workers() as usize;
     let (hall, passes) = Hall::open_for_proofs_elsewhere(alloc, case, settings.cut(), workers)?;
     let site = Site {
@@ -497,7 +454,51 @@ where
         core: hall.core(),
         gate,
     };
-    let (reader, helpers) = open::<R, G, J>(site, settings.cut(), passes)?;
+    let elsewhere = Elsewhere {
+        proofs: 0,
+        bytes: 0,
+    };
+    gate.start(alloc, case, settings.cut(), elsewhere)?;
+    let boards = read_named::<Brand, R, G, S>(site, settings.cut(), passes, text, source);
+    gate.end();
+    boards
+}
+
+/// The same between the gate's start and its end, of the case that `J` names, with a pass of the
+/// hall for each worker.
+fn read_named<'c, J, R, G, S>(
+    site: Site<'_, 'c, R, G>,
+    cut: u32,
+    passes: Vec<Pass>,
+    text: LabelledText,
+    source: &mut S,
+) -> Result<Boards<'c>, ReadFault>
+where
+    J: NamesCase + Send + Sync,
+    R: Threads + Wait + Sync,
+    G: Gate + Sync,
+    S: Stream,
+    requires site { IsSite J.case site }
+    requires cut { cut ≤ 6 }
+    requires passes { (0 < vec_len passes) × (vec_len passes ≤ 32)
+        × All (IsNewPass (shared_of site.core.now)) passes.items }
+    requires ready { text.ready ≡ [] }
+    requires count { S.failures source.old < 2 ^ 64 - 1 }
+    ensures boards { (icnf : List ℕ) → IsCaseOf icnf site.entry.case.now
+        → IsBehindFront icnf text (S.gives source.old)
+        → IfOk result (λ boards. IsAllRead boards icnf
+        (bundle_behind icnf text (S.gives source.old))) }
+    ensures case { IfOk result
+        (λ boards. (boards.case ≡ site.entry.case.now) × (boards.cut ≡ cut)) }
+    ensures refused { (icnf : List ℕ) → IsCaseOf icnf site.entry.case.now
+        → IsBehindFront icnf text (S.gives source.old)
+        → IfErr result (λ fault. IsReadRefused icnf
+        (bundle_behind icnf text (S.gives source.old)) fault) }
+    ensures ok { OnOk result (S.failures source.new ≡ S.failures source.old) }
+    ensures err { IfErr result
+        (λ fault. IsReadFault (S.failures source.old) (S.failures source.new) fault) }
+{
+    let (reader, helpers) = open::<R, G, J>(site, cut, passes)?;
     read_opened(site, helpers, reader, text, source)
 }
 

@@ -27,7 +27,7 @@ returns-clause-seen g c =
     let once =
     subst (λ n. EachOnce n (flat_map claims_of handed.job_passes.items)) turns
     (c.if-not-finish.ensures.once (search rules)) in
-    sections_seen c.args.case.now order handed.passes.items handed.job_passes.items
+    sections_seen c.args.site.case.now order handed.passes.items handed.job_passes.items
     c.in_ok-order.ensures (rw c.deref.ensures.value at c.in_ok-handed.ensures.handed.seen) once
 
 pub returns-clause-lists : goal.returns-clause-lists

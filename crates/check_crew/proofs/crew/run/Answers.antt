@@ -23,9 +23,9 @@ returns-clause-closed g c =
       gathered = c.in-Ok.ensures.boards;
       own = subst (λ (hall : HallOf). All (IsPassOf hall) passes) c.core.ensures
           c.in_ok-passes.ensures.own;
-      seen = subst (λ (case : CaseOf). HaveSeenSections case passes) c.requires.case
+      seen = subst (λ (case : CaseOf). HaveSeenSections case passes) c.case.ensures
           c.in_ok-passes.ensures.seen;
     }
 
 pub returns-clause-lists : goal.returns-clause-lists
-returns-clause-lists g c = c.in_ok-passes.ensures.lists
+returns-clause-lists g c = rw c.case.ensures at c.in_ok-passes.ensures.lists

@@ -39,7 +39,7 @@ returns-clause-apart g c = λ known all.
     c.in_ok-right_alone.ensures.right
     (λ right.
     right known
-    (rw (c.deref.ensures.value, closed.gathered.hold.case, ap (λ (k : CutCase). k.case) is)
+    (rw (c.deref.ensures.value, closed.gathered.hold.case)
     (c.in_ok-boards.ensures.lists known all))
     (rw c.deref-2.ensures.value
     (absent_known (g.P.TargetProofs.held c.index.result.now) known

@@ -8,7 +8,7 @@ returns-clause-boards g c = λ icnf case_is at.
     let opened = c.in_ok-reader.ensures in let kept = c.in_ok-reader.reader.kept in
     c.read_opened.ensures.boards icnf
     (first_read kept.boards kept.given.items icnf (g.S.Stream.gives c.args.source.now)
-    c.args.text g.J.NamesCase.case (subst (IsCaseOf icnf) c.requires.named case_is)
+    c.args.text g.J.NamesCase.case (subst (IsCaseOf icnf) c.requires.site.of_case case_is)
     c.requires.ready at opened.reader.boards opened.marks opened.given)
 
 pub returns-clause-refused : goal.returns-clause-refused
@@ -16,5 +16,5 @@ returns-clause-refused g c = λ icnf case_is at.
     let opened = c.in_ok-reader.ensures in let kept = c.in_ok-reader.reader.kept in
     c.read_opened.ensures.refused icnf
     (first_read kept.boards kept.given.items icnf (g.S.Stream.gives c.args.source.now)
-    c.args.text g.J.NamesCase.case (subst (IsCaseOf icnf) c.requires.named case_is)
+    c.args.text g.J.NamesCase.case (subst (IsCaseOf icnf) c.requires.site.of_case case_is)
     c.requires.ready at opened.reader.boards opened.marks opened.given)
