@@ -7,7 +7,7 @@ ghost use Rattle.case_core.specs.Labelled.{IsBehindFront};
 ghost use Rattle.case_core.specs.Sections.{IsCaseOf};
 ghost use Rattle.case_core.specs.SplitTree.{size};
 ghost use Rattle.mark_board.specs.declared.mark.Mark.TheVariants.{Open};
-ghost use Rattle.board_hall.specs.Halls.{hall_of, shared_of, IsNewPass};
+ghost use Rattle.board_hall.specs.Halls.{shared_of, IsNewPass};
 ghost use Rattle.proof_folder.specs.Given.{IsJudgedAs};
 ghost use Rattle.check_crew.specs.WhileRead.{IsAllRead, IsReadFault, IsReadRefused};
 ghost use Rattle.check_crew.specs.WhileRead.{bundle_behind, read_fault};
