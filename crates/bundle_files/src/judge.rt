@@ -22,6 +22,15 @@ use std::alloc::Global;
 use std::sync::Wait;
 use std::thread::Threads;
 
+/// What a run with a folder's proofs is asked for: the folder, by how many workers and at which cut
+/// they are judged, and whether a picture of the tree is drawn.
+#[derive(Clone, Copy)]
+struct FolderRun<'a> {
+    folder: &'a str,
+    settings: Settings,
+    draws: bool,
+}
+
 /// What a run says of a bundle that was read, with the proofs of a folder, by as many workers and
 /// at the cut that the settings say, and with a picture of the tree where `draws` asks for one; or
 /// the first fault of the bundle with these proofs. Where the bundle's case was made when it was
@@ -67,7 +76,12 @@ where
     let ReadBundle { bundle, case } = read;
     let case = case_of(rt.alloc(), &bundle, case)?;
     let _few = (case.tree().cube_count(), case.tree().missing_count());
-    if let Some(outcome) = judge_leaves(rt, store, &case, folder, settings, gate, draws)? {
+    let asked = FolderRun {
+        folder,
+        settings,
+        draws,
+    };
+    if let Some(outcome) = judge_leaves(rt, store, &case, asked, gate)? {
         return Ok(outcome);
     }
     let text = store.folder(rt.alloc(), bundle, folder, case.tree())?;
@@ -190,10 +204,8 @@ fn judge_leaves<R, D, G>(
     rt: &R,
     store: &mut D,
     case: &Case,
-    folder: &str,
-    settings: Settings,
+    asked: FolderRun<'_>,
     gate: &G,
-    draws: bool,
 ) -> Result<Option<Outcome>, Fault>
 where
     R: AllocGlobal + Threads + Wait + Sync,
@@ -203,12 +215,18 @@ where
     ensures held { D.held store.new ≡ D.held store.old }
     ensures allowed { StaysAllowed (D.allows store.old) (D.allows store.new) }
     ensures apart { IfOk result (λ some. IfSome some (λ outcome. (marks : List Mark)
-        × AreFoundApart (held_for (D.held store.old) folder.now) case.now marks
-        × IsWrittenBy case.now marks draws outcome.text.items outcome.map.items outcome.refuted)) }
+        × AreFoundApart (held_for (D.held store.old) asked.entry.folder.now) case.now marks
+        × IsWrittenBy case.now marks asked.entry.draws outcome.text.items outcome.map.items
+        outcome.refuted)) }
     ensures fault { IfErr result (λ fault. ¬ IsInputFault fault) }
     ensures ok { OnOk result (D.failures store.new ≡ D.failures store.old) }
     ensures err { IfErr result (IsJudgingFault (D.failures store.old) (D.failures store.new)) }
 {
+    let FolderRun {
+        folder,
+        settings,
+        draws,
+    } = asked;
     let readers = readers_of(rt.alloc(), store, folder, settings.workers())?;
     match judge_apart(rt, rt.alloc(), case, settings, gate, draws, readers) {
         Ok(run) => run,

@@ -117,7 +117,7 @@ where
         bytes: length,
     };
     gate.start(rt.alloc(), &one.case, settings.cut(), elsewhere)?;
-    let outcome = judge_begun(rt, &one.bundle, &one.case, source, settings, gate, draws);
+    let outcome = judge_begun(rt, one, source, settings, gate, draws);
     gate.end();
     outcome
 }
@@ -125,8 +125,7 @@ where
 /// The same, where the gate was started.
 fn judge_begun<R, S, G>(
     rt: &R,
-    bundle: &[u8],
-    case: &Case,
+    one: &OneCube,
     source: &mut S,
     settings: Settings,
     gate: &G,
@@ -137,21 +136,24 @@ where
     S: Source,
     G: Gate,
     requires count { S.failures source.old < 2 ^ 64 - 1 }
-    requires case { IsCaseOf bundle.now case.now }
-    requires one { case.now.tree ≡ cube 1 }
-    requires free { proof_for case.now.sections (Named (Cube 1)) ≡ None }
+    requires case { IsCaseOf one.now.bundle.items one.now.case }
+    requires tree { one.now.case.tree ≡ cube 1 }
+    requires free { proof_for one.now.case.sections (Named (Cube 1)) ≡ None }
     ensures outcome { IfOk result (λ outcome. IsOutcomeWith (IsLeft (S.remaining source.old))
-        bundle.now draws outcome.text.items outcome.map.items outcome.refuted) }
+        one.now.bundle.items draws outcome.text.items outcome.map.items outcome.refuted) }
     ensures fault { IfErr result (λ fault. IsInputFault fault → IsRefusedWith
-        (IsLeft (S.remaining source.old)) bundle.now fault) }
+        (IsLeft (S.remaining source.old)) one.now.bundle.items fault) }
     ensures ok { OnOk result (S.failures source.new ≡ S.failures source.old) }
     ensures err { IfErr result (IsJudgingFault (S.failures source.old) (S.failures source.new)) }
 {
-    let mut worker = OneWorker::over(rt.alloc(), case, settings)?;
+    let mut worker = OneWorker::over(rt.alloc(), &one.case, settings)?;
     let cube = Target::Leaf(Leaf::Cube(1));
     match worker.read_proof(rt, rt.alloc(), gate, cube, ProofForm::Unread, source)? {
         None => Ok(written_by(rt.alloc(), &worker.into_boards(), draws)?),
-        Some(label) => Err(Fault::from(fault_below(rt.alloc(), bundle, case, label))),
+        Some(label) => {
+            let fault = fault_below(rt.alloc(), &one.bundle, &one.case, label);
+            Err(Fault::from(fault))
+        }
     }
 }
 

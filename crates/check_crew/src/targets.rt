@@ -298,19 +298,18 @@ fn next_proof<R: Wait, G, P: TargetProofs>(
 }
 
 /// Examines a target whose proof was opened, and then those of further turns, until none is left or
-/// a fault comes, by an examiner that is lent. One proof is open at a time.
-fn take_targets<'c, R: Wait, G: Gate, P: TargetProofs>(
-    turns: Turns<'c, R, G>,
+/// a fault comes, by an examiner of its own. That holds the formula once more. One proof is open at
+/// a time.
+fn take_targets<R: Wait, G: Gate, P: TargetProofs>(
+    turns: Turns<'_, R, G>,
     worker: u32,
     proofs: &mut P,
-    examiner: &mut Examiner<'c>,
     pass: &mut Pass,
     examined: &mut Vec<ExaminedTarget>,
     first: OpenedTarget<P::Proof>,
 ) -> Result<(), DeviceFault>
     requires case { turns.site.case.now ≡ (core_of turns.site.core.now).case }
     requires elsewhere { (core_of turns.site.core.now).proofs ≡ AnyElsewhere }
-    requires examiner { examiner.old ≡ turns.site.case.now }
     requires first { HasTarget turns.site.case.now.tree first.target }
     requires left { IsLeftOf (P.held proofs.old first.target)
         (left_text P.takes_binary (P.Proof.remaining first.proof)) }
@@ -330,9 +329,10 @@ fn take_targets<'c, R: Wait, G: Gate, P: TargetProofs>(
     ensures err { IfErr result
         (λ fault. IsDeviceFault (P.failures proofs.old) (P.failures proofs.new) fault) }
 {
+    let mut examiner = Examiner::over(turns.site.alloc, turns.site.case)?;
     let mut opened = first;
     for _ in turns.site.rt.forever() {
-        let one = take_target(turns, worker, examiner, proofs, pass, opened)?;
+        let one = take_target(turns, worker, &mut examiner, proofs, pass, opened)?;
         examined.push(one)?;
         let Some(following) = next_proof(turns, proofs, examined)? else {
             return Ok(());
@@ -342,9 +342,8 @@ fn take_targets<'c, R: Wait, G: Gate, P: TargetProofs>(
     unreachable!()
 }
 
-/// Takes turns until none is left or a fault comes, by an examiner of its own. That holds the
-/// formula once more, so it is made when a first proof was opened: a worker that meets none costs
-/// nothing.
+/// Takes turns until none is left or a fault comes. An examiner is made when a first proof was
+/// opened: a worker that meets none costs nothing.
 pub(crate) fn examine_targets<R: Wait, G: Gate, P: TargetProofs>(
     turns: Turns<'_, R, G>,
     worker: u32,
@@ -370,6 +369,5 @@ pub(crate) fn examine_targets<R: Wait, G: Gate, P: TargetProofs>(
     let Some(first) = next_proof(turns, proofs, examined)? else {
         return Ok(());
     };
-    let mut examiner = Examiner::over(turns.site.alloc, turns.site.case)?;
-    take_targets(turns, worker, proofs, &mut examiner, pass, examined, first)
+    take_targets(turns, worker, proofs, pass, examined, first)
 }

@@ -4,6 +4,7 @@ ghost use Rattle.std.specs.Prelude.{◌≡◌, ◌≤◌, Option, All, vec_len, 
 ghost use Rattle.check_crew.specs.declared.fault.CrewFault.{CrewFault};
 
 use crate::fault::CrewFault;
+use std::alloc::Global;
 use std::sync::Wait;
 use std::thread;
 use std::thread::{Promise, PromisedHandle, Scope, Threads};
@@ -50,22 +51,25 @@ where
             ensures count { vec_len result.1 ≤ vec_len others }
             ensures kept { All (K.kept_by promise) result.1.items }
             ensures room { vec_capacity result.1 ≡ vec_capacity results }
-        { start_and_join(scope, rt, promise, duty, others, own, results) },
+        {
+            let alloc = *results.allocator();
+            let (given, handles) = start_and_work(scope, promise, duty, others, own, alloc);
+            (given, join_all(rt, promise, handles, results))
+        },
     )
 }
 
-/// The same in a scope.
-fn start_and_join<'s, 'e: 's, R, W, T, F, O, U, K>(
+/// Starts each of the others in a scope, and calls `own` in this thread; answers what that gives,
+/// and the threads that were started.
+fn start_and_work<'s, 'e: 's, W, T, F, O, U, K>(
     scope: &'s Scope<'s, &'e ()>,
-    rt: &R,
     promise: K,
     duty: &'e F,
     others: Vec<W>,
     own: O,
-    results: Vec<T>,
-) -> (U, Vec<T>)
+    alloc: Global,
+) -> (U, Vec<PromisedHandle<T, K>>)
 where
-    R: Threads,
     W: Send + Drop + 'e,
     T: Send + Drop + 'e,
     F: Fn(W) -> T + Sync + 'e,
@@ -75,23 +79,21 @@ where
     requires others { All (F.pre duty.now) others.items }
     requires promised { All (λ one. (t : T) → F.post duty.now one t → K.kept_by promise t)
         others.items }
-    requires room { (vec_len results ≡ 0) × (vec_len others ≤ vec_capacity results) }
     ensures own { (fault : Option CrewFault) × O.post own fault result.0 }
     ensures count { vec_len result.1 ≤ vec_len others }
-    ensures kept { All (K.kept_by promise) result.1.items }
-    ensures room { vec_capacity result.1 ≡ vec_capacity results }
+    ensures promised { All (λ handle. handle.promise ≡ promise) result.1.items }
 {
     let count = others.len();
-    let Ok(handles) = Vec::with_capacity(*results.allocator(), count) else {
-        return (own(Some(CrewFault::Memory)), results);
+    let Ok(handles) = Vec::with_capacity(alloc, count) else {
+        return (own(Some(CrewFault::Memory)), Vec::new(alloc));
     };
     let handles = start(scope, promise, duty, others, handles);
-    let given = if handles.len() < count {
-        own(Some(CrewFault::Thread))
+    let fault = if handles.len() < count {
+        Some(CrewFault::Thread)
     } else {
-        own(None)
+        None
     };
-    (given, join_all(rt, promise, handles, results))
+    (own(fault), handles)
 }
 
 /// Starts each of the others, until the start of one is refused. It asks for room for their

@@ -2,6 +2,7 @@
 #![tactic(auto)]
 
 mod asked;
+mod call;
 mod laws;
 mod one_proof;
 mod open;

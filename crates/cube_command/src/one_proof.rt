@@ -20,6 +20,7 @@ ghost use Rattle.cube_command.specs.Sources.{IsSoBy, file_at};
 ghost use Rattle.cube_command.specs.Inner.Recorded.{IsRecordedFrom, IsRecordedWith};
 
 use crate::asked::Telling;
+use crate::call::Call;
 use crate::program::Recorded;
 use crate::record::{begin_record, end_record};
 use bundle_files::{OneCube, Store, begin_one, judge_proof_of, of_input};
@@ -40,12 +41,10 @@ pub(crate) fn file_at(path: &str) -> Option<&str>
 /// the path is `-`, is judged while it is read. Where the formula's file has a fault, nothing of
 /// the proof is read; where that can't be opened either, this is told.
 pub(crate) fn judge_one<R, D, I, G, X>(
-    rt: &R,
+    call: &Call<'_, '_, R, G>,
     store: &mut D,
-    request: &Request<'_>,
     path: &str,
     input: &mut I,
-    gate: &G,
     telling: &mut Telling<'_, X>,
 ) -> Result<Recorded, Fault>
 where
@@ -56,26 +55,26 @@ where
     X: Explain,
     requires store { D.failures store.old < 2 ^ 64 - 1 }
     requires input { I.failures input.old < 2 ^ 64 - 1 }
-    requires alone { ((asked_in request.now).file ≡ None)
-        × ((asked_in request.now).folder ≡ None) }
+    requires alone { ((asked_in call.now.request.now).file ≡ None)
+        × ((asked_in call.now.request.now).folder ≡ None) }
     ensures held { D.held store.new ≡ D.held store.old }
     ensures allowed { StaysAllowed (D.allows store.old) (D.allows store.new) }
     ensures made { IfOk result (λ made. IsSoBy (D.held store.old) (Some path.now)
         (I.remaining input.old) (λ given. IsRecordedFrom (D.held store.old)
-        (asked_in request.now) given made.outcome.text.items made.outcome.map.items
+        (asked_in call.now.request.now) given made.outcome.text.items made.outcome.map.items
         made.outcome.refuted made.bytes.items)) }
     ensures handed { IfOk result (λ made. made.outcome.refuted ≡ true → IsRefutedFrom D.hands
-        (asked_in request.now) None) }
+        (asked_in call.now.request.now) None) }
     ensures fault { IfErr result (λ fault. IsInputFault fault → IsSoBy (D.held store.old)
         (Some path.now) (I.remaining input.old)
-        (λ given. IsRefusedFrom (D.held store.old) (asked_in request.now) given fault)) }
+        (λ given. IsRefusedFrom (D.held store.old) (asked_in call.now.request.now) given fault)) }
     ensures ok { OnOk result ((D.failures store.new ≡ D.failures store.old)
         × (I.failures input.new ≡ I.failures input.old)) }
     ensures err { IfErr result (IsJudgingFault (D.failures store.old + I.failures input.old)
         (D.failures store.new + I.failures input.new)) }
 {
-    match begin_one(rt.alloc(), store, request.formula) {
-        Ok(one) => judge_below(rt, store, request, one, path, input, gate, telling),
+    match begin_one(call.rt.alloc(), store, call.request.formula) {
+        Ok(one) => judge_below(call, store, one, path, input, telling),
         Err(fault) => {
             let fault = of_input(fault)?;
             find_proof(store, path)?;
@@ -104,13 +103,11 @@ fn find_proof<D: Store>(store: &mut D, path: &str) -> Result<(), DeviceFault>
 
 /// The same below the formula and the cube without a literal, which were read.
 fn judge_below<R, D, I, G, X>(
-    rt: &R,
+    call: &Call<'_, '_, R, G>,
     store: &mut D,
-    request: &Request<'_>,
     one: OneCube,
     path: &str,
     input: &mut I,
-    gate: &G,
     telling: &mut Telling<'_, X>,
 ) -> Result<Recorded, Fault>
 where
@@ -128,7 +125,7 @@ where
     ensures allowed { StaysAllowed (D.allows store.old) (D.allows store.new) }
     ensures made { IfOk result (λ made. IsRecordedWith
         (IsTextAt (lies_in (D.held store.old)) (file_at path.now) (I.remaining input.old))
-        (asked_in request.now) one.bundle.items made.outcome.text.items
+        (asked_in call.now.request.now) one.bundle.items made.outcome.text.items
         made.outcome.map.items made.outcome.refuted made.bytes.items) }
     ensures fault { IfErr result (λ fault. IsInputFault fault → IsRefusedWith
         (IsTextAt (lies_in (D.held store.old)) (file_at path.now) (I.remaining input.old))
@@ -138,21 +135,19 @@ where
     ensures err { IfErr result (IsJudgingFault (D.failures store.old + I.failures input.old)
         (D.failures store.new + I.failures input.new)) }
 {
-    telling.tell_read(rt.alloc(), &one.bundle, b"\n");
+    telling.tell_read(call.rt.alloc(), &one.bundle, b"\n");
     match file_at(path) {
-        Some(file) => judge_proof_at(rt, store, request, one, file, gate),
-        None => judge_proof_from(rt, request, one, input, 0, gate),
+        Some(file) => judge_proof_at(call, store, one, file),
+        None => judge_proof_from(call, one, input, 0),
     }
 }
 
 /// The same with the proof in the file at this path, which is opened once.
 fn judge_proof_at<R, D, G>(
-    rt: &R,
+    call: &Call<'_, '_, R, G>,
     store: &mut D,
-    request: &Request<'_>,
     one: OneCube,
     path: &str,
-    gate: &G,
 ) -> Result<Recorded, Fault>
 where
     R: AllocGlobal + Wait,
@@ -165,7 +160,7 @@ where
     ensures held { D.held store.new ≡ D.held store.old }
     ensures allowed { StaysAllowed (D.allows store.old) (D.allows store.new) }
     ensures made { IfOk result (λ made. IsRecordedWith (lies_in (D.held store.old) path.now)
-        (asked_in request.now) one.bundle.items made.outcome.text.items
+        (asked_in call.now.request.now) one.bundle.items made.outcome.text.items
         made.outcome.map.items made.outcome.refuted made.bytes.items) }
     ensures fault { IfErr result (λ fault. IsInputFault fault
         → IsRefusedWith (lies_in (D.held store.old) path.now) one.bundle.items fault) }
@@ -174,19 +169,17 @@ where
 {
     let length = store.length(path).unwrap_or(0);
     let mut file = store.open(path)?;
-    let made = judge_proof_from(rt, request, one, &mut file, length, gate);
+    let made = judge_proof_from(call, one, &mut file, length);
     store.close(file);
     made
 }
 
 /// The same with the proof of so many bytes that a source gives up to its end.
 fn judge_proof_from<R, S, G>(
-    rt: &R,
-    request: &Request<'_>,
+    call: &Call<'_, '_, R, G>,
     one: OneCube,
     source: &mut S,
     length: u64,
-    gate: &G,
 ) -> Result<Recorded, Fault>
 where
     R: AllocGlobal + Wait,
@@ -197,13 +190,14 @@ where
     requires tree { one.case.tree ≡ cube 1 }
     requires free { proof_for one.case.sections (Named (Cube 1)) ≡ None }
     ensures made { IfOk result (λ made. IsRecordedWith (IsLeft (S.remaining source.old))
-        (asked_in request.now) one.bundle.items made.outcome.text.items
+        (asked_in call.now.request.now) one.bundle.items made.outcome.text.items
         made.outcome.map.items made.outcome.refuted made.bytes.items) }
     ensures fault { IfErr result (λ fault. IsInputFault fault
         → IsRefusedWith (IsLeft (S.remaining source.old)) one.bundle.items fault) }
     ensures ok { OnOk result (S.failures source.new ≡ S.failures source.old) }
     ensures err { IfErr result (IsJudgingFault (S.failures source.old) (S.failures source.new)) }
 {
+    let (rt, request, gate) = (call.rt, call.request, call.gate);
     let draws = request.map.is_some();
     let outcome = judge_proof_of(rt, &one, source, length, request.settings, gate, draws)?;
     let OneCube { bundle, case: _ } = one;

@@ -24,6 +24,7 @@ ghost use Rattle.cube_command.specs.Inner.Recorded.{IsRecordedFor, IsRecordedFro
 ghost use Rattle.command_words.specs.Request.{asked_in};
 
 use crate::asked::{Telling, fault_in, file_of};
+use crate::call::Call;
 use crate::one_proof::judge_one;
 use crate::open::{names_asked, shown};
 use crate::record::{begin_record, end_record};
@@ -208,9 +209,14 @@ where
                 is_asked: request.progress,
                 log,
             };
+            let call = Call {
+                rt,
+                request: &request,
+                gate: &beside,
+            };
             let mut telling = Telling::new(rt.alloc(), explain, &request);
             beside.begins_to_read();
-            let run = run_request(rt, store, &request, input, output, &beside, &mut telling);
+            let run = run_request(&call, store, input, output, &mut telling);
             beside.is_over();
             let fault = fault_in(&run);
             let status = tell_run(rt.alloc(), errors, run);
@@ -224,12 +230,10 @@ where
 /// What the request asks for: whether the report that was written says refuted, or why there is
 /// none.
 fn run_request<R, D, I, O, G, W, X, L>(
-    rt: &R,
+    call: &Call<'_, '_, R, Beside<'_, G, W, L>>,
     store: &mut D,
-    request: &Request<'_>,
     input: &mut I,
     output: &mut O,
-    beside: &Beside<'_, G, W, L>,
     telling: &mut Telling<'_, X>,
 ) -> Result<bool, Fault>
 where
@@ -245,41 +249,44 @@ where
     requires input { I.failures input.old < 2 ^ 64 - 1 }
     requires output { O.failures output.old < 2 ^ 64 - 1 }
     requires reports { AllowsReportsFor (O.allows output.old) (D.held store.old)
-        (asked_in request.now) (I.remaining input.old) }
+        (asked_in call.now.request.now) (I.remaining input.old) }
     requires pictures { AllowsPicturesFor (D.allows store.old) (D.held store.old)
-        (asked_in request.now) (I.remaining input.old) }
+        (asked_in call.now.request.now) (I.remaining input.old) }
     requires records { AllowsRecordsFor (D.allows store.old) (D.held store.old)
-        (asked_in request.now) (I.remaining input.old) }
-    requires alone { GoesWith (asked_in request.now).proof (asked_in request.now).formula
-        (asked_in request.now).file (asked_in request.now).folder }
-    requires apart { AreApart (asked_in request.now).picture (asked_in request.now).out }
+        (asked_in call.now.request.now) (I.remaining input.old) }
+    requires alone { GoesWith (asked_in call.now.request.now).proof
+        (asked_in call.now.request.now).formula (asked_in call.now.request.now).file
+        (asked_in call.now.request.now).folder }
+    requires apart { AreApart (asked_in call.now.request.now).picture
+        (asked_in call.now.request.now).out }
     ensures report { IfOk result
-        (IsReported (D.held store.old) (D.held store.new) (asked_in request.now)
+        (IsReported (D.held store.old) (D.held store.new) (asked_in call.now.request.now)
         (I.remaining input.old) (O.contents output.old) (O.contents output.new)) }
-    ensures elsewhere { (path : List ℕ) → IsElsewhere (asked_in request.now) path
+    ensures elsewhere { (path : List ℕ) → IsElsewhere (asked_in call.now.request.now) path
         → D.held store.new path ≡ D.held store.old path }
     ensures undrawn { IfErr result
         (λ fault. fault ≢ Fault.Device → D.held store.new ≡ D.held store.old) }
     ensures fault { IfErr result
-        (λ fault. IsInputFault fault → IsRefused (D.held store.old) (asked_in request.now)
+        (λ fault. IsInputFault fault → IsRefused (D.held store.old) (asked_in call.now.request.now)
         (I.remaining input.old) fault) }
     ensures nothing { IfErr result
         (λ fault. fault ≢ Fault.Device → Keeps (O.contents output.old) (O.contents output.new)) }
     ensures beginning { OnErr result (Keeps (O.contents output.old) (O.contents output.new)
         ⊎ ((O.failures output.old < O.failures output.new)
-        × IsBegun (D.held store.old) (asked_in request.now) (I.remaining input.old)
+        × IsBegun (D.held store.old) (asked_in call.now.request.now) (I.remaining input.old)
         (O.contents output.old) (O.contents output.new))) }
     ensures handed { IfOk result (λ refuted. refuted ≡ true → IsRefutedAsHanded D.hands
-        (asked_in request.now) (I.remaining input.old)) }
+        (asked_in call.now.request.now) (I.remaining input.old)) }
     ensures failed { D.failures store.old + I.failures input.old + O.failures output.old
         < D.failures store.new + I.failures input.new + O.failures output.new
         → IsErrOf result Fault.Device }
     ensures broken { IsErrOf result Fault.Device →
         (D.failures store.old + I.failures input.old + O.failures output.old
         < D.failures store.new + I.failures input.new + O.failures output.new)
-        ⊎ (((asked_in request.now).log ≢ None)
+        ⊎ (((asked_in call.now.request.now).log ≢ None)
         × (store.new ≡ store.old) × (input.new ≡ input.old)) }
 {
+    let (rt, request, beside) = (call.rt, call.request, call.gate);
     let spared = store.spare(
         rt.alloc(),
         &inputs_of(request),
@@ -287,18 +294,21 @@ where
     )?;
     let lines = beside.begins_log(request.log, &spared)?;
     let gates = beside.with_lines(lines.as_ref());
-    run_sparing(rt, store, request, input, output, &gates, telling, &spared)
+    let logged = Call {
+        rt,
+        request,
+        gate: &gates,
+    };
+    run_sparing(&logged, store, input, output, telling, &spared)
 }
 
 /// The same where the log was begun, if one is asked for, writing over no file that is to be
 /// spared.
 fn run_sparing<R, D, I, O, G, X>(
-    rt: &R,
+    call: &Call<'_, '_, R, G>,
     store: &mut D,
-    request: &Request<'_>,
     input: &mut I,
     output: &mut O,
-    gate: &G,
     telling: &mut Telling<'_, X>,
     spared: &Spared,
 ) -> Result<bool, Fault>
@@ -313,32 +323,34 @@ where
     requires input { I.failures input.old < 2 ^ 64 - 1 }
     requires output { O.failures output.old < 2 ^ 64 - 1 }
     requires reports { AllowsReportsFor (O.allows output.old) (D.held store.old)
-        (asked_in request.now) (I.remaining input.old) }
+        (asked_in call.now.request.now) (I.remaining input.old) }
     requires pictures { AllowsPicturesFor (D.allows store.old) (D.held store.old)
-        (asked_in request.now) (I.remaining input.old) }
+        (asked_in call.now.request.now) (I.remaining input.old) }
     requires records { AllowsRecordsFor (D.allows store.old) (D.held store.old)
-        (asked_in request.now) (I.remaining input.old) }
-    requires alone { GoesWith (asked_in request.now).proof (asked_in request.now).formula
-        (asked_in request.now).file (asked_in request.now).folder }
-    requires apart { AreApart (asked_in request.now).picture (asked_in request.now).out }
+        (asked_in call.now.request.now) (I.remaining input.old) }
+    requires alone { GoesWith (asked_in call.now.request.now).proof
+        (asked_in call.now.request.now).formula (asked_in call.now.request.now).file
+        (asked_in call.now.request.now).folder }
+    requires apart { AreApart (asked_in call.now.request.now).picture
+        (asked_in call.now.request.now).out }
     ensures report { IfOk result
-        (IsReported (D.held store.old) (D.held store.new) (asked_in request.now)
+        (IsReported (D.held store.old) (D.held store.new) (asked_in call.now.request.now)
         (I.remaining input.old) (O.contents output.old) (O.contents output.new)) }
-    ensures elsewhere { (path : List ℕ) → IsElsewhere (asked_in request.now) path
+    ensures elsewhere { (path : List ℕ) → IsElsewhere (asked_in call.now.request.now) path
         → D.held store.new path ≡ D.held store.old path }
     ensures undrawn { IfErr result
         (λ fault. fault ≢ Fault.Device → D.held store.new ≡ D.held store.old) }
     ensures fault { IfErr result
-        (λ fault. IsInputFault fault → IsRefused (D.held store.old) (asked_in request.now)
+        (λ fault. IsInputFault fault → IsRefused (D.held store.old) (asked_in call.now.request.now)
         (I.remaining input.old) fault) }
     ensures nothing { IfErr result
         (λ fault. fault ≢ Fault.Device → Keeps (O.contents output.old) (O.contents output.new)) }
     ensures beginning { OnErr result (Keeps (O.contents output.old) (O.contents output.new)
         ⊎ ((O.failures output.old < O.failures output.new)
-        × IsBegun (D.held store.old) (asked_in request.now) (I.remaining input.old)
+        × IsBegun (D.held store.old) (asked_in call.now.request.now) (I.remaining input.old)
         (O.contents output.old) (O.contents output.new))) }
     ensures handed { IfOk result (λ refuted. refuted ≡ true → IsRefutedAsHanded D.hands
-        (asked_in request.now) (I.remaining input.old)) }
+        (asked_in call.now.request.now) (I.remaining input.old)) }
     ensures failed { D.failures store.old + I.failures input.old + O.failures output.old
         < D.failures store.new + I.failures input.new + O.failures output.new
         → IsErrOf result Fault.Device }
@@ -346,7 +358,8 @@ where
         D.failures store.old + I.failures input.old + O.failures output.old
         < D.failures store.new + I.failures input.new + O.failures output.new }
 {
-    let made = judge_request(rt, store, request, input, gate, telling)?;
+    let (rt, request) = (call.rt, call.request);
+    let made = judge_request(call, store, input, telling)?;
     let names = names_asked(rt.alloc(), request.list_open, &made.outcome.text)?;
     let given = shown(request.list_open, &made.outcome.text, &names);
     write_outcome(store, output, request, &made, given, spared)?;
@@ -373,11 +386,9 @@ pub(crate) struct Recorded {
 /// What the request's bundle is said to be, and the record of it where a file for that is asked
 /// for.
 fn judge_request<R, D, I, G, X>(
-    rt: &R,
+    call: &Call<'_, '_, R, G>,
     store: &mut D,
-    request: &Request<'_>,
     input: &mut I,
-    gate: &G,
     telling: &mut Telling<'_, X>,
 ) -> Result<Recorded, Fault>
 where
@@ -388,36 +399,35 @@ where
     X: Explain,
     requires store { D.failures store.old < 2 ^ 64 - 1 }
     requires input { I.failures input.old < 2 ^ 64 - 1 }
-    requires alone { GoesWith (asked_in request.now).proof (asked_in request.now).formula
-        (asked_in request.now).file (asked_in request.now).folder }
+    requires alone { GoesWith (asked_in call.now.request.now).proof
+        (asked_in call.now.request.now).formula (asked_in call.now.request.now).file
+        (asked_in call.now.request.now).folder }
     ensures held { D.held store.new ≡ D.held store.old }
     ensures allowed { StaysAllowed (D.allows store.old) (D.allows store.new) }
-    ensures made { IfOk result (λ made. IsRecordedFor (D.held store.old) (asked_in request.now)
-        (I.remaining input.old) made.outcome.text.items made.outcome.map.items
-        made.outcome.refuted made.bytes.items) }
+    ensures made { IfOk result (λ made. IsRecordedFor (D.held store.old)
+        (asked_in call.now.request.now) (I.remaining input.old)
+        made.outcome.text.items made.outcome.map.items made.outcome.refuted made.bytes.items) }
     ensures handed { IfOk result (λ made. made.outcome.refuted ≡ true → IsRefutedAsHanded D.hands
-        (asked_in request.now) (I.remaining input.old)) }
+        (asked_in call.now.request.now) (I.remaining input.old)) }
     ensures fault { IfErr result (λ fault. IsInputFault fault → IsRefused (D.held store.old)
-        (asked_in request.now) (I.remaining input.old) fault) }
+        (asked_in call.now.request.now) (I.remaining input.old) fault) }
     ensures ok { OnOk result ((D.failures store.new ≡ D.failures store.old)
         × (I.failures input.new ≡ I.failures input.old)) }
     ensures err { IfErr result (IsJudgingFault (D.failures store.old + I.failures input.old)
         (D.failures store.new + I.failures input.new)) }
 {
-    match request.proof {
-        Some(path) => judge_one(rt, store, request, path, input, gate, telling),
-        None => judge_cubes(rt, store, request, input, gate, telling),
+    match call.request.proof {
+        Some(path) => judge_one(call, store, path, input, telling),
+        None => judge_cubes(call, store, input, telling),
     }
 }
 
 /// The same with cubes and their proofs. The bundle is read whole first only where a folder's
 /// proofs go with it.
 fn judge_cubes<R, D, I, G, X>(
-    rt: &R,
+    call: &Call<'_, '_, R, G>,
     store: &mut D,
-    request: &Request<'_>,
     input: &mut I,
-    gate: &G,
     telling: &mut Telling<'_, X>,
 ) -> Result<Recorded, Fault>
 where
@@ -430,32 +440,30 @@ where
     requires input { I.failures input.old < 2 ^ 64 - 1 }
     ensures held { D.held store.new ≡ D.held store.old }
     ensures allowed { StaysAllowed (D.allows store.old) (D.allows store.new) }
-    ensures made { IfOk result (λ made. IsRecordedFrom (D.held store.old) (asked_in request.now)
-        (I.remaining input.old) made.outcome.text.items made.outcome.map.items
-        made.outcome.refuted made.bytes.items) }
+    ensures made { IfOk result (λ made. IsRecordedFrom (D.held store.old)
+        (asked_in call.now.request.now) (I.remaining input.old)
+        made.outcome.text.items made.outcome.map.items made.outcome.refuted made.bytes.items) }
     ensures handed { IfOk result (λ made. made.outcome.refuted ≡ true → IsRefutedFrom D.hands
-        (asked_in request.now) (I.remaining input.old)) }
+        (asked_in call.now.request.now) (I.remaining input.old)) }
     ensures fault { IfErr result (λ fault. IsInputFault fault → IsRefusedFrom (D.held store.old)
-        (asked_in request.now) (I.remaining input.old) fault) }
+        (asked_in call.now.request.now) (I.remaining input.old) fault) }
     ensures ok { OnOk result ((D.failures store.new ≡ D.failures store.old)
         × (I.failures input.new ≡ I.failures input.old)) }
     ensures err { IfErr result (IsJudgingFault (D.failures store.old + I.failures input.old)
         (D.failures store.new + I.failures input.new)) }
 {
-    match request.proofs {
-        Some(folder) => judge_read(rt, store, request, folder, input, gate, telling),
-        None => judge_once(rt, store, request, input, gate, telling),
+    match call.request.proofs {
+        Some(folder) => judge_read(call, store, folder, input, telling),
+        None => judge_once(call, store, input, telling),
     }
 }
 
 /// What is said of the request's bundle, which is read whole, with the proofs of this folder.
 fn judge_read<R, D, I, G, X>(
-    rt: &R,
+    call: &Call<'_, '_, R, G>,
     store: &mut D,
-    request: &Request<'_>,
     folder: &str,
     input: &mut I,
-    gate: &G,
     telling: &mut Telling<'_, X>,
 ) -> Result<Recorded, Fault>
 where
@@ -466,43 +474,34 @@ where
     X: Explain,
     requires store { D.failures store.old < 2 ^ 64 - 1 }
     requires input { I.failures input.old < 2 ^ 64 - 1 }
-    requires folder { (asked_in request.now).folder ≡ Some folder.now }
+    requires folder { (asked_in call.now.request.now).folder ≡ Some folder.now }
     ensures held { D.held store.new ≡ D.held store.old }
     ensures allowed { StaysAllowed (D.allows store.old) (D.allows store.new) }
-    ensures made { IfOk result (λ made. IsRecordedFrom (D.held store.old) (asked_in request.now)
-        (I.remaining input.old) made.outcome.text.items made.outcome.map.items
-        made.outcome.refuted made.bytes.items) }
+    ensures made { IfOk result (λ made. IsRecordedFrom (D.held store.old)
+        (asked_in call.now.request.now) (I.remaining input.old)
+        made.outcome.text.items made.outcome.map.items made.outcome.refuted made.bytes.items) }
     ensures handed { IfOk result (λ made. made.outcome.refuted ≡ true → IsRefutedFrom D.hands
-        (asked_in request.now) (I.remaining input.old)) }
+        (asked_in call.now.request.now) (I.remaining input.old)) }
     ensures fault { IfErr result (λ fault. IsInputFault fault → IsRefusedFrom (D.held store.old)
-        (asked_in request.now) (I.remaining input.old) fault) }
+        (asked_in call.now.request.now) (I.remaining input.old) fault) }
     ensures ok { OnOk result ((D.failures store.new ≡ D.failures store.old)
         × (I.failures input.new ≡ I.failures input.old)) }
     ensures err { IfErr result (IsJudgingFault (D.failures store.old + I.failures input.old)
         (D.failures store.new + I.failures input.new)) }
 {
+    let (rt, request) = (call.rt, call.request);
     let (formula, file) = (request.formula, request.file);
     let read = read_from(rt.alloc(), store, input, formula, file, true)?;
     telling.tell_bundle(rt.alloc(), &read.bundle);
-    judge_recorded(
-        rt,
-        store,
-        read,
-        request,
-        folder,
-        gate,
-        request.map.is_some(),
-    )
+    judge_recorded(call, store, read, folder, request.map.is_some())
 }
 
 /// Judges what was read, and makes the record where a file for it is asked for.
 fn judge_recorded<R, D, G>(
-    rt: &R,
+    call: &Call<'_, '_, R, G>,
     store: &mut D,
     read: ReadBundle,
-    request: &Request<'_>,
     folder: &str,
-    gate: &G,
     draws: bool,
 ) -> Result<Recorded, Fault>
 where
@@ -511,20 +510,21 @@ where
     G: Gate + Sync,
     requires count { D.failures store.old < 2 ^ 64 - 1 }
     requires case { IfSome read.case (IsCaseOf read.bundle.items) }
-    requires folder { (asked_in request.now).folder ≡ Some folder.now }
+    requires folder { (asked_in call.now.request.now).folder ≡ Some folder.now }
     ensures held { D.held store.new ≡ D.held store.old }
     ensures allowed { StaysAllowed (D.allows store.old) (D.allows store.new) }
     ensures outcome { IfOk result (λ made. IsOutcomeOf (D.held store.old)
-        (asked_in request.now).folder read.bundle.items draws
+        (asked_in call.now.request.now).folder read.bundle.items draws
         made.outcome.text.items made.outcome.map.items made.outcome.refuted) }
     ensures record { IfOk result (λ made. (path : List ℕ)
-        → (asked_in request.now).out ≡ Some path
+        → (asked_in call.now.request.now).out ≡ Some path
         → made.bytes.items ≡ record_text read.bundle.items made.outcome.text.items) }
     ensures fault { IfErr result (λ fault. IsInputFault fault → IsRefusedOf (D.held store.old)
-        (asked_in request.now).folder read.bundle.items fault) }
+        (asked_in call.now.request.now).folder read.bundle.items fault) }
     ensures ok { OnOk result (D.failures store.new ≡ D.failures store.old) }
     ensures err { IfErr result (IsJudgingFault (D.failures store.old) (D.failures store.new)) }
 {
+    let (rt, request, gate) = (call.rt, call.request, call.gate);
     let mut made = begin_record(rt.alloc(), request.out, icnf_part(&read.bundle))?;
     let settings = request.settings;
     let outcome = judge_with_folder(rt, store, read, folder, settings, gate, draws)?;

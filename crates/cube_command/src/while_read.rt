@@ -15,6 +15,7 @@ ghost use Rattle.cube_command.specs.Program.{IsRefusedFrom};
 ghost use Rattle.cube_command.specs.Inner.Recorded.{IsRecordedFrom, IsRunRecorded};
 
 use crate::asked::Telling;
+use crate::call::Call;
 use crate::program::Recorded;
 use crate::record::{begin_record, end_record};
 use bundle_files::{BegunBundle, Store, begin_bundle, judge_while_read, read_front};
@@ -28,11 +29,9 @@ use std::thread::Threads;
 /// own file where there is one, and the record of it where a file for that is asked for: it is
 /// judged while it is read.
 pub(crate) fn judge_once<R, D, I, G, X>(
-    rt: &R,
+    call: &Call<'_, '_, R, G>,
     store: &mut D,
-    request: &Request<'_>,
     input: &mut I,
-    gate: &G,
     telling: &mut Telling<'_, X>,
 ) -> Result<Recorded, Fault>
 where
@@ -43,37 +42,35 @@ where
     X: Explain,
     requires store { D.failures store.old < 2 ^ 64 - 1 }
     requires input { I.failures input.old < 2 ^ 64 - 1 }
-    requires alone { (asked_in request.now).folder ≡ None }
+    requires alone { (asked_in call.now.request.now).folder ≡ None }
     ensures held { D.held store.new ≡ D.held store.old }
     ensures allowed { StaysAllowed (D.allows store.old) (D.allows store.new) }
-    ensures made { IfOk result (λ made. IsRecordedFrom (D.held store.old) (asked_in request.now)
-        (I.remaining input.old) made.outcome.text.items made.outcome.map.items
-        made.outcome.refuted made.bytes.items) }
+    ensures made { IfOk result (λ made. IsRecordedFrom (D.held store.old)
+        (asked_in call.now.request.now) (I.remaining input.old)
+        made.outcome.text.items made.outcome.map.items made.outcome.refuted made.bytes.items) }
     ensures handed { IfOk result (λ made. made.outcome.refuted ≡ true → IsRefutedFrom D.hands
-        (asked_in request.now) (I.remaining input.old)) }
+        (asked_in call.now.request.now) (I.remaining input.old)) }
     ensures fault { IfErr result (λ fault. IsInputFault fault → IsRefusedFrom (D.held store.old)
-        (asked_in request.now) (I.remaining input.old) fault) }
+        (asked_in call.now.request.now) (I.remaining input.old) fault) }
     ensures ok { OnOk result ((D.failures store.new ≡ D.failures store.old)
         × (I.failures input.new ≡ I.failures input.old)) }
     ensures err { IfErr result (IsJudgingFault (D.failures store.old + I.failures input.old)
         (D.failures store.new + I.failures input.new)) }
 {
-    let begun = begin_bundle(rt.alloc(), store, request.formula)?;
-    match request.file {
-        Some(path) => judge_at(rt, store, request, begun, path, gate, telling),
-        None => judge_source(rt, request, begun, input, gate, telling),
+    let begun = begin_bundle(call.rt.alloc(), store, call.request.formula)?;
+    match call.request.file {
+        Some(path) => judge_at(call, store, begun, path, telling),
+        None => judge_source(call, begun, input, telling),
     }
 }
 
 /// The same of a bundle that is begun so, and goes on with the file at this path, which is opened
 /// once.
 fn judge_at<R, D, G, X>(
-    rt: &R,
+    call: &Call<'_, '_, R, G>,
     store: &mut D,
-    request: &Request<'_>,
     begun: BegunBundle,
     path: &str,
-    gate: &G,
     telling: &mut Telling<'_, X>,
 ) -> Result<Recorded, Fault>
 where
@@ -87,7 +84,7 @@ where
     ensures allowed { StaysAllowed (D.allows store.old) (D.allows store.new) }
     ensures made { IfOk result (λ made. IsRunRecorded (IsBundleBelow begun
         (λ text. lies_in (D.held store.old) path.now text × D.hands path.now text))
-        (asked_in request.now) made.outcome.text.items made.outcome.map.items
+        (asked_in call.now.request.now) made.outcome.text.items made.outcome.map.items
         made.outcome.refuted made.bytes.items) }
     ensures fault { IfErr result (λ fault. IsInputFault fault
         → IsRefusedBelow begun (lies_in (D.held store.old) path.now) fault) }
@@ -95,18 +92,16 @@ where
     ensures err { IfErr result (IsJudgingFault (D.failures store.old) (D.failures store.new)) }
 {
     let mut file = store.open(path)?;
-    let made = judge_source(rt, request, begun, &mut file, gate, telling);
+    let made = judge_source(call, begun, &mut file, telling);
     store.close(file);
     made
 }
 
 /// The same of a bundle that is begun so, and goes on with what a source gives up to its end.
 fn judge_source<R, S, G, X>(
-    rt: &R,
-    request: &Request<'_>,
+    call: &Call<'_, '_, R, G>,
     begun: BegunBundle,
     source: &mut S,
-    gate: &G,
     telling: &mut Telling<'_, X>,
 ) -> Result<Recorded, Fault>
 where
@@ -118,13 +113,14 @@ where
     requires plain { ArePlainLines begun.text.items }
     ensures made { IfOk result (λ made. IsRunRecorded
         (IsBundleBelow begun (IsLeft (S.remaining source.old)))
-        (asked_in request.now) made.outcome.text.items made.outcome.map.items
+        (asked_in call.now.request.now) made.outcome.text.items made.outcome.map.items
         made.outcome.refuted made.bytes.items) }
     ensures fault { IfErr result (λ fault. IsInputFault fault
         → IsRefusedBelow begun (IsLeft (S.remaining source.old)) fault) }
     ensures ok { OnOk result (S.failures source.new ≡ S.failures source.old) }
     ensures err { IfErr result (IsJudgingFault (S.failures source.old) (S.failures source.new)) }
 {
+    let (rt, request, gate) = (call.rt, call.request, call.gate);
     let front = read_front(rt.alloc(), begun, source)?;
     let icnf = front.icnf();
     telling.tell_read(rt.alloc(), icnf, b"");

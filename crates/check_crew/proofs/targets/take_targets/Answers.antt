@@ -7,7 +7,7 @@ use Rattle.check_crew.proofs.targets.take_targets.Goals as goal
 
 pub loop-init : goal.loop-init
 loop-init g c = record {
-  examiner = c.requires.examiner;
+  examiner = c.in_ok-examiner.ensures;
   target = c.requires.first;
   left = c.requires.left;
   fresh = c.requires.fresh;

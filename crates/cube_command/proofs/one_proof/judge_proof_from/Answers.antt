@@ -7,10 +7,11 @@ use Rattle.cube_command.proofs.one_proof.judge_proof_from.Goals as goal
 
 pub returns-clause-made : goal.returns-clause-made
 returns-clause-made g c =
-    made_below (IsLeft (g.S.Source.remaining c.args.source.now)) (asked_in c.args.request.now)
-    c.args.one.bundle.items c.is_some-draws.result c.in_ok-outcome.outcome.text.items
+    made_below (IsLeft (g.S.Source.remaining c.args.source.now))
+    (asked_in c.args.call.now.request.now) c.args.one.bundle.items c.is_some-draws.result
+    c.in_ok-outcome.outcome.text.items
     c.in_ok-outcome.outcome.map.items c.in_ok-bytes.bytes.items c.deref.result.now
     c.in_ok-outcome.outcome.refuted c.in_ok-outcome.ensures.outcome
-    (some_mapped (λ (text : Bor (List ℕ)). text.now) c.args.request.now.map
+    (some_mapped (λ (text : Bor (List ℕ)). text.now) c.args.call.now.request.now.map
     c.is_some-draws.result c.is_some-draws.ensures)
     c.deref.ensures.value c.in_ok-bytes.ensures

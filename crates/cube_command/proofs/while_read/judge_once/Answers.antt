@@ -16,7 +16,7 @@ path_of file = option_map (λ (path : Bor (List ℕ)). path.now) file
 pub returns-in_err-begun-clause-fault : goal.returns-in_err-begun-clause-fault
 returns-in_err-begun-clause-fault g c =
     let held = g.D.Store.held c.args.store.now in
-    let asked = asked_in c.args.request.now in
+    let asked = asked_in c.args.call.now.request.now in
     let input = g.I.Source.remaining c.args.input.now in
     handed_on c.from_residual.result
     (λ fault. IsInputFault fault → IsRefusedFrom held asked input fault)
@@ -29,7 +29,7 @@ returns-in_err-begun-clause-fault g c =
 pub returns-in-Some-clause-made : goal.returns-in-Some-clause-made
 returns-in-Some-clause-made g c =
     let held = g.D.Store.held c.args.store.now in
-    let asked = asked_in c.args.request.now in
+    let asked = asked_in c.args.call.now.request.now in
     let input = g.I.Source.remaining c.args.input.now in
     let path = c.in-Some.path.now in
     let is : asked.file ≡ Some path = ap path_of c.in-Some.is in
@@ -42,7 +42,7 @@ returns-in-Some-clause-made g c =
 pub returns-in-Some-clause-handed : goal.returns-in-Some-clause-handed
 returns-in-Some-clause-handed g c =
     let held = g.D.Store.held c.begin_bundle.new.store in
-    let asked = asked_in c.args.request.now in
+    let asked = asked_in c.args.call.now.request.now in
     let input = g.I.Source.remaining c.args.input.now in
     let path = c.in-Some.path.now in
     let is : asked.file ≡ Some path = ap path_of c.in-Some.is in
@@ -54,7 +54,7 @@ returns-in-Some-clause-handed g c =
 pub returns-in-Some-clause-fault : goal.returns-in-Some-clause-fault
 returns-in-Some-clause-fault g c =
     let held = g.D.Store.held c.args.store.now in
-    let asked = asked_in c.args.request.now in
+    let asked = asked_in c.args.call.now.request.now in
     let input = g.I.Source.remaining c.args.input.now in
     let path = c.in-Some.path.now in
     let is : asked.file ≡ Some path = ap path_of c.in-Some.is in
@@ -68,7 +68,7 @@ returns-in-Some-clause-fault g c =
 pub returns-in-None-clause-made : goal.returns-in-None-clause-made
 returns-in-None-clause-made g c =
     let held = g.D.Store.held c.args.store.now in
-    let asked = asked_in c.args.request.now in
+    let asked = asked_in c.args.call.now.request.now in
     let input = g.I.Source.remaining c.args.input.now in
     let is : asked.file ≡ None = ap path_of c.in-None.is in
     made_below held asked input c.in_ok-begun.begun (IsLeft input) c.requires.alone
@@ -78,7 +78,7 @@ returns-in-None-clause-made g c =
 
 pub returns-in-None-clause-handed : goal.returns-in-None-clause-handed
 returns-in-None-clause-handed g c =
-    let asked = asked_in c.args.request.now in
+    let asked = asked_in c.args.call.now.request.now in
     let input = g.I.Source.remaining c.args.input.now in
     let is : asked.file ≡ None = ap path_of c.in-None.is in
     handed_below c.judge_source.result g.D.Store.hands asked input c.in_ok-begun.begun
@@ -89,7 +89,7 @@ returns-in-None-clause-handed g c =
 pub returns-in-None-clause-fault : goal.returns-in-None-clause-fault
 returns-in-None-clause-fault g c =
     let held = g.D.Store.held c.args.store.now in
-    let asked = asked_in c.args.request.now in
+    let asked = asked_in c.args.call.now.request.now in
     let input = g.I.Source.remaining c.args.input.now in
     let is : asked.file ≡ None = ap path_of c.in-None.is in
     fault_below held asked input c.in_ok-begun.begun (IsLeft input) c.requires.alone

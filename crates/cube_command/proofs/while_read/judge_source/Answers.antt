@@ -24,12 +24,12 @@ returns-in_err-outcome-clause-fault g c =
 pub returns-clause-made : goal.returns-clause-made
 returns-clause-made g c =
     behind_recorded (IsBundleBelow c.args.begun (IsLeft (g.S.Source.remaining c.args.source.now)))
-    (asked_in c.args.request.now) c.is_some-draws.result
+    (asked_in c.args.call.now.request.now) c.is_some-draws.result
     c.in_ok-outcome.outcome.text.items c.in_ok-outcome.outcome.map.items
     c.in_ok-front.front.icnf.items c.in_ok-outcome.outcome.refuted c.in_ok-bytes.bytes.items
     c.end_record.new.begun.items c.end_record.new.begun.items c.deref.result.now
     (c.in_ok-outcome.ensures.outcome c.args.begun c.args.source.now c.in_ok-front.ensures.front)
-    (some_mapped (λ (text : Bor (List ℕ)). text.now) c.args.request.now.map
+    (some_mapped (λ (text : Bor (List ℕ)). text.now) c.args.call.now.request.now.map
     c.is_some-draws.result c.is_some-draws.ensures)
     c.deref.ensures.value refl (rw c.icnf-icnf.ensures at c.in_ok-bytes.ensures)
     c.in_ok-end_record.ensures
