@@ -18,7 +18,7 @@ returns-in_ok-written_by-in-None-clause-outcome g c =
 pub returns-in-Some-clause-fault : goal.returns-in-Some-clause-fault
 returns-in-Some-clause-fault g c =
     let posted = rw c.in-Some.is at c.in_ok-read_proof.ensures.posted in
-    refused_with (IsLeft (g.S.Source.remaining c.args.source.now)) c.args.one.now.bundle.items posted.0
-    c.in-Some.label.line.items c.in-Some.label.lines c.fault_below-fault.result c.from.result
-    c.from.ensures posted.1 posted.2.0 posted.2.1
+    refused_with (IsLeft (g.S.Source.remaining c.args.source.now)) c.args.one.now.bundle.items
+    posted.0 c.in-Some.label.line.items c.in-Some.label.lines c.fault_below-fault.result
+    c.from.result c.from.ensures posted.1 posted.2.0 posted.2.1
     (rw c.deref.ensures.value at c.fault_below-fault.ensures)
