@@ -2,18 +2,14 @@
 use Rattle.std.proofs.Common.{◌≡◌, ◌<◌, ◌⊎◌, ◌∙◌, sym, refl, ap, subst, ℕ, Bool, true, false, List}
 use Rattle.std.proofs.Common.{[], Option, None, Some, ◌++◌}
 use Rattle.std.specs.Prelude.{IfSome, is_some, option_map, if◌then◌else◌}
-use Rattle.std.proofs.Common.{Result, Ok, Err, IfOk, IfErr, OnErr, MatchResult, inl, inr, arith}
+use Rattle.std.proofs.Common.{Result, Ok, Err, IfErr, OnErr, inl, inr, arith}
 use Rattle.std.specs.Io.KnownBytes.{Appends, Keeps}
 use Rattle.bundle_files.specs.Files.{Held, Gives, IsJudgedOf, lies_in}
 use Rattle.bundle_files.specs.Formula.{IsBundleOf, IsReadBy, IsReadFrom}
 use Rattle.bundle_files.proofs.FormulaText.{published}
 use Rattle.bundle_files.proofs.LawsFormula.{judged_unsatisfiable}
 use Rattle.cube_report.specs.declared.fault.Fault.{Fault}
-use Rattle.cube_report.specs.declared.fault.Fault.TheVariants.{Header, Token, Unfinished, TooLarge}
-use Rattle.cube_report.specs.declared.fault.Fault.TheVariants.{Limit, Memory, Repeats, NotATree}
-use Rattle.cube_report.specs.declared.fault.Fault.TheVariants.{Overlap, BadLabel, NoSuchLeaf}
-use Rattle.cube_report.specs.declared.fault.Fault.TheVariants.{ProofTwice, Device, Thread}
-use Rattle.cube_report.specs.declared.fault.Fault.TheVariants.{NoProblem, Counts}
+use Rattle.cube_report.specs.declared.fault.Fault.TheVariants.{Memory, Device, Thread}
 use Rattle.cube_report.specs.Dimacs.{IsDimacs}
 use Rattle.cube_report.specs.Formula.{HasNoModel}
 use Rattle.cube_report.specs.Literal.{Literal}
@@ -23,13 +19,14 @@ use Rattle.cube_report.specs.Device.{AppendsBeginning}
 use Rattle.cube_report.specs.Picture.{map_text}
 use Rattle.cube_report.specs.Bundle.{icnf_text}
 use Rattle.cube_command.specs.Program.{IsMade, IsRefused, IsReported, IsLineWritten, fault_line}
-use Rattle.cube_command.specs.Program.{AllowsFaults, IsBegun, IsBundleFor, IsPictureOn}
+use Rattle.cube_command.specs.Program.{AllowsFaults, IsBegun, IsBundleFor, IsPictureOn, status_of}
 use Rattle.cube_command.specs.Open.{open_names, shown}
 use Rattle.cube_command.specs.Record.{digest_line, record_text}
 use Rattle.cube_command.specs.Sources.{IsSoBy, input_handed, of_one_proof, sources_of}
 use Rattle.cube_command.specs.Words.{Asked}
-use Rattle.cube_command.specs.Inner.Telling.{IsFaultWritten, status_of, status_of_answer}
+use Rattle.cube_command.specs.Inner.Telling.{IsFaultWritten}
 use Rattle.cube_command.proofs.OneProofGiven.{bundle_by}
+use Rattle.cube_command.proofs.StatusTold.{above_two, input_of_three, with_five, with_four}
 
 -- ---- the run
 
@@ -179,123 +176,29 @@ memory_asked texts held asked input may = may Memory (λ of_input. absurd (of_in
 
 -- ---- its status
 
--- how a run was told, where `Same` says that nothing was written
-abbrev pub ToldRun : Result Bool Fault → ℕ → Type 0 → Option (List ℕ) → Option (List ℕ) → ℕ → ℕ →
-    Type 0
-ToldRun run status Same old new before after =
-    MatchResult run (λ answer. (status ≡ status_of_answer answer) × Same)
-    (λ fault. IsFaultWritten fault status old new before after)
+-- the status of a fault that was told
+pub fault_above : (status : ℕ) (old new : Option (List ℕ)) (before after : ℕ) (fault : Fault)
+    → IsFaultWritten fault status old new before after → 2 < status
+fault_above status old new before after fault (inl told) =
+    let above : 2 < status_of fault = above_two fault in omega (arith, told.0)
+fault_above status old new before after fault (inr told) = omega (arith, told.1)
 
-pub above_two : (fault : Fault) → 2 < status_of fault
-above_two Header = omega arith
-above_two (Token line) = omega arith
-above_two Unfinished = omega arith
-above_two (TooLarge line) = omega arith
-above_two Limit = omega arith
-above_two (Repeats cube) = omega arith
-above_two (NotATree first second) = omega arith
-above_two (Overlap first second) = omega arith
-above_two (BadLabel line) = omega arith
-above_two (NoSuchLeaf line) = omega arith
-above_two (ProofTwice line) = omega arith
-above_two NoProblem = omega arith
-above_two (Counts variables clauses greatest found) = omega arith
-above_two Memory = omega arith
-above_two Device = omega arith
-above_two Thread = omega arith
-
-input_of_three : (fault : Fault) → status_of fault ≡ 3 → IsInputFault fault
-input_of_three Header is = (λ e. cc, λ e. cc, λ e. cc)
-input_of_three (Token line) is = (λ e. cc, λ e. cc, λ e. cc)
-input_of_three Unfinished is = (λ e. cc, λ e. cc, λ e. cc)
-input_of_three (TooLarge line) is = (λ e. cc, λ e. cc, λ e. cc)
-input_of_three Limit is = (λ e. cc, λ e. cc, λ e. cc)
-input_of_three (Repeats cube) is = (λ e. cc, λ e. cc, λ e. cc)
-input_of_three (NotATree first second) is = (λ e. cc, λ e. cc, λ e. cc)
-input_of_three (Overlap first second) is = (λ e. cc, λ e. cc, λ e. cc)
-input_of_three (BadLabel line) is = (λ e. cc, λ e. cc, λ e. cc)
-input_of_three (NoSuchLeaf line) is = (λ e. cc, λ e. cc, λ e. cc)
-input_of_three (ProofTwice line) is = (λ e. cc, λ e. cc, λ e. cc)
-input_of_three NoProblem is = (λ e. cc, λ e. cc, λ e. cc)
-input_of_three (Counts variables clauses greatest found) is = (λ e. cc, λ e. cc, λ e. cc)
-input_of_three Memory is = absurd (omega arith)
-input_of_three Device is = absurd (omega arith)
-input_of_three Thread is = absurd (omega arith)
-
--- a fault with status 4 or 5
-with_four : (fault : Fault) → status_of fault ≡ 4 → (fault ≡ Memory) ⊎ (fault ≡ Thread)
-with_four Memory is = inl refl
-with_four Thread is = inr refl
-with_four Header is = absurd (omega arith)
-with_four (Token line) is = absurd (omega arith)
-with_four Unfinished is = absurd (omega arith)
-with_four (TooLarge line) is = absurd (omega arith)
-with_four Limit is = absurd (omega arith)
-with_four (Repeats cube) is = absurd (omega arith)
-with_four (NotATree first second) is = absurd (omega arith)
-with_four (Overlap first second) is = absurd (omega arith)
-with_four (BadLabel line) is = absurd (omega arith)
-with_four (NoSuchLeaf line) is = absurd (omega arith)
-with_four (ProofTwice line) is = absurd (omega arith)
-with_four NoProblem is = absurd (omega arith)
-with_four (Counts variables clauses greatest found) is = absurd (omega arith)
-with_four Device is = absurd (omega arith)
-
-with_five : (fault : Fault) → status_of fault ≡ 5 → fault ≡ Device
-with_five Device is = refl
-with_five Memory is = absurd (omega arith)
-with_five Thread is = absurd (omega arith)
-with_five Header is = absurd (omega arith)
-with_five (Token line) is = absurd (omega arith)
-with_five Unfinished is = absurd (omega arith)
-with_five (TooLarge line) is = absurd (omega arith)
-with_five Limit is = absurd (omega arith)
-with_five (Repeats cube) is = absurd (omega arith)
-with_five (NotATree first second) is = absurd (omega arith)
-with_five (Overlap first second) is = absurd (omega arith)
-with_five (BadLabel line) is = absurd (omega arith)
-with_five (NoSuchLeaf line) is = absurd (omega arith)
-with_five (ProofTwice line) is = absurd (omega arith)
-with_five NoProblem is = absurd (omega arith)
-with_five (Counts variables clauses greatest found) is = absurd (omega arith)
+pub device_five : (status : ℕ) (old new : Option (List ℕ)) (before after : ℕ)
+    → IsFaultWritten Device status old new before after → status ≡ 5
+device_five status old new before after (inl told) = told.0
+device_five status old new before after (inr told) = absurd (told.0.1 refl)
 
 -- status 0
 pub sound_run : (held later : Held) (asked : Asked) (input out_old out_new : Option (List ℕ))
-    (run : Result Bool Fault) (status : ℕ) (Same : Type 0) (old new : Option (List ℕ))
-    (before after : ℕ)
-    → ToldRun run status Same old new before after
-    → IfOk run (IsReported held later asked input out_old out_new) → status ≡ 0
+    → IsReported held later asked input out_old out_new true
     → (read : List ℕ)
     × IsReadFrom held (sources_of asked) (input_handed asked.proof input) read
     × IsUnsatisfiable read
-sound_run held later asked input out_old out_new (Ok true) status Same old new before after told
-    report is = (
-      report.read,
-      read_for held asked asked.proof input report.read report.whole report.bundle,
-      report.sound refl,
-    )
-sound_run held later asked input out_old out_new (Ok false) status Same old new before after told
-    report is = let one : status ≡ 1 = told.0 in absurd (omega arith)
-sound_run held later asked input out_old out_new (Err fault) status Same old new before after
-    (inl told) report is =
-    let above : 2 < status_of fault = above_two fault in
-    let has : status ≡ status_of fault = told.0 in absurd (omega arith)
-sound_run held later asked input out_old out_new (Err fault) status Same old new before after
-    (inr told) report is = let four : status ≡ 4 = told.1 in absurd (omega arith)
-
--- what a run that says refuted promises holds with status 0
-pub handed_run : (X : Type 0) (run : Result Bool Fault) (status : ℕ) (Same : Type 0)
-    (old new : Option (List ℕ)) (before after : ℕ)
-    → ToldRun run status Same old new before after
-    → IfOk run (λ refuted. refuted ≡ true → X) → status ≡ 0 → X
-handed_run X (Ok true) status Same old new before after told promised is = promised refl
-handed_run X (Ok false) status Same old new before after told promised is =
-    let one : status ≡ 1 = told.0 in absurd (omega arith)
-handed_run X (Err fault) status Same old new before after (inl told) promised is =
-    let above : 2 < status_of fault = above_two fault in
-    let has : status ≡ status_of fault = told.0 in absurd (omega arith)
-handed_run X (Err fault) status Same old new before after (inr told) promised is =
-    let four : status ≡ 4 = told.1 in absurd (omega arith)
+sound_run held later asked input out_old out_new report = (
+  report.read,
+  read_for held asked asked.proof input report.read report.whole report.bundle,
+  report.sound refl,
+)
 
 -- status 0, where the formula has a file of its own
 abbrev pub IsPublishedAt : Held → List ℕ → Type 0
@@ -303,12 +206,12 @@ IsPublishedAt held path =
     (text : List ℕ) × Gives held path (Some text)
     × (formula : List (List Literal)) × IsDimacs text formula × HasNoModel formula
 
-published_by : (held later : Held) (asked : Asked) (input out_old out_new : Option (List ℕ))
+pub published_run : (held later : Held) (asked : Asked) (input out_old out_new : Option (List ℕ))
     (formula : Option (List ℕ)) → asked.formula ≡ formula
     → IsReported held later asked input out_old out_new true
     → IfSome formula (IsPublishedAt held)
-published_by held later asked input out_old out_new None same report = tt
-published_by held later asked input out_old out_new (Some path) same report =
+published_run held later asked input out_old out_new None same report = tt
+published_run held later asked input out_old out_new (Some path) same report =
     let given = given_for held asked asked.proof input report.read report.whole report.bundle in
     published (lies_in held) held path asked.file given.0 asked.folder report.read report.whole
     report.correct.case
@@ -316,60 +219,32 @@ published_by held later asked input out_old out_new (Some path) same report =
     given.1.is_read) given.1.is_judged report.correct.judged.case_is
     (report.sound refl)
 
-pub published_run : (held later : Held) (asked : Asked) (input out_old out_new : Option (List ℕ))
-    (run : Result Bool Fault) (status : ℕ) (Same : Type 0) (old new : Option (List ℕ))
-    (before after : ℕ)
-    → ToldRun run status Same old new before after
-    → IfOk run (IsReported held later asked input out_old out_new) → status ≡ 0
-    → IfSome asked.formula (IsPublishedAt held)
-published_run held later asked input out_old out_new (Ok true) status Same old new before after told
-    report is = published_by held later asked input out_old out_new asked.formula refl report
-published_run held later asked input out_old out_new (Ok false) status Same old new before after
-    told report is = let one : status ≡ 1 = told.0 in absurd (omega arith)
-published_run held later asked input out_old out_new (Err fault) status Same old new before after
-    (inl told) report is =
-    let above : 2 < status_of fault = above_two fault in
-    let has : status ≡ status_of fault = told.0 in absurd (omega arith)
-published_run held later asked input out_old out_new (Err fault) status Same old new before after
-    (inr told) report is = let four : status ≡ 4 = told.1 in absurd (omega arith)
-
 -- status 3
-pub fault_run : (held : Held) (asked made : Asked) (input : Option (List ℕ))
-    (run : Result Bool Fault) (status : ℕ) (Same : Type 0) (old new : Option (List ℕ))
-    (before after : ℕ)
-    → made ≡ asked → ToldRun run status Same old new before after
-    → IfErr run (λ fault. IsInputFault fault → IsRefused held made input fault) → status ≡ 3
+pub fault_run : (held : Held) (asked made : Asked) (input : Option (List ℕ)) (fault : Fault)
+    (status : ℕ) (old new : Option (List ℕ)) (before after : ℕ)
+    → made ≡ asked → IsFaultWritten fault status old new before after
+    → (IsInputFault fault → IsRefused held made input fault) → status ≡ 3
     →
     (fault : Fault) × IsInputFault fault × IsRefused held asked input fault
     × IsLineWritten old new before after (fault_line fault)
-fault_run held asked made input (Ok true) status Same old new before after same told refused is =
-    let none : status ≡ 0 = told.0 in absurd (omega arith)
-fault_run held asked made input (Ok false) status Same old new before after same told refused is =
-    let one : status ≡ 1 = told.0 in absurd (omega arith)
-fault_run held asked made input (Err fault) status Same old new before after same (inl told)
-    refused is =
+fault_run held asked made input fault status old new before after same (inl told) refused is =
     let input_is : IsInputFault fault = input_of_three fault (sym told.0 ∙ is) in (
       fault,
       input_is,
       subst (λ (a : Asked). IsRefused held a input fault) same (refused input_is),
       told.1,
     )
-fault_run held asked made input (Err fault) status Same old new before after same (inr told)
-    refused is =
+fault_run held asked made input fault status old new before after same (inr told) refused is =
     let four : status ≡ 4 = told.1 in absurd (omega arith)
 
 -- status 4
-pub memory_run : (run : Result Bool Fault) (status : ℕ) (Same : Type 0) (old new : Option (List ℕ))
-    (before after : ℕ) → ToldRun run status Same old new before after → status ≡ 4
+pub memory_run : (fault : Fault) (status : ℕ) (old new : Option (List ℕ)) (before after : ℕ)
+    → IsFaultWritten fault status old new before after → status ≡ 4
     →
     IsLineWritten old new before after (fault_line Memory)
     ⊎ IsLineWritten old new before after (fault_line Thread)
-memory_run (Ok true) status Same old new before after told is =
-    let none : status ≡ 0 = told.0 in absurd (omega arith)
-memory_run (Ok false) status Same old new before after told is =
-    let one : status ≡ 1 = told.0 in absurd (omega arith)
-memory_run (Err fault) status Same old new before after (inr told) is = inl told.2
-memory_run (Err fault) status Same old new before after (inl told) is =
+memory_run fault status old new before after (inr told) is = inl told.2
+memory_run fault status old new before after (inl told) is =
     elim (with_four fault (sym told.0 ∙ is)) [
       | inl memory ↦ inl
           (subst (λ (f : Fault). IsLineWritten old new before after (fault_line f)) memory told.1)
@@ -378,15 +253,11 @@ memory_run (Err fault) status Same old new before after (inl told) is =
     ]
 
 -- status 5
-pub device_run : (run : Result Bool Fault) (status : ℕ) (Same : Type 0) (old new : Option (List ℕ))
-    (before after : ℕ) → ToldRun run status Same old new before after → status ≡ 5
+pub device_run : (fault : Fault) (status : ℕ) (old new : Option (List ℕ)) (before after : ℕ)
+    → IsFaultWritten fault status old new before after → status ≡ 5
     → IsLineWritten old new before after (fault_line Device)
-device_run (Ok true) status Same old new before after told is =
-    let none : status ≡ 0 = told.0 in absurd (omega arith)
-device_run (Ok false) status Same old new before after told is =
-    let one : status ≡ 1 = told.0 in absurd (omega arith)
-device_run (Err fault) status Same old new before after (inr told) is =
+device_run fault status old new before after (inr told) is =
     let four : status ≡ 4 = told.1 in absurd (omega arith)
-device_run (Err fault) status Same old new before after (inl told) is =
+device_run fault status old new before after (inl told) is =
     subst (λ (f : Fault). IsLineWritten old new before after (fault_line f))
     (with_five fault (sym told.0 ∙ is)) told.1

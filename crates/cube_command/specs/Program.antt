@@ -1,6 +1,6 @@
 -- What the program's status says.
-use Rattle.std.specs.Prelude.{◌≡◌, ◌<◌, ℕ, Bool, List, ◌++◌, true, ⊤, ◌⊎◌, codes, Option, None}
-use Rattle.std.specs.Prelude.{Some}
+use Rattle.std.specs.Prelude.{◌≡◌, ◌<◌, ℕ, Bool, List, ◌++◌, true, false, ⊤, ◌⊎◌, codes, Option}
+use Rattle.std.specs.Prelude.{None, Some}
 use Rattle.std.specs.Io.KnownBytes.{Appends}
 use Rattle.bundle_files.specs.Files.{Held, Gives}
 use Rattle.bundle_files.specs.Formula.{IsBundleOf, IsFormulaFault}
@@ -8,6 +8,7 @@ use Rattle.cube_report.specs.Case.{CaseOf}
 use Rattle.cube_report.specs.Mark.{Mark}
 use Rattle.cube_report.specs.Picture.{map_text}
 use Rattle.cube_report.specs.declared.fault.Fault.{Fault}
+use Rattle.cube_report.specs.declared.fault.Fault.TheVariants.{Memory, Device, Thread}
 use Rattle.cube_report.specs.Faults.{IsInputFault, fault_text}
 use Rattle.cube_report.specs.Device.{AppendsBeginning}
 use Rattle.cube_report.specs.Correct.{AllowsReports, IsCorrect, IsFaultOn, IsJudged, IsReportOn}
@@ -21,6 +22,18 @@ use Rattle.cube_command.specs.Words.{Asked}
 abbrev pub IsStatus : ℕ → Type 0
 IsStatus status =
     (status ≡ 0) ⊎ (status ≡ 1) ⊎ (status ≡ 2) ⊎ (status ≡ 3) ⊎ (status ≡ 4) ⊎ (status ≡ 5)
+
+-- that of a report's answer
+abbrev pub status_of_answer : Bool → ℕ
+status_of_answer true = 0
+status_of_answer false = 1
+
+-- that of a fault: 3 is for one of the input
+abbrev pub status_of : Fault → ℕ
+status_of Memory = 4
+status_of Thread = 4
+status_of Device = 5
+status_of _ = 3
 
 -- where a file is asked for, these bytes lie at its path, as far as is known
 abbrev pub IsMade : Held → Option (List ℕ) → List ℕ → Type 0

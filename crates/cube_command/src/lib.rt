@@ -21,4 +21,4 @@ pub use record::digest_line_of;
 pub use run_watch::{
     Lines, Log, Meter, Metered, MeteredFiles, NoLog, Progress, SystemLines, SystemLog, Watch,
 };
-pub use telling::{own_words, tell, tell_refused, words_of_call};
+pub use telling::{own_words, status_of, tell, tell_refused, words_of_call};

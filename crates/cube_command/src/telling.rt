@@ -5,8 +5,9 @@ ghost use Rattle.std.specs.Prelude.{MatchResult, OnOk, IfOk, IfErr};
 ghost use Rattle.clap.specs.Words.{kind_of};
 ghost use Rattle.std.specs.String.{string_bytes};
 ghost use Rattle.cube_report.specs.Faults.{IsInputFault};
-ghost use Rattle.cube_command.specs.Program.{IsLineWritten, fault_line};
-ghost use Rattle.cube_command.specs.Inner.Telling.{IsFaultWritten, status_of, status_of_answer};
+ghost use Rattle.cube_command.specs.Program.{IsLineWritten, fault_line, status_of};
+ghost use Rattle.cube_command.specs.Program.{status_of_answer};
+ghost use Rattle.cube_command.specs.Inner.Telling.{IsFaultWritten};
 
 use clap::Error as WordsError;
 use clap::error::ErrorKind as WordsFault;
@@ -91,8 +92,9 @@ pub fn tell<E: Sink>(errors: &mut E, line: &[u8])
     let _ = write_all(errors, line);
 }
 
-/// The status of a run that ended with a fault.
-fn status_of(fault: Fault) -> u8
+/// The status of a run that ended with a fault: 3 where it is one of the input, 4 where memory or a
+/// thread was refused, and 5 where a device failed.
+pub fn status_of(fault: Fault) -> u8
     ensures { result ≡ status_of fault }
 {
     match fault {

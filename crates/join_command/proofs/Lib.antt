@@ -4,4 +4,3 @@ mod FilesJoined
 mod RecordsTold
 mod ProgramFiles
 mod ProgramRuns
-mod ProgramStatus

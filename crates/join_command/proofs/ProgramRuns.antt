@@ -1,6 +1,6 @@
 -- What a join says of its files and of what was written, and what its status says.
-use Rattle.std.proofs.Common.{◌≡◌, ◌≢◌, ◌<◌, ◌⊎◌, ◌∙◌, sym, refl, subst, ℕ, Bool, true, false, List}
-use Rattle.std.proofs.Common.{Option, None, Some, Result, Ok, Err, IfOk, IfErr, MatchResult, inl}
+use Rattle.std.proofs.Common.{◌≡◌, ◌≢◌, ◌<◌, ◌⊎◌, ◌∙◌, sym, refl, subst, ℕ, Bool, true, List}
+use Rattle.std.proofs.Common.{Option, None, Some, inl}
 use Rattle.std.proofs.Common.{inr, arith, ap}
 use Rattle.std.specs.Prelude.{IfSome}
 use Rattle.case_core.specs.Literal.{Literal}
@@ -16,14 +16,12 @@ use Rattle.bundle_files.specs.Formula.{IsBundleBy, IsHandedFrom, IsReadBy, IsUnd
 use Rattle.cube_join.specs.Joined.{IsJoined}
 use Rattle.bundle_files.proofs.FormulaText.{bundle_formula}
 use Rattle.cube_report.specs.declared.fault.Fault.{Fault}
-use Rattle.cube_report.specs.declared.fault.Fault.TheVariants.{Header, Token, Unfinished, TooLarge}
-use Rattle.cube_report.specs.declared.fault.Fault.TheVariants.{Limit, Memory, Repeats, NotATree}
-use Rattle.cube_report.specs.declared.fault.Fault.TheVariants.{Overlap, BadLabel, NoSuchLeaf}
-use Rattle.cube_report.specs.declared.fault.Fault.TheVariants.{ProofTwice, Device, Thread}
-use Rattle.cube_report.specs.declared.fault.Fault.TheVariants.{NoProblem, Counts}
+use Rattle.cube_report.specs.declared.fault.Fault.TheVariants.{Memory, Device}
 use Rattle.cube_report.specs.Faults.{IsInputFault}
 use Rattle.cube_report.specs.Correct.{IsUnsatisfiable}
-use Rattle.cube_command.specs.Program.{IsLineWritten}
+use Rattle.cube_command.specs.Program.{IsLineWritten, status_of as status_of_run}
+use Rattle.cube_command.proofs.StatusTold.{above_two as above_two_run, input_of_three}
+use Rattle.cube_command.proofs.StatusTold.{three_of_input}
 use Rattle.join_command.specs.declared.fault.JoinFault.{JoinFault}
 use Rattle.join_command.specs.declared.fault.JoinFault.TheVariants.{Run, Stranger}
 use Rattle.join_command.specs.Program.{AllowsJoinFaults, AreRead, AreTrusted}
@@ -35,57 +33,25 @@ use Rattle.join_command.specs.Words.{Asked, sources_of}
 use Rattle.join_command.proofs.FilesJoined.{texts_handed}
 use Rattle.join_command.proofs.RecordsTold.{reports_told}
 use Rattle.join_command.specs.Inner.Files.{IsUnwritten}
-use Rattle.join_command.specs.Inner.Telling.{IsFaultWritten, status_of, status_of_answer}
-use Rattle.join_command.specs.Inner.Telling.{status_of_run}
-
--- how a join was told, where `Same` says that nothing was written
-abbrev pub ToldRun : Result Bool JoinFault → ℕ → Type 0 → Option (List ℕ) → Option (List ℕ) → ℕ →
-    ℕ → Type 0
-ToldRun run status Same old new before after =
-    MatchResult run (λ answer. (status ≡ status_of_answer answer) × Same)
-    (λ fault. IsFaultWritten fault status old new before after)
+use Rattle.join_command.specs.Inner.Telling.{IsFaultWritten, status_of}
 
 -- ---- statuses of faults
 
-above_two_run : (fault : Fault) → 2 < status_of_run fault
-above_two_run Header = omega arith
-above_two_run (Token line) = omega arith
-above_two_run Unfinished = omega arith
-above_two_run (TooLarge line) = omega arith
-above_two_run Limit = omega arith
-above_two_run (Repeats cube) = omega arith
-above_two_run (NotATree first second) = omega arith
-above_two_run (Overlap first second) = omega arith
-above_two_run (BadLabel line) = omega arith
-above_two_run (NoSuchLeaf line) = omega arith
-above_two_run (ProofTwice line) = omega arith
-above_two_run NoProblem = omega arith
-above_two_run (Counts variables clauses greatest found) = omega arith
-above_two_run Memory = omega arith
-above_two_run Device = omega arith
-above_two_run Thread = omega arith
-
-pub above_two : (fault : JoinFault) → 2 < status_of fault
+above_two : (fault : JoinFault) → 2 < status_of fault
 above_two (Run fault) = above_two_run fault
 above_two (Stranger number) = omega arith
 
-with_three : (fault : Fault) → status_of_run fault ≡ 3 → IsInputFault fault
-with_three Header is = (λ e. cc, λ e. cc, λ e. cc)
-with_three (Token line) is = (λ e. cc, λ e. cc, λ e. cc)
-with_three Unfinished is = (λ e. cc, λ e. cc, λ e. cc)
-with_three (TooLarge line) is = (λ e. cc, λ e. cc, λ e. cc)
-with_three Limit is = (λ e. cc, λ e. cc, λ e. cc)
-with_three (Repeats cube) is = (λ e. cc, λ e. cc, λ e. cc)
-with_three (NotATree first second) is = (λ e. cc, λ e. cc, λ e. cc)
-with_three (Overlap first second) is = (λ e. cc, λ e. cc, λ e. cc)
-with_three (BadLabel line) is = (λ e. cc, λ e. cc, λ e. cc)
-with_three (NoSuchLeaf line) is = (λ e. cc, λ e. cc, λ e. cc)
-with_three (ProofTwice line) is = (λ e. cc, λ e. cc, λ e. cc)
-with_three NoProblem is = (λ e. cc, λ e. cc, λ e. cc)
-with_three (Counts variables clauses greatest found) is = (λ e. cc, λ e. cc, λ e. cc)
-with_three Memory is = absurd (omega arith)
-with_three Device is = absurd (omega arith)
-with_three Thread is = absurd (omega arith)
+-- the status of a fault that was told
+pub fault_above : (status : ℕ) (old new : Option (List ℕ)) (before after : ℕ) (fault : JoinFault)
+    → IsFaultWritten fault status old new before after → 2 < status
+fault_above status old new before after fault (inl told) =
+    let above : 2 < status_of fault = above_two fault in omega (arith, told.0)
+fault_above status old new before after fault (inr told) = omega (arith, told.1)
+
+pub device_five : (status : ℕ) (old new : Option (List ℕ)) (before after : ℕ)
+    → IsFaultWritten (Run Device) status old new before after → status ≡ 5
+device_five status old new before after (inl told) = told.0
+device_five status old new before after (inr told) = absurd (told.0.1 refl)
 
 -- why no joined report was written is want of memory or a device, or else a fault of what was read
 kinds : (held : Held) (asked : Asked) (before after : ℕ) (fault : Fault) →
@@ -96,55 +62,24 @@ kinds held asked before after fault (inl refused) = inl (refused.0, refused.2)
 kinds held asked before after fault (inr (inl memory)) = inr (inl memory.0)
 kinds held asked before after fault (inr (inr device)) = inr (inr device.0)
 
-input_status : (fault : Fault) → IsInputFault fault → status_of_run fault ≡ 3
-input_status Header is = refl
-input_status (Token line) is = refl
-input_status Unfinished is = refl
-input_status (TooLarge line) is = refl
-input_status Limit is = refl
-input_status (Repeats cube) is = refl
-input_status (NotATree first second) is = refl
-input_status (Overlap first second) is = refl
-input_status (BadLabel line) is = refl
-input_status (NoSuchLeaf line) is = refl
-input_status (ProofTwice line) is = refl
-input_status NoProblem is = refl
-input_status (Counts variables clauses greatest found) is = refl
-input_status Memory is = absurd (is.0 refl)
-input_status Device is = absurd (is.1 refl)
-input_status Thread is = absurd (is.2 refl)
-
 -- a status of a fault of a run that wasn't one of what was read
 status_kinds : (held : Held) (asked : Asked) (before after : ℕ)
     (fault : Fault) → IsUnwritten held asked before after (Run fault) →
     status_of_run fault ≢ 3 → (fault ≡ Memory) ⊎ (fault ≡ Device)
 status_kinds held asked before after fault why other =
     elim (kinds held asked before after fault why) [
-      | inl read ↦ absurd (other (input_status fault read.0))
+      | inl read ↦ absurd (other (three_of_input fault read.0))
       | inr kind ↦ kind
     ]
 
 -- ---- status 0
 
-pub sound_join : (held : Held) (asked : Asked)
-    (out_old out_new : Option (List ℕ)) (run : Result Bool JoinFault) (status : ℕ) (Same : Type 0)
-    (old new : Option (List ℕ)) (before after : ℕ)
-    → ToldRun run status Same old new before after
-    → IfOk run (IsJoinWritten held asked out_old out_new) → status ≡ 0
+pub sound_join : (held : Held) (asked : Asked) (out_old out_new : Option (List ℕ))
+    → IsJoinWritten held asked out_old out_new true
     → (bundle : List ℕ) × (texts : List (List ℕ)) × AreRead held asked bundle texts
     × (AreTrusted asked.unbound bundle texts → IsUnsatisfiable bundle)
-sound_join held asked out_old out_new (Ok true) status Same old new before after told written
-    is =
+sound_join held asked out_old out_new written =
     (written.bundle, written.texts, written.read, λ are. written.sound are refl)
-sound_join held asked out_old out_new (Ok false) status Same old new before after told written
-    is =
-    let one : status ≡ 1 = told.0 in absurd (omega arith)
-sound_join held asked out_old out_new (Err fault) status Same old new before after (inl told)
-    written is =
-    let above : 2 < status_of fault = above_two fault in
-    let has : status ≡ status_of fault = told.0 in absurd (omega arith)
-sound_join held asked out_old out_new (Err fault) status Same old new before after (inr told)
-    written is = let four : status ≡ 4 = told.1 in absurd (omega arith)
 
 -- ---- status 0, where the formula has a file of its own
 
@@ -170,11 +105,11 @@ no_model_under has path file input read case under is none =
     (text_of (icnf_text read) is.items is.text) in
     subst HasNoModel (none.1.2 ∙ ap clauses_of one ∙ same) none.2
 
-published_by : (held : Held) (asked : Asked) (formula old new : Option (List ℕ)) →
+pub published_join : (held : Held) (asked : Asked) (formula old new : Option (List ℕ)) →
     asked.formula ≡ formula → IsJoinWritten held asked old new true →
     IfSome formula (IsPublished held asked)
-published_by held asked None old new same join = tt
-published_by held asked (Some path) old new same join =
+published_join held asked None old new same join = tt
+published_join held asked (Some path) old new same join =
     let under : IsUnder (lies_in held) path (Some asked.file) None join.bundle =
     subst (λ (f : Option (List ℕ)). IsReadBy held f (Some asked.file) None join.bundle) same
     join.read.of_file in (
@@ -191,24 +126,6 @@ published_by held asked (Some path) old new same join =
           join.joined.2.case_is (join.sound are refl),
     )
 
-pub published_join : (held : Held) (asked : Asked)
-    (out_old out_new : Option (List ℕ)) (run : Result Bool JoinFault) (status : ℕ) (Same : Type 0)
-    (old new : Option (List ℕ)) (before after : ℕ)
-    → ToldRun run status Same old new before after
-    → IfOk run (IsJoinWritten held asked out_old out_new) → status ≡ 0
-    → IfSome asked.formula (IsPublished held asked)
-published_join held asked out_old out_new (Ok true) status Same old new before after told written
-    is = published_by held asked asked.formula out_old out_new refl written
-published_join held asked out_old out_new (Ok false) status Same old new before after told written
-    is =
-    let one : status ≡ 1 = told.0 in absurd (omega arith)
-published_join held asked out_old out_new (Err fault) status Same old new before after (inl told)
-    written is =
-    let above : 2 < status_of fault = above_two fault in
-    let has : status ≡ status_of fault = told.0 in absurd (omega arith)
-published_join held asked out_old out_new (Err fault) status Same old new before after (inr told)
-    written is = let four : status ≡ 4 = told.1 in absurd (omega arith)
-
 -- ---- status 3
 
 told_three : (held : Held) (asked : Asked) (fault : JoinFault)
@@ -217,30 +134,24 @@ told_three : (held : Held) (asked : Asked) (fault : JoinFault)
     IsReadingFault fault × IsRefused held asked fault
 told_three held asked (Stranger number) status out_before out_after is has why = (tt, why.1)
 told_three held asked (Run fault) status out_before out_after is has why =
-    let input : IsInputFault fault = with_three fault (sym has ∙ is) in
+    let input : IsInputFault fault = input_of_three fault (sym has ∙ is) in
     elim (kinds held asked out_before out_after fault why) [
       | inl refused ↦ refused
       | inr (inl memory) ↦ absurd (input.0 memory)
       | inr (inr device) ↦ absurd (input.1 device)
     ]
 
-pub fault_join : (held : Held) (asked : Asked)
-    (run : Result Bool JoinFault) (status : ℕ) (Same : Type 0) (old new : Option (List ℕ))
-    (before after out_before out_after : ℕ)
-    → ToldRun run status Same old new before after
-    → IfErr run (IsUnwritten held asked out_before out_after) → status ≡ 3
+pub fault_join : (held : Held) (asked : Asked) (fault : JoinFault) (status : ℕ)
+    (old new : Option (List ℕ)) (before after out_before out_after : ℕ)
+    → IsFaultWritten fault status old new before after
+    → IsUnwritten held asked out_before out_after fault → status ≡ 3
     → (fault : JoinFault) × IsReadingFault fault × IsRefused held asked fault
     × IsLineWritten old new before after (join_fault_line fault)
-fault_join held asked (Ok true) status Same old new before after out_before out_after told why
-    is = let none : status ≡ 0 = told.0 in absurd (omega arith)
-fault_join held asked (Ok false) status Same old new before after out_before out_after told why
-    is = let one : status ≡ 1 = told.0 in absurd (omega arith)
-fault_join held asked (Err fault) status Same old new before after out_before out_after
-    (inl told) why is =
+fault_join held asked fault status old new before after out_before out_after (inl told) why is =
     let both = told_three held asked fault status out_before out_after is told.0 why in
     (fault, both.0, both.1, told.1)
-fault_join held asked (Err fault) status Same old new before after out_before out_after
-    (inr told) why is = let four : status ≡ 4 = told.1 in absurd (omega arith)
+fault_join held asked fault status old new before after out_before out_after (inr told) why is =
+    let four : status ≡ 4 = told.1 in absurd (omega arith)
 
 -- ---- statuses 4 and 5
 
@@ -259,22 +170,16 @@ told_four held asked (Run fault) status out_before out_after is has why =
           absurd (omega (arith, five, is, has))
     ]
 
-pub memory_join : (held : Held) (asked : Asked)
-    (run : Result Bool JoinFault) (status : ℕ) (Same : Type 0) (old new : Option (List ℕ))
-    (before after out_before out_after : ℕ)
-    → ToldRun run status Same old new before after
-    → IfErr run (IsUnwritten held asked out_before out_after) → status ≡ 4
+pub memory_join : (held : Held) (asked : Asked) (fault : JoinFault) (status : ℕ)
+    (old new : Option (List ℕ)) (before after out_before out_after : ℕ)
+    → IsFaultWritten fault status old new before after
+    → IsUnwritten held asked out_before out_after fault → status ≡ 4
     → IsLineWritten old new before after (join_fault_line (Run Memory))
-memory_join held asked (Ok true) status Same old new before after out_before out_after told why
-    is = let none : status ≡ 0 = told.0 in absurd (omega arith)
-memory_join held asked (Ok false) status Same old new before after out_before out_after told
-    why is = let one : status ≡ 1 = told.0 in absurd (omega arith)
-memory_join held asked (Err fault) status Same old new before after out_before out_after
-    (inl told) why is =
+memory_join held asked fault status old new before after out_before out_after (inl told) why is =
     subst (λ (f : JoinFault). IsLineWritten old new before after (join_fault_line f))
     (told_four held asked fault status out_before out_after is told.0 why) told.1
-memory_join held asked (Err fault) status Same old new before after out_before out_after
-    (inr told) why is = told.2
+memory_join held asked fault status old new before after out_before out_after (inr told) why is =
+    told.2
 
 told_five : (held : Held) (asked : Asked) (fault : JoinFault)
     (status out_before out_after : ℕ) → status ≡ 5 → status ≡ status_of fault →
@@ -291,20 +196,14 @@ told_five held asked (Run fault) status out_before out_after is has why =
           absurd (omega (arith, four, is, has))
     ]
 
-pub device_join : (held : Held) (asked : Asked)
-    (run : Result Bool JoinFault) (status : ℕ) (Same : Type 0) (old new : Option (List ℕ))
-    (before after out_before out_after : ℕ)
-    → ToldRun run status Same old new before after
-    → IfErr run (IsUnwritten held asked out_before out_after) → status ≡ 5
+pub device_join : (held : Held) (asked : Asked) (fault : JoinFault) (status : ℕ)
+    (old new : Option (List ℕ)) (before after out_before out_after : ℕ)
+    → IsFaultWritten fault status old new before after
+    → IsUnwritten held asked out_before out_after fault → status ≡ 5
     → IsLineWritten old new before after (join_fault_line (Run Device))
-device_join held asked (Ok true) status Same old new before after out_before out_after told why
-    is = let none : status ≡ 0 = told.0 in absurd (omega arith)
-device_join held asked (Ok false) status Same old new before after out_before out_after told
-    why is = let one : status ≡ 1 = told.0 in absurd (omega arith)
-device_join held asked (Err fault) status Same old new before after out_before out_after
-    (inr told) why is = let four : status ≡ 4 = told.1 in absurd (omega arith)
-device_join held asked (Err fault) status Same old new before after out_before out_after
-    (inl told) why is =
+device_join held asked fault status old new before after out_before out_after (inr told) why is =
+    let four : status ≡ 4 = told.1 in absurd (omega arith)
+device_join held asked fault status old new before after out_before out_after (inl told) why is =
     subst (λ (f : JoinFault). IsLineWritten old new before after (join_fault_line f))
     (told_five held asked fault status out_before out_after is told.0 why) told.1
 
@@ -358,16 +257,3 @@ join_handed held hands asked bundle line text answer there is far says =
           formula_handed hands asked.formula asked.file bundle far.2.case
           (AreTrusted asked.unbound bundle (behind_each line far.0)) there far.2.case_is sound;
     }
-
-pub handed_join : (X : Type 0) (run : Result Bool JoinFault) (status : ℕ) (Same : Type 0)
-    (old new : Option (List ℕ)) (before after : ℕ)
-    → ToldRun run status Same old new before after
-    → IfOk run (λ refuted. refuted ≡ true → X) → status ≡ 0 → X
-handed_join X (Ok true) status Same old new before after told promised is = promised refl
-handed_join X (Ok false) status Same old new before after told promised is =
-    let one : status ≡ 1 = told.0 in absurd (omega arith)
-handed_join X (Err fault) status Same old new before after (inl told) promised is =
-    let above : 2 < status_of fault = above_two fault in
-    let has : status ≡ status_of fault = told.0 in absurd (omega arith)
-handed_join X (Err fault) status Same old new before after (inr told) promised is =
-    let four : status ≡ 4 = told.1 in absurd (omega arith)

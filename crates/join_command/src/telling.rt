@@ -4,10 +4,9 @@ ghost use Rattle.std.specs.Prelude.{◌≡◌, ◌⊎◌, ◌<◌, ◌^◌, ◌-
 ghost use Rattle.std.specs.Prelude.{MatchResult};
 ghost use Rattle.std.specs.String.{string_bytes};
 ghost use Rattle.cube_report.specs.declared.fault.Fault.TheVariants.{Memory};
-ghost use Rattle.cube_command.specs.Program.{IsLineWritten};
+ghost use Rattle.cube_command.specs.Program.{IsLineWritten, status_of_answer};
 ghost use Rattle.join_command.specs.Program.{IsReadingFault, join_fault_line};
-ghost use Rattle.join_command.specs.Inner.Telling.{IsFaultWritten, status_of, status_of_answer};
-ghost use Rattle.join_command.specs.Inner.Telling.{status_of_run};
+ghost use Rattle.join_command.specs.Inner.Telling.{IsFaultWritten, status_of};
 
 use crate::fault::JoinFault;
 use cube_command::{tell, words_of_call};
@@ -102,19 +101,8 @@ fn status_of(fault: JoinFault) -> u8
     ensures { result ≡ status_of fault }
 {
     match fault {
-        JoinFault::Run(fault) => status_of_run(fault),
+        JoinFault::Run(fault) => cube_command::status_of(fault),
         JoinFault::Stranger(_) => 3,
-    }
-}
-
-/// The status of a fault that a run of `cubeboard` may end with, too.
-fn status_of_run(fault: Fault) -> u8
-    ensures { result ≡ status_of_run fault }
-{
-    match fault {
-        Fault::Memory | Fault::Thread => 4,
-        Fault::Device => 5,
-        _ => 3,
     }
 }
 
