@@ -17,6 +17,8 @@ width      No line is wider than 100 columns. Left out are tables, whose rows ca
 sources    No line of the crates' .rt and .antt files is wider than 100 columns, in src/, specs/ or proofs/. Left out are
            an attribute and a `use` of one name, each of which `rt fmt` keeps in one line. Scripts have wider lines, and
            so has an edit below must-fail/, which repeats a line of a source.
+meanings   A public word of specs/ has one meaning: no other room of specs/, of this crate or another, defines it, too. Left
+           out are the rooms below Inner/, whose words no public contract names, and variants of `data`.
 cells      No cell of a table has more than 15 words. A code span is one word, and a link counts by its text. In the last
            column of CONTRIBUTING's table of crates each name is a word.
 examples   Each piece of code, up to a blank line, in a crate's README and in the parts README_PARTS of README stands
@@ -93,6 +95,8 @@ OF_WORDS = re.compile(r"_|::|^[A-Z][a-z]+[A-Z]")
 # The crates' sources, and what `rt fmt` keeps in one line, however wide it is.
 OF_CRATES = ("crates/*/src/**/*.rt", "crates/*/specs/**/*.antt", "crates/*/proofs/**/*.antt")
 IN_ONE = re.compile(r"\s*(?:#!?\[.*\]|(?:ghost |pub )*use [^\s,]+)")
+# A public word of specs/.
+PUBLIC = re.compile(r"(?:abbrev |unfoldable )?pub (?!mod |use )(?:data |record )?([\w?'-]+)")
 # Where names stand.
 SOURCES = (*OF_CRATES, "scripts/*", "bench/**/*.py", "bench/**/*.sh", "bench/**/*.rs", "examples/**/*")
 # Paths of the repository, and those in a crate.
@@ -234,6 +238,16 @@ def against_sources(root):
         for number, line in enumerate(path.read_text(encoding="utf-8").split("\n"), 1):
             if len(line) > COLUMNS and not IN_ONE.fullmatch(line):
                 yield str(path.relative_to(root)), number, f"{len(line)} columns"
+
+
+def against_meanings(root):
+    found = {}
+    for path in sorted(root.glob("crates/*/specs/*.antt")):
+        for number, line in enumerate(path.read_text(encoding="utf-8").split("\n"), 1):
+            if word := PUBLIC.match(line):
+                found.setdefault(word[1], []).append((str(path.relative_to(root)), number))
+    for word, places in found.items():
+        yield from ((path, number, f"{word} is defined in {places[0][0]}, too") for path, number in places[1:])
 
 
 def cells(part):
@@ -478,6 +492,7 @@ CLAIMS = {
     "archive": against_archive,
     "width": against_width,
     "sources": against_sources,
+    "meanings": against_meanings,
     "cells": against_cells,
     "examples": against_examples,
     "crates": against_crates,

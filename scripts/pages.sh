@@ -1,15 +1,15 @@
 #!/bin/sh
 # Looks at the pages by scripts/pages.py, whose head has the claims: links that lead nowhere, also
 # in the archive of scripts/package.sh; lines wider than 100 columns, also of the crates' sources;
-# cells of tables with more than 15 words; examples that are in no source; CONTRIBUTING's table of
-# crates; clauses that no function has, rooms that no crate has, names that no source has, and paths
-# that aren't there; what is only tested, if nothing is named that tests it. Then it tries each
-# claim on wrong pages and sources, each of which it has to refuse, and on right ones. It prints how
-# many sentences of each page are long, and no claim follows from that. It runs no program. The last
-# line counts.
+# public words of definitions with two meanings; cells of tables with more than 15 words; examples
+# that are in no source; CONTRIBUTING's table of crates; clauses that no function has, rooms that no
+# crate has, names that no source has, and paths that aren't there; what is only tested, if nothing
+# is named that tests it. Then it tries each claim on wrong pages and sources, each of which it has
+# to refuse, and on right ones. It prints how many sentences of each page are long, and no claim
+# follows from that. It runs no program. The last line counts.
 root=$(CDPATH= cd -- "$(dirname -- "$0")/.." && pwd) || exit 1
 . "$root/scripts/runs.sh"
-claims="links archive width sources cells examples crates clauses rooms tested names paths"
+claims="links archive width sources meanings cells examples crates clauses rooms tested names paths"
 
 # A small repository whose pages are right.
 right=$here/right
@@ -39,9 +39,11 @@ printf '%s\n' '# Out of it' '' 'See [README](../README.md).' '' '| Fifteen words
 printf '%s\n' '# low' '' 'A sketch, which is in no source:' '' '    three();' '' '- **`joins`** (Room). `sound` (Room, Other of high), 0: it is so (A Sentence).' \
     '  - `room`: it asks for it. As `gone`' '' '`gone`: no item.' '' 'Only tested, by crates/some_suite: all.' \
     > "$right/crates/low/README.md"
-mkdir -p "$right/crates/some_suite" "$right/crates/low/specs" "$right/crates/high/specs"
-: > "$right/crates/low/specs/Room.antt"
-printf '%s\n' "use Rattle.low.{$wide}" '-- a definition' > "$right/crates/high/specs/Other.antt"
+mkdir -p "$right/crates/some_suite" "$right/crates/low/specs/Inner" "$right/crates/high/specs"
+printf '%s\n' 'abbrev pub a_word : Type 0' 'abbrev its_own : Type 0' 'unfoldable pub its : Type 0' > "$right/crates/low/specs/Room.antt"
+printf '%s\n' 'pub record a_word : Type 0 where' > "$right/crates/low/specs/Inner/Room.antt"
+printf '%s\n' "use Rattle.low.{$wide}" '-- a definition' 'pub data AWord : Type 0 where' '  pub its : Type 0' \
+    'abbrev its_own : Type 0' > "$right/crates/high/specs/Other.antt"
 
 # Makes a wrong page: the claim that has to refuse it, what is wrong, the file, and the sed that makes it so.
 wrong() {
@@ -65,6 +67,10 @@ wrong sources "a wide comment of code" crates/low/src/two.rt "s,^// some,// $wid
 wrong sources "a wide line of code behind an attribute" crates/low/src/two.rt "s/^#.*/& fn $wide() {}/"
 wrong sources "a wide line of a definition" crates/high/specs/Other.antt "s/a definition/& $wide/"
 wrong sources "a wide \`use\` of two names" crates/high/specs/Other.antt 's/{/{other, /'
+wrong meanings "a public word of two crates" crates/high/specs/Other.antt 's/AWord/a_word/'
+wrong meanings "a record of two crates" crates/high/specs/Other.antt 's/data AWord/record a_word/'
+wrong meanings "a definition that isn't unfolded, of two crates" crates/high/specs/Other.antt 's/^abbrev its_own/unfoldable pub a_word/'
+wrong meanings "a word with its type alone before it" crates/high/specs/Other.antt 's/^  pub its/pub its/'
 wrong cells "a cell of sixteen words" docs/OUT.md 's/ fifteen/ fifteen sixteen/'
 wrong cells "a last cell of sixteen words" docs/OUT.md "s,| |$,| sixteen $cell |,"
 wrong cells "a cell whose link has a word more" docs/OUT.md 's/\[one\]/[or one]/'

@@ -15,7 +15,8 @@ use Rattle.board_hall.specs.declared.view.CutCase.{CutCase}
 use Rattle.board_hall.specs.declared.view.Post.{Post}
 use Rattle.board_hall.specs.Posts.{tree_at, is_at, mark_by, mark_in, root_by, AreReal}
 use Rattle.board_hall.specs.Inner.Plays.{Hand}
-use Rattle.board_hall.specs.Clauses.{without, HasPosted, MarksRootOf, Becomes, PartBecomes, SeesOwn}
+use Rattle.board_hall.specs.Clauses.{with_row_open, HasPosted, MarksRootOf, Becomes, PartBecomes}
+use Rattle.board_hall.specs.Clauses.{SeesOwn}
 use Rattle.board_hall.specs.Clauses.{HasSectionAt}
 use Rattle.board_hall.specs.Inner.Held.{HasGiven, MakesRoot, IsNoted, Recorded, PartRecorded}
 use Rattle.board_hall.proofs.PostsLists.{of_cases, is_itself}
@@ -93,7 +94,7 @@ module _ (k : CutCase) (x : Post) (b : ℕ) (v : View) (me mid after : Hand) (is
         (of_cases x x.board row)
 
     without_is : (row : ℕ) →
-        without x.row (mark_in after.0.seen x.board) row ≡ mark_in me.0.known x.board row
+        with_row_open x.row (mark_in after.0.seen x.board) row ≡ mark_in me.0.known x.board row
     without_is row = dite (ℕ_discrete row x.row)
         (λ here. ap (λ c. if c then Open else mark_in after.0.seen x.board row)
         (eq-eqb row x.row here) ∙ (sym n.new ∙ (λ i. mark_in me.0.known x.board (sym here i))))
@@ -111,7 +112,7 @@ module _ (k : CutCase) (x : Post) (b : ℕ) (v : View) (me mid after : Hand) (is
     owes_is : after.0.owes ≡ due
     owes_is = ap (λ (m : Hand). m.0.owes) given.after_is ∙ ap (λ (m : Hand). m.0.owes) n.after_is
 
-    was_root : root_by k x.board (without x.row (mark_in after.0.seen x.board))
+    was_root : root_by k x.board (with_row_open x.row (mark_in after.0.seen x.board))
         ≡ root_by k x.board (mark_in me.0.known x.board)
     was_root = λ i. marked (λ row. is_refuted (without_is row i)) 0 (tree_at k x.board)
 

@@ -69,12 +69,12 @@ pub record IsPostOf (k : CutCase) (node : ℕ) (judged : Judged) (x : Post) : Ty
   pub judged_is : x.judged ≡ judged
 
 -- the marks with one row open
-abbrev pub without : ℕ → (ℕ → Mark) → ℕ → Mark
-without row marks q = if q == row then Open else marks q
+abbrev pub with_row_open : ℕ → (ℕ → Mark) → ℕ → Mark
+with_row_open row marks q = if q == row then Open else marks q
 
 -- by these marks the root of x's board is marked, and without x's own it isn't
 pub record MarksRootOf (k : CutCase) (x : Post) (marks : ℕ → Mark) : Type 0 where
-  pub was : root_by k x.board (without x.row marks) ≡ false
+  pub was : root_by k x.board (with_row_open x.row marks) ≡ false
   pub is : root_by k x.board marks ≡ true
 
 -- the pass has posted x, and has seen that it stands

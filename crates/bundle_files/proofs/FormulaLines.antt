@@ -12,7 +12,7 @@ use Rattle.std.proofs.lemmas.Slice.Eq.{bytes_eq-Decides}
 use Rattle.case_core.specs.Literal.{Literal}
 use Rattle.case_core.specs.Numbers.{number_of, decimal}
 use Rattle.case_core.specs.Tokens.{Token, is_blank, is_comment, is_some_text, words}
-use Rattle.case_core.specs.Tokens.{line_tokens, lines_from, joined}
+use Rattle.case_core.specs.Tokens.{all_tokens, line_tokens, lines_from}
 use Rattle.case_core.specs.Icnf.{ClauseItem, Unknown, spelled}
 use Rattle.case_core.specs.Dimacs.{clause_symbol}
 use Rattle.case_core.specs.Dimacs.{clause_symbols}
@@ -98,7 +98,7 @@ l_unknown n = refl
 -- no line with tokens of clauses is a label line
 pub clauses_plain : (done : List Token) (n : ℕ) (lines : List (List ℕ))
     (formula : List (List Literal))
-    → clause_symbols (done ++ joined (lines_from n lines)) ≡ spelled (map ClauseItem formula)
+    → clause_symbols (done ++ all_tokens (lines_from n lines)) ≡ spelled (map ClauseItem formula)
     → ArePlain lines
 clauses_plain done n [] formula written = tt
 clauses_plain done n (line ∷ lines) formula written = (
@@ -106,15 +106,15 @@ clauses_plain done n (line ∷ lines) formula written = (
     | inl is ↦
         let has = label_tokens n line is in
         absurd (among_clauses done (record { line = n; bytes = codes "l" })
-        (has.0 ++ joined (lines_from (n + 1) lines)) formula
+        (has.0 ++ all_tokens (lines_from (n + 1) lines)) formula
         (ap (λ (tokens : List Token).
-        clause_symbols (done ++ (tokens ++ joined (lines_from (n + 1) lines)))) (sym has.1)
+        clause_symbols (done ++ (tokens ++ all_tokens (lines_from (n + 1) lines)))) (sym has.1)
         ∙ written) (l_unknown n))
     | inr isnt ↦ isnt
   ],
   clauses_plain (done ++ line_tokens n line) (n + 1) lines formula
       (ap clause_symbols
-      (append_assoc done (line_tokens n line) (joined (lines_from (n + 1) lines))) ∙ written),
+      (append_assoc done (line_tokens n line) (all_tokens (lines_from (n + 1) lines))) ∙ written),
 )
 
 -- ---- the header

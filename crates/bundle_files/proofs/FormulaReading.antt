@@ -5,7 +5,8 @@ use Rattle.std.proofs.Common.{Option, None, Some, Result, Ok, Err, OnOk, IfOk, I
 use Rattle.std.proofs.Math.Seq.{take-append_seam}
 use Rattle.case_core.specs.Literal.{Literal}
 use Rattle.case_core.specs.Icnf.{Item, StandsFor, clauses_of}
-use Rattle.case_core.specs.Dimacs.{IsDimacs, KeepsLimits, told, told_problem, greatest_of}
+use Rattle.case_core.specs.Dimacs.{IsDimacs, KeepsLimits, capped_magnitude, told_problem}
+use Rattle.case_core.specs.Dimacs.{greatest_of}
 use Rattle.case_core.specs.Problem as code
 use Rattle.case_core.specs.TextFault.{TextFault}
 use Rattle.case_core.specs.TextFault.TheVariants as text
@@ -19,8 +20,9 @@ use Rattle.cube_report.specs.declared.fault.Fault.{Fault}
 use Rattle.cube_report.specs.declared.fault.Fault.TheVariants.{Counts}
 use Rattle.cube_report.specs.Faults.{IsInputFault}
 use Rattle.cube_report.specs.Device.{GrewBy}
-use Rattle.file_store.specs.Files.{Held, IsRead, IsTextAt, lies_in}
-use Rattle.bundle_files.specs.Formula.{ArePlainLines, HasCount, HasOtherCount, IsBundleBy, IsFront}
+use Rattle.file_store.specs.Files.{Held, IsRead, IsTextAt, may_lie_at}
+use Rattle.bundle_files.specs.Formula.{ArePlainLines, HasCount, HasOtherCount, IsBundleBy}
+use Rattle.bundle_files.specs.Formula.{IsFormulaFront}
 use Rattle.bundle_files.specs.Formula.{IsFormulaFault, IsFormulaRead, IsOverwritten}
 use Rattle.bundle_files.specs.Inner.Formula.{IsFaultyFormula, IsOtherCount}
 use Rattle.bundle_files.specs.declared.formula.BegunBundle.{BegunBundle}
@@ -106,7 +108,7 @@ over_end over ended rest bundle first second =
 
 -- what stands before it is whole lines
 pub front_plain : (has : List ℕ → List ℕ → Type 0) (formula : Option (List ℕ))
-    (said : Option code.Problem) (front : List ℕ) → IsFront has formula said front
+    (said : Option code.Problem) (front : List ℕ) → IsFormulaFront has formula said front
     → ArePlainLines front
 front_plain has None None front is =
     subst ArePlainLines (sym is) (inl refl, rw empty_line refl)
@@ -123,7 +125,7 @@ front_plain has (Some path) (Some said) front (over, read, is) =
 
 pub plain_if : (begun : Result BegunBundle Fault) (has : List ℕ → List ℕ → Type 0)
     (formula : Option (List ℕ))
-    → IfOk begun (λ begun. IsFront has formula begun.said begun.text.items)
+    → IfOk begun (λ begun. IsFormulaFront has formula begun.said begun.text.items)
     → IfOk begun (λ begun. ArePlainLines begun.text.items)
 plain_if (Ok begun) has formula is = front_plain has formula begun.said begun.text.items is
 plain_if (Err fault) has formula is = tt
@@ -139,7 +141,7 @@ faulty_if (Err fault) held path faulty = λ of_input file input.
 -- with a text behind it, it is the bundle that is read, where that has as many clauses as is said
 pub bundle_read : (has : List ℕ → List ℕ → Type 0) (formula : Option (List ℕ))
     (said : Option code.Problem) (front bundle : List ℕ) (file input : Option (List ℕ))
-    → IsFront has formula said front → GrewBy (IsTextAt has file input) front bundle
+    → IsFormulaFront has formula said front → GrewBy (IsTextAt has file input) front bundle
     → HasCount said bundle → IsBundleBy has formula file input bundle
 bundle_read has None None front bundle file input is (rest, given, whole) count =
     subst (IsTextAt has file input)
@@ -159,7 +161,7 @@ bundle_read has (Some path) (Some said) front bundle file input (over, r, ends) 
       is_rest = given;
       whole = over_end over front rest bundle ends whole;
       no_clause_more = λ items stands.
-          let many : length (clauses_of items) ≡ told r.dimacs.problem.clauses =
+          let many : length (clauses_of items) ≡ capped_magnitude r.dimacs.problem.clauses =
           count items stands ∙ ap (λ (p : code.Problem). p.clauses) r.said_is in
           let few = stands.2.1.clauses in
           let there = r.dimacs.clauses in omega arith;
@@ -168,7 +170,8 @@ bundle_read has (Some path) (Some said) front bundle file input (over, r, ends) 
 -- or it has other clauses
 pub count_refused : (held : Held) (formula : Option (List ℕ)) (said : Option code.Problem)
     (front bundle : List ℕ) (file input : Option (List ℕ)) (fault : Fault)
-    → IsFront (lies_in held) formula said front → GrewBy (IsRead held file input) front bundle
+    → IsFormulaFront (may_lie_at held) formula said front
+    → GrewBy (IsRead held file input) front bundle
     → HasOtherCount said bundle fault → IsFormulaFault held formula file input fault
 count_refused held None None front bundle file input fault is grew other = absurd other
 count_refused held None (Some said) front bundle file input fault is grew other = absurd is
@@ -177,9 +180,9 @@ count_refused held (Some path) (Some said) front bundle file input fault (over, 
     (rest, given, whole) other =
     let few = other.1.2.1.clauses in
     let there = r.dimacs.clauses in
-    let said_clauses : said.clauses ≡ told r.dimacs.problem.clauses =
+    let said_clauses : said.clauses ≡ capped_magnitude r.dimacs.problem.clauses =
     ap (λ (p : code.Problem). p.clauses) r.said_is in
-    let said_variables : said.variables ≡ told r.dimacs.problem.variables =
+    let said_variables : said.variables ≡ capped_magnitude r.dimacs.problem.variables =
     ap (λ (p : code.Problem). p.variables) r.said_is in (
       r.text,
       r.given,
@@ -198,7 +201,7 @@ count_refused held (Some path) (Some said) front bundle file input fault (over, 
         is = other.3
             ∙ ap (λ (v : ℕ). Counts v said.clauses (greatest_of (clauses_of other.0))
             (length (clauses_of other.0))) said_variables
-            ∙ ap (λ (c : ℕ). Counts (told r.dimacs.problem.variables) c
+            ∙ ap (λ (c : ℕ). Counts (capped_magnitude r.dimacs.problem.variables) c
             (greatest_of (clauses_of other.0)) (length (clauses_of other.0))) said_clauses;
       }),
     )

@@ -5,7 +5,7 @@ use Rattle.std.specs.List.{AllByRecursion}
 use Rattle.std.specs.Option.{option_map}
 use Rattle.case_core.specs.Literal.{Literal}
 use Rattle.case_core.specs.Formula.{HasNoModel}
-use Rattle.case_core.specs.Tokens.{Token, line_tokens, lines_from, token_lines, joined}
+use Rattle.case_core.specs.Tokens.{Token, all_tokens, line_tokens, lines_from, token_lines}
 use Rattle.case_core.specs.Icnf.{Item, StandsFor, after_header, clauses_of}
 use Rattle.case_core.specs.Icnf.{symbols_of}
 use Rattle.case_core.specs.Dimacs.{Problem, problem_of, after_problem, clause_symbols, IsDimacs}
@@ -26,22 +26,22 @@ use Rattle.bundle_files.proofs.FormulaLines.{bare_plain, clauses_plain, header_p
 -- ---- lines one after the other
 
 joined_more : (n : ℕ) (lines more : List (List ℕ)) → (m : ℕ)
-    × (joined (lines_from n (lines ++ more))
-    ≡ joined (lines_from n lines) ++ joined (lines_from m more))
+    × (all_tokens (lines_from n (lines ++ more))
+    ≡ all_tokens (lines_from n lines) ++ all_tokens (lines_from m more))
 joined_more n [] more = (n, refl)
 joined_more n (line ∷ lines) more =
     let found = joined_more (n + 1) lines more in (
       found.0,
       ap (λ (t : List Token). line_tokens n line ++ t) found.1
-          ∙ sym (append_assoc (line_tokens n line) (joined (lines_from (n + 1) lines))
-          (joined (lines_from found.0 more))),
+          ∙ sym (append_assoc (line_tokens n line) (all_tokens (lines_from (n + 1) lines))
+          (all_tokens (lines_from found.0 more))),
     )
 
 -- ---- below the problem line, and below the header over it
 
 problem_first : (tokens : List Token) (lines : List (List Token)) → tokens ≢ []
     → after_problem (tokens ∷ lines)
-    ≡ option_map {U = Problem × List Token} (λ (problem : Problem). (problem, joined lines))
+    ≡ option_map {U = Problem × List Token} (λ (problem : Problem). (problem, all_tokens lines))
     (problem_of tokens)
 problem_first [] lines some = absurd (some refl)
 problem_first (token ∷ tokens) lines some = refl
@@ -62,7 +62,7 @@ pub record IsBelow (n : ℕ) (line : List ℕ) (after : List (List ℕ)) (proble
     (tokens : List Token) : Type 0 where
   pub at : ℕ
   pub problem_is : problem_of (line_tokens at line) ≡ Some problem
-  pub tokens_are : joined (lines_from (at + 1) after) ≡ tokens
+  pub tokens_are : all_tokens (lines_from (at + 1) after) ≡ tokens
 
 pub below_problem : (n : ℕ) (before : List (List ℕ)) (line : List ℕ) (after : List (List ℕ))
     (problem : Problem) (tokens : List Token)
@@ -72,7 +72,8 @@ pub below_problem : (n : ℕ) (before : List (List ℕ)) (line : List ℕ) (afte
     → IsBelow n line after problem tokens
 below_problem n [] line after problem tokens bare first is =
     let found =
-    below_is (problem_of (line_tokens n line)) (joined (lines_from (n + 1) after)) problem tokens
+    below_is (problem_of (line_tokens n line))
+    (all_tokens (lines_from (n + 1) after)) problem tokens
     (sym (problem_first (line_tokens n line) (lines_from (n + 1) after) (first n)) ∙ is) in
     record { at = n; problem_is = found.0; tokens_are = found.1 }
 below_problem n (other ∷ before) line after problem tokens bare first is =
@@ -89,16 +90,17 @@ pub below_header : (n : ℕ) (before : List (List ℕ)) (line : List ℕ)
     → after_problem (lines_from n (before ++ line ∷ after)) ≡ Some (problem, tokens)
     → (m : ℕ)
     × (after_header (lines_from n ((before ++ header_over line ∷ after) ++ others))
-    ≡ Some (tokens ++ joined (lines_from m others)))
+    ≡ Some (tokens ++ all_tokens (lines_from m others)))
 below_header n [] line after others problem tokens bare first is =
     let found =
-    below_is (problem_of (line_tokens n line)) (joined (lines_from (n + 1) after)) problem tokens
+    below_is (problem_of (line_tokens n line))
+    (all_tokens (lines_from (n + 1) after)) problem tokens
     (sym (problem_first (line_tokens n line) (lines_from (n + 1) after) (first n)) ∙ is) in
     let more = joined_more (n + 1) after others in (
       more.0,
       rw (header_tokens n line)
           (ap Some (more.1
-          ∙ ap (λ (t : List Token). t ++ joined (lines_from more.0 others)) found.1)),
+          ∙ ap (λ (t : List Token). t ++ all_tokens (lines_from more.0 others)) found.1)),
     )
 below_header n (other ∷ before) line after others problem tokens bare first is =
     let same : after_problem (lines_from (n + 1) (before ++ line ∷ after))
@@ -153,7 +155,7 @@ pub bundle_tokens : (text over rest : List ℕ) (formula : List (List Literal))
     → (is : IsDimacs text formula) → IsOverwritten text over
     → (m : ℕ)
     × (after_header (token_lines 1 (icnf_text (over ++ 10 ∷ rest)))
-    ≡ Some (is.has.tokens ++ joined (lines_from m (lines_of (icnf_text rest)))))
+    ≡ Some (is.has.tokens ++ all_tokens (lines_from m (lines_of (icnf_text rest)))))
 bundle_tokens text over rest formula is made =
     let there : after_problem (lines_from 1 (made.before ++ made.line ∷ made.after))
     ≡ Some (is.problem, is.has.tokens) =
@@ -182,7 +184,7 @@ pub bundle_formula : (text over rest : List ℕ) (formula : List (List Literal))
     → length (clauses_of items) ≡ length formula → clauses_of items ≡ formula
 bundle_formula text over rest formula items is made stands count =
     let found = bundle_tokens text over rest formula is made in
-    formula_of_tokens is.has.tokens (joined (lines_from found.0 (lines_of (icnf_text rest))))
+    formula_of_tokens is.has.tokens (all_tokens (lines_from found.0 (lines_of (icnf_text rest))))
     formula items is.has.written
     (ap symbols_of (some_tokens _ stands.0 (sym found.1 ∙ stands.1)) ∙ stands.2.0) count
 

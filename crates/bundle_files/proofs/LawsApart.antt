@@ -21,7 +21,7 @@ use Rattle.proof_folder.proofs.GivenFound.{leaves_given, given_is_held, may_be_g
 use Rattle.proof_folder.proofs.GivenFound.{marks_by_given}
 use Rattle.proof_folder.proofs.GivenLeaves.{IsOfTree, cubes_of_case, leaves_of_tree}
 use Rattle.proof_folder.proofs.GivenFindings.{judged_with_given}
-use Rattle.file_store.specs.Files.{AreAdded, Gives, Held, as_proofs, held_for, leaf_names}
+use Rattle.file_store.specs.Files.{AreAdded, Held, IsGivenAt, as_proofs, held_for, leaf_names}
 use Rattle.file_store.specs.Files.{names_from}
 use Rattle.proof_folder.specs.Added.{proof_path}
 use Rattle.bundle_files.specs.Laws.{IsJudgedApart}
@@ -54,7 +54,7 @@ names_are tree =
 -- is known
 abbrev AreHeld : Held → List ℕ → SplitTree → Given → Type 0
 AreHeld held folder tree given = (leaf : Leaf) → HasLeaf tree leaf →
-    Gives held (proof_path folder (name_of leaf)) (given leaf)
+    IsGivenAt held (proof_path folder (name_of leaf)) (given leaf)
 
 module _ (given : Given) where
   first_of : (leaves : List Leaf) →
@@ -72,11 +72,13 @@ module _ (given : Given) where
 
   held_are : (held : Held) (folder : List ℕ) (tree : SplitTree) (leaves : List Leaf) →
       AreHeld held folder tree given → AllByRecursion (IsOfTree tree) leaves
-      → All (λ leaf. Gives held (proof_path folder leaf.0) leaf.1) (map (named given) leaves)
+      → All (λ leaf. IsGivenAt held (proof_path folder leaf.0) leaf.1) (map (named given) leaves)
   held_are held folder tree [] are of_tree =
-      All-nil (λ (leaf : List ℕ × Option (List ℕ)). Gives held (proof_path folder leaf.0) leaf.1)
+      All-nil (λ (leaf : List ℕ × Option (List ℕ)). IsGivenAt held
+      (proof_path folder leaf.0) leaf.1)
   held_are held folder tree (leaf ∷ leaves) are of_tree =
-      All-cons (λ (leaf : List ℕ × Option (List ℕ)). Gives held (proof_path folder leaf.0) leaf.1)
+      All-cons (λ (leaf : List ℕ × Option (List ℕ)). IsGivenAt held
+      (proof_path folder leaf.0) leaf.1)
       (named given leaf) (map (named given) leaves) (are leaf of_tree.0.0)
       (held_are held folder tree leaves are of_tree.1)
 

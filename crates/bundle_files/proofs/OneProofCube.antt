@@ -5,7 +5,8 @@ use Rattle.std.proofs.Common.{codes, append_assoc, Option, None, Some, inl, inr,
 use Rattle.std.proofs.lemmas.List.{map-append}
 use Rattle.case_core.specs.Literal.{Literal}
 use Rattle.case_core.specs.Numbers.{decimal, digits_value, number_of}
-use Rattle.case_core.specs.Tokens.{Token, joined, line_tokens, lines_from, token_lines, is_comment}
+use Rattle.case_core.specs.Tokens.{Token, all_tokens, line_tokens, lines_from, token_lines}
+use Rattle.case_core.specs.Tokens.{is_comment}
 use Rattle.case_core.specs.Tokens.{is_blank, words}
 use Rattle.case_core.specs.Icnf.{Item, ClauseItem, CubeItem, Symbol, CubeMark, EndMark, StandsFor}
 use Rattle.case_core.specs.Icnf.{after_header, cubes_of, spelled, spelling, symbol_of, symbols_of}
@@ -22,8 +23,9 @@ use Rattle.case_core.proofs.DimacsFormula.{clauses_as_symbols}
 use Rattle.case_core.proofs.IcnfUnique.{one_spelling}
 use Rattle.cube_report.specs.declared.fault.Fault.{Fault}
 use Rattle.cube_report.specs.Device.{GrewBy}
-use Rattle.file_store.specs.Files.{Held, IsTextAt, lies_in}
-use Rattle.bundle_files.specs.Formula.{HasCount, HasOtherCount, IsBundleBy, IsFront, IsOverwritten}
+use Rattle.file_store.specs.Files.{Held, IsTextAt, may_lie_at}
+use Rattle.bundle_files.specs.Formula.{HasCount, HasOtherCount, IsBundleBy, IsFormulaFront}
+use Rattle.bundle_files.specs.Formula.{IsOverwritten}
 use Rattle.bundle_files.specs.Formula.{IsFormulaFault}
 use Rattle.bundle_files.specs.Judging.{IsRefusedWithEach, one_cube_text}
 use Rattle.bundle_files.specs.Inner.WhileRead.{IsFrontFault}
@@ -43,7 +45,8 @@ unfolding is_label words is_blank
 cube_plain = refl
 
 cube_symbols : (n : ℕ)
-    → symbols_of (joined (lines_from n (lines_of (icnf_text cube_text)))) ≡ CubeMark ∷ EndMark ∷ []
+    → symbols_of (all_tokens (lines_from n (lines_of (icnf_text cube_text))))
+    ≡ CubeMark ∷ EndMark ∷ []
 unfolding line_tokens is_comment words is_blank is_label number_of decimal digits_value
 cube_symbols n = refl
 
@@ -73,7 +76,7 @@ only_cube : (text over : List ℕ) (formula : List (List Literal)) (items : List
     → StandsFor (icnf_text (over ++ 10 ∷ cube_text)) items → cubes_of items ≡ [] ∷ []
 only_cube text over formula items is made stands =
     let found = bundle_tokens text over cube_text formula is made in
-    let others = joined (lines_from found.0 (lines_of (icnf_text cube_text))) in
+    let others = all_tokens (lines_from found.0 (lines_of (icnf_text cube_text))) in
     let one : List Item = CubeItem [] ∷ [] in
     let same : spelled items ≡ spelled (map ClauseItem formula ++ one) =
     sym stands.2.0
@@ -106,13 +109,13 @@ no_section tree (label ∷ labels) sections target none are = absurd (cc)
 
 -- what stands before the bundle's own text, and that cube
 module _ (has : List ℕ → List ℕ → Type 0) (formula : Option (List ℕ)) (said : Option code.Problem)
-    (front bundle : List ℕ) (is : IsFront has formula said front)
+    (front bundle : List ℕ) (is : IsFormulaFront has formula said front)
     (whole : bundle ≡ front ++ cube_text) where
   pub no_labels : labels_of bundle ≡ []
   no_labels = labels formula said is
     where
       labels : (formula : Option (List ℕ)) (said : Option code.Problem)
-          → IsFront has formula said front → labels_of bundle ≡ []
+          → IsFormulaFront has formula said front → labels_of bundle ≡ []
       labels None None begun =
           ap labels_of (whole ∙ ap (λ (f : List ℕ). f ++ cube_text) begun)
           ∙ plain_labels 1 (lines_of cube_text) (cube_plain, tt)
@@ -129,7 +132,7 @@ module _ (has : List ℕ → List ℕ → Type 0) (formula : Option (List ℕ)) 
   one_tree case of = tree formula said is
     where
       tree : (formula : Option (List ℕ)) (said : Option code.Problem)
-          → IsFront has formula said front → case.tree ≡ cube 1
+          → IsFormulaFront has formula said front → case.tree ≡ cube 1
       tree None None begun =
           let there : bundle ≡ cube_text = whole ∙ ap (λ (f : List ℕ). f ++ cube_text) begun in
           let some : None ≡ Some of.text.0 =
@@ -194,26 +197,26 @@ with_proof has front bundle proof whole = (
 
 -- its fault is one with each proof
 pub refused_with_each : (held : Held) (formula : Option (List ℕ)) (said : Option code.Problem)
-    (front bundle : List ℕ) (fault : Fault) → IsFront (lies_in held) formula said front
+    (front bundle : List ℕ) (fault : Fault) → IsFormulaFront (may_lie_at held) formula said front
     → bundle ≡ front ++ cube_text → IsFrontFault said bundle fault
     → IsRefusedWithEach held formula fault
 refused_with_each held formula said front bundle fault is whole (inl (first, counted)) = λ proof.
     let rest = 49 ∷ 10 ∷ proof in
     inl (
       bundle ++ (codes "\nl 1\n" ++ proof),
-      bundle_read (lies_in held) formula said front (bundle ++ (codes "\nl 1\n" ++ proof)) None
-          (Some (one_cube_text proof)) is (with_proof (lies_in held) front bundle proof whole)
+      bundle_read (may_lie_at held) formula said front (bundle ++ (codes "\nl 1\n" ++ proof)) None
+          (Some (one_cube_text proof)) is (with_proof (may_lie_at held) front bundle proof whole)
           (count_with_section said bundle rest counted),
       (
         first.0,
         first.1,
         fault_with_section bundle rest first.0
-            (no_labels (lies_in held) formula said front bundle is whole) first.2,
+            (no_labels (may_lie_at held) formula said front bundle is whole) first.2,
       ),
     )
 refused_with_each held formula said front bundle fault is whole (inr other) = λ proof.
     inr (count_refused held formula said front (bundle ++ (codes "\nl 1\n" ++ proof)) None
-    (Some (one_cube_text proof)) fault is (with_proof (lies_in held) front bundle proof whole)
+    (Some (one_cube_text proof)) fault is (with_proof (may_lie_at held) front bundle proof whole)
     (other_with_section said bundle (49 ∷ 10 ∷ proof) fault other))
 
 -- and that of the file is one
@@ -224,7 +227,7 @@ file_refused held formula fault is = λ proof. inr (is None (Some (one_cube_text
 
 -- the bundle, where it has as many clauses as is said
 pub one_read : (has : List ℕ → List ℕ → Type 0) (formula : Option (List ℕ))
-    (said : Option code.Problem) (front bundle : List ℕ) → IsFront has formula said front
+    (said : Option code.Problem) (front bundle : List ℕ) → IsFormulaFront has formula said front
     → bundle ≡ front ++ cube_text → HasCount said bundle
     → IsBundleBy has formula None (Some cube_text) bundle
 one_read has formula said front bundle is whole counted =

@@ -6,7 +6,8 @@ use Rattle.std.specs.List.{AllByRecursion}
 use Rattle.case_core.specs.Literal.{Literal}
 use Rattle.case_core.specs.Tokens.{line_tokens}
 use Rattle.case_core.specs.Icnf.{Item, StandsFor, clauses_of}
-use Rattle.case_core.specs.Dimacs.{greatest_of, told, told_problem, IsDimacs, IsDimacsFault}
+use Rattle.case_core.specs.Dimacs.{greatest_of, capped_magnitude, told_problem, IsDimacs}
+use Rattle.case_core.specs.Dimacs.{IsDimacsFault}
 use Rattle.case_core.specs.DimacsFault.{DimacsFault}
 use Rattle.case_core.specs.Problem as code
 use Rattle.case_core.specs.Bundle.{icnf_text, labels_of, lines_of}
@@ -14,7 +15,7 @@ use Rattle.case_core.specs.Bundle.{AreWholeLines}
 use Rattle.cube_report.specs.declared.fault.Fault.{Fault}
 use Rattle.cube_report.specs.declared.fault.Fault.TheVariants.{Counts}
 use Rattle.cube_report.specs.Faults.{fault_of_dimacs}
-use Rattle.file_store.specs.Files.{Held, Gives, lies_in, IsTextAt, IsRead, IsJudgedOf}
+use Rattle.file_store.specs.Files.{Held, IsGivenAt, may_lie_at, IsTextAt, IsRead, IsJudgedOf}
 
 -- the header of an iCNF text, and blanks: as long as this line, where that has 8 bytes at least
 abbrev pub header_over : List ℕ → List ℕ
@@ -42,12 +43,12 @@ pub record IsFormulaRead (has : List ℕ → List ℕ → Type 0) (path over : L
 
 -- What stands in a bundle before its own text, of those texts that a path has: nothing, or the text
 -- of the formula's file with a header over its problem line, which says this, and a line end.
-abbrev pub IsFront : (List ℕ → List ℕ → Type 0) → Option (List ℕ) → Option code.Problem →
+abbrev pub IsFormulaFront : (List ℕ → List ℕ → Type 0) → Option (List ℕ) → Option code.Problem →
     List ℕ → Type 0
-IsFront has None None front = front ≡ []
-IsFront has None (Some said) front = ⊥
-IsFront has (Some path) None front = ⊥
-IsFront has (Some path) (Some said) front =
+IsFormulaFront has None None front = front ≡ []
+IsFormulaFront has None (Some said) front = ⊥
+IsFormulaFront has (Some path) None front = ⊥
+IsFormulaFront has (Some path) (Some said) front =
     (over : List ℕ) × IsFormulaRead has path over said × (front ≡ over ++ 10 ∷ [])
 
 -- whole lines, none of which is a label line
@@ -105,7 +106,7 @@ IsBundleBy has (Some path) file input read = IsUnder has path file input read
 
 -- the same of the texts that lie there, as far as is known
 abbrev pub IsReadBy : Held → Option (List ℕ) → Option (List ℕ) → Option (List ℕ) → List ℕ → Type 0
-IsReadBy held formula file input read = IsBundleBy (lies_in held) formula file input read
+IsReadBy held formula file input read = IsBundleBy (may_lie_at held) formula file input read
 
 abbrev pub IsReadFrom : Held → Sources → Option (List ℕ) → List ℕ → Type 0
 IsReadFrom held sources input read = IsReadBy held sources.formula sources.file input read
@@ -142,7 +143,8 @@ pub record AddsClauses (held : Held) (text : List ℕ) (file input : Option (Lis
   pub items : List Item
   pub stands : StandsFor (icnf_text (over ++ 10 ∷ rest)) items
   pub more : length (clauses_of items) ≢ length formula
-  pub is : fault ≡ Counts (told dimacs.problem.variables) (told dimacs.problem.clauses)
+  pub is : fault ≡ Counts (capped_magnitude dimacs.problem.variables)
+      (capped_magnitude dimacs.problem.clauses)
       (greatest_of (clauses_of items)) (length (clauses_of items))
 
 -- the file of the formula has this fault, or the bundle has clauses that aren't in it
@@ -150,5 +152,5 @@ abbrev pub IsFormulaFault : Held → Option (List ℕ) → Option (List ℕ) →
     Type 0
 IsFormulaFault held None file input fault = ⊥
 IsFormulaFault held (Some path) file input fault =
-    (text : List ℕ) × Gives held path (Some text)
+    (text : List ℕ) × IsGivenAt held path (Some text)
     × (HasDimacsFault text fault ⊎ AddsClauses held text file input fault)

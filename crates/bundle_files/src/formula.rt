@@ -9,9 +9,9 @@ ghost use Rattle.case_core.specs.Tokens.{line_tokens};
 ghost use Rattle.case_core.specs.Dimacs.{greatest_of};
 ghost use Rattle.case_core.specs.Sections.{IsCaseOf};
 ghost use Rattle.cube_report.specs.Faults.{IsInputFault};
-ghost use Rattle.file_store.specs.Files.{StaysAllowed, lies_in};
+ghost use Rattle.file_store.specs.Files.{StaysAllowed, may_lie_at};
 ghost use Rattle.bundle_files.specs.Formula.{header_over, IsFormulaFault, IsOverwritten, IsReadBy};
-ghost use Rattle.bundle_files.specs.Formula.{ArePlainLines, HasCount, IsBundleBy, IsFront};
+ghost use Rattle.bundle_files.specs.Formula.{ArePlainLines, HasCount, IsBundleBy, IsFormulaFront};
 ghost use Rattle.bundle_files.specs.Inner.Formula.{HasProblem, IsFirstLine};
 ghost use Rattle.bundle_files.specs.Inner.Formula.{IsFaultyFormula, IsOtherCount};
 ghost use Rattle.bundle_files.specs.Judging.{IsJudgingFault};
@@ -114,9 +114,9 @@ pub fn begin_bundle<D: Store>(
     ensures allowed { StaysAllowed (D.allows store.old) (D.allows store.new) }
     // It is what stands before the bundle's own text, by what lies there and by what one reading of
     // the file handed over.
-    ensures read { IfOk result (λ begun. IsFront (lies_in (D.held store.old))
+    ensures read { IfOk result (λ begun. IsFormulaFront (may_lie_at (D.held store.old))
         (option_map (λ path. path.now) formula.entry) begun.said begun.text.items) }
-    ensures handed { IfOk result (λ begun. IsFront D.hands
+    ensures handed { IfOk result (λ begun. IsFormulaFront D.hands
         (option_map (λ path. path.now) formula.entry) begun.said begun.text.items) }
     ensures plain { IfOk result (λ begun. ArePlainLines begun.text.items) }
     // A fault of the input is one of the formula's file.
@@ -141,9 +141,10 @@ fn read_formula<D: Store>(alloc: Global, store: &mut D, path: &str) -> Result<Be
     requires { D.failures store.old < 2 ^ 64 - 1 }
     ensures held { D.held store.new ≡ D.held store.old }
     ensures allowed { StaysAllowed (D.allows store.old) (D.allows store.new) }
-    ensures read { IfOk result (λ begun. IsFront (lies_in (D.held store.old)) (Some path.now)
+    ensures read { IfOk result
+        (λ begun. IsFormulaFront (may_lie_at (D.held store.old)) (Some path.now)
         begun.said begun.text.items) }
-    ensures handed { IfOk result (λ begun. IsFront D.hands (Some path.now) begun.said
+    ensures handed { IfOk result (λ begun. IsFormulaFront D.hands (Some path.now) begun.said
         begun.text.items) }
     ensures fault { IfErr result (λ fault. IsInputFault fault
         → IsFaultyFormula (D.held store.old) path.now fault) }

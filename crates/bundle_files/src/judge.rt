@@ -76,12 +76,12 @@ where
     let ReadBundle { bundle, case } = read;
     let case = case_of(rt.alloc(), &bundle, case)?;
     let _few = (case.tree().cube_count(), case.tree().missing_count());
-    let asked = FolderRun {
+    let run = FolderRun {
         folder,
         settings,
         draws,
     };
-    if let Some(outcome) = judge_leaves(rt, store, &case, asked, gate)? {
+    if let Some(outcome) = judge_leaves(rt, store, &case, run, gate)? {
         return Ok(outcome);
     }
     let text = store.folder(rt.alloc(), bundle, folder, case.tree())?;
@@ -204,7 +204,7 @@ fn judge_leaves<R, D, G>(
     rt: &R,
     store: &mut D,
     case: &Case,
-    asked: FolderRun<'_>,
+    run: FolderRun<'_>,
     gate: &G,
 ) -> Result<Option<Outcome>, Fault>
 where
@@ -215,8 +215,8 @@ where
     ensures held { D.held store.new ≡ D.held store.old }
     ensures allowed { StaysAllowed (D.allows store.old) (D.allows store.new) }
     ensures apart { IfOk result (λ some. IfSome some (λ outcome. (marks : List Mark)
-        × AreFoundApart (held_for (D.held store.old) asked.entry.folder.now) case.now marks
-        × IsWrittenBy case.now marks asked.entry.draws outcome.text.items outcome.map.items
+        × AreFoundApart (held_for (D.held store.old) run.entry.folder.now) case.now marks
+        × IsWrittenBy case.now marks run.entry.draws outcome.text.items outcome.map.items
         outcome.refuted)) }
     ensures fault { IfErr result (λ fault. ¬ IsInputFault fault) }
     ensures ok { OnOk result (D.failures store.new ≡ D.failures store.old) }
@@ -226,10 +226,10 @@ where
         folder,
         settings,
         draws,
-    } = asked;
+    } = run;
     let readers = readers_of(rt.alloc(), store, folder, settings.workers())?;
     match judge_apart(rt, rt.alloc(), case, settings, gate, draws, readers) {
-        Ok(run) => run,
+        Ok(outcome) => outcome,
         Err(reader) => {
             store.settle(reader);
             Err(Fault::Device)

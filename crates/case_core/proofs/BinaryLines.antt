@@ -6,7 +6,8 @@ use Rattle.std.specs.List.{list_any}
 use Rattle.std.proofs.lemmas.Bool.{cases_Bool, ne_eqb}
 use Rattle.std.proofs.lemmas.Fmt.{decimal_by_steps}
 use Rattle.std.proofs.lemmas.List.Elements.{All-nil, All-push, All-append}
-use Rattle.lrat_binary.specs.Binary.{capped, numbers_of, ends_behind, text_at, text_for, text_of}
+use Rattle.lrat_binary.specs.Binary.{capped, ends_behind_number, numbers_of, text_at, text_for}
+use Rattle.lrat_binary.specs.Binary.{text_of}
 use Rattle.lrat_binary.specs.Binary.{word_of}
 use Rattle.cnf_text.specs.Tokens.{is_line_end}
 use Rattle.case_core.specs.Bundle.{is_label, lines_of, labelled, labels_of}
@@ -65,8 +66,9 @@ capped_small n = omega arith
 for_numbers : (ends : ℕ) (ns : List ℕ) → HasNoLetter (text_at ends (map capped ns))
 for_numbers ends [] = no_byte
 for_numbers ends (n ∷ ns) =
-    both (text_for ends (capped n)) (text_at (ends_behind ends (capped n)) (map capped ns))
-    (for_number ends (capped n) (capped_small n)) (for_numbers (ends_behind ends (capped n)) ns)
+    both (text_for ends (capped n)) (text_at (ends_behind_number ends (capped n)) (map capped ns))
+    (for_number ends (capped n) (capped_small n))
+    (for_numbers (ends_behind_number ends (capped n)) ns)
 
 no_label : (lines : List (List ℕ)) → Plain lines → list_any is_label lines ≡ false
 no_label [] plain = refl

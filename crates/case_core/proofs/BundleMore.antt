@@ -5,7 +5,7 @@ use Rattle.std.proofs.Common.{Some, None, if◌then◌else◌}
 use Rattle.std.proofs.lemmas.List.Splits.{length-slice_split}
 use Rattle.std.specs.List.{onto_first}
 use Rattle.cnf_text.specs.Tokens.{Token, is_line_end, is_blank, is_comment, words, line_tokens}
-use Rattle.cnf_text.specs.Tokens.{lines_from, token_lines, joined}
+use Rattle.cnf_text.specs.Tokens.{all_tokens, lines_from, token_lines}
 use Rattle.cnf_text.specs.Icnf.{after_header, is_header}
 use Rattle.case_core.specs.Bundle.{lines_of, is_label, line_onto, text_before}
 
@@ -70,7 +70,7 @@ from_more number [] = ap (λ (t : List Token). t ∷ []) (no_token number)
 from_more number (line ∷ lines) =
     ap (λ (l : List (List Token)). line_tokens number line ∷ l) (from_more (number + 1) lines)
 
-pub joined_more : (lines : List (List Token)) → joined (lines ++ [] ∷ []) ≡ joined lines
+pub joined_more : (lines : List (List Token)) → all_tokens (lines ++ [] ∷ []) ≡ all_tokens lines
 joined_more [] = refl
 joined_more (line ∷ lines) = ap (λ (t : List Token). line ++ t) (joined_more lines)
 

@@ -9,7 +9,7 @@ use Rattle.std.proofs.lemmas.Bool.{ne_eqb}
 use Rattle.cnf_text.specs.declared.numbers.Number as code
 use Rattle.cnf_text.specs.Literal.{Literal, greatest_variable}
 use Rattle.cnf_text.specs.Icnf.{Symbol, Signed, symbol_of, symbol_of_number}
-use Rattle.cnf_text.specs.Numbers.{decimal, number_of, unsigned_of, Number, capped}
+use Rattle.cnf_text.specs.Numbers.{decimal, number_of, unsigned_of, Number, capped_number}
 use Rattle.cnf_text.proofs.NumbersDigits.{no_decimal, number_plain}
 use Rattle.split_tree.specs.SplitTree.{SplitTree}
 use Rattle.split_tree.specs.Leaves.{HasLeaf, missing_nodes, IsNodeOf}
@@ -38,27 +38,29 @@ same_number : (a b : code.Number) → Some a ≡ Some b → a ≡ b
 same_number a b e = cc
 
 told_plain : (found : Option ℕ) (number : code.Number) →
-    Some number ≡ option_map capped (unsigned_of found) →
+    Some number ≡ option_map capped_number (unsigned_of found) →
     Some number.magnitude ≡ option_map (λ v. min v 18446744073709551615) found
 told_plain None number e = absurd (cc)
 told_plain (Some v) number e = ap (λ (n : code.Number). Some n.magnitude) (same_number number _ e)
 
-told_none : (found : Option ℕ) → None ≡ option_map capped (unsigned_of found) →
+told_none : (found : Option ℕ) → None ≡ option_map capped_number (unsigned_of found) →
     None ≡ option_map (λ v. min v 18446744073709551615) found
 told_none None e = refl
 told_none (Some v) e = absurd (cc)
 
 -- a number that was read of digits is their value, up to the greatest that is told apart
 pub digits_read : (bs : List ℕ) (number : code.Number) → (get_or bs 0 0 ≡ 45 → ⊥) →
-    Some number ≡ option_map capped (number_of bs) →
+    Some number ≡ option_map capped_number (number_of bs) →
     Some number.magnitude ≡ option_map (λ v. min v 18446744073709551615) (decimal bs)
 digits_read bs number plain e =
-    told_plain (decimal bs) number (e ∙ ap (option_map capped) (number_plain bs plain))
+    told_plain (decimal bs) number (e ∙ ap (option_map capped_number) (number_plain bs plain))
 
 -- bytes that spell no number are no digits
-pub no_digits : (bs : List ℕ) → (get_or bs 0 0 ≡ 45 → ⊥) → None ≡ option_map capped (number_of bs) →
+pub no_digits : (bs : List ℕ) → (get_or bs 0 0 ≡ 45 → ⊥)
+    → None ≡ option_map capped_number (number_of bs) →
     None ≡ option_map (λ v. min v 18446744073709551615) (decimal bs)
-no_digits bs plain e = told_none (decimal bs) (e ∙ ap (option_map capped) (number_plain bs plain))
+no_digits bs plain e = told_none (decimal bs)
+    (e ∙ ap (option_map capped_number) (number_plain bs plain))
 
 same_value : (a b : ℕ) → Some a ≡ Some b → a ≡ b
 same_value a b e = cc
@@ -145,13 +147,13 @@ nothing_first (x ∷ bs) b some h e = absurd (omega arith)
 
 -- a literal within the limits
 pub small_number : (found : Option Number) (told : code.Number) →
-    Some told ≡ option_map capped found → told.magnitude ≢ 0 → told.magnitude ≤ 268435455
+    Some told ≡ option_map capped_number found → told.magnitude ≢ 0 → told.magnitude ≤ 268435455
     →
     symbol_of_number found
     ≡ Signed (record { variable = told.magnitude; positive = not told.negative })
 small_number None told e some small = absurd (cc)
 small_number (Some number) told e some small =
-    let is : told ≡ capped number = same_number told (capped number) e in
+    let is : told ≡ capped_number number = same_number told (capped_number number) e in
     let same : told.magnitude ≡ min number.magnitude 18446744073709551615 =
     ap (λ (n : code.Number). n.magnitude) is in
     let sign : told.negative ≡ number.negative = ap (λ (n : code.Number). n.negative) is in

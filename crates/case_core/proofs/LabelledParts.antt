@@ -10,7 +10,7 @@ use Rattle.case_core.specs.Inner.Bundle.{HasNoLabel}
 use Rattle.case_core.specs.Inner.Labelled.{HasAdvanced}
 use Rattle.case_core.specs.Labelled.{HasFront, HasPassed, IsBehindLabel, IsPart, LabelledOf, Stands}
 use Rattle.case_core.specs.Bundle.{labels_of}
-use Rattle.case_core.specs.Labelled.{IsOverWith, fresh_text, left_of, text_below}
+use Rattle.case_core.specs.Labelled.{IsOverWith, fresh_text, rest_of_text, text_below}
 use Rattle.case_core.specs.Bundle.{AreWholeLines}
 use Rattle.case_core.proofs.LabelFirst.{no_label, plain_both, plain_of}
 use Rattle.case_core.proofs.BundleLines.{whole_both}
@@ -18,7 +18,7 @@ use Rattle.case_core.proofs.BundleLines.{whole_both}
 -- what is passed are the next bytes of all that was left
 pub left_passed : (old new : LabelledOf) (before after : List ℕ → Type 0) (bytes : List ℕ)
     → HasPassed old new before after bytes
-    → HasGiven (left_of old before) (left_of new after) bytes
+    → HasGiven (rest_of_text old before) (rest_of_text new after) bytes
 left_passed old new before after bytes passed left is = (
   passed.read ++ is.0,
   passed.given is.0 is.1,

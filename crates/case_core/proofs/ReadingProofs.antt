@@ -11,7 +11,7 @@ use Rattle.cnf_text.specs.Tokens.{is_line_end}
 use Rattle.hint_check.specs.Judging.{JudgingOf, says, says_binary}
 use Rattle.hint_check.specs.declared.Judged.{Judged as Judgement}
 use Rattle.lrat_binary.specs.Binary.{text_of}
-use Rattle.lrat_binary.specs.Form.{proof_left}
+use Rattle.lrat_binary.specs.Form.{text_in_form}
 use Rattle.lrat_binary.specs.declared.form.ProofForm.{ProofForm}
 use Rattle.lrat_binary.specs.declared.form.ProofForm.TheVariants.{Unread, Binary}
 use Rattle.split_tree.specs.declared.node.Target.{Target}
@@ -147,7 +147,7 @@ left_both (Some xs) (Some ys) begun rest lost is = ap (λ (t : List ℕ). begun 
 -- it has none
 pub nothing_read : (opened form : ProofForm) (first now : Option (List ℕ)) (begun : List ℕ)
     (j : JudgingOf) (judged : Judgement)
-    → ((more : List ℕ) → proof_left form (begun ++ more) ≡ proof_left opened (begun ++ more))
+    → ((more : List ℕ) → text_in_form form (begun ++ more) ≡ text_in_form opened (begun ++ more))
     → form ≡ Unread → begun ≡ [] → Consumes first now begun → IsAtEnd now
     → judged ≡ says j []
     → IsTextRead opened first j (Judged (record { judged = judged; length = 0 }))
@@ -161,16 +161,16 @@ nothing_read opened form first now begun j judged left unread none lost end is =
   );
 }
   where
-    same : [] ≡ proof_left opened []
+    same : [] ≡ text_in_form opened []
     same =
-        sym (ap (λ (f : ProofForm). proof_left f []) unread)
-        ∙ ap (λ (b : List ℕ). proof_left form (b ++ [])) (sym none) ∙ left []
-        ∙ ap (λ (b : List ℕ). proof_left opened (b ++ [])) none
+        sym (ap (λ (f : ProofForm). text_in_form f []) unread)
+        ∙ ap (λ (b : List ℕ). text_in_form form (b ++ [])) (sym none) ∙ left []
+        ∙ ap (λ (b : List ℕ). text_in_form opened (b ++ [])) none
 
 -- it is binary
 pub binary_read : (opened form : ProofForm) (first now : Option (List ℕ)) (begun : List ℕ)
     (old j : JudgingOf) (handed : ℕ) (read : JudgedText)
-    → ((more : List ℕ) → proof_left form (begun ++ more) ≡ proof_left opened (begun ++ more))
+    → ((more : List ℕ) → text_in_form form (begun ++ more) ≡ text_in_form opened (begun ++ more))
     → form ≡ Binary → Consumes first now begun → handed ≡ length begun → SaysByText old
     → ((rest : List ℕ) → says_binary j rest ≡ says_binary old (begun ++ rest))
     → IsRestJudged now j handed read → IsTextRead opened first old (Judged read)
@@ -186,9 +186,9 @@ binary_read opened form first now begun old j handed read left binary lost some 
       );
     }
   where
-    same : text_of (begun ++ rest.bytes) ≡ proof_left opened (begun ++ rest.bytes)
+    same : text_of (begun ++ rest.bytes) ≡ text_in_form opened (begun ++ rest.bytes)
     same =
-        sym (ap (λ (f : ProofForm). proof_left f (begun ++ rest.bytes)) binary) ∙ left rest.bytes
+        sym (ap (λ (f : ProofForm). text_in_form f (begun ++ rest.bytes)) binary) ∙ left rest.bytes
 
 -- it is a text without a label line
 pub text_read : (opened : ProofForm) (first now after : Option (List ℕ)) (begun : List ℕ)
@@ -210,8 +210,8 @@ text_read opened first now after begun text end j read opens lost fresh part non
     by_end (inl over) =
         let all : begun ++ part.part.passed.read ≡ part.bytes =
         parts ∙ ap (λ (b : List ℕ). part.bytes ++ b) over.0 ∙ append-nil part.bytes in
-        let same : part.bytes ≡ proof_left opened part.bytes =
-        sym all ∙ sym (opens part.part.passed.read) ∙ ap (proof_left opened) all in record {
+        let same : part.bytes ≡ text_in_form opened part.bytes =
+        sym all ∙ sym (opens part.part.passed.read) ∙ ap (text_in_form opened) all in record {
           bytes = part.bytes;
           is_left =
               subst (λ (t : List ℕ). IsLeft first t)
@@ -268,10 +268,10 @@ label_read opened first now after begun text end behind j read label opens lost 
     line : List ℕ
     line = label.line.items
 
-    as_text : proof_left opened bytes ≡ bytes
+    as_text : text_in_form opened bytes ≡ bytes
     as_text =
         let more = append_assoc begun part.part.passed.read rest in
-        ap (proof_left opened) more ∙ opens (part.part.passed.read ++ rest) ∙ sym more
+        ap (text_in_form opened) more ∙ opens (part.part.passed.read ++ rest) ∙ sym more
 
     parts : bytes ≡ part.bytes ++ (end.behind ++ rest)
     parts =
@@ -373,17 +373,17 @@ part_found case here target front old new before after begun j read finding long
 text_judged : (case : CaseOf) (target : Target) (opened : ProofForm) (left : Option (List ℕ))
     (begun : JudgingOf) (read : JudgedText) → IsBegun case target begun
     → (is_read : IsTextRead opened left begun (Judged read))
-    → IsJudgement case target (proof_left opened is_read.bytes) read.judged
+    → IsJudgement case target (text_in_form opened is_read.bytes) read.judged
 text_judged case target opened left begun read is is_read =
-    subst (λ (j : Judgement). IsJudgement case target (proof_left opened is_read.bytes) j)
-    (sym is_read.is.2) (is (proof_left opened is_read.bytes))
+    subst (λ (j : Judgement). IsJudgement case target (text_in_form opened is_read.bytes) j)
+    (sym is_read.is.2) (is (text_in_form opened is_read.bytes))
 
 pub judged_text : (case : CaseOf) (target : Target) (opened : ProofForm) (left : Option (List ℕ))
     (begun : JudgingOf) (read : JudgedText) → IsBegun case target begun
     → IsTextRead opened left begun (Judged read)
     → (text : List ℕ) × IsJudgement case target text read.judged
 judged_text case target opened left begun read is is_read = (
-  proof_left opened is_read.bytes,
+  text_in_form opened is_read.bytes,
   text_judged case target opened left begun read is is_read,
 )
 
@@ -406,7 +406,7 @@ read_found case here target opened left begun read finding same is is_read of_ca
         of_target,
         is_read.is.0,
         is_read.is.1,
-        found_in case here target (proof_left opened is_read.bytes) read.judged finding same
+        found_in case here target (text_in_form opened is_read.bytes) read.judged finding same
             judged by (text_judged here target opened left begun read is is_read),
       ),
     )

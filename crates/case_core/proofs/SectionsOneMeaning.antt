@@ -2,7 +2,7 @@
 use Rattle.std.proofs.Common.{◌≡◌, ◌+◌, ◌≤◌, ◌^◌, ℕ, List, [], ◌∷◌, subst, arith, Vec}
 use Rattle.std.specs.List.{AllByRecursion}
 use Rattle.cnf_text.specs.Literal.{Literal}
-use Rattle.cnf_text.specs.Icnf.{Item, ClauseItem, CubeItem, literals_of, clauses_of, cubes_of}
+use Rattle.cnf_text.specs.Icnf.{Item, ClauseItem, CubeItem, item_literals, clauses_of, cubes_of}
 use Rattle.cnf_text.specs.Icnf.{Within, StandsFor, IsTextFault}
 use Rattle.cnf_text.specs.Icnf as icnf
 use Rattle.split_tree.specs.Clash as clash

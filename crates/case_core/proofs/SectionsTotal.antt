@@ -22,6 +22,7 @@ use Rattle.split_tree.proofs.ClashFits.{are_fit}
 use Rattle.split_tree.proofs.ClashTotal.{all_fit_or_a_clash}
 use Rattle.split_tree.proofs.SplitTreeUnique.{literals_of}
 use Rattle.split_tree.proofs.SplitTreeExists.{fit_tree}
+use Rattle.split_tree.proofs.SplitTreeDepths.{is_split}
 use Rattle.case_core.specs.declared.fault.CaseFault.{CaseFault}
 use Rattle.case_core.specs.declared.fault.CaseFault.TheVariants as faults
 use Rattle.case_core.specs.Bundle.{Labelled, icnf_text, labels_of}
@@ -64,11 +65,6 @@ is_cube : (k : ℕ) (tree : SplitTree) → Either (tree ≡ cube k)
 is_cube k missing = inr (λ e. cc)
 is_cube k (cube j) = same_number j k
 is_cube k (split v positive negative) = inr (λ e. cc)
-
-is_split : (tree : SplitTree) → Either (IsSplit tree)
-is_split missing = inr (λ h. h)
-is_split (cube j) = inr (λ h. h)
-is_split (split v positive negative) = inl tt
 
 same_sign : (a b : Bool) → Either (a ≡ b)
 same_sign true true = inl refl

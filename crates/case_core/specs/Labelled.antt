@@ -52,8 +52,8 @@ text_below front = record {
 }
 
 -- all that is left of a text, where its stream may give these texts
-abbrev pub left_of : LabelledOf → (List ℕ → Type 0) → List ℕ → Type 0
-left_of text gives = GrewBy gives (text.ready ++ text.behind)
+abbrev pub rest_of_text : LabelledOf → (List ℕ → Type 0) → List ℕ → Type 0
+rest_of_text text gives = GrewBy gives (text.ready ++ text.behind)
 
 -- where no more is to be read of a text, its stream may be at its end
 abbrev pub IsOverWith : LabelledOf → (List ℕ → Type 0) → Type 0
@@ -115,9 +115,9 @@ pub record HasFront (old new : LabelledOf) (before after : List ℕ → Type 0) 
 
 -- these bytes of a text are all up to its next label line, or up to its end; or they are whole
 -- lines of it, more than so many bytes, and the text goes on behind them
-abbrev pub IsFront : LabelledOf → LabelledOf → (List ℕ → Type 0) → (List ℕ → Type 0) → ℕ
+abbrev pub IsFrontWithin : LabelledOf → LabelledOf → (List ℕ → Type 0) → (List ℕ → Type 0) → ℕ
     → List ℕ → Bool → Type 0
-IsFront old new before after most bytes is_part =
+IsFrontWithin old new before after most bytes is_part =
     MatchBool is_part (IsPart old new before after bytes)
     (HasFront old new before after bytes × (most < length bytes))
 

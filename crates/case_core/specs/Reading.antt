@@ -1,7 +1,7 @@
 -- A proof that is read, and the label line that ends it.
 use Rattle.std.specs.Prelude.{◌≡◌, ℕ, List, [], ◌++◌, length, count_by}
 use Rattle.cnf_text.specs.Tokens.{is_line_end}
-use Rattle.lrat_binary.specs.Form.{proof_left}
+use Rattle.lrat_binary.specs.Form.{text_in_form}
 use Rattle.lrat_binary.specs.declared.form.ProofForm.{ProofForm}
 use Rattle.split_tree.specs.declared.node.Target.{Target}
 use Rattle.case_core.specs.Bundle.{labels_of}
@@ -29,10 +29,10 @@ pub record IsFirstLabel (text line : List ℕ) (lines : ℕ) : Type 0 where
 abbrev pub IsReadProof : CaseOf → Target → ProofForm → List ℕ → ReadProof → Type 0
 IsReadProof case target opened bytes (Found read) =
     (read.finding.case.now ≡ case) × (target_of read.finding.leaf read.finding.node ≡ target)
-    × (labels_of (proof_left opened bytes) ≡ []) × (length bytes ≡ read.length)
-    × IsFoundBy case target (proof_left opened bytes) read.finding.judged
+    × (labels_of (text_in_form opened bytes) ≡ []) × (length bytes ≡ read.length)
+    × IsFoundBy case target (text_in_form opened bytes) read.finding.judged
 IsReadProof case target opened bytes (Labelled label) =
-    (proof_left opened bytes ≡ bytes) × IsFirstLabel bytes label.line.items label.lines
+    (text_in_form opened bytes ≡ bytes) × IsFirstLabel bytes label.line.items label.lines
 
 -- what is found of a target by these lines and, behind them, a part of a text: all up to the text's
 -- next label line, or its end

@@ -3,7 +3,7 @@
 ghost use Rattle.std.specs.Prelude.{◌≡◌, ◌<◌, ◌^◌, ◌-◌, ℕ, List, [], length, IfOk, IfErr, IfSome};
 ghost use Rattle.std.specs.Prelude.{MatchOption, None, OnOk};
 ghost use Rattle.byte_flow.specs.Device.{IsDeviceFault, IsLeft};
-ghost use Rattle.lrat_binary.specs.Form.{proof_left};
+ghost use Rattle.lrat_binary.specs.Form.{text_in_form};
 ghost use Rattle.split_tree.specs.Leaves.{HasTarget, IsTargetAt};
 ghost use Rattle.split_tree.specs.SplitTree.{SplitTree};
 ghost use Rattle.case_core.specs.Bundle.{labels_of};

@@ -65,7 +65,7 @@ impl LabelledText {
     ghost use Rattle.byte_flow.specs.Device.{IsDeviceFault};
     ghost use Rattle.case_core.specs.Inner.Bundle.{HasNoLabel};
     ghost use Rattle.case_core.specs.Inner.Labelled.{HasAdvanced};
-    ghost use Rattle.case_core.specs.Labelled.{IsFront, IsLabelTaken, IsPart, fresh_text};
+    ghost use Rattle.case_core.specs.Labelled.{IsFrontWithin, IsLabelTaken, IsPart, fresh_text};
     ghost use Rattle.case_core.specs.Labelled.{text_below};
 
     /// A text below this front, of which nothing was read yet: its lines are counted from the
@@ -205,7 +205,7 @@ impl LabelledText {
         most: usize,
     ) -> Result<TakenLines, DeviceFault>
         requires { S.failures source.old < 2 ^ 64 - 1 }
-        ensures taken { IfOk result (λ taken. IsFront self.old self.new (S.gives source.old)
+        ensures taken { IfOk result (λ taken. IsFrontWithin self.old self.new (S.gives source.old)
             (S.gives source.new) most taken.lines.items taken.is_part) }
         ensures ok { OnOk result (S.failures source.new ≡ S.failures source.old) }
         ensures err { IfErr result

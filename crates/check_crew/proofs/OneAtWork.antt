@@ -3,7 +3,7 @@ use Rattle.std.proofs.Common.{◌≡◌, ◌∙◌, ℕ, List, None, ap, subst, 
 use Rattle.std.specs.Prelude.{slice_set}
 use Rattle.case_core.specs.Case.{CaseOf}
 use Rattle.case_core.specs.Finding.{IsFoundBy, target_of}
-use Rattle.case_core.specs.Form.{proof_left}
+use Rattle.case_core.specs.Form.{text_in_form}
 use Rattle.case_core.specs.Leaves.{IsTargetAt}
 use Rattle.case_core.specs.ProofForm.{ProofForm}
 use Rattle.case_core.specs.Reading.{IsReadProof}
@@ -69,7 +69,7 @@ pub proof_posted : (old new : BoardsOf) (examiner : CaseOf) (target : Target)
     → IsProofPosted old new target opened bytes None
 proof_posted old new examiner target opened bytes read is same marks = (
   is.2,
-  found_on old new target (proof_left opened bytes) read.finding (is.0 ∙ same) is.1
-      (subst (λ (k : CaseOf). IsFoundBy k target (proof_left opened bytes) read.finding.judged)
+  found_on old new target (text_in_form opened bytes) read.finding (is.0 ∙ same) is.1
+      (subst (λ (k : CaseOf). IsFoundBy k target (text_in_form opened bytes) read.finding.judged)
       same is.4) marks,
 )

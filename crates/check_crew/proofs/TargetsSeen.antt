@@ -18,7 +18,7 @@ use Rattle.byte_flow.specs.declared.fault.DeviceFault.{DeviceFault}
 use Rattle.case_core.specs.Reading.{IsReadProof}
 use Rattle.case_core.specs.declared.examiner.ReadProof.{ReadProof}
 use Rattle.case_core.specs.declared.examiner.ReadProof.TheVariants.{Found as FoundBy, Labelled}
-use Rattle.case_core.specs.Form.{proof_left}
+use Rattle.case_core.specs.Form.{text_in_form}
 use Rattle.case_core.specs.ProofForm.{ProofForm}
 use Rattle.proof_folder.specs.TargetProofs.{IsGiven, IsLeftOf, IsOpenedOf}
 use Rattle.check_crew.specs.Examined.{HasSeenAs, IsFoundAt}
@@ -43,7 +43,7 @@ left_given turned (Some lies) (Some all) bytes of is =
 -- what was found by it is found by what is known to lie there
 pub found_given : (result : Result ReadProof DeviceFault) (known : Option (Option (List ℕ)))
     (left : Option (List ℕ)) (case : CaseOf) (target : Target) (binary : Bool) (form : ProofForm)
-    → ((bytes : List ℕ) → proof_left form bytes ≡ text_by binary bytes)
+    → ((bytes : List ℕ) → text_in_form form bytes ≡ text_by binary bytes)
     → IsLeftOf known (left_text binary left)
     → IfOk result (λ proof. (bytes : List ℕ) × IsLeft left bytes
     × IsReadProof case target form bytes proof)
@@ -54,7 +54,7 @@ found_given (Ok (FoundBy found)) known left case target binary form opened of re
     let is = read.2 in record {
       of_case = is.0;
       of_target = is.1;
-      text = proof_left form read.0;
+      text = text_in_form form read.0;
       given =
           subst (λ (text : List ℕ). IsGiven known (Some text)) (sym (opened read.0))
           (left_given (text_by binary) known left read.0 of read.1);

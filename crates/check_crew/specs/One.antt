@@ -2,7 +2,7 @@
 use Rattle.std.specs.Prelude.{◌≡◌, ℕ, List, [], Option, None, Some, slice_set}
 use Rattle.case_core.specs.Bundle.{labels_of}
 use Rattle.case_core.specs.Finding.{IsFoundBy}
-use Rattle.case_core.specs.Form.{proof_left}
+use Rattle.case_core.specs.Form.{text_in_form}
 use Rattle.case_core.specs.Judged.{Judged}
 use Rattle.case_core.specs.Leaves.{IsTargetAt}
 use Rattle.case_core.specs.Reading.{IsFirstLabel}
@@ -26,8 +26,8 @@ pub record IsFoundOn (old new : BoardsOf) (target : Target) (text : List ℕ) : 
 abbrev pub IsProofPosted : BoardsOf → BoardsOf → Target → ProofForm → List ℕ → Option LabelLine →
     Type 0
 IsProofPosted old new target opened bytes None =
-    (labels_of (proof_left opened bytes) ≡ [])
-    × IsFoundOn old new target (proof_left opened bytes)
+    (labels_of (text_in_form opened bytes) ≡ [])
+    × IsFoundOn old new target (text_in_form opened bytes)
 IsProofPosted old new target opened bytes (Some label) =
-    (proof_left opened bytes ≡ bytes) × IsFirstLabel bytes label.line.items label.lines
+    (text_in_form opened bytes ≡ bytes) × IsFirstLabel bytes label.line.items label.lines
     × (new.marks ≡ old.marks)

@@ -216,7 +216,7 @@ fn take_from<R: Wait, G: Gate>(
     requires ready { IsReady turns }
     requires examiner { examiner.old ≡ turns.site.case.now }
     requires pass { IsNewPass (shared_of turns.site.core.now) pass.old }
-    requires jobs { queue.IsPassOf turns.jobs.now job_pass.old }
+    requires jobs { queue.IsJobPassOf turns.jobs.now job_pass.old }
     requires turn { turn < length turns.order.now }
     requires claimed { job_pass.old.claims ≡ turn ∷ [] }
     ensures { HasTaken turns.entry pass.new job_pass.new result }
@@ -239,12 +239,12 @@ fn claim_turn<R: Wait, G: Gate>(
     requires examiner { examiner.old ≡ turns.site.case.now }
     requires own { IsPassOf (shared_of turns.site.core.now) pass.old }
     requires free { (view_of pass.old).owes ≡ None }
-    requires jobs { queue.IsPassOf turns.jobs.now job_pass.old }
+    requires jobs { queue.IsJobPassOf turns.jobs.now job_pass.old }
     requires seen { All (HasSeenTurn turns.order.now (view_of pass.old)) job_pass.old.claims }
     ensures same { examiner.new ≡ examiner.old }
     ensures own { IsPassOf (shared_of turns.entry.site.core.now) pass.new }
     ensures free { (view_of pass.new).owes ≡ None }
-    ensures jobs { queue.IsPassOf turns.entry.jobs.now job_pass.new }
+    ensures jobs { queue.IsJobPassOf turns.entry.jobs.now job_pass.new }
     ensures seen { OnOk result
         (All (HasSeenTurn turns.entry.order.now (view_of pass.new)) job_pass.new.claims) }
     ensures empty { IfOk result (λ taken. taken ≡ false → job_pass.new.found_empty ≡ true) }
@@ -270,7 +270,7 @@ fn take_turns<R: Wait, G: Gate>(
     requires examiner { examiner.old ≡ turns.site.case.now }
     requires own { IsPassOf (shared_of turns.site.core.now) pass.old }
     requires free { (view_of pass.old).owes ≡ None }
-    requires jobs { queue.IsPassOf turns.jobs.now job_pass.old }
+    requires jobs { queue.IsJobPassOf turns.jobs.now job_pass.old }
     requires seen { All (HasSeenTurn turns.order.now (view_of pass.old)) job_pass.old.claims }
     ensures { HasTaken turns.entry pass.new job_pass.new result }
 {

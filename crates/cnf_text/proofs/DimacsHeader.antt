@@ -7,8 +7,8 @@ use Rattle.std.specs.Option.{option_map}
 use Rattle.std.specs.Str.{bytes_eq}
 use Rattle.cnf_text.specs.declared.dimacs.Problem as code
 use Rattle.cnf_text.specs.Numbers.{decimal}
-use Rattle.cnf_text.specs.Tokens.{Token, joined, below}
-use Rattle.cnf_text.specs.Dimacs.{Problem, after_problem, told}
+use Rattle.cnf_text.specs.Tokens.{Token, all_tokens, below}
+use Rattle.cnf_text.specs.Dimacs.{Problem, after_problem, capped_magnitude}
 use Rattle.cnf_text.specs.Dimacs.{told_problem}
 
 -- what holds where there is none holds
@@ -27,10 +27,10 @@ named read bytes text word other same same_text is isnt =
     not_other true e = refl
     not_other false e = absurd (cc)
 
-some_number : (some : Option ℕ) (number : ℕ) → Some number ≡ option_map told some
-    → (value : ℕ) × (some ≡ Some value) × (number ≡ told value)
+some_number : (some : Option ℕ) (number : ℕ) → Some number ≡ option_map capped_magnitude some
+    → (value : ℕ) × (some ≡ Some value) × (number ≡ capped_magnitude value)
 some_number None number e = absurd (cc)
-some_number (Some value) number e = (value, refl, same number (told value) e)
+some_number (Some value) number e = (value, refl, same number (capped_magnitude value) e)
   where
     same : (a b : ℕ) → Some a ≡ Some b → a ≡ b
     same a b e = cc
@@ -40,7 +40,7 @@ header_made : (p cnf v c : Token) (lines : List (List Token)) (variables clauses
     → bytes_eq p.bytes (codes "p") ≡ true → bytes_eq cnf.bytes (codes "cnf") ≡ true
     → decimal v.bytes ≡ Some variables → decimal c.bytes ≡ Some clauses
     → after_problem ((p ∷ cnf ∷ v ∷ c ∷ []) ∷ lines)
-    ≡ Some (record { variables = variables; clauses = clauses }, joined lines)
+    ≡ Some (record { variables = variables; clauses = clauses }, all_tokens lines)
 header_made p cnf v c lines variables clauses is_p is_cnf is_v is_c =
     rw (is_p, is_cnf, is_v, is_c) refl
 
@@ -50,11 +50,11 @@ pub header_read : (p cnf v c : Token) (old one two three four : List (List Token
     → old ≡ onto_first cnf one → one ≡ onto_first v two → two ≡ onto_first c three
     → three ≡ [] ∷ below three → four ≡ three
     → bytes_eq p.bytes (codes "p") ≡ true → bytes_eq cnf.bytes (codes "cnf") ≡ true
-    → Some variables ≡ option_map told (decimal v.bytes)
-    → Some clauses ≡ option_map told (decimal c.bytes)
+    → Some variables ≡ option_map capped_magnitude (decimal v.bytes)
+    → Some clauses ≡ option_map capped_magnitude (decimal c.bytes)
     → (problem : Problem)
     × (record { variables = variables; clauses = clauses } ≡ told_problem problem)
-    × (after_problem (onto_first p old) ≡ Some (problem, joined (below four)))
+    × (after_problem (onto_first p old) ≡ Some (problem, all_tokens (below four)))
 header_read p cnf v c old one two three four variables clauses first second third fourth same is_p
     is_cnf is_v is_c =
     let found = some_number (decimal v.bytes) variables is_v in
@@ -64,13 +64,14 @@ header_read p cnf v c old one two three four variables clauses first second thir
     (first ∙ ap (onto_first cnf) (second ∙ ap (onto_first v) (third ∙ ap (onto_first c) fourth)))
     in (
       record { variables = found.0; clauses = many.0 },
-      two_told variables clauses (told found.0) (told many.0) found.2 many.2,
+      two_told variables clauses (capped_magnitude found.0)
+          (capped_magnitude many.0) found.2 many.2,
       ap after_problem line
           ∙ header_made p cnf v c (below three) found.0 many.0 is_p is_cnf found.1 many.1
           ∙ ap
           (λ (tokens : List Token).
           Some (record { variables = found.0; clauses = many.0 }, tokens))
-          (sym (ap (λ (lines : List (List Token)). joined (below lines)) same)),
+          (sym (ap (λ (lines : List (List Token)). all_tokens (below lines)) same)),
     )
   where
     two_told : (a b c d : ℕ) → a ≡ c → b ≡ d

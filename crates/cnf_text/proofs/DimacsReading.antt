@@ -21,7 +21,7 @@ use Rattle.cnf_text.specs.Icnf.{ClauseItem, CubeItem, spelled, clauses_of, cubes
 use Rattle.cnf_text.specs.Icnf.{FaultAt, InRange}
 use Rattle.cnf_text.specs.Dimacs.{Problem, after_problem, clause_symbol, clause_symbols}
 use Rattle.cnf_text.specs.Dimacs.{greatest_in, greatest_of, IsDimacs, KeepsLimits}
-use Rattle.cnf_text.specs.Dimacs.{ClausesFaultAtFirst, IsClausesFault, told}
+use Rattle.cnf_text.specs.Dimacs.{ClausesFaultAtFirst, IsClausesFault, capped_magnitude}
 use Rattle.cnf_text.specs.Dimacs.{told_problem, IsDimacsFault}
 use Rattle.cnf_text.specs.Inner.Icnf.{Read, told_on}
 use Rattle.cnf_text.specs.Inner.Dimacs.{HasScanned, Scans, BreaksScan, open_of, IsMiscount}
@@ -208,8 +208,8 @@ counted_clauses scan tokens is has =
 -- the clauses are as many as the problem line says, and their variables not above
 pub dimacs_of : (text : List ℕ) (problem : Problem) (tokens : List Token) (found greatest : ℕ)
     → after_problem (token_lines 1 text) ≡ Some (problem, tokens)
-    → (are : AreCounted tokens found greatest) → found ≡ told problem.clauses
-    → greatest ≤ told problem.variables
+    → (are : AreCounted tokens found greatest) → found ≡ capped_magnitude problem.clauses
+    → greatest ≤ capped_magnitude problem.variables
     → (is : IsDimacs text are.formula) × (is.problem ≡ problem)
 dimacs_of text problem tokens found greatest below are count top =
     let few = are.limits.clauses in

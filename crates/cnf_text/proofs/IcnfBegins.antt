@@ -6,7 +6,7 @@ use Rattle.std.specs.List.{AllByRecursion}
 use Rattle.std.proofs.lemmas.List.Concat.{flat_map-append}
 use Rattle.cnf_text.specs.Literal.{Literal}
 use Rattle.cnf_text.specs.Icnf.{Symbol, Signed, EndMark, CubeMark, Unknown, Item, ClauseItem}
-use Rattle.cnf_text.specs.Icnf.{CubeItem, spelling, spelled, clauses_of, cubes_of, literals_of}
+use Rattle.cnf_text.specs.Icnf.{CubeItem, spelling, spelled, clauses_of, cubes_of, item_literals}
 use Rattle.cnf_text.specs.Icnf.{literal_count, InRange, Within, AnyItems, Begins}
 use Rattle.cnf_text.proofs.IcnfItems.{items_in_front, GoesOn, clause_goes_on, cube_goes_on}
 
@@ -58,7 +58,7 @@ InRangeLiteral l = l.variable ≤ 268435455
 
 -- no variable of the item is above the limit
 abbrev pub InRangeItem : Item → Type 0
-InRangeItem item = AllByRecursion (λ literal. literal.variable ≤ 268435455) (literals_of item)
+InRangeItem item = AllByRecursion (λ literal. literal.variable ≤ 268435455) (item_literals item)
 
 abbrev pub IsShort : List Literal → Type 0
 IsShort cube = length cube ≤ 4096

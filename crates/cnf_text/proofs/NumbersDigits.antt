@@ -17,7 +17,7 @@ use Rattle.std.specs.Str.{bytes_eq}
 use Rattle.cnf_text.specs.Icnf.{Signed, symbol_of, symbol_of_number}
 use Rattle.cnf_text.specs.Tokens.{is_some_text}
 use Rattle.cnf_text.specs.Numbers.{digits_value, decimal, number_of, negative_of, unsigned_of}
-use Rattle.cnf_text.specs.Numbers.{Number, capped}
+use Rattle.cnf_text.specs.Numbers.{Number, capped_number}
 
 none_some : (n : ℕ) → None ≡ Some n → ⊥
 none_some n e = cc
@@ -93,12 +93,12 @@ some_same a b e = cc
 
 -- what a number past the variables' limit is
 pub large_number : (found : Option Number) (told : code.Number) →
-    Some told ≡ option_map capped found → 268435455 < told.magnitude →
+    Some told ≡ option_map capped_number found → 268435455 < told.magnitude →
     (literal : Literal) × (symbol_of_number found ≡ Signed literal) × (268435455 < literal.variable)
 large_number None told e large = absurd (cc)
 large_number (Some number) told e large =
     let same : told.magnitude ≡ min number.magnitude 18446744073709551615 =
-    ap (λ (n : code.Number). n.magnitude) (some_same told (capped number) e) in
+    ap (λ (n : code.Number). n.magnitude) (some_same told (capped_number number) e) in
     let big : 268435455 < number.magnitude = omega arith in (
       record { variable = number.magnitude; positive = not number.negative },
       rw (ne_eqb number.magnitude 0 (λ zero_is. omega arith)) refl,
@@ -116,11 +116,12 @@ unfolding number_of decimal
 mark_no_number = refl
 
 pub number_no_mark : (bytes : List ℕ) (number : code.Number) →
-    option_map capped (number_of bytes) ≡ Some number → bytes_eq bytes (97 ∷ []) ≡ false
+    option_map capped_number (number_of bytes) ≡ Some number → bytes_eq bytes (97 ∷ []) ≡ false
 number_no_mark bytes number is = elim (cases_Bool (bytes_eq bytes (97 ∷ []))) [
   | inl mark ↦ absurd (
       let none : Some number ≡ None =
-      sym is ∙ ap (option_map capped) (ap number_of ((bytes_eq-Decides bytes (97 ∷ [])).0 mark)
+      sym is ∙ ap (option_map capped_number)
+      (ap number_of ((bytes_eq-Decides bytes (97 ∷ [])).0 mark)
       ∙ mark_no_number) in cc)
   | inr other ↦ other
 ]
@@ -154,9 +155,9 @@ same_capped n small = omega arith
 
 -- a number without a sign, below the limit of 64 bits
 pub told_plain : (bs : List ℕ) (n : ℕ) → decimal bs ≡ Some n → n < 18446744073709551616 →
-    option_map capped (number_of bs) ≡ Some (record { negative = false; magnitude = n })
+    option_map capped_number (number_of bs) ≡ Some (record { negative = false; magnitude = n })
 told_plain bs n h small =
-    ap (option_map capped) (number_plain bs (no_minus bs n h))
+    ap (option_map capped_number) (number_plain bs (no_minus bs n h))
     ∙ rw h (ap (λ m. Some (record { negative = false; magnitude = m })) (same_capped n small))
 
 -- what a front of a text begins with is what the text begins with

@@ -6,7 +6,7 @@ use Rattle.std.proofs.lemmas.Bool.{cases_Bool}
 use Rattle.std.proofs.lemmas.List.{length-append, length-map}
 use Rattle.std.proofs.lemmas.List.Splits.{slice_split-cons_yes, slice_split-cons_no}
 use Rattle.cnf_text.specs.Tokens.{is_line_end, is_blank, is_comment, is_some_text, words, tokens_at}
-use Rattle.cnf_text.specs.Tokens.{line_tokens, lines_from, token_lines, joined}
+use Rattle.cnf_text.specs.Tokens.{all_tokens, line_tokens, lines_from, token_lines}
 
 -- how many bytes parts have together
 size : List (List ℕ) → ℕ
@@ -56,18 +56,19 @@ count-line number line =
     ]
 
 count-lines : (number : ℕ) (lines : List (List ℕ)) →
-    length (joined (lines_from number lines)) ≤ size lines
+    length (all_tokens (lines_from number lines)) ≤ size lines
 unfolding size
 count-lines number [] = omega arith
 count-lines number (line ∷ lines) =
     let first = count-line number line in
     let more = count-lines (number + 1) lines in
-    let both = length-append (line_tokens number line) (joined (lines_from (number + 1) lines)) in
+    let both = length-append (line_tokens number line)
+    (all_tokens (lines_from (number + 1) lines)) in
     omega arith
 
 -- a text has no more tokens than bytes
 pub count-tokens : (number : ℕ) (text : List ℕ) →
-    length (joined (token_lines number text)) ≤ length text
+    length (all_tokens (token_lines number text)) ≤ length text
 unfolding token_lines
 count-tokens number text =
     let few = count-lines number (slice_split is_line_end text) in

@@ -11,8 +11,8 @@ use Rattle.std.proofs.lemmas.List.Splits.{slice_split-cons_yes, slice_split-cons
 use Rattle.std.proofs.lemmas.List.Sums.{position_or_len_is}
 use Rattle.std.proofs.lemmas.Bool.{cases_Bool, eqb-true, ne_eqb}
 use Rattle.cnf_text.specs.Tokens.{Token, is_line_end, is_blank, is_comment, words, tokens_at}
-use Rattle.cnf_text.specs.Tokens.{line_tokens, lines_from, token_lines, tokens_of, joined}
-use Rattle.cnf_text.specs.Numbers.{decimal, number_of, capped}
+use Rattle.cnf_text.specs.Tokens.{all_tokens, line_tokens, lines_from, token_lines, tokens_of}
+use Rattle.cnf_text.specs.Numbers.{capped_number, decimal, number_of}
 use Rattle.cnf_text.specs.Words.{line_words, words_of_lines, words_within, words_left}
 use Rattle.cnf_text.proofs.WordsInLine.{one_more, plus_none, words_blank, words_none, words_first}
 use Rattle.cnf_text.proofs.WordsInLine.{starts, digits_visible}
@@ -203,10 +203,10 @@ line_again n line = elim (cases_Bool (is_comment line)) [
 ]
 
 lines_again : (n : ℕ) (lines : List (List ℕ))
-    → map (λ (t : Token). t.bytes) (joined (lines_from n lines)) ≡ words_of_lines lines
+    → map (λ (t : Token). t.bytes) (all_tokens (lines_from n lines)) ≡ words_of_lines lines
 lines_again n [] = refl
 lines_again n (line ∷ lines) =
-    map-append (λ (t : Token). t.bytes) (line_tokens n line) (joined (lines_from (n + 1) lines))
+    map-append (λ (t : Token). t.bytes) (line_tokens n line) (all_tokens (lines_from (n + 1) lines))
     ∙ rw (line_again n line, lines_again (n + 1) lines) refl
 
 -- the words of a text's lines are its tokens without their lines
@@ -218,7 +218,7 @@ words_of_tokens bs = sym (lines_again 1 (slice_split is_line_end bs))
 -- whatever number its first line has
 pub whatever_line : (n : ℕ) (bs : List ℕ)
     → map (λ (t : Token). t.bytes) (tokens_of bs)
-    ≡ map (λ (t : Token). t.bytes) (joined (token_lines n bs))
+    ≡ map (λ (t : Token). t.bytes) (all_tokens (token_lines n bs))
 unfolding token_lines
 whatever_line n bs =
     lines_again 1 (slice_split is_line_end bs) ∙ sym (lines_again n (slice_split is_line_end bs))
@@ -333,9 +333,10 @@ minus_first (b ∷ bs) word more some minus visible is =
 -- a number below zero, within the limit of 64 bits
 pub told_below : (word : List ℕ) (n : ℕ) → decimal word ≡ Some n → (n ≡ 0 → ⊥) →
     n < 18446744073709551616
-    → option_map capped (number_of (45 ∷ word)) ≡ Some (record { negative = true; magnitude = n })
+    → option_map capped_number (number_of (45 ∷ word))
+    ≡ Some (record { negative = true; magnitude = n })
 told_below word n value some small =
-    ap (option_map capped) (number_below (45 ∷ word) refl)
+    ap (option_map capped_number) (number_below (45 ∷ word) refl)
     ∙ rw (value, ne_eqb n 0 some)
     (ap (λ m. Some (record { negative = true; magnitude = m })) (same_capped n small))
 

@@ -7,7 +7,7 @@ use Rattle.std.specs.Option.{option_map}
 use Rattle.std.specs.Str.{bytes_eq}
 use Rattle.cnf_text.specs.Literal.{Literal}
 use Rattle.cnf_text.specs.Numbers.{decimal, number_of}
-use Rattle.cnf_text.specs.Tokens.{Token, token_lines, joined}
+use Rattle.cnf_text.specs.Tokens.{Token, all_tokens, token_lines}
 use Rattle.cnf_text.specs.Icnf.{Symbol, ClauseItem, spelled, symbol_of_number, Begins, Within}
 use Rattle.cnf_text.specs.Icnf.{FaultAt}
 use Rattle.cnf_text.specs.declared.icnf.TextFault.{TextFault}
@@ -43,7 +43,7 @@ abbrev pub after_problem : List (List Token) → Option (Problem × List Token)
 after_problem [] = None
 after_problem ([] ∷ lines) = after_problem lines
 after_problem ((token ∷ tokens) ∷ lines) =
-    option_map (λ problem. (problem, joined lines)) (problem_of (token ∷ tokens))
+    option_map (λ problem. (problem, all_tokens lines)) (problem_of (token ∷ tokens))
 
 -- a token below the problem line is a literal or an end mark, by the number that it spells
 abbrev pub clause_symbol : Token → Symbol
@@ -110,13 +110,16 @@ IsClausesFault tokens Limit = ClausesFaultAtFirst tokens Limit
 IsClausesFault tokens Memory = ⊥
 
 -- a number as it is told in 64 bits
-abbrev pub told : ℕ → ℕ
-told number = min number 18446744073709551615
+abbrev pub capped_magnitude : ℕ → ℕ
+capped_magnitude number = min number 18446744073709551615
 
 -- what a problem line says, as it is told
 abbrev pub told_problem : Problem → code.Problem
 told_problem problem =
-    record { variables = told problem.variables; clauses = told problem.clauses }
+    record {
+      variables = capped_magnitude problem.variables;
+      clauses = capped_magnitude problem.clauses;
+    }
 
 -- the problem line says otherwise than these clauses are
 abbrev pub Miscounts : Problem → List (List Literal) → Type 0
@@ -131,8 +134,8 @@ IsDimacsFault text (dimacs.Text fault) =
     × (after_problem (token_lines 1 text) ≡ Some (problem, tokens)) × IsClausesFault tokens fault
 IsDimacsFault text (dimacs.Counts variables clauses greatest found) =
     (problem : Problem) × (formula : List (List Literal)) × HasClauses text problem formula
-    × Miscounts problem formula × (variables ≡ told problem.variables)
-    × (clauses ≡ told problem.clauses) × (greatest ≡ greatest_of formula)
+    × Miscounts problem formula × (variables ≡ capped_magnitude problem.variables)
+    × (clauses ≡ capped_magnitude problem.clauses) × (greatest ≡ greatest_of formula)
     × (found ≡ length formula)
 
 -- ---- laws

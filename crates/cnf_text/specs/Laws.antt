@@ -11,8 +11,8 @@ ItemsOrAFault = (text : List ℕ) →
     ⊎ ((fault : TextFault) × (fault ≢ Memory) × IsTextFault text fault)
 
 -- a text has one fault at most
-abbrev pub OneFault : Type 0
-OneFault = (text : List ℕ) (first second : TextFault) →
+abbrev pub OneTextFault : Type 0
+OneTextFault = (text : List ℕ) (first second : TextFault) →
     IsTextFault text first → IsTextFault text second → first ≡ second
 
 -- it stands for one list of items at most

@@ -3,7 +3,7 @@ use Rattle.std.specs.Prelude.{◌≡◌, ℕ, if◌then◌else◌, List, [], ◌
 use Rattle.std.specs.List.{slice_split, flat_map}
 use Rattle.std.specs.Option.{option_map}
 use Rattle.cnf_text.specs.Literal.{Literal, IsVariable}
-use Rattle.cnf_text.specs.Numbers.{Number, number_of, capped}
+use Rattle.cnf_text.specs.Numbers.{Number, capped_number, number_of}
 use Rattle.cnf_text.specs.Tokens.{is_line_end, is_comment, words}
 use Rattle.cnf_text.specs.declared.words.Word.{Word}
 use Rattle.cnf_text.specs.declared.words.Word.TheVariants as told
@@ -25,7 +25,7 @@ words_left text = words_within (slice_split is_line_end text)
 
 -- the number that a word spells, or its bytes where it spells none
 abbrev pub IsToldAs : List ℕ → Word → Type 0
-IsToldAs bytes (told.Number number) = option_map capped (number_of bytes) ≡ Some number
+IsToldAs bytes (told.Number number) = option_map capped_number (number_of bytes) ≡ Some number
 IsToldAs bytes (told.Other other) = (number_of bytes ≡ None) × (other.now ≡ bytes)
 
 -- the first word is told as this, and the others are left

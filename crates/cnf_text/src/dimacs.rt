@@ -6,7 +6,7 @@ ghost use Rattle.std.specs.Prelude.{length};
 ghost use Rattle.std.specs.Prelude.{OnOk, OnErr, IfOk, IfErr};
 ghost use Rattle.std.specs.List.{onto_first};
 ghost use Rattle.cnf_text.specs.Literal.{Literal, greatest_variable};
-ghost use Rattle.cnf_text.specs.Tokens.{joined, below};
+ghost use Rattle.cnf_text.specs.Tokens.{all_tokens, below};
 ghost use Rattle.cnf_text.specs.Numbers.{number_of};
 ghost use Rattle.cnf_text.specs.Words.{IsToldAs};
 ghost use Rattle.cnf_text.specs.Icnf.{Symbol, Signed, EndMark, CubeMark, symbol_of_number};
@@ -184,8 +184,8 @@ fn clause_word(word: told::Word<'_>) -> Word
 /// The scan of the lines below this one, whose tokens are all those of clauses that have ended.
 fn read_clauses(tokens: Tokens) -> Result<Scan, TextFault>
     ensures ok { IfOk result (λ scan. (scan.inside ≡ false)
-        × HasScanned scan (clause_symbols (joined (below tokens.entry)))) }
-    ensures err { IfErr result (IsClausesFault (joined (below tokens.entry))) }
+        × HasScanned scan (clause_symbols (all_tokens (below tokens.entry)))) }
+    ensures err { IfErr result (IsClausesFault (all_tokens (below tokens.entry))) }
 {
     let mut scan = Scan {
         clauses: 0,
@@ -210,7 +210,8 @@ fn read_clauses(tokens: Tokens) -> Result<Scan, TextFault>
 
 /// What the problem line says whose first token is this one, if it is one.
 fn rest_of_header(first: Token<'_>, tokens: &mut Tokens) -> Option<Problem>
-    ensures { HasProblem (onto_first first.entry tokens.old) result (joined (below tokens.new)) }
+    ensures { HasProblem (onto_first first.entry tokens.old) result
+        (all_tokens (below tokens.new)) }
 {
     let cnf = tokens.next_in_line()?;
     let variables = tokens.next_in_line()?;
@@ -229,7 +230,7 @@ fn rest_of_header(first: Token<'_>, tokens: &mut Tokens) -> Option<Problem>
 
 /// What the problem line says, if the first line that has a token is one; and goes to it.
 fn read_header(tokens: &mut Tokens) -> Option<Problem>
-    ensures { HasProblem tokens.old result (joined (below tokens.new)) }
+    ensures { HasProblem tokens.old result (all_tokens (below tokens.new)) }
 {
     loop {
         if let Some(first) = tokens.next_in_line() {

@@ -1,7 +1,8 @@
 //! Laws of the definitions. The calls do nothing.
 
 ghost use Rattle.cnf_text.specs.Dimacs.{NoFaultBesideDimacs, OneDimacsFormula};
-ghost use Rattle.cnf_text.specs.Laws.{ItemsOrAFault, OneFault, OneListOfItems, NoFaultBesideItems};
+ghost use Rattle.cnf_text.specs.Laws.{ItemsOrAFault, OneTextFault, OneListOfItems};
+ghost use Rattle.cnf_text.specs.Laws.{NoFaultBesideItems};
 
 /// Each text stands for items, or has a fault.
 pub fn items_or_a_fault()
@@ -10,7 +11,7 @@ pub fn items_or_a_fault()
 
 /// A text has one fault at most.
 pub fn one_fault()
-    ensures { OneFault }
+    ensures { OneTextFault }
 {}
 
 /// A text stands for one list of items at most.

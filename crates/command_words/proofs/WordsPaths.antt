@@ -8,17 +8,18 @@ use Rattle.std.proofs.lemmas.List.{append_assoc, append_cancel_left}
 use Rattle.std.proofs.lemmas.Slice.Eq.{bytes_eq-Decides}
 use Rattle.proof_folder.specs.Added.{proof_path}
 use Rattle.clap.specs.Words.{Text}
-use Rattle.command_words.specs.Words.{AreApart, AreSpared, Asked, IsElsewhere, IsInput, IsNoProof}
+use Rattle.command_words.specs.Words.{AreSpared, Asked, HaveTwoPaths, IsElsewhere, IsInput}
+use Rattle.command_words.specs.Words.{IsNoProof}
 
 unless_equal : (one other : Text) (equal : Bool) → bytes_eq one other ≡ equal →
-    AreApart (Some one) (Some other) → not equal ≡ true
+    HaveTwoPaths (Some one) (Some other) → not equal ≡ true
 unless_equal one other true is apart =
     absurd (apart one refl (ap (λ (t : Text). Some t) (sym ((bytes_eq-Decides one other).0 is))))
 unless_equal one other false is apart = refl
 
 -- two files are apart exactly where their paths differ
 pub apart_where : (one other : Text) →
-    IsTrue (not (bytes_eq one other)) ↔ AreApart (Some one) (Some other)
+    IsTrue (not (bytes_eq one other)) ↔ HaveTwoPaths (Some one) (Some other)
 apart_where one other = (
   λ yes path at there.
       let same : one ≡ other = cc in

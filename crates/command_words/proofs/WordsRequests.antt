@@ -11,9 +11,9 @@ use Rattle.clap.specs.Words.{found_of, is_simple, is_simple_and_free, kind_of, m
 use Rattle.clap.specs.Words.{one_text, HasKind, Kinds}
 use Rattle.clap.proofs.OnLiterals.{clap_on_literals}
 use Rattle.clap.proofs.WalkLemmas.{first_value-rows, one_text-rows}
-use Rattle.command_words.specs.Words.{AreApart, AreSpared, AreTaken, Asked, asked_for, asked_of}
+use Rattle.command_words.specs.Words.{AreSpared, AreTaken, Asked, HaveTwoPaths, asked_for, asked_of}
 use Rattle.command_words.specs.Words.{CanBeDone, is_given, nothing_asked, SparesRead, words_taken}
-use Rattle.command_words.specs.Request.{Reads, SaysFlag, SaysNumber, flag_text}
+use Rattle.command_words.specs.Request.{HasDigits, SaysFlag, SaysNumber, flag_text}
 use Rattle.command_words.specs.Inner.Words.{asked_found}
 
 -- what the parser's matches hold under a name is what the words ask for
@@ -104,7 +104,7 @@ unfolding clap_on_literals
 no_map = refl
 
 -- where the one isn't asked for, there are no two at one path
-apart_of_none : (one other : Option Text) → one ≡ None → AreApart one other
+apart_of_none : (one other : Option Text) → one ≡ None → HaveTwoPaths one other
 apart_of_none None other is path there = absurd (cc)
 apart_of_none (Some text) other is path there = absurd (cc)
 
@@ -192,7 +192,7 @@ pub number_asked : (parser : Command) (matches : ArgMatches) (words : List Text)
     (number : ℕ)
     → app_of parser ≡ words_taken
     → HasMatchesOf (app_of parser) words matches → SaysNumber name words number
-    → Reads (one_text (found_of matches) name) number
+    → HasDigits (one_text (found_of matches) name) number
 number_asked parser matches words name number is has says = (
   says.0,
   one_text-rows (found_of matches) name

@@ -6,14 +6,14 @@ use Rattle.command_words.specs.declared.words.Request.{Request}
 use Rattle.command_words.specs.Words.{Asked, words_taken}
 
 -- the text is there, and its decimal digits say this number
-abbrev pub Reads : Option Text → ℕ → Type 0
-Reads found number =
+abbrev pub HasDigits : Option Text → ℕ → Type 0
+HasDigits found number =
     (text : Text) × (found ≡ Some text) × IsNumeral 10 (without_leading_plus text)
     × (number ≡ digits_value 10 (without_leading_plus text))
 
 -- the words say this number under a name, or its default does where they say none
 abbrev pub SaysNumber : Text → List Text → ℕ → Type 0
-SaysNumber name words number = Reads (one_of name (matches_of words_taken words)) number
+SaysNumber name words number = HasDigits (one_of name (matches_of words_taken words)) number
 
 -- `clap` finds this text for a flag that is given, or that isn't
 abbrev pub flag_text : Bool → Text

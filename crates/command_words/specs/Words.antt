@@ -101,8 +101,8 @@ nothing_asked = record {
 }
 
 -- two files, where both are asked for, have two paths
-abbrev pub AreApart : Option Text → Option Text → Type 0
-AreApart one other = (path : Text) → one ≡ Some path → other ≢ Some path
+abbrev pub HaveTwoPaths : Option Text → Option Text → Type 0
+HaveTwoPaths one other = (path : Text) → one ≡ Some path → other ≢ Some path
 
 -- the file that is written isn't that of a proof in the folder, whichever its name is
 abbrev pub IsNoProof : Option Text → Option Text → Type 0
@@ -114,14 +114,16 @@ IsNoProof folder written =
 -- DIR's proofs
 abbrev pub SparesRead : Option Text → Asked → Type 0
 SparesRead written asked =
-    AreApart written asked.formula × AreApart written asked.file × AreApart written asked.proof
+    HaveTwoPaths written asked.formula × HaveTwoPaths written asked.file
+    × HaveTwoPaths written asked.proof
     × IsNoProof asked.folder written
 
 -- the picture, the record and the log have three paths, and none is that of a file that is read
 abbrev pub AreSpared : Asked → Type 0
 AreSpared asked =
-    AreApart asked.picture asked.out × SparesRead asked.picture asked × SparesRead asked.out asked
-    × AreApart asked.log asked.picture × AreApart asked.log asked.out
+    HaveTwoPaths asked.picture asked.out × SparesRead asked.picture asked
+    × SparesRead asked.out asked
+    × HaveTwoPaths asked.log asked.picture × HaveTwoPaths asked.log asked.out
     × SparesRead asked.log asked
 
 -- one proof of the whole formula goes with that formula's own file, and with neither a file of

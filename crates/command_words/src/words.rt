@@ -6,11 +6,11 @@ ghost use Rattle.std.specs.Prelude.{codes, option_map, IfOk, IfErr, IfSome, IsTr
 ghost use Rattle.std.specs.Prelude.{MatchOption};
 ghost use Rattle.clap.specs.Words.{app_of, found_of, kind_of, new_app, one_text, rule_of};
 ghost use Rattle.proof_folder.specs.Added.{proof_path};
-ghost use Rattle.command_words.specs.Words.{AreApart, AreSpared, AreTaken, asked_of, cut_word};
+ghost use Rattle.command_words.specs.Words.{AreSpared, AreTaken, HaveTwoPaths, asked_of, cut_word};
 ghost use Rattle.command_words.specs.Words.{file_word, flag_word, is_given, IsNoProof, path_word};
 ghost use Rattle.command_words.specs.Words.{CanBeDone, GoesWith, SparesRead};
 ghost use Rattle.command_words.specs.Words.{with_version, words_taken, workers_word};
-ghost use Rattle.command_words.specs.Request.{asked_in, flag_text, Reads, SaysFlag, SaysNumber};
+ghost use Rattle.command_words.specs.Request.{asked_in, flag_text, HasDigits, SaysFlag, SaysNumber};
 ghost use Rattle.command_words.specs.Inner.Words.{asked_found, with_flags, with_inputs, with_lists};
 ghost use Rattle.command_words.specs.Inner.Words.{with_numbers, with_outputs, with_results};
 
@@ -104,9 +104,9 @@ pub fn request_of<'a, S: AsStr>(alloc: Global, words: &'a [S]) -> Result<Request
 fn request_in<'a>(matches: &ArgMatches<'a>) -> Request<'a>
     ensures asked { asked_in result ≡ asked_found (found_of matches.now) }
     ensures settings { (workers cut : ℕ)
-        → Reads (one_text (found_of matches.now) (codes "workers")) workers → 0 < workers
+        → HasDigits (one_text (found_of matches.now) (codes "workers")) workers → 0 < workers
         → workers ≤ 32
-        → Reads (one_text (found_of matches.now) (codes "cut")) cut → cut ≤ 6
+        → HasDigits (one_text (found_of matches.now) (codes "cut")) cut → cut ≤ 6
         → (result.settings.workers ≡ workers) × (result.settings.cut ≡ cut) }
     ensures progress { (asked : Bool)
         → one_text (found_of matches.now) (codes "progress") ≡ Some (flag_text asked)
@@ -220,7 +220,7 @@ fn spares_read(written: Option<&str>, request: &Request<'_>) -> bool
 /// Whether two files, where both are asked for, have two paths.
 #[tactic(auto, using(crate::proofs::WordsPaths::apart_where))]
 fn are_apart(one: Option<&str>, other: Option<&str>) -> bool
-    ensures { IsTrue result ↔ AreApart (option_map (λ path. path.now) one.entry)
+    ensures { IsTrue result ↔ HaveTwoPaths (option_map (λ path. path.now) one.entry)
         (option_map (λ path. path.now) other.entry) }
 {
     match (one, other) {
@@ -281,14 +281,14 @@ fn conflict(alloc: Global, text: &str) -> Result<Error, AllocError>
 /// How the run is set up, by the numbers that were matched.
 fn settings_in(matches: &ArgMatches<'_>) -> Settings
     ensures workers { (workers cut : ℕ)
-        → Reads (one_text (found_of matches.now) (codes "workers")) workers → 0 < workers
+        → HasDigits (one_text (found_of matches.now) (codes "workers")) workers → 0 < workers
         → workers ≤ 32
-        → Reads (one_text (found_of matches.now) (codes "cut")) cut → cut ≤ 6
+        → HasDigits (one_text (found_of matches.now) (codes "cut")) cut → cut ≤ 6
         → result.workers ≡ workers }
     ensures cut { (workers cut : ℕ)
-        → Reads (one_text (found_of matches.now) (codes "workers")) workers → 0 < workers
+        → HasDigits (one_text (found_of matches.now) (codes "workers")) workers → 0 < workers
         → workers ≤ 32
-        → Reads (one_text (found_of matches.now) (codes "cut")) cut → cut ≤ 6
+        → HasDigits (one_text (found_of matches.now) (codes "cut")) cut → cut ≤ 6
         → result.cut ≡ cut }
 {
     let workers = matches.get_one::<u32>("workers");

@@ -10,7 +10,7 @@ use Rattle.cube_report.specs.Bundle.{icnf_text}
 use Rattle.cube_report.specs.Correct.{IsOutcome, IsUnsatisfiable}
 use Rattle.cube_report.specs.Faults.{IsInputFault}
 use Rattle.cube_report.specs.declared.fault.Fault.{Fault}
-use Rattle.bundle_files.specs.Files.{GivesOneOf, Held, IsTextAt, lies_in}
+use Rattle.bundle_files.specs.Files.{GivesOneOf, Held, IsTextAt, may_lie_at}
 use Rattle.bundle_files.specs.Formula.{IsBundleBy, IsBundleOf, IsFormulaFault, IsReadBy}
 use Rattle.bundle_files.specs.Judging.{IsOutcomeWith, IsRefusedWith, IsRefusedWithEach}
 use Rattle.bundle_files.proofs.LawsFormula.{icnf_before_label, section_keeps_items}
@@ -89,7 +89,7 @@ under_proof has (Some path) bundle proof by = record {
 
 -- what is given of a proof
 abbrev pub given_at : Held → List ℕ → Option (List ℕ) → List ℕ → Type 0
-given_at held path input bytes = IsTextAt (lies_in held) (file_at path) input bytes
+given_at held path input bytes = IsTextAt (may_lie_at held) (file_at path) input bytes
 
 bundle_with : (held : Held) (asked : Asked) (bundle proof : List ℕ)
     → asked.file ≡ None → asked.folder ≡ None
@@ -100,7 +100,7 @@ bundle_with held asked bundle proof none folder read =
     let whole = with_proof bundle proof in let input = Some (of_one_proof proof) in
     bundle_of held asked input whole whole
     (subst (λ (f : Option (List ℕ)). IsReadBy held asked.formula f input whole) (sym none)
-    (under_proof (lies_in held) asked.formula bundle proof read))
+    (under_proof (may_lie_at held) asked.formula bundle proof read))
     (file_judged held asked.folder whole folder)
 
 recorded_from : (held : Held) (asked : Asked) (gives : List ℕ → Type 0) (bundle report map : List ℕ)

@@ -19,6 +19,9 @@ use Rattle.mark_board.specs.declared.mark.Mark.TheVariants.{Open, Refuted, Rejec
 use Rattle.mark_board.specs.Marking.{is_refuted}
 use Rattle.node_fields.specs.Fields.{answer_line, literal_field, number_field, reason_field}
 use Rattle.node_fields.specs.Fields.{status_fields}
+use Rattle.node_fields.specs.Bytes.{Lacks}
+use Rattle.node_fields.proofs.FieldBytes.{has_none, lacks_append, lacks_decimal, lacks_it}
+use Rattle.node_fields.proofs.FieldBytes.{path_lacks, status_lacks}
 use Rattle.cube_report.specs.Bundle.{lines_of}
 use Rattle.cube_report.specs.Literal.{Literal}
 use Rattle.cube_report.specs.Report.{cube_line, missing_line, node_line, open_line, total_line}
@@ -26,15 +29,6 @@ use Rattle.cube_report.specs.Report.{weight_line}
 use Rattle.cube_command.specs.Laws.{listed}
 use Rattle.cube_command.specs.Open.{is_space, open_name, open_names}
 use Rattle.cube_command.proofs.OpenNames as of_line
-
--- none of the bytes is this one
-abbrev Lacks : ℕ → List ℕ → Type 0
-Lacks d [] = Unit {0}
-Lacks d (b ∷ bs) = (b ≢ d) × Lacks d bs
-
-lacks_append : (d : ℕ) (xs ys : List ℕ) → Lacks d xs → Lacks d ys → Lacks d (xs ++ ys)
-lacks_append d [] ys h k = k
-lacks_append d (x ∷ xs) ys h k = (h.0, lacks_append d xs ys h.1 k)
 
 -- ---- the lines of a text
 
@@ -111,77 +105,6 @@ other_end front back long other =
     ]
 
 -- ---- fields
-
-has_none : ℕ → List ℕ → Bool
-has_none d [] = true
-has_none d (b ∷ bs) = if b == d then false else has_none d bs
-
-lacks_it : (d : ℕ) (bs : List ℕ) → has_none d bs ≡ true → Lacks d bs
-unfolding has_none
-lacks_it d [] none = tt
-lacks_it d (b ∷ bs) none = elim (cases_eq b d) [
-  | inl same ↦ let clash : false ≡ true = rw (eq-eqb b d same) at none in absurd (false≢true clash)
-  | inr other ↦ (other, lacks_it d bs (rw (ne_eqb b d other) at none))
-]
-
-glyph_is : (d n : ℕ) → d < 48 → digit_glyph false (n % 10) ≢ d
-glyph_is d n low same = grind arith
-
-lacks_onto : (d k n : ℕ) (behind : List ℕ) → d < 48 → Lacks d behind →
-    Lacks d (digits_onto k 10 false n behind)
-lacks_onto d zero n behind low lacks = lacks
-lacks_onto d (suc k) n behind low lacks = elim (n / 10 == 0) as
-    (λ t. Lacks d (cond t (digit_glyph false (n % 10) ∷ behind)
-    (digits_onto k 10 false (n / 10) (digit_glyph false (n % 10) ∷ behind)))) [
-      | true ↦ (glyph_is d n low, lacks)
-      | false ↦ lacks_onto d k (n / 10) (digit_glyph false (n % 10) ∷ behind) low
-          (glyph_is d n low, lacks)
-    ]
-
-lacks_decimal : (d n : ℕ) → d < 48 → Lacks d (decimal n)
-unfolding digits
-lacks_decimal d n low = lacks_onto d 64 n [] low tt
-
-number_lacks : (n : ℕ) → Lacks 10 (number_field n)
-number_lacks n = ((λ e. absurd (omega (arith, e))), lacks_decimal 10 n (omega arith))
-
-reason_lacks : (reason : Reason) → Lacks 10 (reason_field reason)
-unfolding has_none
-reason_lacks Unreadable = lacks_it 10 (codes " unreadable") refl
-reason_lacks Id = lacks_it 10 (codes " id") refl
-reason_lacks Hint = lacks_it 10 (codes " hint") refl
-reason_lacks NotUnit = lacks_it 10 (codes " unit") refl
-reason_lacks Empty = lacks_it 10 (codes " empty") refl
-reason_lacks Group = lacks_it 10 (codes " group") refl
-reason_lacks Candidate = lacks_it 10 (codes " candidate") refl
-reason_lacks End = lacks_it 10 (codes " end") refl
-
-status_lacks : (mark : Mark) → Lacks 10 (status_fields mark)
-unfolding has_none
-status_lacks Open = lacks_it 10 (codes " open") refl
-status_lacks Refuted = lacks_it 10 (codes " refuted") refl
-status_lacks (Rejected step reason) =
-    lacks_append 10 (codes " rejected") (number_field step ++ reason_field reason)
-    (lacks_it 10 (codes " rejected") refl)
-    (lacks_append 10 (number_field step) (reason_field reason) (number_lacks step)
-    (reason_lacks reason))
-
-sign_lacks : (positive : Bool) → Lacks 10 (if positive then codes " " else codes " -")
-unfolding has_none
-sign_lacks true = lacks_it 10 (codes " ") refl
-sign_lacks false = lacks_it 10 (codes " -") refl
-
-literal_lacks : (l : Literal) → Lacks 10 (literal_field l)
-unfolding has_none
-literal_lacks l =
-    lacks_append 10 (if l.positive then codes " " else codes " -") (decimal l.variable)
-    (sign_lacks l.positive) (lacks_decimal 10 l.variable (omega arith))
-
-path_lacks : (path : List Literal) → Lacks 10 (flat_map literal_field path)
-path_lacks [] = tt
-path_lacks (l ∷ path) =
-    lacks_append 10 (literal_field l) (flat_map literal_field path) (literal_lacks l)
-    (path_lacks path)
 
 -- the text begins with a space
 record Begins (text : List ℕ) : Type 0 where

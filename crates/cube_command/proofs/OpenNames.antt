@@ -6,7 +6,7 @@ use Rattle.std.specs.List.{before_first, between, ends_with, position_or_len, st
 use Rattle.std.proofs.lemmas.Bool.{cases_lt, le-ltb, lt-ltb}
 use Rattle.std.proofs.lemmas.List.Sums.{prefix_len-le-length}
 use Rattle.std.proofs.lemmas.Slice.{between_to_end}
-use Rattle.cube_command.specs.Open.{is_space, leaf_name, number_of, open_name}
+use Rattle.cube_command.specs.Open.{is_space, leaf_field, leaf_of_line, open_name}
 
 -- the name that a line has, by how it begins and ends
 pub refuted_line : (line : List ℕ) → ends_with nat_eq line (codes " refuted") ≡ true →
@@ -16,13 +16,13 @@ refuted_line line ends = rw ends refl
 
 pub cube_line : (line : List ℕ) → ends_with nat_eq line (codes " refuted") ≡ false
     → starts_with nat_eq line (codes "a ") ≡ true
-    → open_name line ≡ leaf_name [] line
+    → open_name line ≡ leaf_of_line [] line
 unfolding open_name
 cube_line line ends starts = rw (ends, starts) refl
 
 pub missing_line : (line : List ℕ) → ends_with nat_eq line (codes " refuted") ≡ false
     → starts_with nat_eq line (codes "a ") ≡ false → starts_with nat_eq line (codes "m ") ≡ true
-    → open_name line ≡ leaf_name (codes "m") line
+    → open_name line ≡ leaf_of_line (codes "m") line
 unfolding open_name
 missing_line line ends cube starts = rw (ends, cube, starts) refl
 
@@ -51,7 +51,7 @@ pub number_up_to : (line fields : List ℕ) (found : Option ℕ) (end : ℕ)
     → fields ≡ between 2 (length line) line
     → found ≡ cond (ltb (position_or_len is_space fields) (length fields))
     (Some (position_or_len is_space fields)) None
-    → end ≡ unwrap_or found (length fields) → take end fields ≡ number_of line
+    → end ≡ unwrap_or found (length fields) → take end fields ≡ leaf_field line
 number_up_to line fields found end are is ends =
     let all : fields ≡ drop 2 line = are ∙ between_to_end line 2 (length line) (omega arith) in
     let at : end ≡ position_or_len is_space fields =

@@ -3,8 +3,8 @@ use Rattle.std.proofs.Common.{◌≡◌, ◌++◌, sym, refl, subst, ℕ, Bool}
 use Rattle.std.proofs.Common.{List, Option, None, Some, Result, Ok, Err, IfErr, IfOk, true}
 use Rattle.std.proofs.Common.{inl, inr}
 use Rattle.std.specs.Prelude.{IfSome, is_some}
-use Rattle.bundle_files.specs.Files.{Held, IsJudgedOf, IsTextAt, lies_in}
-use Rattle.bundle_files.specs.Formula.{IsBundleBy, IsBundleOf, IsFront, IsReadFrom}
+use Rattle.bundle_files.specs.Files.{Held, IsJudgedOf, IsTextAt, may_lie_at}
+use Rattle.bundle_files.specs.Formula.{IsBundleBy, IsBundleOf, IsFormulaFront, IsReadFrom}
 use Rattle.bundle_files.specs.WhileRead.{IsBundleBelow, IsRefusedBelow, IsRefusedBy, IsRunBehind}
 use Rattle.bundle_files.specs.declared.formula.BegunBundle.{BegunBundle}
 use Rattle.bundle_files.proofs.FormulaReading.{bundle_read, count_refused}
@@ -75,7 +75,7 @@ behind_recorded gives asked draws report map icnf answer begun ended made text r
 module _ (gives : List ℕ → Type 0) (held : Held) (asked : Asked) (input : Option (List ℕ))
     (folder : asked.folder ≡ None)
     (reads : (bundle : List ℕ) → gives bundle
-    → IsBundleBy (lies_in held) asked.formula asked.file input bundle) where
+    → IsBundleBy (may_lie_at held) asked.formula asked.file input bundle) where
   read_alone : (bundle : List ℕ) → gives bundle
       → IsBundleOf held (sources_of asked) asked.folder input bundle bundle
   read_alone bundle given =
@@ -120,7 +120,7 @@ refused_if (Err fault) begun gives texts of refused = λ of_input.
 
 module _ (has : List ℕ → List ℕ → Type 0) (asked : Asked) (input : Option (List ℕ))
     (begun : BegunBundle) (gives : List ℕ → Type 0)
-    (is : IsFront has asked.formula begun.said begun.text.items)
+    (is : IsFormulaFront has asked.formula begun.said begun.text.items)
     (texts : (text : List ℕ) → gives text → IsTextAt has asked.file input text) where
   below_read : (bundle : List ℕ) → IsBundleBelow begun gives bundle
       → IsBundleBy has asked.formula asked.file input bundle
@@ -130,11 +130,11 @@ module _ (has : List ℕ → List ℕ → Type 0) (asked : Asked) (input : Optio
 
 module _ (held : Held) (asked : Asked) (input : Option (List ℕ)) (begun : BegunBundle)
     (gives : List ℕ → Type 0) (folder : asked.folder ≡ None)
-    (is : IsFront (lies_in held) asked.formula begun.said begun.text.items)
-    (texts : (text : List ℕ) → gives text → IsTextAt (lies_in held) asked.file input text) where
+    (is : IsFormulaFront (may_lie_at held) asked.formula begun.said begun.text.items)
+    (texts : (text : List ℕ) → gives text → IsTextAt (may_lie_at held) asked.file input text) where
   reads : (bundle : List ℕ) → IsBundleBelow begun gives bundle
-      → IsBundleBy (lies_in held) asked.formula asked.file input bundle
-  reads = below_read (lies_in held) asked input begun gives is texts
+      → IsBundleBy (may_lie_at held) asked.formula asked.file input bundle
+  reads = below_read (may_lie_at held) asked input begun gives is texts
 
   refused_below : (fault : Fault) → IsRefusedBelow begun gives fault
       → IsRefusedFrom held asked input fault
@@ -201,7 +201,7 @@ handed_alone gives hands asked input report map answer made reads run says =
 -- of a bundle that was begun, and goes on with a text that was given so
 pub handed_below : (run : Result Recorded Fault) (has : List ℕ → List ℕ → Type 0) (asked : Asked)
     (input : Option (List ℕ)) (begun : BegunBundle) (gives : List ℕ → Type 0)
-    → IsFront has asked.formula begun.said begun.text.items
+    → IsFormulaFront has asked.formula begun.said begun.text.items
     → ((text : List ℕ) → gives text → IsTextAt has asked.file input text)
     → IfOk run (λ made. IsRunRecorded (IsBundleBelow begun gives) asked made.outcome.text.items
     made.outcome.map.items made.outcome.refuted made.bytes.items)

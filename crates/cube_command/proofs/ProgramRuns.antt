@@ -4,7 +4,7 @@ use Rattle.std.proofs.Common.{[], Option, None, Some, ◌++◌}
 use Rattle.std.specs.Prelude.{IfSome, is_some, option_map, if◌then◌else◌}
 use Rattle.std.proofs.Common.{Result, Ok, Err, IfErr, OnErr, inl, inr, arith}
 use Rattle.std.specs.Io.KnownBytes.{Appends, Keeps}
-use Rattle.bundle_files.specs.Files.{Held, Gives, IsJudgedOf, lies_in}
+use Rattle.bundle_files.specs.Files.{Held, IsGivenAt, IsJudgedOf, may_lie_at}
 use Rattle.bundle_files.specs.Formula.{IsBundleOf, IsReadBy, IsReadFrom}
 use Rattle.bundle_files.proofs.FormulaText.{published}
 use Rattle.bundle_files.proofs.LawsFormula.{judged_unsatisfiable}
@@ -36,7 +36,7 @@ pub made_there : (after : Held) (path : Option (List ℕ)) (owed written : List 
     IsMade after path owed
 made_there after None owed written is there = tt
 made_there after (Some path) owed written is there =
-    subst (Gives after path) (ap (λ (bytes : List ℕ). Some bytes) (is path refl)) there
+    subst (IsGivenAt after path) (ap (λ (bytes : List ℕ). Some bytes) (is path refl)) there
 
 -- whether there is a path is whether there is its text
 pub some_mapped : {A B : Type 0} (f : A → B) (path : Option A) (there : Bool) →
@@ -69,7 +69,7 @@ read_for : (held : Held) (asked : Asked) (proof input : Option (List ℕ)) (read
     → IsReadFrom held (sources_of asked) (input_handed proof input) read
 read_for held asked None input read whole bundle = bundle.is_read
 read_for held asked (Some path) input read whole bundle =
-    bundle_by (lies_in held) asked.formula asked.file (of_one_proof bundle.0) read
+    bundle_by (may_lie_at held) asked.formula asked.file (of_one_proof bundle.0) read
     bundle.2.is_read
 
 -- what was written, the picture and the record are those of the report on the bundle that was
@@ -203,7 +203,7 @@ sound_run held later asked input out_old out_new report = (
 -- status 0, where the formula has a file of its own
 abbrev pub IsPublishedAt : Held → List ℕ → Type 0
 IsPublishedAt held path =
-    (text : List ℕ) × Gives held path (Some text)
+    (text : List ℕ) × IsGivenAt held path (Some text)
     × (formula : List (List Literal)) × IsDimacs text formula × HasNoModel formula
 
 pub published_run : (held later : Held) (asked : Asked) (input out_old out_new : Option (List ℕ))
@@ -213,7 +213,7 @@ pub published_run : (held later : Held) (asked : Asked) (input out_old out_new :
 published_run held later asked input out_old out_new None same report = tt
 published_run held later asked input out_old out_new (Some path) same report =
     let given = given_for held asked asked.proof input report.read report.whole report.bundle in
-    published (lies_in held) held path asked.file given.0 asked.folder report.read report.whole
+    published (may_lie_at held) held path asked.file given.0 asked.folder report.read report.whole
     report.correct.case
     (subst (λ (f : Option (List ℕ)). IsReadBy held f asked.file given.0 report.read) same
     given.1.is_read) given.1.is_judged report.correct.judged.case_is

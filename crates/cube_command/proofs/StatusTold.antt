@@ -120,15 +120,6 @@ input_of_three fault is =
       | inr (inr (inr device)) ↦ absurd (omega (arith, is, of_device fault device))
     ]
 
-pub three_of_input : (fault : Fault) → IsInputFault fault → status_of fault ≡ 3
-three_of_input fault is =
-    elim (kind_of fault) [
-      | inl input ↦ input.1
-      | inr (inl memory) ↦ absurd (is.0 memory)
-      | inr (inr (inl thread)) ↦ absurd (is.2 thread)
-      | inr (inr (inr device)) ↦ absurd (is.1 device)
-    ]
-
 pub with_four : (fault : Fault) → status_of fault ≡ 4 → (fault ≡ Memory) ⊎ (fault ≡ Thread)
 with_four fault is =
     elim (kind_of fault) [

@@ -1,6 +1,6 @@
 -- What the program is for: what its status says of a formula. All else is said in Program.
 use Rattle.std.specs.Prelude.{◌≡◌, ℕ, List, Option, Some, IfSome}
-use Rattle.bundle_files.specs.Files.{Held, Gives}
+use Rattle.bundle_files.specs.Files.{Held, IsGivenAt}
 use Rattle.bundle_files.specs.Formula.{IsHandedFrom, IsReadFrom}
 use Rattle.cube_report.specs.Literal.{Literal}
 use Rattle.cube_report.specs.Dimacs.{IsDimacs}
@@ -23,7 +23,7 @@ IsSound status held asked input =
 -- which no assignment makes all clauses true.
 abbrev pub IsPublished : ℕ → Held → Asked → Type 0
 IsPublished status held asked =
-    status ≡ 0 → IfSome asked.formula (λ path. (text : List ℕ) × Gives held path (Some text)
+    status ≡ 0 → IfSome asked.formula (λ path. (text : List ℕ) × IsGivenAt held path (Some text)
     × (formula : List (List Literal)) × IsDimacs text formula × HasNoModel formula)
 
 -- a reading of this path handed over the DIMACS text of a formula of which no assignment makes all

@@ -2,7 +2,7 @@
 use Rattle.std.specs.Prelude.{◌≡◌, ◌<◌, ℕ, Bool, List, ◌++◌, true, false, ⊤, ◌⊎◌, codes, Option}
 use Rattle.std.specs.Prelude.{None, Some}
 use Rattle.std.specs.Io.KnownBytes.{Appends}
-use Rattle.bundle_files.specs.Files.{Held, Gives}
+use Rattle.bundle_files.specs.Files.{Held, IsGivenAt}
 use Rattle.bundle_files.specs.Formula.{IsBundleOf, IsFormulaFault}
 use Rattle.cube_report.specs.Case.{CaseOf}
 use Rattle.cube_report.specs.Mark.{Mark}
@@ -38,7 +38,7 @@ status_of _ = 3
 -- where a file is asked for, these bytes lie at its path, as far as is known
 abbrev pub IsMade : Held → Option (List ℕ) → List ℕ → Type 0
 IsMade held None bytes = ⊤
-IsMade held (Some path) bytes = Gives held path (Some bytes)
+IsMade held (Some path) bytes = IsGivenAt held path (Some bytes)
 
 -- the bundle that is read for what is asked for, and the one that is judged: with DIR's proofs
 abbrev pub IsBundleFor : Held → Asked → Option (List ℕ) → List ℕ → List ℕ → Type 0

@@ -2,7 +2,7 @@
 use Rattle.std.specs.Prelude.{◌≡◌, List, ℕ, ◌++◌, codes, Option, None, Some, if◌then◌else◌}
 use Rattle.std.specs.Str.{bytes_eq}
 use Rattle.case_core.specs.Binary.{proof_text}
-use Rattle.bundle_files.specs.Files.{Held, IsTextAt, lies_in}
+use Rattle.bundle_files.specs.Files.{Held, IsTextAt, may_lie_at}
 use Rattle.bundle_files.specs.Formula.{Sources, sources_by}
 use Rattle.cube_command.specs.Words.{Asked}
 
@@ -23,7 +23,7 @@ file_at path = if bytes_eq path (codes "-") then None else Some path
 -- stands for
 abbrev pub IsProofAt : Held → List ℕ → Option (List ℕ) → List ℕ → Type 0
 IsProofAt held path input proof =
-    (bytes : List ℕ) × IsTextAt (lies_in held) (file_at path) input bytes
+    (bytes : List ℕ) × IsTextAt (may_lie_at held) (file_at path) input bytes
     × (proof ≡ proof_text bytes)
 
 -- this is so of what is read where no file has the cubes and proofs: of the input, or of one proof

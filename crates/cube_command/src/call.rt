@@ -11,7 +11,8 @@ pub(crate) struct Call<'r, 'a, R, G> {
     pub(crate) gate: &'a G,
 }
 
-// A derive would ask that `R` and `G` are `Copy`, too.
+// It is `Copy`, since what isn't is dropped, and a derived `Drop` would ask for one of `R` and `G`.
+// A derived `Copy` would ask that they are `Copy`, too.
 impl<'r, 'a, R, G> Clone for Call<'r, 'a, R, G> {
     fn clone(&self) -> Result<Self, AllocError> {
         Ok(*self)

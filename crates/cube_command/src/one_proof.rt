@@ -11,7 +11,7 @@ ghost use Rattle.command_words.specs.Request.{asked_in};
 ghost use Rattle.cube_report.specs.Bundle.{icnf_text};
 ghost use Rattle.cube_report.specs.Device.{IsDeviceFault, IsLeft};
 ghost use Rattle.cube_report.specs.Faults.{IsInputFault};
-ghost use Rattle.bundle_files.specs.Files.{IsTextAt, StaysAllowed, lies_in};
+ghost use Rattle.bundle_files.specs.Files.{IsTextAt, StaysAllowed, may_lie_at};
 ghost use Rattle.bundle_files.specs.Judging.{IsJudgingFault, IsRefusedWith};
 ghost use Rattle.cube_command.specs.Headline.{IsRefutedFrom};
 ghost use Rattle.cube_command.specs.Program.{IsRefusedFrom};
@@ -89,7 +89,7 @@ fn find_proof<D: Store>(store: &mut D, path: &str) -> Result<(), DeviceFault>
     ensures held { D.held store.new ≡ D.held store.old }
     ensures allowed { StaysAllowed (D.allows store.old) (D.allows store.new) }
     ensures found { OnOk result ((input : Option (List ℕ)) → (bytes : List ℕ)
-        × IsTextAt (lies_in (D.held store.old)) (file_at path.now) input bytes) }
+        × IsTextAt (may_lie_at (D.held store.old)) (file_at path.now) input bytes) }
     ensures ok { OnOk result (D.failures store.new ≡ D.failures store.old) }
     ensures err { IfErr result
         (λ fault. IsDeviceFault (D.failures store.old) (D.failures store.new) fault) }
@@ -124,11 +124,11 @@ where
     ensures held { D.held store.new ≡ D.held store.old }
     ensures allowed { StaysAllowed (D.allows store.old) (D.allows store.new) }
     ensures made { IfOk result (λ made. IsRecordedWith
-        (IsTextAt (lies_in (D.held store.old)) (file_at path.now) (I.remaining input.old))
+        (IsTextAt (may_lie_at (D.held store.old)) (file_at path.now) (I.remaining input.old))
         (asked_in call.now.request.now) one.bundle.items made.outcome.text.items
         made.outcome.map.items made.outcome.refuted made.bytes.items) }
     ensures fault { IfErr result (λ fault. IsInputFault fault → IsRefusedWith
-        (IsTextAt (lies_in (D.held store.old)) (file_at path.now) (I.remaining input.old))
+        (IsTextAt (may_lie_at (D.held store.old)) (file_at path.now) (I.remaining input.old))
         one.bundle.items fault) }
     ensures ok { OnOk result ((D.failures store.new ≡ D.failures store.old)
         × (I.failures input.new ≡ I.failures input.old)) }
@@ -159,11 +159,11 @@ where
     requires free { proof_for one.case.sections (Named (Cube 1)) ≡ None }
     ensures held { D.held store.new ≡ D.held store.old }
     ensures allowed { StaysAllowed (D.allows store.old) (D.allows store.new) }
-    ensures made { IfOk result (λ made. IsRecordedWith (lies_in (D.held store.old) path.now)
+    ensures made { IfOk result (λ made. IsRecordedWith (may_lie_at (D.held store.old) path.now)
         (asked_in call.now.request.now) one.bundle.items made.outcome.text.items
         made.outcome.map.items made.outcome.refuted made.bytes.items) }
     ensures fault { IfErr result (λ fault. IsInputFault fault
-        → IsRefusedWith (lies_in (D.held store.old) path.now) one.bundle.items fault) }
+        → IsRefusedWith (may_lie_at (D.held store.old) path.now) one.bundle.items fault) }
     ensures ok { OnOk result (D.failures store.new ≡ D.failures store.old) }
     ensures err { IfErr result (IsJudgingFault (D.failures store.old) (D.failures store.new)) }
 {

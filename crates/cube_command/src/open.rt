@@ -1,7 +1,7 @@
 //! The leaves that a report doesn't call refuted.
 
 ghost use Rattle.std.specs.Prelude.{◌≡◌, ◌++◌, ◌≤◌, length, true, if◌then◌else◌, IfOk, OnOk};
-ghost use Rattle.cube_command.specs.Open.{leaf_name, number_of, open_name, open_names};
+ghost use Rattle.cube_command.specs.Open.{leaf_field, leaf_of_line, open_name, open_names};
 
 use std::alloc::{AllocError, Global};
 
@@ -55,7 +55,7 @@ fn add_name(names: &mut Vec<u8>, line: &[u8]) -> Result<(), AllocError>
 fn add_number(names: &mut Vec<u8>, letter: &[u8], line: &[u8]) -> Result<(), AllocError>
     requires { 2 ≤ length line.now }
     ensures { OnOk result (names.new.items
-        ≡ names.old.items ++ leaf_name letter.now line.now) }
+        ≡ names.old.items ++ leaf_of_line letter.now line.now) }
 {
     names.extend_from_slice(letter)?;
     names.extend_from_slice(number_in(line))?;
@@ -66,7 +66,7 @@ fn add_number(names: &mut Vec<u8>, letter: &[u8], line: &[u8]) -> Result<(), All
 /// The second field of a line whose first has one letter.
 fn number_in(line: &[u8]) -> &[u8]
     requires { 2 ≤ length line.now }
-    ensures { result.now ≡ number_of line.now }
+    ensures { result.now ≡ leaf_field line.now }
 {
     let fields = &line[2..];
     let end = fields.iter().position(|byte| *byte == b' ');

@@ -5,14 +5,14 @@ ghost use Rattle.std.specs.Prelude.{option_map, true, false, None, Some, IfOk, I
 ghost use Rattle.std.specs.Prelude.{IsErrOf, IfSome, [], Option};
 ghost use Rattle.std.specs.Io.KnownBytes.{Appends, Keeps};
 ghost use Rattle.cube_report.specs.Device.{AppendsBeginning, IsDeviceFault};
-ghost use Rattle.bundle_files.specs.Files.{StaysAllowed, lies_in};
+ghost use Rattle.bundle_files.specs.Files.{StaysAllowed, may_lie_at};
 ghost use Rattle.bundle_files.specs.Formula.{IsReadBy};
 ghost use Rattle.bundle_files.specs.Judging.{IsOutcomeOf, IsRefusedOf, IsJudgingFault};
 ghost use Rattle.bundle_files.specs.Sections.{IsCaseOf};
 ghost use Rattle.cube_report.specs.Faults.{IsInputFault};
 ghost use Rattle.cube_command.specs.Headline.{IsPublished, IsRefutedAsHanded, IsSound};
 ghost use Rattle.cube_command.specs.Headline.{IsRefutedFrom, IsSoundAsHanded};
-ghost use Rattle.cube_command.specs.Words.{AreApart, AreTaken, asked_of, IsElsewhere, IsInput};
+ghost use Rattle.cube_command.specs.Words.{HaveTwoPaths, AreTaken, asked_of, IsElsewhere, IsInput};
 ghost use Rattle.cube_command.specs.Sources.{IsSoBy};
 ghost use Rattle.cube_command.specs.Words.{GoesWith, nothing_asked};
 ghost use Rattle.cube_command.specs.Record.{record_text};
@@ -257,7 +257,7 @@ where
     requires alone { GoesWith (asked_in call.now.request.now).proof
         (asked_in call.now.request.now).formula (asked_in call.now.request.now).file
         (asked_in call.now.request.now).folder }
-    requires apart { AreApart (asked_in call.now.request.now).picture
+    requires apart { HaveTwoPaths (asked_in call.now.request.now).picture
         (asked_in call.now.request.now).out }
     ensures report { IfOk result
         (IsReported (D.held store.old) (D.held store.new) (asked_in call.now.request.now)
@@ -331,7 +331,7 @@ where
     requires alone { GoesWith (asked_in call.now.request.now).proof
         (asked_in call.now.request.now).formula (asked_in call.now.request.now).file
         (asked_in call.now.request.now).folder }
-    requires apart { AreApart (asked_in call.now.request.now).picture
+    requires apart { HaveTwoPaths (asked_in call.now.request.now).picture
         (asked_in call.now.request.now).out }
     ensures report { IfOk result
         (IsReported (D.held store.old) (D.held store.new) (asked_in call.now.request.now)
@@ -552,7 +552,7 @@ fn write_outcome<D: Store, O: Sink>(
         → D.allows store.old path made.now.outcome.map.items }
     requires recorded { (path : List ℕ) → (asked_in request.now).out ≡ Some path
         → D.allows store.old path made.now.bytes.items }
-    requires apart { AreApart (asked_in request.now).picture (asked_in request.now).out }
+    requires apart { HaveTwoPaths (asked_in request.now).picture (asked_in request.now).out }
     ensures drawn { OnOk result (IsMade (D.held store.new) (asked_in request.now).picture
         made.now.outcome.map.items) }
     ensures recorded { OnOk result (IsMade (D.held store.new) (asked_in request.now).out

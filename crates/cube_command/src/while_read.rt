@@ -6,7 +6,7 @@ ghost use Rattle.std.specs.Bool.{OnFalse, OnTrue};
 ghost use Rattle.command_words.specs.Request.{asked_in};
 ghost use Rattle.cube_report.specs.Device.{IsLeft};
 ghost use Rattle.cube_report.specs.Faults.{IsInputFault};
-ghost use Rattle.bundle_files.specs.Files.{StaysAllowed, lies_in};
+ghost use Rattle.bundle_files.specs.Files.{StaysAllowed, may_lie_at};
 ghost use Rattle.bundle_files.specs.Judging.{IsJudgingFault};
 ghost use Rattle.bundle_files.specs.Formula.{ArePlainLines};
 ghost use Rattle.bundle_files.specs.WhileRead.{IsBundleBelow, IsRefusedBelow};
@@ -83,11 +83,11 @@ where
     ensures held { D.held store.new ≡ D.held store.old }
     ensures allowed { StaysAllowed (D.allows store.old) (D.allows store.new) }
     ensures made { IfOk result (λ made. IsRunRecorded (IsBundleBelow begun
-        (λ text. lies_in (D.held store.old) path.now text × D.hands path.now text))
+        (λ text. may_lie_at (D.held store.old) path.now text × D.hands path.now text))
         (asked_in call.now.request.now) made.outcome.text.items made.outcome.map.items
         made.outcome.refuted made.bytes.items) }
     ensures fault { IfErr result (λ fault. IsInputFault fault
-        → IsRefusedBelow begun (lies_in (D.held store.old) path.now) fault) }
+        → IsRefusedBelow begun (may_lie_at (D.held store.old) path.now) fault) }
     ensures ok { OnOk result (D.failures store.new ≡ D.failures store.old) }
     ensures err { IfErr result (IsJudgingFault (D.failures store.old) (D.failures store.new)) }
 {

@@ -7,7 +7,7 @@ use Rattle.std.proofs.lemmas.List.Concat.{flat_map-append}
 use Rattle.cube_jobs.specs.declared.rule.Knowledge.{Knowledge}
 use Rattle.cube_jobs.specs.Places.{times, EachOnce}
 use Rattle.cube_jobs.specs.Rule.{knowing}
-use Rattle.cube_jobs.specs.Jobs.{JobPassOf, JobsOf, IsPassOf, claims_of, new_pass}
+use Rattle.cube_jobs.specs.Jobs.{IsJobPassOf, JobPassOf, JobsOf, claims_of, new_pass}
 use Rattle.cube_jobs.proofs.RuleTotals.{times-append}
 
 -- a pass that is popped and the passes that are left have the claims of all
@@ -23,7 +23,8 @@ each_once_popped n all others last is each place =
 
 -- what is known once as many passes as there are were merged
 pub each_once_merged : (jobs : JobsOf) (all others : List JobPassOf) (last : JobPassOf) (count : ℕ)
-    (known : Knowledge) → all ≡ others ++ last ∷ [] → IsPassOf jobs last → count + 1 ≡ jobs.passes
+    (known : Knowledge) → all ≡ others ++ last ∷ [] → IsJobPassOf jobs last
+    → count + 1 ≡ jobs.passes
     →
     known ≡ knowing last.sections last.passes (1 + count) (last.claims ++ flat_map claims_of others)
     → (known.shares ≡ known.all_shares → EachOnce known.sections known.claims) →

@@ -8,8 +8,9 @@ use Rattle.std.proofs.lemmas.List.{drop_more, drop_all, take_all}
 use Rattle.std.proofs.lemmas.Bool.Decides.{nat_tests}
 use Rattle.std.proofs.lemmas.Str.Parse.{IsNumeralModel, numerals_by_fold}
 use Rattle.std.proofs.lemmas.Fmt.{digits_value-decimal}
-use Rattle.cube_join.specs.Inner.Fields.{EndsNumber, Lacks}
-use Rattle.cube_join.proofs.Bytes.{AreDigits, decimal_digits}
+use Rattle.cube_join.specs.Inner.Fields.{EndsNumber}
+use Rattle.node_fields.specs.Bytes.{Lacks}
+use Rattle.node_fields.proofs.FieldBytes.{AreDigits, decimal_digits}
 
 -- ---- lines
 

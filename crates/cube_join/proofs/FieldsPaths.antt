@@ -6,7 +6,7 @@ use Rattle.std.proofs.lemmas.Fmt.{decimal_nonempty, decimal_digit}
 use Rattle.case_core.specs.Literal.{Literal, IsVariable}
 use Rattle.node_fields.specs.Fields.{literal_field}
 use Rattle.cube_join.specs.Inner.Fields.{EndsNumber, AreVariables, path_text}
-use Rattle.cube_join.proofs.Bytes.{AreDigits, decimal_digits}
+use Rattle.node_fields.proofs.FieldBytes.{AreDigits, decimal_digits}
 
 -- ---- the sign
 

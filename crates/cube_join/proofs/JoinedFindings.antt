@@ -25,7 +25,7 @@ use Rattle.mark_board.specs.declared.mark.Mark.TheVariants.{Open, Refuted, Rejec
 use Rattle.mark_board.specs.Marking.{is_refuted, mark_at, refuted_by}
 use Rattle.mark_board.specs.Findings.{mark_as, AreFindings}
 use Rattle.cube_report.specs.Report.{cube_node}
-use Rattle.cube_join.specs.Joined.{AreApart, joined, joined_mark}
+use Rattle.cube_join.specs.Joined.{ShareNoTarget, joined, joined_mark}
 use Rattle.cube_join.proofs.Telling.{cube_stands}
 use Rattle.cube_join.proofs.JoinedMarks.{mark_joined, long_joined, open_last}
 
@@ -183,7 +183,7 @@ of_apart case target (Some t) (Some u) m n (inr none) h k = cc
 
 -- the joined marks of findings with such sections are the findings with all of them
 pub apart_findings : (formula : List (List Literal)) (tree : SplitTree) (xs ys : List SectionOf)
-    (a b : List Mark) → AreApart xs ys → AreFindings (case_with formula tree xs) a →
+    (a b : List Mark) → ShareNoTarget xs ys → AreFindings (case_with formula tree xs) a →
     AreFindings (case_with formula tree ys) b →
     AreFindings (case_with formula tree (xs ++ ys)) (joined a b)
 apart_findings formula tree xs ys a b apart h k = record {

@@ -15,49 +15,10 @@ use Rattle.mark_board.specs.declared.mark.Mark.TheVariants.{Open, Refuted, Rejec
 use Rattle.mark_board.specs.Marking.{is_refuted, mark_at}
 use Rattle.mark_board.proofs.MarkingLaws.{test_same, test_other}
 use Rattle.node_fields.specs.Fields.{number_field, literal_field, reason_field, status_fields}
-use Rattle.cube_join.specs.Inner.Fields.{Lacks}
-use Rattle.cube_join.proofs.Bytes.{lacks_append, cut, AreDigits, decimal_digits, lacks_digits}
-
--- ---- words without a byte
-
-has_none : ℕ → List ℕ → Bool
-has_none d [] = true
-has_none d (b ∷ bs) = if b == d then false else has_none d bs
-
-lacks_it : (d : ℕ) (bs : List ℕ) → has_none d bs ≡ true → Lacks d bs
-unfolding has_none
-lacks_it d [] h = tt
-lacks_it d (b ∷ bs) h = elim (cases_eq b d) [
-  | inl same ↦ let clash : false ≡ true = rw (test_same b d same) at h in cc
-  | inr other ↦ (other, lacks_it d bs (rw (test_other b d other) at h))
-]
-
-reason_lacks : (r : Reason) → Lacks 10 (reason_field r)
-unfolding has_none
-reason_lacks Unreadable = lacks_it 10 (codes " unreadable") refl
-reason_lacks Id = lacks_it 10 (codes " id") refl
-reason_lacks Hint = lacks_it 10 (codes " hint") refl
-reason_lacks NotUnit = lacks_it 10 (codes " unit") refl
-reason_lacks Empty = lacks_it 10 (codes " empty") refl
-reason_lacks Group = lacks_it 10 (codes " group") refl
-reason_lacks Candidate = lacks_it 10 (codes " candidate") refl
-reason_lacks End = lacks_it 10 (codes " end") refl
-
-pub number_lacks : (n : ℕ) → Lacks 10 (number_field n)
-unfolding has_none
-number_lacks n =
-    lacks_append 10 (codes " ") (decimal n) (lacks_it 10 (codes " ") refl)
-    (lacks_digits 10 (decimal n) (omega arith) (decimal_digits n))
-
-status_lacks : (m : Mark) → Lacks 10 (status_fields m)
-unfolding has_none
-status_lacks Open = lacks_it 10 (codes " open") refl
-status_lacks Refuted = lacks_it 10 (codes " refuted") refl
-status_lacks (Rejected step reason) =
-    lacks_append 10 (codes " rejected") (number_field step ++ reason_field reason)
-    (lacks_it 10 (codes " rejected") refl)
-    (lacks_append 10 (number_field step) (reason_field reason) (number_lacks step)
-    (reason_lacks reason))
+use Rattle.node_fields.specs.Bytes.{Lacks}
+use Rattle.node_fields.proofs.FieldBytes.{AreDigits, decimal_digits, lacks_append, lacks_digits}
+use Rattle.node_fields.proofs.FieldBytes.{lacks_it, number_lacks, status_lacks}
+use Rattle.cube_join.proofs.Bytes.{cut}
 
 -- ---- statuses
 

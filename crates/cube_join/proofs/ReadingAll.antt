@@ -11,10 +11,9 @@ use Rattle.node_fields.specs.Fields.{number_field, answer_line}
 use Rattle.cube_report.specs.Report.{total_line, cube_lines, missing_lines, node_lines, open_lines}
 use Rattle.cube_report.specs.Report.{weight_line}
 use Rattle.cube_join.specs.Joined.{HasSmallSteps, IsLegible, IsToldBy}
-use Rattle.cube_join.specs.Inner.Fields.{Lacks}
+use Rattle.node_fields.specs.Bytes.{Lacks}
 use Rattle.cube_join.specs.Inner.Reading.{AreFound, HasCube, HasMissing, HasMarked, IsOther}
-use Rattle.cube_join.proofs.Bytes.{lacks_append}
-use Rattle.cube_join.proofs.Lines.{number_lacks}
+use Rattle.node_fields.proofs.FieldBytes.{lacks_append, number_lacks}
 use Rattle.cube_join.proofs.ReadingMarks.{all_found}
 use Rattle.cube_join.proofs.Telling.{closing_lines, closing_other, parts_are, behind_first}
 

@@ -74,8 +74,8 @@ AreReportsWith formula tree (report ∷ reports) =
     IsReportWith formula tree report × AreReportsWith formula tree reports
 
 -- each target has a section in one of the two lists at most
-abbrev pub AreApart : List SectionOf → List SectionOf → Type 0
-AreApart one other =
+abbrev pub ShareNoTarget : List SectionOf → List SectionOf → Type 0
+ShareNoTarget one other =
     (target : Target) → (proof_for one target ≡ None) ⊎ (proof_for other target ≡ None)
 
 -- the steps at which proofs were rejected have numbers of 64 bits, as in all that a program writes

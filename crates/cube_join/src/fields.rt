@@ -6,7 +6,8 @@ ghost use Rattle.std.specs.Prelude.{IfOk, IfSome, IsNone, IsSomeAnd, MatchOption
 ghost use Rattle.std.specs.Option.{SomeIff};
 ghost use Rattle.case_core.specs.Literal.{Literal, IsVariable};
 ghost use Rattle.node_fields.specs.Fields.{literal_field};
-ghost use Rattle.cube_join.specs.Inner.Fields.{EndsNumber, AreVariables, Lacks, path_text};
+ghost use Rattle.cube_join.specs.Inner.Fields.{EndsNumber, AreVariables, path_text};
+ghost use Rattle.node_fields.specs.Bytes.{Lacks};
 
 use case_core::Lit;
 use std::alloc::{AllocError, Global};

@@ -11,7 +11,7 @@ ghost use Rattle.mark_board.specs.Findings.{AreFindings};
 ghost use Rattle.cube_report.specs.Correct.{IsJudged, IsUnsatisfiable};
 ghost use Rattle.cube_report.specs.Report.{report_text};
 ghost use Rattle.cube_join.specs.Joined.{AreReportsWith, AreToldBy, IsReportWith, all_joined};
-ghost use Rattle.cube_join.specs.Joined.{AreApart, joined, none_marked};
+ghost use Rattle.cube_join.specs.Joined.{ShareNoTarget, joined, none_marked};
 
 /// A report tells which nodes are refuted: two lists of marks with one report refute the same
 /// nodes.
@@ -45,7 +45,7 @@ pub fn a_join_is_a_report()
 /// run finds over all sections: so their joined report has the bytes of that run's.
 pub fn a_split_run_is_one_run()
     ensures { (formula : List (List Literal)) (tree : SplitTree) (one other : List SectionOf)
-        (first second : List Mark) → AreApart one other
+        (first second : List Mark) → ShareNoTarget one other
         → AreFindings (record { formula = formula; tree = tree; sections = one }) first
         → AreFindings (record { formula = formula; tree = tree; sections = other }) second
         → AreFindings (record { formula = formula; tree = tree; sections = one ++ other })

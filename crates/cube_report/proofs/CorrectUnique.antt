@@ -24,7 +24,7 @@ use Rattle.mark_board.specs.Marking.{marked, mark_at, refuted_by}
 use Rattle.mark_board.specs.Findings.{mark_as, IsMarkOf, AreFindings}
 use Rattle.cube_report.specs.Correct.{IsJudged, IsReportOn, IsAnswerOn}
 use Rattle.cube_report.specs.Report.{report_text}
-use Rattle.cube_report.proofs.ReportLines.{missing_stands}
+use Rattle.split_tree.proofs.LeavesNodes.{missing_stands}
 
 -- ---- a target stands at each node
 

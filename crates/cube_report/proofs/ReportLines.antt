@@ -13,8 +13,8 @@ use Rattle.split_tree.specs.declared.node.Leaf.TheVariants.{Cube as CubeLeaf}
 use Rattle.split_tree.specs.declared.node.Leaf.TheVariants.{Missing as MissingLeaf}
 use Rattle.split_tree.specs.declared.node.Target.{Target}
 use Rattle.split_tree.specs.declared.node.Target.TheVariants.{Leaf as Named}
-use Rattle.split_tree.specs.Navigation.{AreBranches}
 use Rattle.split_tree.proofs.NodesCoding.{length-subtrees}
+use Rattle.split_tree.proofs.LeavesNodes.{missing_stands}
 use Rattle.mark_board.specs.declared.mark.Mark.{Mark}
 use Rattle.mark_board.specs.Marking.{NodeWithTree, mark_at}
 use Rattle.mark_board.specs.Boards.{AreTargetsAt}
@@ -88,12 +88,6 @@ missing_more tree marks n (x ∷ nodes) (suc b) l =
     (missing_line (suc n + b) (path_at tree (get_or nodes b 0))
     (mark_at marks (get_or nodes b 0)))))
 
--- the target of each missing leaf, numbered from 1, stands at that leaf's node
-pub missing_stands : (tree : SplitTree) (b : ℕ) → b < length (missing_nodes tree) →
-    IsTargetAt tree (get_or (missing_nodes tree) b 0) (Named (MissingLeaf (b + 1)))
-missing_stands tree b l =
-    let q : (b + 1) - 1 ≡ b = omega arith in (omega arith, omega arith, rw q refl)
-
 -- ---- inner nodes
 
 -- what is written of one node
@@ -133,15 +127,6 @@ pub split_part : (tree : SplitTree) (marks : List Mark) (node : ℕ) (t : SplitT
 split_part tree marks node missing s = absurd s
 split_part tree marks node (cube k) s = absurd s
 split_part tree marks node (split v p n) s = refl
-
-splits : (t : SplitTree) (v : ℕ) (p n : SplitTree) → t ≡ split v p n → IsSplit t
-splits t v p n e = rw e tt
-
--- a node with branches is an inner node
-pub is_split : (tree : SplitTree) (node first second : ℕ) → AreBranches tree node first second →
-    IsSplit (subtree_at tree node)
-is_split tree node first second b =
-    splits (subtree_at tree node) b.variable b.positive b.negative b.is
 
 -- a leaf has no line among those of the inner nodes
 pub leaf_part : (tree : SplitTree) (marks : List Mark) (node : ℕ) (t : SplitTree) → IsLeaf t →

@@ -7,7 +7,7 @@ use Rattle.std.specs.List.{flat_map}
 use Rattle.std.proofs.lemmas.Grind.{flat_map-append}
 use Rattle.std.proofs.lemmas.List.{map-append}
 use Rattle.std.proofs.lemmas.List.Elements.{All-append, All-cons, All-nil}
-use Rattle.file_store.specs.Files.{AreAdded, Gives, Held}
+use Rattle.file_store.specs.Files.{AreAdded, Held, IsGivenAt}
 use Rattle.proof_folder.specs.Added.{section_text}
 use Rattle.proof_folder.specs.Added.{proof_path}
 
@@ -24,7 +24,7 @@ added_more held folder first second bundle part whole before after = record {
       map-append (λ (leaf : Leaf). leaf.0) before.leaves after.leaves
       ∙ ap₂ (λ (a b : List (List ℕ)). a ++ b) before.named after.named;
   files =
-      All-append (λ (leaf : Leaf). Gives held (proof_path folder leaf.0) leaf.1) before.leaves
+      All-append (λ (leaf : Leaf). IsGivenAt held (proof_path folder leaf.0) leaf.1) before.leaves
       after.leaves before.files after.files;
   text = after.text ∙ ap (λ (b : List ℕ). b ++ flat_map section after.leaves) before.text
       ∙ append_assoc bundle (flat_map section before.leaves) (flat_map section after.leaves)
@@ -39,18 +39,18 @@ pub nothing_added : (held : Held) (folder bundle : List ℕ) → AreAdded held f
 nothing_added held folder bundle = record {
   leaves = [];
   named = refl;
-  files = All-nil (λ (leaf : Leaf). Gives held (proof_path folder leaf.0) leaf.1);
+  files = All-nil (λ (leaf : Leaf). IsGivenAt held (proof_path folder leaf.0) leaf.1);
   text = sym (append-nil bundle);
 }
 
 pub one_leaf : (held : Held) (folder name bundle whole : List ℕ) (proof : Option (List ℕ))
-    → Gives held (proof_path folder name) proof → whole ≡ bundle ++ section_text name proof
+    → IsGivenAt held (proof_path folder name) proof → whole ≡ bundle ++ section_text name proof
     → AreAdded held folder (name ∷ []) bundle whole
 one_leaf held folder name bundle whole proof known text = record {
   leaves = (name, proof) ∷ [];
   named = refl;
   files =
-      All-cons (λ (leaf : Leaf). Gives held (proof_path folder leaf.0) leaf.1) (name, proof) []
-      known (All-nil (λ (leaf : Leaf). Gives held (proof_path folder leaf.0) leaf.1));
+      All-cons (λ (leaf : Leaf). IsGivenAt held (proof_path folder leaf.0) leaf.1) (name, proof) []
+      known (All-nil (λ (leaf : Leaf). IsGivenAt held (proof_path folder leaf.0) leaf.1));
   text = text ∙ ap (λ (t : List ℕ). bundle ++ t) (sym (append-nil (section_text name proof)));
 }

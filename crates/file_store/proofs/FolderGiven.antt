@@ -7,14 +7,14 @@ use Rattle.std.specs.String.{string_bytes}
 use Rattle.std.proofs.lemmas.List.{drop-drop}
 use Rattle.byte_flow.specs.Device.{HasGiven}
 use Rattle.proof_folder.specs.Added.{proof_path, section_text}
-use Rattle.file_store.specs.Files.{AreAdded, Gives, Held, as_proofs, held_if}
-use Rattle.file_store.specs.Folder.{IsSectionOf, folder_gives, names_left}
+use Rattle.file_store.specs.Files.{AreAdded, Held, IsGivenAt, as_proofs, held_if}
+use Rattle.file_store.specs.Folder.{IsAddedSection, folder_gives, names_left}
 use Rattle.file_store.specs.declared.folder.FolderText.{FolderText}
 use Rattle.file_store.proofs.FilesSections.{added_more, nothing_added, one_leaf}
 
 -- a leaf's section stands in memory
 leaf_read : (held : Held) (folder name part : List ℕ) (names : List (List ℕ)) (whole : List ℕ)
-    → IsSectionOf (held (proof_path folder name)) name part
+    → IsAddedSection (held (proof_path folder name)) name part
     → AreAdded held folder names part whole → AreAdded held folder (name ∷ names) [] whole
 leaf_read held folder name part names whole is added =
     added_more held folder (name ∷ []) names [] part whole
@@ -52,7 +52,7 @@ some_added held folder (name ∷ names) bundle =
     )
   where
     known : (o : Option (Option (List ℕ)))
-        → (given : Option (List ℕ)) × Gives (λ _. o) (proof_path folder name) given
+        → (given : Option (List ℕ)) × IsGivenAt (λ _. o) (proof_path folder name) given
     known None = (None, tt)
     known (Some lies) = (lies, refl)
 
@@ -151,7 +151,7 @@ module _ {F : Type 0} (knows : F → Bool) (files : F → List ℕ → Option (L
   pub leaf_goes_on : (first now new : FolderText F) (name : List ℕ) → IsSameFolder first now
       → GoesOn first now → drop now.at now.part.items ≡ []
       → names_left now.leaves ≡ name ∷ names_left new.leaves → new.at ≡ 0
-      → IsSectionOf (proofs_of now.files.opener (proof_path (string_bytes now.folder) name)) name
+      → IsAddedSection (proofs_of now.files.opener (proof_path (string_bytes now.folder) name)) name
       new.part.items → GoesOn first new
   leaf_goes_on first now new name was on empty names start is whole added =
       on whole
@@ -161,9 +161,9 @@ module _ {F : Type 0} (knows : F → Bool) (files : F → List ℕ → Option (L
       (name ∷ names_left new.leaves) p whole) (sym empty)
       (leaf_read (proofs_of first.files.opener) (string_bytes first.folder) name new.part.items
       (names_left new.leaves) whole
-      (subst (λ (h : Held). IsSectionOf (h (proof_path (string_bytes first.folder) name)) name
+      (subst (λ (h : Held). IsAddedSection (h (proof_path (string_bytes first.folder) name)) name
       new.part.items) (proofs_same first now was)
-      (subst (λ (f : List ℕ). IsSectionOf (proofs_of now.files.opener (proof_path f name)) name
+      (subst (λ (f : List ℕ). IsAddedSection (proofs_of now.files.opener (proof_path f name)) name
       new.part.items) (ap string_bytes was.folder) is))
       (subst (λ (n : ℕ). AreAdded (proofs_of first.files.opener) (string_bytes first.folder)
       (names_left new.leaves) (drop n new.part.items) whole) start added))))

@@ -22,12 +22,12 @@ abbrev pub Held : Type 0
 Held = List ℕ → Option (Option (List ℕ))
 
 -- what reading a path gave, no file or these bytes, is what is known to lie there
-abbrev pub Gives : Held → List ℕ → Option (List ℕ) → Type 0
-Gives held path given = IfSome (held path) (λ known. given ≡ known)
+abbrev pub IsGivenAt : Held → List ℕ → Option (List ℕ) → Type 0
+IsGivenAt held path given = IfSome (held path) (λ known. given ≡ known)
 
 -- a text that lies at a path, as far as is known
-abbrev pub lies_in : Held → List ℕ → List ℕ → Type 0
-lies_in held path text = Gives held path (Some text)
+abbrev pub may_lie_at : Held → List ℕ → List ℕ → Type 0
+may_lie_at held path text = IsGivenAt held path (Some text)
 
 -- what may be written at a path may still be written there
 abbrev pub StaysAllowed : (List ℕ → List ℕ → Type 0) → (List ℕ → List ℕ → Type 0) → Type 0
@@ -48,7 +48,7 @@ IsTextAt has (Some path) input text = has path text
 
 -- the bundle that is read: that of the file that is asked for, or the input
 abbrev pub IsRead : Held → Option (List ℕ) → Option (List ℕ) → List ℕ → Type 0
-IsRead held file input bundle = IsTextAt (lies_in held) file input bundle
+IsRead held file input bundle = IsTextAt (may_lie_at held) file input bundle
 
 -- so many names of leaves of a kind, from this number on
 abbrev pub names_from : List ℕ → ℕ → ℕ → List (List ℕ)
@@ -80,7 +80,7 @@ pub record AreAdded (held : Held) (folder : List ℕ) (names : List (List ℕ)) 
     : Type 0 where
   pub leaves : List (List ℕ × Option (List ℕ))
   pub named : map (λ leaf. leaf.0) leaves ≡ names
-  pub files : All (λ leaf. Gives held (proof_path folder leaf.0) leaf.1) leaves
+  pub files : All (λ leaf. IsGivenAt held (proof_path folder leaf.0) leaf.1) leaves
   pub text : whole ≡ bundle ++ flat_map (λ leaf. section_text leaf.0 leaf.1) leaves
 
 -- the whole is the bundle with the folder's proofs for all leaves of its tree

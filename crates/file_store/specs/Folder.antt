@@ -13,8 +13,8 @@ names_left leaves =
     ++ names_from (codes "m") (suc leaves.missing_done) (leaves.missing - leaves.missing_done)
 
 -- what a leaf of this name adds, by what is known to lie at its path
-abbrev pub IsSectionOf : Option (Option (List ℕ)) → List ℕ → List ℕ → Type 0
-IsSectionOf known name text =
+abbrev pub IsAddedSection : Option (Option (List ℕ)) → List ℕ → List ℕ → Type 0
+IsAddedSection known name text =
     (given : Option (List ℕ)) × IfSome known (λ held. given ≡ held)
     × (text ≡ section_text name given)
 

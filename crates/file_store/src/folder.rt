@@ -6,7 +6,7 @@ ghost use Rattle.std.specs.String.{string_bytes};
 ghost use Rattle.byte_flow.specs.Device.{IsDeviceFault};
 ghost use Rattle.case_core.specs.Binary.{proof_text};
 ghost use Rattle.file_store.specs.Files.{AreAdded, IsFound, held_if, leaf_names};
-ghost use Rattle.file_store.specs.Folder.{IsSectionOf, folder_gives, names_left};
+ghost use Rattle.file_store.specs.Folder.{IsAddedSection, folder_gives, names_left};
 ghost use Rattle.proof_folder.specs.Added.{proof_path};
 ghost use Rattle.proof_folder.specs.Given.{name_of};
 
@@ -145,7 +145,7 @@ impl<F: Opener> FolderText<F> {
         ensures folder { self.new.folder ≡ self.old.folder }
         ensures leaves { self.new.leaves ≡ self.old.leaves }
         ensures start { self.new.at ≡ 0 }
-        ensures read { OnOk result (IsSectionOf
+        ensures read { OnOk result (IsAddedSection
             (option_map (λ lies. option_map proof_text lies)
             (held_if (F.knows self.old.files.opener) (F.files self.old.files.opener
             (proof_path (string_bytes self.old.folder) name.now))))
@@ -176,7 +176,7 @@ impl<F: Opener> FolderText<F> {
         ensures folder { self.new.folder ≡ self.old.folder }
         ensures read { IfOk result (λ more. more ≡ true → (name : List ℕ)
             × (names_left self.old.leaves ≡ name ∷ names_left self.new.leaves)
-            × (self.new.at ≡ 0) × IsSectionOf
+            × (self.new.at ≡ 0) × IsAddedSection
             (option_map (λ lies. option_map proof_text lies)
             (held_if (F.knows self.old.files.opener) (F.files self.old.files.opener
             (proof_path (string_bytes self.old.folder) name))))

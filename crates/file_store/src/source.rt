@@ -2,7 +2,7 @@
 ghost use Rattle.std.specs.Prelude.{◌≡◌, ◌<◌, ◌^◌, ◌-◌, ◌+◌, option_map, IfSome};
 ghost use Rattle.std.specs.Prelude.{IfErr, OnOk};
 ghost use Rattle.byte_flow.specs.Device.{GrewBy, IsDeviceFault};
-ghost use Rattle.file_store.specs.Files.{IsAppended, StaysAllowed, lies_in};
+ghost use Rattle.file_store.specs.Files.{IsAppended, StaysAllowed, may_lie_at};
 
 use crate::store::Store;
 use byte_flow::{DeviceFault, Source, read_to_end};
@@ -25,7 +25,7 @@ pub fn append_given<D: Store, I: Source>(
     ensures allowed { StaysAllowed (D.allows store.old) (D.allows store.new) }
     // They are those of the file or of the input, and what one reading of the file handed over.
     ensures appended { OnOk result
-        (IsAppended (lies_in (D.held store.old)) (option_map (λ path. path.now) file.entry)
+        (IsAppended (may_lie_at (D.held store.old)) (option_map (λ path. path.now) file.entry)
         (I.remaining input.old) bytes.old.items bytes.new.items) }
     ensures handed { OnOk result
         (IsAppended D.hands (option_map (λ path. path.now) file.entry) (I.remaining input.old)
@@ -61,7 +61,7 @@ pub fn append_file<D: Store>(
     ensures allowed { StaysAllowed (D.allows store.old) (D.allows store.new) }
     // They are the file's, and what a reading handed over.
     ensures read { OnOk result
-        (GrewBy (lies_in (D.held store.old) path.now) bytes.old.items bytes.new.items) }
+        (GrewBy (may_lie_at (D.held store.old) path.now) bytes.old.items bytes.new.items) }
     ensures handed { OnOk result (GrewBy (D.hands path.now) bytes.old.items bytes.new.items) }
     // The device is at fault exactly where a call failed.
     ensures ok { OnOk result (D.failures store.new ≡ D.failures store.old) }

@@ -4,8 +4,8 @@ ghost use Rattle.std.specs.Prelude.{IfOk, IfErr, IfSome, OnOk, OnErr, true, opti
 ghost use Rattle.case_core.specs.Target.{Target};
 ghost use Rattle.byte_flow.specs.Device.{IsDeviceFault};
 ghost use Rattle.proof_folder.specs.TargetProofs.{IsOpenedOf};
-ghost use Rattle.file_store.specs.Files.{Gives, GivesOneOf, IsFound, StaysAllowed};
-ghost use Rattle.file_store.specs.Files.{StaysAllowedBeside, lies_in};
+ghost use Rattle.file_store.specs.Files.{GivesOneOf, IsFound, IsGivenAt, StaysAllowed};
+ghost use Rattle.file_store.specs.Files.{StaysAllowedBeside, may_lie_at};
 ghost use Rattle.file_store.specs.Files.{AreAdded, as_proofs, held_if, leaf_names};
 ghost use Rattle.case_core.specs.Binary.{proof_text};
 ghost use Rattle.file_store.specs.Files.{held_for};
@@ -54,7 +54,7 @@ pub trait Store {
         ensures held { held self.new ≡ held self.old }
         ensures allowed { StaysAllowed (allows self.old) (allows self.new) }
         ensures lies { IfOk result (λ file.
-            GivesOneOf (lies_in (held self.old) path.now) (Self.Opened.remaining file)) }
+            GivesOneOf (may_lie_at (held self.old) path.now) (Self.Opened.remaining file)) }
         ensures handed { IfOk result
             (λ file. GivesOneOf (hands path.now) (Self.Opened.remaining file)) }
         ensures none { IfOk result (λ file. Self.Opened.failures file ≡ 0) }
@@ -128,7 +128,7 @@ pub trait Store {
     fn write(&mut self, path: &str, bytes: &[u8], spared: &Spared) -> Result<(), DeviceFault>
         requires count { failures self.old < 2 ^ 64 - 1 }
         requires allowed { allows self.old path.now bytes.now }
-        ensures written { OnOk result (Gives (held self.new) path.now (Some bytes.now)) }
+        ensures written { OnOk result (IsGivenAt (held self.new) path.now (Some bytes.now)) }
         ensures elsewhere { (other : List ℕ) → other ≢ path.now
             → held self.new other ≡ held self.old other }
         ensures beside { OnOk result
@@ -150,7 +150,7 @@ pub trait Store {
     ) -> Result<(), DeviceFault>
         requires count { failures self.old < 2 ^ 64 - 1 }
         requires allowed { allows self.old path.now bytes.now }
-        ensures written { OnOk result (Gives (held self.new) path.now (Some bytes.now)) }
+        ensures written { OnOk result (IsGivenAt (held self.new) path.now (Some bytes.now)) }
         ensures elsewhere { (other : List ℕ) → other ≢ path.now
             → held self.new other ≡ held self.old other }
         ensures beside { OnOk result

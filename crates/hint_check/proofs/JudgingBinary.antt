@@ -4,7 +4,7 @@ use Rattle.lrat_text.specs.StepWords.{Cut, proof_with}
 use Rattle.lrat_text.proofs.ProofUnique.{has_proof}
 use Rattle.lrat_text.proofs.OpenMore.{left-begun}
 use Rattle.lrat_binary_words.specs.Binary.{text_of}
-use Rattle.lrat_binary_words.specs.Words.{cut_of, left_of, symbols_behind}
+use Rattle.lrat_binary_words.specs.Words.{cut_of, left_between, symbols_behind}
 use Rattle.lrat_binary_words.proofs.WordsMore.{binary_more, binary_last, binary_proof}
 use Rattle.hint_check.specs.Live.{Live}
 use Rattle.hint_check.specs.Inner.Steps.{Open, judged_in, GoesOn, IsHalt}
@@ -27,7 +27,7 @@ begun_binary live number unread begun bytes is none =
 
 -- at the end
 pub ends_binary : (live : Live) (number : ℕ) (steps : Open) (begun : List ℕ) →
-    steps ≡ left_of begun →
+    steps ≡ left_between begun →
     judged_in live number (proof_with steps []) ≡ judged_left live number (text_of (begun ++ []))
 ends_binary live number steps begun is =
     ap (λ (s : Open). judged_in live number (proof_with s [])) is
@@ -35,7 +35,7 @@ ends_binary live number steps begun is =
     ∙ ap (λ b. judged_left live number (text_of b)) (sym (append-nil begun))
 
 module _ (before : Live) (first : ℕ) (old : Open) (live : Live) (number : ℕ) (new : Open)
-    (bytes left : List ℕ) (from_bytes : old ≡ left_of bytes) where
+    (bytes left : List ℕ) (from_bytes : old ≡ left_between bytes) where
   from_front : (rest : List ℕ) →
       judged_left before first (text_of (bytes ++ rest))
       ≡ judged_in before first (proof_with old (symbols_behind (cut_of 0 bytes) rest))
@@ -55,7 +55,7 @@ module _ (before : Live) (first : ℕ) (old : Open) (live : Live) (number : ℕ)
 
   -- they don't, and these bytes are left
   pub steps_judged : (behind : List ℕ) → GoesOn before first old live number new →
-      new ≡ left_of behind → new.cut ≡ old.cut → left ≡ behind →
+      new ≡ left_between behind → new.cut ≡ old.cut → left ≡ behind →
       GoesOnBinary before first bytes None live number left
   steps_judged behind goes reads cut is = record {
     is_open = goes.none_empty;

@@ -18,7 +18,7 @@ use Rattle.cube_join.specs.Joined.{IsJoined, IsJoinedSoFar}
 use Rattle.cube_join.proofs.JoinedAll.{is_joined}
 use Rattle.join_command.specs.declared.fault.JoinFault.{JoinFault}
 use Rattle.join_command.specs.declared.fault.JoinFault.TheVariants.{Run, Stranger}
-use Rattle.join_command.specs.Words.{Asked, sources_of}
+use Rattle.join_command.specs.Words.{JoinAsked, join_sources_of}
 use Rattle.join_command.specs.Program.{AreFiles, AreRead, AreTextsAt, IsJoinBegun, IsJoinOf}
 use Rattle.join_command.specs.Program.{IsJoinWritten}
 use Rattle.join_command.specs.Program.{IsStrangerAt, behind_each, line_before}
@@ -133,8 +133,8 @@ far_known held hands paths line bundle text answer far =
     (far.0, texts_known held hands paths (behind_each line far.0) far.1, far.2)
 
 -- what was read, and what a join of it promises
-pub join_of : (held : Held) (asked : Asked) (bundle line text : List ℕ) (answer : Bool) →
-    IsReadFrom held (sources_of asked) None bundle → line ≡ line_before asked.unbound bundle →
+pub join_of : (held : Held) (asked : JoinAsked) (bundle line text : List ℕ) (answer : Bool) →
+    IsReadFrom held (join_sources_of asked) None bundle → line ≡ line_before asked.unbound bundle →
     ((reports : List (List ℕ)) × AreFiles held asked.records (behind_each line reports)
     × IsJoined bundle reports text answer)
     → (texts : List (List ℕ)) × AreRead held asked bundle texts
@@ -146,8 +146,8 @@ join_of held asked bundle line text answer there is far = (
 )
 
 -- it was written
-pub join_written : (held : Held) (asked : Asked) (bundle line text : List ℕ) (answer : Bool)
-    (old new : Option (List ℕ)) → IsReadFrom held (sources_of asked) None bundle →
+pub join_written : (held : Held) (asked : JoinAsked) (bundle line text : List ℕ) (answer : Bool)
+    (old new : Option (List ℕ)) → IsReadFrom held (join_sources_of asked) None bundle →
     line ≡ line_before asked.unbound bundle →
     ((reports : List (List ℕ)) × AreFiles held asked.records (behind_each line reports)
     × IsJoined bundle reports text answer)
@@ -166,9 +166,9 @@ join_written held asked bundle line text answer old new there is far written =
     }
 
 -- or a beginning of it
-pub join_begun : {T E : Type 0} (result : Result T E) (held : Held) (asked : Asked)
+pub join_begun : {T E : Type 0} (result : Result T E) (held : Held) (asked : JoinAsked)
     (bundle line text : List ℕ) (answer : Bool) (old new : Option (List ℕ)) (before after : ℕ) →
-    IsReadFrom held (sources_of asked) None bundle → line ≡ line_before asked.unbound bundle →
+    IsReadFrom held (join_sources_of asked) None bundle → line ≡ line_before asked.unbound bundle →
     ((reports : List (List ℕ)) × AreFiles held asked.records (behind_each line reports)
     × IsJoined bundle reports text answer)
     → AppendsBeginning old new text → after ≡ before + 1 →

@@ -11,25 +11,26 @@ use Rattle.case_core.specs.Bundle.{icnf_text}
 use Rattle.case_core.specs.Case.{CaseOf}
 use Rattle.case_core.specs.Sections.{IsCaseOf}
 use Rattle.case_core.proofs.IcnfUnique.{one_text_of, text_of}
-use Rattle.bundle_files.specs.Files.{Held, Gives, lies_in}
+use Rattle.bundle_files.specs.Files.{Held, IsGivenAt, may_lie_at}
 use Rattle.bundle_files.specs.Formula.{IsBundleBy, IsHandedFrom, IsReadBy, IsUnder}
 use Rattle.cube_join.specs.Joined.{IsJoined}
 use Rattle.bundle_files.proofs.FormulaText.{bundle_formula}
 use Rattle.cube_report.specs.declared.fault.Fault.{Fault}
-use Rattle.cube_report.specs.declared.fault.Fault.TheVariants.{Memory, Device}
+use Rattle.cube_report.specs.declared.fault.Fault.TheVariants.{Memory, Device, Thread}
 use Rattle.cube_report.specs.Faults.{IsInputFault}
 use Rattle.cube_report.specs.Correct.{IsUnsatisfiable}
-use Rattle.cube_command.specs.Program.{IsLineWritten, status_of as status_of_run}
-use Rattle.cube_command.proofs.StatusTold.{above_two as above_two_run, input_of_three}
-use Rattle.cube_command.proofs.StatusTold.{three_of_input}
+use Rattle.cube_command.specs.Program.{IsLineWritten}
+use Rattle.cube_command.proofs.StatusTold.{above_two as above_two_run, input_of_three, with_five}
+use Rattle.cube_command.proofs.StatusTold.{with_four}
 use Rattle.join_command.specs.declared.fault.JoinFault.{JoinFault}
 use Rattle.join_command.specs.declared.fault.JoinFault.TheVariants.{Run, Stranger}
 use Rattle.join_command.specs.Program.{AllowsJoinFaults, AreRead, AreTrusted}
-use Rattle.join_command.specs.Program.{IsJoinWritten, IsReadingFault, IsRefused, join_fault_line}
+use Rattle.join_command.specs.Program.{IsJoinRefused, IsJoinWritten, IsReadingFault}
+use Rattle.join_command.specs.Program.{join_fault_line}
 use Rattle.join_command.specs.Headline.{IsJoinedAsHanded}
 use Rattle.join_command.specs.Program.{AreTextsAt, behind_each, line_before}
 use Rattle.join_command.specs.Inner.Files.{lies_handed}
-use Rattle.join_command.specs.Words.{Asked, sources_of}
+use Rattle.join_command.specs.Words.{JoinAsked, join_sources_of}
 use Rattle.join_command.proofs.FilesJoined.{texts_handed}
 use Rattle.join_command.proofs.RecordsTold.{reports_told}
 use Rattle.join_command.specs.Inner.Files.{IsUnwritten}
@@ -54,27 +55,27 @@ device_five status old new before after (inl told) = told.0
 device_five status old new before after (inr told) = absurd (told.0.1 refl)
 
 -- why no joined report was written is want of memory or a device, or else a fault of what was read
-kinds : (held : Held) (asked : Asked) (before after : ℕ) (fault : Fault) →
+kinds : (held : Held) (asked : JoinAsked) (before after : ℕ) (fault : Fault) →
     IsUnwritten held asked before after (Run fault) →
-    (IsInputFault fault × IsRefused held asked (Run fault))
+    (IsInputFault fault × IsJoinRefused held asked (Run fault))
     ⊎ ((fault ≡ Memory) ⊎ (fault ≡ Device))
 kinds held asked before after fault (inl refused) = inl (refused.0, refused.2)
 kinds held asked before after fault (inr (inl memory)) = inr (inl memory.0)
 kinds held asked before after fault (inr (inr device)) = inr (inr device.0)
 
--- a status of a fault of a run that wasn't one of what was read
-status_kinds : (held : Held) (asked : Asked) (before after : ℕ)
-    (fault : Fault) → IsUnwritten held asked before after (Run fault) →
-    status_of_run fault ≢ 3 → (fault ≡ Memory) ⊎ (fault ≡ Device)
-status_kinds held asked before after fault why other =
+-- so no thread was refused
+no_thread : (held : Held) (asked : JoinAsked) (before after : ℕ) (fault : Fault) →
+    IsUnwritten held asked before after (Run fault) → fault ≢ Thread
+no_thread held asked before after fault why =
     elim (kinds held asked before after fault why) [
-      | inl read ↦ absurd (other (three_of_input fault read.0))
-      | inr kind ↦ kind
+      | inl refused ↦ refused.0.2
+      | inr (inl memory) ↦ λ thread. cc
+      | inr (inr device) ↦ λ thread. cc
     ]
 
 -- ---- status 0
 
-pub sound_join : (held : Held) (asked : Asked) (out_old out_new : Option (List ℕ))
+pub sound_join : (held : Held) (asked : JoinAsked) (out_old out_new : Option (List ℕ))
     → IsJoinWritten held asked out_old out_new true
     → (bundle : List ℕ) × (texts : List (List ℕ)) × AreRead held asked bundle texts
     × (AreTrusted asked.unbound bundle texts → IsUnsatisfiable bundle)
@@ -83,10 +84,10 @@ sound_join held asked out_old out_new written =
 
 -- ---- status 0, where the formula has a file of its own
 
-abbrev pub IsPublished : Held → Asked → List ℕ → Type 0
+abbrev pub IsPublished : Held → JoinAsked → List ℕ → Type 0
 IsPublished held asked path =
     (bundle : List ℕ) × (texts : List (List ℕ)) × AreRead held asked bundle texts
-    × (text : List ℕ) × Gives held path (Some text)
+    × (text : List ℕ) × IsGivenAt held path (Some text)
     × (formula : List (List Literal)) × IsDimacs text formula
     × (AreTrusted asked.unbound bundle texts → HasNoModel formula)
 
@@ -105,12 +106,12 @@ no_model_under has path file input read case under is none =
     (text_of (icnf_text read) is.items is.text) in
     subst HasNoModel (none.1.2 ∙ ap clauses_of one ∙ same) none.2
 
-pub published_join : (held : Held) (asked : Asked) (formula old new : Option (List ℕ)) →
+pub published_join : (held : Held) (asked : JoinAsked) (formula old new : Option (List ℕ)) →
     asked.formula ≡ formula → IsJoinWritten held asked old new true →
     IfSome formula (IsPublished held asked)
 published_join held asked None old new same join = tt
 published_join held asked (Some path) old new same join =
-    let under : IsUnder (lies_in held) path (Some asked.file) None join.bundle =
+    let under : IsUnder (may_lie_at held) path (Some asked.file) None join.bundle =
     subst (λ (f : Option (List ℕ)). IsReadBy held f (Some asked.file) None join.bundle) same
     join.read.of_file in (
       join.bundle,
@@ -121,17 +122,17 @@ published_join held asked (Some path) old new same join =
       under.formula,
       under.dimacs,
       λ are.
-          no_model_under (lies_in held) path (Some asked.file) None join.bundle
+          no_model_under (may_lie_at held) path (Some asked.file) None join.bundle
           join.joined.2.case under
           join.joined.2.case_is (join.sound are refl),
     )
 
 -- ---- status 3
 
-told_three : (held : Held) (asked : Asked) (fault : JoinFault)
+told_three : (held : Held) (asked : JoinAsked) (fault : JoinFault)
     (status : ℕ) (out_before out_after : ℕ) → status ≡ 3 → status ≡ status_of fault →
     IsUnwritten held asked out_before out_after fault →
-    IsReadingFault fault × IsRefused held asked fault
+    IsReadingFault fault × IsJoinRefused held asked fault
 told_three held asked (Stranger number) status out_before out_after is has why = (tt, why.1)
 told_three held asked (Run fault) status out_before out_after is has why =
     let input : IsInputFault fault = input_of_three fault (sym has ∙ is) in
@@ -141,11 +142,11 @@ told_three held asked (Run fault) status out_before out_after is has why =
       | inr (inr device) ↦ absurd (input.1 device)
     ]
 
-pub fault_join : (held : Held) (asked : Asked) (fault : JoinFault) (status : ℕ)
+pub fault_join : (held : Held) (asked : JoinAsked) (fault : JoinFault) (status : ℕ)
     (old new : Option (List ℕ)) (before after out_before out_after : ℕ)
     → IsFaultWritten fault status old new before after
     → IsUnwritten held asked out_before out_after fault → status ≡ 3
-    → (fault : JoinFault) × IsReadingFault fault × IsRefused held asked fault
+    → (fault : JoinFault) × IsReadingFault fault × IsJoinRefused held asked fault
     × IsLineWritten old new before after (join_fault_line fault)
 fault_join held asked fault status old new before after out_before out_after (inl told) why is =
     let both = told_three held asked fault status out_before out_after is told.0 why in
@@ -155,22 +156,18 @@ fault_join held asked fault status old new before after out_before out_after (in
 
 -- ---- statuses 4 and 5
 
-told_four : (held : Held) (asked : Asked) (fault : JoinFault)
+told_four : (held : Held) (asked : JoinAsked) (fault : JoinFault)
     (status out_before out_after : ℕ) → status ≡ 4 → status ≡ status_of fault →
     IsUnwritten held asked out_before out_after fault → fault ≡ Run Memory
 told_four held asked (Stranger number) status out_before out_after is has why =
     absurd (omega (arith, is, has))
 told_four held asked (Run fault) status out_before out_after is has why =
-    elim (status_kinds held asked out_before out_after fault why
-    (λ three. omega (arith, three, is, has))) [
-      | inl memory ↦ subst (λ (f : Fault). Run f ≡ Run Memory) (sym memory) refl
-      | inr device ↦
-          let five : status_of_run fault ≡ 5 =
-          subst (λ (f : Fault). status_of_run f ≡ 5) (sym device) refl in
-          absurd (omega (arith, five, is, has))
+    elim (with_four fault (sym has ∙ is)) [
+      | inl memory ↦ ap Run memory
+      | inr thread ↦ absurd (no_thread held asked out_before out_after fault why thread)
     ]
 
-pub memory_join : (held : Held) (asked : Asked) (fault : JoinFault) (status : ℕ)
+pub memory_join : (held : Held) (asked : JoinAsked) (fault : JoinFault) (status : ℕ)
     (old new : Option (List ℕ)) (before after out_before out_after : ℕ)
     → IsFaultWritten fault status old new before after
     → IsUnwritten held asked out_before out_after fault → status ≡ 4
@@ -181,22 +178,12 @@ memory_join held asked fault status old new before after out_before out_after (i
 memory_join held asked fault status old new before after out_before out_after (inr told) why is =
     told.2
 
-told_five : (held : Held) (asked : Asked) (fault : JoinFault)
-    (status out_before out_after : ℕ) → status ≡ 5 → status ≡ status_of fault →
-    IsUnwritten held asked out_before out_after fault → fault ≡ Run Device
-told_five held asked (Stranger number) status out_before out_after is has why =
-    absurd (omega (arith, is, has))
-told_five held asked (Run fault) status out_before out_after is has why =
-    elim (status_kinds held asked out_before out_after fault why
-    (λ three. omega (arith, three, is, has))) [
-      | inr device ↦ subst (λ (f : Fault). Run f ≡ Run Device) (sym device) refl
-      | inl memory ↦
-          let four : status_of_run fault ≡ 4 =
-          subst (λ (f : Fault). status_of_run f ≡ 4) (sym memory) refl in
-          absurd (omega (arith, four, is, has))
-    ]
+told_five : (fault : JoinFault) (status : ℕ) → status ≡ 5 → status ≡ status_of fault
+    → fault ≡ Run Device
+told_five (Stranger number) status is has = absurd (omega (arith, is, has))
+told_five (Run fault) status is has = ap Run (with_five fault (sym has ∙ is))
 
-pub device_join : (held : Held) (asked : Asked) (fault : JoinFault) (status : ℕ)
+pub device_join : (held : Held) (asked : JoinAsked) (fault : JoinFault) (status : ℕ)
     (old new : Option (List ℕ)) (before after out_before out_after : ℕ)
     → IsFaultWritten fault status old new before after
     → IsUnwritten held asked out_before out_after fault → status ≡ 5
@@ -205,12 +192,12 @@ device_join held asked fault status old new before after out_before out_after (i
     let four : status ≡ 4 = told.1 in absurd (omega arith)
 device_join held asked fault status old new before after out_before out_after (inl told) why is =
     subst (λ (f : JoinFault). IsLineWritten old new before after (join_fault_line f))
-    (told_five held asked fault status out_before out_after is told.0 why) told.1
+    (told_five fault status is told.0) told.1
 
 -- ---- what may be written
 
 -- want of memory may be told of any files
-pub memory_allowed : (texts : List ℕ → Type 0) (held : Held) (asked : Asked) →
+pub memory_allowed : (texts : List ℕ → Type 0) (held : Held) (asked : JoinAsked) →
     AllowsJoinFaults texts held asked →
     texts (join_fault_line (Run Memory))
 memory_allowed texts held asked may = may (Run Memory) (λ read. absurd (read.0 refl))
@@ -234,9 +221,9 @@ formula_handed hands (Some path) file bundle case Premise under case_is none = (
 )
 
 -- a join that says refuted, of texts that were handed over
-pub join_handed : (held : Held) (hands : List ℕ → List ℕ → Type 0) (asked : Asked)
+pub join_handed : (held : Held) (hands : List ℕ → List ℕ → Type 0) (asked : JoinAsked)
     (bundle line text : List ℕ) (answer : Bool)
-    → IsHandedFrom hands (sources_of asked) None bundle
+    → IsHandedFrom hands (join_sources_of asked) None bundle
     → line ≡ line_before asked.unbound bundle
     → (reports : List (List ℕ))
     × AreTextsAt (lies_handed held hands) asked.records (behind_each line reports)

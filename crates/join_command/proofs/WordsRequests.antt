@@ -10,14 +10,14 @@ use Rattle.clap.specs.Words.{matches_of}
 use Rattle.clap.proofs.OnLiterals.{clap_on_literals}
 use Rattle.clap.proofs.WalkLemmas.{first_value-rows, raw_values-rows}
 use Rattle.cube_command.specs.Words.{is_given}
-use Rattle.join_command.specs.Words.{AreTaken, asked_of, words_taken}
+use Rattle.join_command.specs.Words.{AreTakenToJoin, join_asked_of, join_words}
 use Rattle.join_command.specs.Inner.Words.{records_found}
 
 -- the file that the parser's matches hold is the one that the words ask for
 pub file_asked : (parser : Command) (matches : ArgMatches) (words : List Text)
-    → app_of parser ≡ words_taken
+    → app_of parser ≡ join_words
     → HasMatchesOf (app_of parser) words matches →
-    unwrap_or (first_value (found_of matches) (codes "file")) [] ≡ (asked_of words).file
+    unwrap_or (first_value (found_of matches) (codes "file")) [] ≡ (join_asked_of words).file
 file_asked parser matches words is has =
     ap (λ found. unwrap_or found []) (first_value-rows (found_of matches) (codes "file")
     ∙ ap (first_of (codes "file"))
@@ -25,9 +25,9 @@ file_asked parser matches words is has =
 
 -- so is the formula's own
 pub formula_asked : (parser : Command) (matches : ArgMatches) (words : List Text)
-    → app_of parser ≡ words_taken
+    → app_of parser ≡ join_words
     → HasMatchesOf (app_of parser) words matches →
-    first_value (found_of matches) (codes "formula") ≡ (asked_of words).formula
+    first_value (found_of matches) (codes "formula") ≡ (join_asked_of words).formula
 formula_asked parser matches words is has =
     first_value-rows (found_of matches) (codes "formula")
     ∙ ap (first_of (codes "formula"))
@@ -35,9 +35,9 @@ formula_asked parser matches words is has =
 
 -- so are the records
 pub records_asked : (parser : Command) (matches : ArgMatches) (words : List Text)
-    → app_of parser ≡ words_taken
+    → app_of parser ≡ join_words
     → HasMatchesOf (app_of parser) words matches →
-    records_found (found_of matches) ≡ (asked_of words).records
+    records_found (found_of matches) ≡ (join_asked_of words).records
 records_asked parser matches words is has =
     ap (λ found. unwrap_or found []) (raw_values-rows (found_of matches) (codes "records")
     ∙ ap (all_of (codes "records"))
@@ -45,9 +45,9 @@ records_asked parser matches words is has =
 
 -- so is whether they are plain reports
 pub unbound_asked : (parser : Command) (matches : ArgMatches) (words : List Text)
-    → app_of parser ≡ words_taken
+    → app_of parser ≡ join_words
     → HasMatchesOf (app_of parser) words matches →
-    is_given (first_value (found_of matches) (codes "unbound")) ≡ (asked_of words).unbound
+    is_given (first_value (found_of matches) (codes "unbound")) ≡ (join_asked_of words).unbound
 unbound_asked parser matches words is has =
     ap is_given (first_value-rows (found_of matches) (codes "unbound")
     ∙ ap (first_of (codes "unbound"))
@@ -59,18 +59,18 @@ pub handed_on : {T E : Type 0} (result : Result T E) (P : E → Type 0) (error :
 handed_on (Ok value) P error holds is = tt
 handed_on (Err e) P error holds is = subst P (sym is) holds
 
-are_simple : is_simple_and_free words_taken ≡ true
+are_simple : is_simple_and_free join_words ≡ true
 unfolding clap_on_literals
 are_simple = refl
 
-parser_simple : (parser : Command) → app_of parser ≡ words_taken →
+parser_simple : (parser : Command) → app_of parser ≡ join_words →
     is_simple_and_free (app_of parser) ≡ true
 parser_simple parser is = ap is_simple_and_free is ∙ are_simple
 
 -- words that were parsed are taken
-pub parsed_taken : (parser : Command) (words : List Text) → app_of parser ≡ words_taken
+pub parsed_taken : (parser : Command) (words : List Text) → app_of parser ≡ join_words
     → (is_simple_and_free (app_of parser) ≡ true → fault_of (app_of parser) words ≡ []) →
-    AreTaken words
+    AreTakenToJoin words
 parsed_taken parser words is parsed =
     sym (ap (λ (a : App). fault_of a words) is) ∙ parsed (parser_simple parser is)
 

@@ -11,11 +11,11 @@ use Rattle.cube_report.specs.Faults.{IsInputFault, fault_text}
 use Rattle.cube_report.specs.Device.{AppendsBeginning}
 use Rattle.cube_report.specs.Bundle.{icnf_text}
 use Rattle.cube_report.specs.Correct.{IsFaultOn, IsUnsatisfiable}
-use Rattle.bundle_files.specs.Files.{Held, Gives, IsJudgedOf, lies_in}
+use Rattle.bundle_files.specs.Files.{Held, IsGivenAt, IsJudgedOf, may_lie_at}
 use Rattle.bundle_files.specs.Formula.{IsFormulaFault, IsReadFrom}
 use Rattle.cube_join.specs.Joined.{AreReportsWith, IsJoined, IsJoinedSoFar, IsStranger}
 use Rattle.cube_command.specs.Record.{IsRecordOn, digest_line}
-use Rattle.join_command.specs.Words.{Asked, sources_of}
+use Rattle.join_command.specs.Words.{JoinAsked, join_sources_of}
 use Rattle.join_command.specs.declared.fault.JoinFault.{JoinFault}
 use Rattle.join_command.specs.declared.fault.JoinFault.TheVariants.{Run, Stranger}
 
@@ -30,12 +30,12 @@ AreTextsAt has (path ∷ paths) (text ∷ texts) = has path text × AreTextsAt h
 
 -- at each path lies its text, as far as is known
 abbrev pub AreFiles : Held → List (List ℕ) → List (List ℕ) → Type 0
-AreFiles held paths texts = AreTextsAt (lies_in held) paths texts
+AreFiles held paths texts = AreTextsAt (may_lie_at held) paths texts
 
 -- the bundle of FILE, under the formula that has a file of its own, and the bytes of each RECORD
-pub record AreRead (held : Held) (asked : Asked) (bundle : List ℕ) (texts : List (List ℕ))
+pub record AreRead (held : Held) (asked : JoinAsked) (bundle : List ℕ) (texts : List (List ℕ))
     : Type 0 where
-  pub of_file : IsReadFrom held (sources_of asked) None bundle
+  pub of_file : IsReadFrom held (join_sources_of asked) None bundle
   pub of_records : AreFiles held asked.records texts
 
 -- ---- what is taken for granted
@@ -95,7 +95,8 @@ IsJoinOn unbound bundle texts text = (answer : Bool) × IsJoinOf unbound bundle 
 -- The joined report was written, and nothing more; its last line gives this answer, and where it
 -- says refuted, and the RECORDs are what is taken for granted, the formula of the bundle that was
 -- read has no model.
-pub record IsJoinWritten (held : Held) (asked : Asked) (old new : Option (List ℕ)) (answer : Bool)
+pub record IsJoinWritten (held : Held) (asked : JoinAsked) (old new : Option (List ℕ))
+    (answer : Bool)
     : Type 0 where
   pub bundle : List ℕ
   pub texts : List (List ℕ)
@@ -106,7 +107,7 @@ pub record IsJoinWritten (held : Held) (asked : Asked) (old new : Option (List �
   pub sound : AreTrusted asked.unbound bundle texts → answer ≡ true → IsUnsatisfiable bundle
 
 -- a beginning of the joined report was written
-pub record IsJoinBegun (held : Held) (asked : Asked) (old new : Option (List ℕ)) : Type 0 where
+pub record IsJoinBegun (held : Held) (asked : JoinAsked) (old new : Option (List ℕ)) : Type 0 where
   pub bundle : List ℕ
   pub texts : List (List ℕ)
   pub read : AreRead held asked bundle texts
@@ -128,7 +129,7 @@ pub record IsStrangerAt (held : Held) (line : List ℕ) (tree : SplitTree) (path
   pub marks : List Mark
   pub reports : IsJoinedSoFar tree before marks
   pub text : List ℕ
-  pub file : Gives held (get_or paths index []) (Some text)
+  pub file : IsGivenAt held (get_or paths index []) (Some text)
   pub stranger : (report : List ℕ) → text ≡ line ++ report → IsStranger tree report
 
 -- a fault of what was read, neither of memory, nor of a device, nor of a thread
@@ -139,12 +140,13 @@ IsReadingFault (Stranger number) = Unit {0}
 -- The bundle that was read has this fault, its first, or the formula's own file has it, or FILE has
 -- clauses that aren't in that file; or there is none, and the RECORD of this number is the first
 -- that isn't one of the bundle's formula and cubes.
-abbrev pub IsRefused : Held → Asked → JoinFault → Type 0
-IsRefused held asked (Run fault) =
-    ((bundle : List ℕ) × IsReadFrom held (sources_of asked) None bundle × IsFaultOn bundle fault)
+abbrev pub IsJoinRefused : Held → JoinAsked → JoinFault → Type 0
+IsJoinRefused held asked (Run fault) =
+    ((bundle : List ℕ) × IsReadFrom held (join_sources_of asked) None bundle
+    × IsFaultOn bundle fault)
     ⊎ IsFormulaFault held asked.formula (Some asked.file) None fault
-IsRefused held asked (Stranger number) =
-    (bundle : List ℕ) × IsReadFrom held (sources_of asked) None bundle
+IsJoinRefused held asked (Stranger number) =
+    (bundle : List ℕ) × IsReadFrom held (join_sources_of asked) None bundle
     × (case : CaseOf) × IsCaseOf bundle case
     × IsStrangerAt held (line_before asked.unbound bundle) case.tree asked.records number
 
@@ -158,7 +160,7 @@ join_fault_line fault = codes "cubejoin: " ++ join_fault_text fault ++ codes "\n
 
 -- These texts have the line of each fault that a run may end with: of the faults of what was read,
 -- that of the files that the words ask for.
-abbrev pub AllowsJoinFaults : (List ℕ → Type 0) → Held → Asked → Type 0
+abbrev pub AllowsJoinFaults : (List ℕ → Type 0) → Held → JoinAsked → Type 0
 AllowsJoinFaults texts held asked =
-    (fault : JoinFault) → (IsReadingFault fault → IsRefused held asked fault)
+    (fault : JoinFault) → (IsReadingFault fault → IsJoinRefused held asked fault)
     → texts (join_fault_line fault)

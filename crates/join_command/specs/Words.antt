@@ -8,8 +8,8 @@ use Rattle.bundle_files.specs.Formula.{Sources, sources_by}
 use Rattle.cube_command.specs.Words.{flag_word, is_given, path_word, with_version}
 
 -- one text without a name, which has to be there
-abbrev pub file_word : Rule
-file_word = record (new_rule (codes "file")) { value_names = 1; required = true }
+abbrev pub needed_file_word : Rule
+needed_file_word = record (new_rule (codes "file")) { value_names = 1; required = true }
 
 -- texts without a name, one at least
 abbrev pub records_word : Rule
@@ -21,32 +21,32 @@ records_word = record (new_rule (codes "records")) {
 }
 
 -- the words of `cubejoin`
-abbrev pub words_taken : App
-words_taken =
+abbrev pub join_words : App
+join_words =
     with_rule (with_rule (with_rule (with_rule (with_version (new_app (codes "cubejoin")))
-    (path_word (codes "formula"))) (flag_word (codes "unbound"))) file_word) records_word
+    (path_word (codes "formula"))) (flag_word (codes "unbound"))) needed_file_word) records_word
 
 -- these words fit that: `clap` finds no fault in them, and they ask for neither help nor the
 -- version
-abbrev pub AreTaken : List Text → Type 0
-AreTaken words = fault_of words_taken words ≡ []
+abbrev pub AreTakenToJoin : List Text → Type 0
+AreTakenToJoin words = fault_of join_words words ≡ []
 
 -- what words ask for: the formula's own file, where it has one, FILE, the RECORDs in order, and
 -- whether they are plain reports
-pub record Asked : Type 0 where
+pub record JoinAsked : Type 0 where
   pub formula : Option Text
   pub file : Text
   pub records : List Text
   pub unbound : Bool
 
-abbrev pub asked_of : List Text → Asked
-asked_of words = record {
-  formula = first_of (codes "formula") (matches_of words_taken words);
-  file = unwrap_or (first_of (codes "file") (matches_of words_taken words)) [];
-  records = unwrap_or (all_of (codes "records") (matches_of words_taken words)) [];
-  unbound = is_given (first_of (codes "unbound") (matches_of words_taken words));
+abbrev pub join_asked_of : List Text → JoinAsked
+join_asked_of words = record {
+  formula = first_of (codes "formula") (matches_of join_words words);
+  file = unwrap_or (first_of (codes "file") (matches_of join_words words)) [];
+  records = unwrap_or (all_of (codes "records") (matches_of join_words words)) [];
+  unbound = is_given (first_of (codes "unbound") (matches_of join_words words));
 }
 
 -- the files that make the bundle that is read
-abbrev pub sources_of : Asked → Sources
-sources_of asked = sources_by asked.formula (Some asked.file)
+abbrev pub join_sources_of : JoinAsked → Sources
+join_sources_of asked = sources_by asked.formula (Some asked.file)

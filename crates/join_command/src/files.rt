@@ -3,7 +3,7 @@
 ghost use Rattle.std.specs.Prelude.{◌≡◌, ◌≢◌, ◌<◌, ◌^◌, ◌-◌, ◌++◌, ℕ, List, Some, None, map};
 ghost use Rattle.std.specs.Prelude.{IfOk, IfErr, MatchOption, OnOk, option_map};
 ghost use Rattle.cube_report.specs.Mark.{Mark};
-ghost use Rattle.bundle_files.specs.Files.{Gives};
+ghost use Rattle.bundle_files.specs.Files.{IsGivenAt};
 ghost use Rattle.cube_report.specs.Device.{IsDeviceFault};
 ghost use Rattle.bundle_files.specs.Formula.{IsHandedFrom, IsReadFrom, sources_by};
 ghost use Rattle.cube_join.specs.Joined.{IsJoinedSoFar, IsLegible, IsToldBy, joined};
@@ -70,7 +70,7 @@ pub(crate) fn read_whole<D: Store>(
 ) -> Result<Vec<u8>, DeviceFault>
     requires store { D.failures store.old < 2 ^ 64 - 1 }
     ensures held { D.held store.new ≡ D.held store.old }
-    ensures text { IfOk result (λ text. Gives (D.held store.old) path.now (Some text.items)) }
+    ensures text { IfOk result (λ text. IsGivenAt (D.held store.old) path.now (Some text.items)) }
     ensures handed { IfOk result (λ text. D.hands path.now text.items) }
     ensures ok { OnOk result (D.failures store.new ≡ D.failures store.old) }
     ensures err { IfErr result (IsDeviceFault (D.failures store.old) (D.failures store.new)) }

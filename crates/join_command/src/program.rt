@@ -6,12 +6,12 @@ ghost use Rattle.std.specs.Io.KnownBytes.{Keeps};
 ghost use Rattle.cube_report.specs.declared.fault.Fault.TheVariants.{Memory, Device};
 ghost use Rattle.cube_join.specs.Joined.{IsJoined};
 ghost use Rattle.cube_command.specs.Program.{IsLineWritten, IsStatus};
-ghost use Rattle.join_command.specs.Words.{AreTaken, asked_of};
+ghost use Rattle.join_command.specs.Words.{AreTakenToJoin, join_asked_of};
 ghost use Rattle.join_command.specs.Headline.{IsJoinedAsHanded, IsPublishedJoin, IsSoundJoin};
 ghost use Rattle.join_command.specs.Headline.{IsSoundJoinAsHanded};
 ghost use Rattle.join_command.specs.Program.{AllowsJoinFaults, AreRead, AreTextsAt};
 ghost use Rattle.join_command.specs.Program.{IsJoinBegun, IsJoinOn, IsJoinWritten};
-ghost use Rattle.join_command.specs.Program.{IsReadingFault, IsRefused, behind_each};
+ghost use Rattle.join_command.specs.Program.{IsJoinRefused, IsReadingFault, behind_each};
 ghost use Rattle.join_command.specs.Program.{join_fault_line};
 ghost use Rattle.join_command.specs.Inner.Files.{IsUnjoined, IsUnwritten, lies_handed};
 ghost use Rattle.join_command.specs.Inner.Words.{asked_in};
@@ -62,34 +62,36 @@ where
 
     // All that is written, also where the call doesn't return. To `output`: the joined report.
     requires reports { (bundle : List ℕ) (texts : List (List ℕ)) (text : List ℕ)
-        → AreRead (D.held store.old) (asked_of (map S.text words.now)) bundle texts
-        → IsJoinOn (asked_of (map S.text words.now)).unbound bundle texts text
+        → AreRead (D.held store.old) (join_asked_of (map S.text words.now)) bundle texts
+        → IsJoinOn (join_asked_of (map S.text words.now)).unbound bundle texts text
         → O.allows output.old text }
     // To `errors`: the line of a fault, which the files have where it is one of what was read; or
     // the parser's text, which no contract knows, where the words can't be taken.
     requires faults { AllowsJoinFaults (E.allows errors.old) (D.held store.old)
-        (asked_of (map S.text words.now)) }
-    requires words { ¬ AreTaken (map S.text words.now)
+        (join_asked_of (map S.text words.now)) }
+    requires words { ¬ AreTakenToJoin (map S.text words.now)
         → (text : List ℕ) → E.allows errors.old text }
 
     // Status 0: where the RECORDs that were read are what is taken for granted, that `cubeboard`
     // wrote them and that no digest collides, or with `--unbound` that they are reports on the
     // bundle's formula and cubes, the formula of the bundle that was read has no model.
-    ensures sound { IsSoundJoin result (D.held store.old) (asked_of (map S.text words.now)) }
+    ensures sound { IsSoundJoin result (D.held store.old) (join_asked_of (map S.text words.now)) }
     // So it is of what readings handed over, one of each file, whether or not it is known what lies
     // there: a RECORD's digest and its report are those of one text.
-    ensures handed { IsSoundJoinAsHanded result D.hands (asked_of (map S.text words.now)) }
+    ensures handed { IsSoundJoinAsHanded result D.hands (join_asked_of (map S.text words.now)) }
     // With `--formula` the text of that file is a DIMACS text of a formula that by the same premise
     // has no model.
     ensures published { IsPublishedJoin result (D.held store.old)
-        (asked_of (map S.text words.now)) }
+        (join_asked_of (map S.text words.now)) }
 
     ensures status { IsStatus result }
     // 0: exactly the joined report was written, and it says refuted. 1: it says open.
     ensures refuted { result ≡ 0 → IsJoinWritten (D.held store.old)
-        (asked_of (map S.text words.now)) (O.contents output.old) (O.contents output.new) true }
+        (join_asked_of (map S.text words.now)) (O.contents output.old)
+        (O.contents output.new) true }
     ensures open { result ≡ 1 → IsJoinWritten (D.held store.old)
-        (asked_of (map S.text words.now)) (O.contents output.old) (O.contents output.new) false }
+        (join_asked_of (map S.text words.now)) (O.contents output.old)
+        (O.contents output.new) false }
     // Then nothing is written to `errors`.
     ensures quiet { result < 2 → errors.new ≡ errors.old }
 
@@ -102,19 +104,19 @@ where
         (O.contents output.new) }
     ensures beginning { result ≡ 5 → Keeps (O.contents output.old) (O.contents output.new)
         ⊎ ((O.failures output.old < O.failures output.new)
-        × IsJoinBegun (D.held store.old) (asked_of (map S.text words.now))
+        × IsJoinBegun (D.held store.old) (join_asked_of (map S.text words.now))
         (O.contents output.old) (O.contents output.new)) }
 
     // Status 2: the words can't be taken. They are refused exactly then, unless memory is refused,
     // and nothing is read.
-    ensures usage { AreTaken (map S.text words.now) → result ≢ 2 }
+    ensures usage { AreTakenToJoin (map S.text words.now) → result ≢ 2 }
     ensures unread { result ≡ 2 → store.new ≡ store.old }
-    ensures taken { result ≢ 2 → result ≢ 4 → AreTaken (map S.text words.now) }
+    ensures taken { result ≢ 2 → result ≢ 4 → AreTakenToJoin (map S.text words.now) }
     // Status 3: the bundle has a fault, and its first one is told; with `--formula` that file has
     // one, or FILE has clauses; or there is none, and the first RECORD is told that doesn't name
     // the bundle's iCNF text, or has no report on its cubes.
     ensures fault { result ≡ 3 → (fault : JoinFault) × IsReadingFault fault
-        × IsRefused (D.held store.old) (asked_of (map S.text words.now)) fault
+        × IsJoinRefused (D.held store.old) (join_asked_of (map S.text words.now)) fault
         × IsLineWritten (E.contents errors.old) (E.contents errors.new) (E.failures errors.old)
         (E.failures errors.new) (join_fault_line fault) }
     // Status 4: want of memory is told.

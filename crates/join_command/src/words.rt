@@ -3,8 +3,9 @@
 ghost use Rattle.std.specs.Prelude.{◌≡◌, false, map, option_map, codes, IfOk, IfErr};
 ghost use Rattle.clap.specs.Words.{app_of, found_of, kind_of, new_app, rule_of};
 ghost use Rattle.cube_command.specs.Words.{flag_word, path_word, with_version};
-ghost use Rattle.join_command.specs.Words.{AreTaken, asked_of, file_word, records_word};
-ghost use Rattle.join_command.specs.Words.{words_taken};
+ghost use Rattle.join_command.specs.Words.{AreTakenToJoin, join_asked_of, needed_file_word};
+ghost use Rattle.join_command.specs.Words.{records_word};
+ghost use Rattle.join_command.specs.Words.{join_words};
 ghost use Rattle.join_command.specs.Inner.Words.{asked_in, records_found};
 
 use clap::builder::ValueParser;
@@ -50,11 +51,11 @@ Example: cubejoin case.icnf *.record > joined";
 pub(crate) fn request_of<'a, S: AsStr>(alloc: Global, words: &'a [S]) -> Result<Request<'a>, Error>
     // The request is what the words say.
     ensures asked { IfOk result
-        (λ request. asked_in request ≡ asked_of (map S.text words.now)) }
+        (λ request. asked_in request ≡ join_asked_of (map S.text words.now)) }
     // Only words that are taken make a request, and they are refused only for want of memory.
-    ensures taken { IfOk result (λ _. AreTaken (map S.text words.now)) }
+    ensures taken { IfOk result (λ _. AreTakenToJoin (map S.text words.now)) }
     ensures refused { IfErr result
-        (λ error. AreTaken (map S.text words.now) → kind_of error ≡ ErrorKind.OutOfMemory) }
+        (λ error. AreTakenToJoin (map S.text words.now) → kind_of error ≡ ErrorKind.OutOfMemory) }
 {
     let matches = parser(alloc)?.try_get_matches_from(words)?;
     Ok(Request {
@@ -79,7 +80,7 @@ fn records_in<'a>(alloc: Global, matches: &ArgMatches<'a>) -> Result<Vec<&'a str
 
 /// The parser of the program's words.
 fn parser<'a>(alloc: Global) -> Result<Command<'a>, AllocError>
-    ensures { IfOk result (λ parser. app_of parser ≡ words_taken) }
+    ensures { IfOk result (λ parser. app_of parser ≡ join_words) }
 {
     texts(alloc)
         .arg(formula_word(alloc))?
@@ -124,7 +125,7 @@ fn unbound_word<'a>(alloc: Global) -> Arg<'a>
 
 /// The bundle's file.
 fn file_word<'a>(alloc: Global) -> Arg<'a>
-    ensures rule { rule_of result ≡ file_word }
+    ensures rule { rule_of result ≡ needed_file_word }
     ensures own { result.global ≡ false }
 {
     Arg::new(alloc, "file")

@@ -3,7 +3,8 @@ use Rattle.std.proofs.Common.{◌≡◌, ℕ, ◌+◌, ◌-◌, ◌*◌, ◌%◌
 use Rattle.std.proofs.Common.{map, refl, sym, ap, ◌∙◌, arith, inl, inr}
 use Rattle.std.proofs.Math.Nat.{mul-add, mul_assoc}
 use Rattle.std.proofs.lemmas.Bool.{cases_lt, le-leb, lt-leb}
-use Rattle.lrat_binary.specs.Binary.{onto_first, numbers_of, capped, ends_behind, text_for, text_at}
+use Rattle.lrat_binary.specs.Binary.{onto_first, numbers_of, capped, ends_behind_number, text_for}
+use Rattle.lrat_binary.specs.Binary.{text_at}
 use Rattle.lrat_binary.specs.Decoder.{numbers_left, text_left}
 
 -- to count as the greatest number of 64 bits first, before more bits come, changes nothing
@@ -65,7 +66,7 @@ taken_more ends s v byte w t high small w_is t_is more =
 
 -- a byte that is the last one
 pub taken_last : (ends s v byte w left : ℕ) → byte < 128 → w ≡ capped (v + s * (byte % 128))
-    → left ≡ ends_behind ends w → (more : List ℕ)
+    → left ≡ ends_behind_number ends w → (more : List ℕ)
     → text_for ends w ++ text_left (record { ends = left; scale = 1; value = 0 }) more
     ≡ text_left (record { ends = ends; scale = s; value = v }) (byte ∷ more)
 taken_last ends s v byte w left low w_is left_is more =

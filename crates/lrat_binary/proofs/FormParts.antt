@@ -5,7 +5,7 @@ use Rattle.std.proofs.Common.{length-drop, arith}
 use Rattle.std.proofs.lemmas.List.{take_all}
 use Rattle.lrat_binary.specs.Binary.{proof_text, text_of}
 use Rattle.lrat_binary.specs.Decoder.{Begun, text_left}
-use Rattle.lrat_binary.specs.Form.{proof_left}
+use Rattle.lrat_binary.specs.Form.{text_in_form}
 use Rattle.lrat_binary.specs.declared.form.ProofForm.{ProofForm}
 use Rattle.lrat_binary.specs.declared.form.ProofForm.TheVariants.{Unread, Text, Binary}
 
@@ -17,7 +17,7 @@ binary_by first rest (inr is) = rw is refl
 
 -- what has no form of a binary proof is its text
 pub no_text : (form : ProofForm) (bytes : List ℕ) → (form ≡ Binary → ⊥) →
-    ((more : List ℕ) → proof_left form (bytes ++ more) ≡ proof_text (bytes ++ more)) →
+    ((more : List ℕ) → text_in_form form (bytes ++ more) ≡ proof_text (bytes ++ more)) →
     (form ≡ Unread → bytes ≡ []) → proof_text bytes ≡ bytes
 no_text Unread bytes other left none = rw (none refl) refl
 no_text Text bytes other left none =
@@ -27,13 +27,13 @@ no_text Binary bytes other left none = absurd (other refl)
 -- the text that was made of all bytes of a binary proof
 pub whole_text : (form : ProofForm) (bytes made : List ℕ) (begun behind : Begun) →
     form ≡ Binary →
-    ((more : List ℕ) → proof_left form (bytes ++ more) ≡ proof_text (bytes ++ more)) →
+    ((more : List ℕ) → text_in_form form (bytes ++ more) ≡ proof_text (bytes ++ more)) →
     ((rest : List ℕ) → text_left begun rest ≡ text_of rest) →
     ((more : List ℕ) → made ++ text_left behind more ≡ text_left begun (bytes ++ more)) →
     made ≡ proof_text bytes
 whole_text form bytes made begun behind is left all turned =
     sym (append-nil made) ∙ turned [] ∙ all (bytes ++ [])
-    ∙ sym (ap (λ f. proof_left f (bytes ++ [])) is) ∙ left [] ∙ ap proof_text (append-nil bytes)
+    ∙ sym (ap (λ f. text_in_form f (bytes ++ [])) is) ∙ left [] ∙ ap proof_text (append-nil bytes)
 
 -- what stands from a place on, as far as there is something
 pub rest_from : (begin : ℕ) (text : List ℕ)

@@ -24,9 +24,9 @@ word_of n = (if n % 2 == 1 then codes "-" else []) ++ decimal (n / 2)
 
 -- Where so many end marks of a step are still to come: how many are behind this number. Between
 -- steps none is, and the bytes `a` and `d` begin an addition and a deletion.
-abbrev pub ends_behind : ℕ → ℕ → ℕ
-ends_behind zero n = if n == 97 then 2 else if n == 100 then 1 else 0
-ends_behind (suc ends) n = if n == 0 then ends else suc ends
+abbrev pub ends_behind_number : ℕ → ℕ → ℕ
+ends_behind_number zero n = if n == 97 then 2 else if n == 100 then 1 else 0
+ends_behind_number (suc ends) n = if n == 0 then ends else suc ends
 
 -- what stands for the number there: a line for each step, and a word that no step has for another
 -- number between steps
@@ -36,7 +36,7 @@ text_for (suc ends) n = word_of n ++ (if n == 0 && ends == 0 then codes "\n" els
 
 abbrev pub text_at : ℕ → List ℕ → List ℕ
 text_at ends [] = []
-text_at ends (n ∷ numbers) = text_for ends n ++ text_at (ends_behind ends n) numbers
+text_at ends (n ∷ numbers) = text_for ends n ++ text_at (ends_behind_number ends n) numbers
 
 -- the text that the bytes of a binary proof stand for
 abbrev pub text_of : List ℕ → List ℕ

@@ -5,7 +5,7 @@ use Rattle.lrat_binary.specs.declared.form.ProofForm.{ProofForm}
 use Rattle.lrat_binary.specs.declared.form.ProofForm.TheVariants.{Unread, Text, Binary}
 
 -- the text that the bytes of a proof of this form stand for
-abbrev pub proof_left : ProofForm → List ℕ → List ℕ
-proof_left Unread bytes = proof_text bytes
-proof_left Text bytes = bytes
-proof_left Binary bytes = text_of bytes
+abbrev pub text_in_form : ProofForm → List ℕ → List ℕ
+text_in_form Unread bytes = proof_text bytes
+text_in_form Text bytes = bytes
+text_in_form Binary bytes = text_of bytes

@@ -3,7 +3,7 @@
 
 ghost use Rattle.std.specs.Prelude.{◌≡◌, ◌≤◌, ◌<◌, ◌+◌, ◌*◌, ◌++◌, ◌∷◌, ℕ, List, OnOk, take};
 ghost use Rattle.std.specs.Prelude.{length};
-ghost use Rattle.lrat_binary.specs.Binary.{capped, ends_behind, text_for, text_of};
+ghost use Rattle.lrat_binary.specs.Binary.{capped, ends_behind_number, text_for, text_of};
 ghost use Rattle.lrat_binary.specs.Decoder.{text_left};
 
 use crate::number::{scale_behind, value_with};
@@ -49,7 +49,7 @@ struct Written {
 fn begin_step(number: u64, page: &mut [u8], used: usize) -> Written
     requires { used + 4 ≤ length page.old }
     ensures text { take result.used page.new ≡ take used page.old ++ text_for 0 number }
-    ensures ends { result.ends ≡ ends_behind 0 number }
+    ensures ends { result.ends ≡ ends_behind_number 0 number }
     ensures most { result.used ≤ used + 4 }
 {
     match number {
@@ -70,7 +70,7 @@ fn begin_step(number: u64, page: &mut [u8], used: usize) -> Written
 fn write_number(ends: u8, number: u64, page: &mut [u8], used: usize) -> Written
     requires { used + 22 ≤ length page.old }
     ensures text { take result.used page.new ≡ take used page.old ++ text_for ends number }
-    ensures ends { result.ends ≡ ends_behind ends number }
+    ensures ends { result.ends ≡ ends_behind_number ends number }
     ensures most { result.used ≤ used + 22 }
 {
     if ends == 0 {

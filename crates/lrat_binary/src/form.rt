@@ -3,7 +3,7 @@
 ghost use Rattle.std.specs.Prelude.{◌≡◌, ◌≢◌, ◌≤◌, [], ◌∷◌, ◌++◌, ℕ, List, IfOk, OnOk, MatchOption};
 ghost use Rattle.std.specs.Prelude.{length, take, drop};
 ghost use Rattle.lrat_binary.specs.Binary.{proof_text};
-ghost use Rattle.lrat_binary.specs.Form.{proof_left};
+ghost use Rattle.lrat_binary.specs.Form.{text_in_form};
 ghost use Rattle.lrat_binary.specs.declared.form.ProofForm.TheVariants.{Unread};
 
 use crate::decoder::Decoder;
@@ -27,7 +27,7 @@ impl ProofForm {
     /// them decides.
     pub fn begin(self, bytes: &[u8]) -> ProofForm
         ensures left { (more : List ℕ)
-            → proof_left result (bytes.now ++ more) ≡ proof_left self (bytes.now ++ more) }
+            → text_in_form result (bytes.now ++ more) ≡ text_in_form self (bytes.now ++ more) }
         ensures none { result ≡ Unread → bytes.now ≡ [] }
         ensures kept { self ≢ Unread → result ≡ self }
     {
@@ -40,7 +40,8 @@ impl ProofForm {
 
 /// The form of a proof with this first byte.
 fn form_by(first: u8) -> ProofForm
-    ensures left { (rest : List ℕ) → proof_left result (first ∷ rest) ≡ proof_text (first ∷ rest) }
+    ensures left { (rest : List ℕ)
+        → text_in_form result (first ∷ rest) ≡ proof_text (first ∷ rest) }
     ensures read { result ≢ Unread }
 {
     match first {

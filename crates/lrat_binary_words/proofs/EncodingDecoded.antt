@@ -12,7 +12,7 @@ use Rattle.lrat_text.specs.Grammar.{IsGroup}
 use Rattle.lrat_text.specs.Grammar.{IsId, group_symbols, ProofStep, Add, Delete}
 use Rattle.lrat_text.specs.Decoding.{id_of, candidate_of, literal_in, is_id, is_variable}
 use Rattle.lrat_text.specs.Decoding.{run, hints_in, first_step, steps_in, front_of}
-use Rattle.lrat_binary_words.specs.Encoding.{IsWithin}
+use Rattle.lrat_binary_words.specs.Encoding.{IsStepWithin}
 use Rattle.lrat_binary_words.proofs.EncodingEncoded.{all_are, symbols_onto, all_symbols}
 
 id_test : (n : ℕ) → IsId n → is_id n ≡ true
@@ -132,14 +132,14 @@ some_symbols (Add a) more =
 some_symbols (Delete ids) more = omega (arith, length-append (map positive ids) (end_mark ∷ more))
 
 -- the first step
-first_is : (step : ProofStep) (more : List StepSymbol) → IsWithin step →
+first_is : (step : ProofStep) (more : List StepSymbol) → IsStepWithin step →
     first_step (symbols_onto step more) ≡ Some (record { found = step; left = more })
 first_is (Add a) more is = added a.literals a.id a.hints a.groups more is.0 is.1 is.2 is.3
 first_is (Delete ids) more is = rw (ids_run ids more is) refl
 
 -- so each
 pub decoded : (steps : List ProofStep) (n : ℕ) → length (all_symbols steps) ≤ n
-    → AllByRecursion IsWithin steps
+    → AllByRecursion IsStepWithin steps
     → steps_in n (all_symbols steps) ≡ record { steps = steps; blank = true }
 decoded [] zero room all = refl
 decoded [] (suc n) room all = refl

@@ -1,16 +1,16 @@
 -- The symbols of a proof that was written as numbers.
 use Rattle.std.proofs.Common.{◌≡◌, ℕ, suc, ◌+◌, ◌*◌, ◌/◌, ◌%◌, ◌≤◌, List, [], ◌∷◌, ◌++◌}
 use Rattle.std.proofs.Common.{Bool, true, false, map, refl, sym, ◌∙◌, ap, arith, append_assoc}
+use Rattle.std.proofs.Common.{subst}
 use Rattle.std.specs.Prelude.{◌==◌, if◌then◌else◌}
 use Rattle.std.specs.List.{flat_map, AllByRecursion}
 use Rattle.std.proofs.lemmas.Bool.{ne_eqb, eq-eqb}
-use Rattle.cnf_text.specs.Literal.{Literal, IsVariable}
+use Rattle.cnf_text.specs.Literal.{Literal, IsVariable, literal_number}
 use Rattle.lrat_text.specs.Grammar.{StepSymbol, DeleteMark, positive, negative, signed, end_mark}
 use Rattle.lrat_text.specs.Grammar.{HintGroup, IsGroup, IsId, group_symbols, ProofStep, Add, Delete}
 use Rattle.lrat_binary.specs.Binary.{capped}
-use Rattle.lrat_binary_words.specs.Symbols.{symbol_of, symbols_at}
-use Rattle.lrat_binary_words.specs.Encoding.{id_number, literal_number, group_numbers, step_numbers}
-use Rattle.lrat_binary_words.specs.Encoding.{IsWithin}
+use Rattle.lrat_binary_words.specs.Symbols.{step_symbol, symbols_at}
+use Rattle.lrat_binary_words.specs.Encoding.{IsStepWithin, group_numbers, id_number, step_numbers}
 
 pub all_are : {A : Type 0} (P Q : A → Type 0) → ((x : A) → P x → Q x) → (xs : List A)
     → AllByRecursion P xs → AllByRecursion Q xs
@@ -19,7 +19,7 @@ all_are P Q f (x ∷ xs) all = (f x all.0, all_are P Q f xs all.1)
 
 -- what a number within a step is to the reader, and that it is no end mark
 abbrev pub IsTold : ℕ → StepSymbol → Type 0
-IsTold n symbol = (symbol_of (capped n) ≡ symbol) × ((capped n == 0) ≡ false)
+IsTold n symbol = (step_symbol (capped n) ≡ symbol) × ((capped n == 0) ≡ false)
 
 as_is : (n : ℕ) → n ≤ 18446744073709551615 → capped n ≡ n
 as_is n small = omega arith
@@ -43,8 +43,10 @@ id_told : (id : ℕ) → IsId id → IsTold (id_number id) (positive id)
 id_told id is = even_told id is.0 is.1
 
 signed_told : (v : ℕ) (sign : Bool) → IsVariable v →
-    IsTold (if sign then 2 * v else 2 * v + 1) (signed (record { variable = v; positive = sign }))
-signed_told v true is = even_told v (omega arith) (omega arith)
+    IsTold (2 * v + (if sign then 0 else 1)) (signed (record { variable = v; positive = sign }))
+signed_told v true is =
+    let none_more : 2 * v ≡ 2 * v + 0 = omega arith in
+    subst (λ (n : ℕ). IsTold n (positive v)) none_more (even_told v (omega arith) (omega arith))
 signed_told v false is = odd_told v (omega arith) (omega arith)
 
 literal_told : (l : Literal) → IsVariable l.variable → IsTold (literal_number l) (signed l)
@@ -110,7 +112,7 @@ numbers_are : (step : ProofStep) (more : List ℕ) →
 numbers_are (Add a) more = simp append_assoc
 numbers_are (Delete ids) more = simp append_assoc
 
-step_symbols : (step : ProofStep) (more : List ℕ) → IsWithin step
+step_symbols : (step : ProofStep) (more : List ℕ) → IsStepWithin step
     → symbols_at 0 (map capped (numbers_onto step more))
     ≡ symbols_onto step (symbols_at 0 (map capped more))
 step_symbols (Add a) more is =
@@ -129,7 +131,7 @@ all_symbols [] = []
 all_symbols (step ∷ steps) = symbols_onto step (all_symbols steps)
 
 -- the symbols of the numbers of steps are those of the steps
-pub encoded : (steps : List ProofStep) → AllByRecursion IsWithin steps
+pub encoded : (steps : List ProofStep) → AllByRecursion IsStepWithin steps
     → symbols_at 0 (map capped (flat_map step_numbers steps)) ≡ all_symbols steps
 encoded [] all = refl
 encoded (step ∷ steps) all =

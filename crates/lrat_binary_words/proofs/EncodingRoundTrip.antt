@@ -8,12 +8,12 @@ use Rattle.lrat_text.specs.Proof.{IsProofOf}
 use Rattle.lrat_text.proofs.ProofUnique.{worked_out}
 use Rattle.lrat_binary.specs.Binary.{capped, numbers_of, text_of}
 use Rattle.lrat_binary_words.specs.Symbols.{symbols_at}
-use Rattle.lrat_binary_words.specs.Encoding.{IsWithin, step_numbers}
+use Rattle.lrat_binary_words.specs.Encoding.{IsStepWithin, step_numbers}
 use Rattle.lrat_binary_words.proofs.SymbolsText.{symbols_of_text}
 use Rattle.lrat_binary_words.proofs.EncodingEncoded.{encoded, all_symbols}
 use Rattle.lrat_binary_words.proofs.EncodingDecoded.{decoded}
 
-pub round_trip : (steps : List ProofStep) (bytes : List ℕ) → AllByRecursion IsWithin steps
+pub round_trip : (steps : List ProofStep) (bytes : List ℕ) → AllByRecursion IsStepWithin steps
     → numbers_of bytes ≡ flat_map step_numbers steps
     → IsProofOf (text_of bytes) (record { steps = steps; blank = true })
 round_trip steps bytes within is =

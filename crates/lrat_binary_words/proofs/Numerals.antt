@@ -3,7 +3,7 @@ use Rattle.std.proofs.Common.{◌≡◌, ℕ, suc, ◌/◌, ◌%◌, ◌<◌, �
 use Rattle.std.proofs.Common.{inr}
 use Rattle.std.proofs.lemmas.Bool.{ne_eqb, cases_Bool, eqb-true, eqb-false}
 use Rattle.lrat_text.specs.declared.words.Word.{Word}
-use Rattle.lrat_binary_words.specs.Symbols.{symbol_of}
+use Rattle.lrat_binary_words.specs.Symbols.{step_symbol}
 use Rattle.cnf_text.specs.Numbers.{Number}
 use Rattle.lrat_text.specs.Grammar.{Numeral, DeleteMark, Stray, positive, negative}
 use Rattle.lrat_text.specs.declared.words.Word.TheVariants as words
@@ -28,7 +28,7 @@ large_numeral n large = (
   numeral_is_no_mark n,
 )
 
-no_other : (word : Word) (n : ℕ) → HasId word → IsReadAs word (symbol_of n) →
+no_other : (word : Word) (n : ℕ) → HasId word → IsReadAs word (step_symbol n) →
     (word ≡ words.DeleteMark → ⊥) → (n ≡ 0 → ⊥) →
     ((k : ℕ) → ends_behind word k ≡ suc k) → IsWordOf word n
 no_other word n has means other some stays = record {
@@ -38,13 +38,13 @@ no_other word n has means other some stays = record {
   ends = λ k. stays k ∙ rw (ne_eqb n 0 some) refl;
 }
 
-one_is_stray : (n : ℕ) → n ≡ 1 → symbol_of n ≡ Stray
+one_is_stray : (n : ℕ) → n ≡ 1 → step_symbol n ≡ Stray
 one_is_stray n is = rw is refl
 
-odd_symbol : (n : ℕ) → n % 2 ≡ 1 → (n ≡ 1 → ⊥) → symbol_of n ≡ negative (n / 2)
+odd_symbol : (n : ℕ) → n % 2 ≡ 1 → (n ≡ 1 → ⊥) → step_symbol n ≡ negative (n / 2)
 odd_symbol n odd other = rw (odd, ne_eqb n 1 other) refl
 
-even_symbol : (n : ℕ) → (n % 2 ≡ 1 → ⊥) → symbol_of n ≡ positive (n / 2)
+even_symbol : (n : ℕ) → (n % 2 ≡ 1 → ⊥) → step_symbol n ≡ positive (n / 2)
 even_symbol n even = rw (ne_eqb (n % 2) 1 even) refl
 
 -- half of it is too large

@@ -17,7 +17,7 @@ use Rattle.cnf_text.specs.Numbers as cnf
 use Rattle.cnf_text.specs.Numbers.{digits_value, number_of, negative_of, unsigned_of, Number}
 use Rattle.lrat_text.specs.Grammar.{step_symbol_of, Numeral, Stray, negative}
 use Rattle.lrat_binary.specs.Binary.{word_of}
-use Rattle.lrat_binary_words.specs.Symbols.{symbol_of}
+use Rattle.lrat_binary_words.specs.Symbols.{step_symbol}
 use Rattle.lrat_binary_words.proofs.SymbolsWords.{AreVisible}
 
 number_below : (bs : List ℕ) → get_or bs 0 0 ≡ 45 →
@@ -150,7 +150,7 @@ odd_word n small odd = elim (cases_Bool (n == 1)) [
 ]
 
 -- the word of a number is told as the number
-pub symbol_of_word : (n : ℕ) → n < 2 ^ 64 → step_symbol_of (word_of n) ≡ symbol_of n
+pub symbol_of_word : (n : ℕ) → n < 2 ^ 64 → step_symbol_of (word_of n) ≡ step_symbol n
 symbol_of_word n small = elim (cases_Bool (n % 2 == 1)) [
   | inl odd ↦ rw odd (odd_word n small (eqb-true (n % 2) 1 odd))
   | inr even ↦ rw even

@@ -14,7 +14,8 @@ use Rattle.cnf_text.specs.Tokens.{Token, is_blank, tokens_of}
 use Rattle.cnf_text.specs.Words.{words_left}
 use Rattle.cnf_text.proofs.WordsLeft.{nothing_left, words_of_tokens}
 use Rattle.lrat_text.specs.Grammar.{Stray, end_mark, step_symbol_of, step_symbols_of}
-use Rattle.lrat_binary.specs.Binary.{capped, ends_behind, numbers_of, text_at, text_of, word_of}
+use Rattle.lrat_binary.specs.Binary.{capped, ends_behind_number, numbers_of, text_at, text_of}
+use Rattle.lrat_binary.specs.Binary.{word_of}
 use Rattle.lrat_binary_words.specs.Symbols.{symbols_at}
 use Rattle.lrat_binary_words.proofs.SymbolsWords.{AreVisible, IsPlain, plain_left, word_and_space}
 use Rattle.lrat_binary_words.proofs.SymbolsWords.{word_and_line}
@@ -149,11 +150,11 @@ symbols_are (suc ends) (n ∷ ns) =
       | inl last ↦ rw last
           (ap (map step_symbol_of)
           (word_then_line (word_of (capped n)) _ word
-          (plain_at (ends_behind (suc ends) (capped n)) ns))
-          ∙ rw (same, symbols_are (ends_behind (suc ends) (capped n)) ns) refl)
+          (plain_at (ends_behind_number (suc ends) (capped n)) ns))
+          ∙ rw (same, symbols_are (ends_behind_number (suc ends) (capped n)) ns) refl)
       | inr more ↦ rw more
           (ap (map step_symbol_of) (word_then_space (word_of (capped n)) _ word)
-          ∙ rw (same, symbols_are (ends_behind (suc ends) (capped n)) ns) refl)
+          ∙ rw (same, symbols_are (ends_behind_number (suc ends) (capped n)) ns) refl)
     ]
 
 pub symbols_of_text : (bytes : List ℕ) → step_symbols_of (tokens_of (text_of bytes))

@@ -9,11 +9,12 @@ use Rattle.lrat_text.specs.Open.{proof_left}
 use Rattle.lrat_text.specs.Proof.{Proof, IsProofOf}
 use Rattle.lrat_text.specs.StepWords.{proof_with}
 use Rattle.lrat_text.proofs.ProofUnique.{proof_is}
-use Rattle.lrat_binary.specs.Binary.{onto_first, capped, ends_behind, numbers_of, text_of}
+use Rattle.lrat_binary.specs.Binary.{onto_first, capped, ends_behind_number, numbers_of, text_of}
 use Rattle.lrat_binary.specs.Numbers.{begun_with, begun_of}
 use Rattle.lrat_binary_words.specs.Symbols.{symbols_for, symbols_at}
 use Rattle.lrat_binary_words.proofs.SymbolsText.{symbols_are, symbols_of_text}
-use Rattle.lrat_binary_words.specs.Words.{symbols_of, ends_after, cut_of, left_of, symbols_behind}
+use Rattle.lrat_binary_words.specs.Words.{symbols_with_ends, ends_after, cut_of, left_between}
+use Rattle.lrat_binary_words.specs.Words.{symbols_behind}
 
 -- a byte that isn't the last one of its number in front of bytes that go on
 before_more : (byte : ℕ) (bytes rest numbers : List ℕ) → leb 128 byte ≡ true →
@@ -40,14 +41,14 @@ symbols_more : (ends : ℕ) (xs ys : List ℕ) →
     symbols_at ends (xs ++ ys) ≡ symbols_at ends xs ++ symbols_at (ends_after ends xs) ys
 symbols_more ends [] ys = refl
 symbols_more ends (x ∷ xs) ys =
-    ap (λ s. symbols_for ends x ++ s) (symbols_more (ends_behind ends x) xs ys)
-    ∙ sym (append_assoc (symbols_for ends x) (symbols_at (ends_behind ends x) xs)
+    ap (λ s. symbols_for ends x ++ s) (symbols_more (ends_behind_number ends x) xs ys)
+    ∙ sym (append_assoc (symbols_for ends x) (symbols_at (ends_behind_number ends x) xs)
     (symbols_at (ends_after ends (x ∷ xs)) ys))
 
 -- those of bytes that go on
 pub goes_on : (ends : ℕ) (bytes rest : List ℕ) →
-    symbols_of ends (bytes ++ rest)
-    ≡ symbols_of ends bytes ++ symbols_behind (cut_of ends bytes) rest
+    symbols_with_ends ends (bytes ++ rest)
+    ≡ symbols_with_ends ends bytes ++ symbols_behind (cut_of ends bytes) rest
 goes_on ends bytes rest =
     ap (λ numbers. symbols_at ends (map capped numbers)) (numbers_more bytes rest)
     ∙ ap (symbols_at ends)
@@ -56,19 +57,19 @@ goes_on ends bytes rest =
     (map capped (numbers_of (begun_of bytes ++ rest)))
 
 -- the proof of the text that a binary proof stands for
-text_proof : (bytes : List ℕ) → proof_left (text_of bytes) ≡ proof_in (symbols_of 0 bytes)
+text_proof : (bytes : List ℕ) → proof_left (text_of bytes) ≡ proof_in (symbols_with_ends 0 bytes)
 text_proof bytes = ap proof_in (symbols_are 0 (numbers_of bytes))
 
 -- it is that of the words that are left of the front, where the symbols of the rest follow
 pub binary_more : (bytes rest : List ℕ) →
     proof_left (text_of (bytes ++ rest))
-    ≡ proof_with (left_of bytes) (symbols_behind (cut_of 0 bytes) rest)
+    ≡ proof_with (left_between bytes) (symbols_behind (cut_of 0 bytes) rest)
 binary_more bytes rest = text_proof (bytes ++ rest) ∙ ap proof_in (goes_on 0 bytes rest)
 
 -- where nothing follows
 pub binary_last : (bytes : List ℕ) →
-    proof_left (text_of bytes) ≡ proof_with (left_of bytes) []
-binary_last bytes = text_proof bytes ∙ ap proof_in (sym (append-nil (symbols_of 0 bytes)))
+    proof_left (text_of bytes) ≡ proof_with (left_between bytes) []
+binary_last bytes = text_proof bytes ∙ ap proof_in (sym (append-nil (symbols_with_ends 0 bytes)))
 
 -- the text begins with a whole line
 pub binary_proof : (bytes : List ℕ) (proof : Proof) → IsProofOf (text_of bytes) proof →

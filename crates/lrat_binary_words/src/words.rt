@@ -3,7 +3,7 @@
 ghost use Rattle.std.specs.Prelude.{◌≡◌, ◌∷◌, [], MatchOption};
 ghost use Rattle.lrat_text.specs.Grammar.{IsId, positive, end_mark};
 ghost use Rattle.lrat_text.specs.StepWords.{IsFront, IsCutBehind};
-ghost use Rattle.lrat_binary_words.specs.Words.{symbols_of, cut_of};
+ghost use Rattle.lrat_binary_words.specs.Words.{cut_of, symbols_with_ends};
 
 use crate::numeral::word_of;
 use lrat_binary::next_number;
@@ -51,8 +51,9 @@ impl<'t> BinaryWords<'t> {
     #[inline(always)]
     fn addition(self) -> Option<(Front, Self)>
         ensures { MatchOption result
-            (symbols_of 2 self.entry ≡ [])
-            (λ found. IsFront found.0 (symbols_of 2 self.entry) (λ ends. symbols_of ends found.1)
+            (symbols_with_ends 2 self.entry ≡ [])
+            (λ found. IsFront found.0 (symbols_with_ends 2 self.entry)
+            (λ ends. symbols_with_ends ends found.1)
             × IsCutBehind found.0 (cut_of 2 self.entry) (λ ends. cut_of ends found.1)) }
     {
         let (number, rest) = next_number(self.bytes)?;
@@ -68,8 +69,8 @@ impl<'t> BinaryWords<'t> {
     #[inline(always)]
     fn behind_id(self, id: u64) -> (Front, Self)
         requires { IsId id }
-        ensures front { IsFront result.0 (positive id ∷ symbols_of 2 self.entry)
-            (λ ends. symbols_of ends result.1) }
+        ensures front { IsFront result.0 (positive id ∷ symbols_with_ends 2 self.entry)
+            (λ ends. symbols_with_ends ends result.1) }
         ensures cut { IsCutBehind result.0 (cut_of 2 self.entry) (λ ends. cut_of ends result.1) }
     {
         match next_number(self.bytes) {
@@ -84,8 +85,8 @@ impl<'t> BinaryWords<'t> {
     /// What stands at the front of an addition with the id 0, which was read: there is no such
     /// clause.
     fn behind_zero(self) -> (Front, Self)
-        ensures front { IsFront result.0 (end_mark ∷ symbols_of 1 self.entry)
-            (λ ends. symbols_of ends result.1) }
+        ensures front { IsFront result.0 (end_mark ∷ symbols_with_ends 1 self.entry)
+            (λ ends. symbols_with_ends ends result.1) }
         ensures cut { IsCutBehind result.0 (cut_of 1 self.entry) (λ ends. cut_of ends result.1) }
     {
         match next_number(self.bytes) {
@@ -96,7 +97,7 @@ impl<'t> BinaryWords<'t> {
 }
 
 impl<'t> StepWords for BinaryWords<'t> {
-    ghost ahead = { λ ends words. symbols_of ends words };
+    ghost ahead = { λ ends words. symbols_with_ends ends words };
 
     ghost cut = { λ ends words. cut_of ends words };
 

@@ -7,7 +7,8 @@ use Rattle.std.specs.Str.{bytes_eq}
 use Rattle.std.proofs.lemmas.Slice.Eq.{bytes_eq-Decides}
 use Rattle.std.proofs.lemmas.Bool.{cases_Bool, false≢true, eqb-false}
 use Rattle.cnf_text.specs.declared.numbers.Number as code
-use Rattle.cnf_text.specs.Numbers.{Number, number_of, negative_of, unsigned_of, decimal, capped}
+use Rattle.cnf_text.specs.Numbers.{Number, number_of, negative_of, unsigned_of, decimal}
+use Rattle.cnf_text.specs.Numbers.{capped_number}
 use Rattle.lrat_text.specs.declared.words.Word.TheVariants as words
 use Rattle.cnf_text.specs.Literal.{Literal}
 use Rattle.cnf_text.specs.Words.{of_literal, IsNextLiteral}
@@ -80,11 +81,11 @@ below_zero bytes n h sign = elim (cases_Bool (slice_index bytes 0 == 45)) [
 record IsNumeral (bytes : List ℕ) (told : code.Number) : Type 0 where
   pub number : Number
   pub symbol : step_symbol_of bytes ≡ Numeral number
-  pub told_is : capped number ≡ told
+  pub told_is : capped_number number ≡ told
   pub some : number.negative ≡ true → 1 ≤ number.magnitude
 
 numeral_found : (bytes : List ℕ) (told : code.Number) (found : Option Number) →
-    number_of bytes ≡ found → option_map capped found ≡ Some told → IsNumeral bytes told
+    number_of bytes ≡ found → option_map capped_number found ≡ Some told → IsNumeral bytes told
 numeral_found bytes told None at h = absurd (some_none told h)
 numeral_found bytes told (Some n) at h = record {
   number = n;
@@ -94,7 +95,7 @@ numeral_found bytes told (Some n) at h = record {
 }
 
 is_numeral : (bytes : List ℕ) (told : code.Number) →
-    option_map capped (number_of bytes) ≡ Some told → IsNumeral bytes told
+    option_map capped_number (number_of bytes) ≡ Some told → IsNumeral bytes told
 is_numeral bytes told h = numeral_found bytes told (number_of bytes) refl h
 
 same_numeral : (a b : Number) → Numeral a ≡ Numeral b → a ≡ b
@@ -103,11 +104,12 @@ same_numeral a b e = cc
 no_numeral : (n : Number) → Numeral n ≡ DeleteMark → ⊥
 no_numeral n e = cc
 
-capped_size : (n : Number) (told : code.Number) → capped n ≡ told →
+capped_size : (n : Number) (told : code.Number) → capped_number n ≡ told →
     min n.magnitude 18446744073709551615 ≡ told.magnitude
 capped_size n told h = ap (λ (m : code.Number). m.magnitude) h
 
-capped_sign : (n : Number) (told : code.Number) → capped n ≡ told → n.negative ≡ told.negative
+capped_sign : (n : Number) (told : code.Number) → capped_number n ≡ told
+    → n.negative ≡ told.negative
 capped_sign n told h = ap (λ (m : code.Number). m.negative) h
 
 same_parts : (n : Number) (sign : Bool) (size : ℕ) → n.negative ≡ sign → n.magnitude ≡ size →
@@ -116,7 +118,7 @@ same_parts n sign size signs sizes = λ i. record { negative = signs i; magnitud
 
 -- a number past the greatest id
 pub too_large : (bytes : List ℕ) (told : code.Number) →
-    option_map capped (number_of bytes) ≡ Some told → 4611686018427387904 < told.magnitude →
+    option_map capped_number (number_of bytes) ≡ Some told → 4611686018427387904 < told.magnitude →
     IsReadAs words.Stray (step_symbol_of bytes)
 too_large bytes told h large =
     let is = is_numeral bytes told h in
@@ -132,7 +134,7 @@ too_large bytes told h large =
 
 -- a number of an id's size
 pub within : (bytes : List ℕ) (told : code.Number) →
-    option_map capped (number_of bytes) ≡ Some told → told.magnitude ≤ 4611686018427387904
+    option_map capped_number (number_of bytes) ≡ Some told → told.magnitude ≤ 4611686018427387904
     →
     step_symbol_of bytes ≡ Numeral (record { negative = told.negative; magnitude = told.magnitude })
 within bytes told h small =
@@ -146,7 +148,8 @@ within bytes told h small =
 
 -- there is no negative zero
 pub some_below_zero : (bytes : List ℕ) (told : code.Number) →
-    option_map capped (number_of bytes) ≡ Some told → told.negative ≡ true → 1 ≤ told.magnitude
+    option_map capped_number (number_of bytes) ≡ Some told → told.negative ≡ true
+    → 1 ≤ told.magnitude
 some_below_zero bytes told h sign =
     let is = is_numeral bytes told h in
     let size : min is.number.magnitude 18446744073709551615 ≡ told.magnitude =

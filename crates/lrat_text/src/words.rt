@@ -4,7 +4,7 @@
 ghost use Rattle.std.specs.Prelude.{◌≡◌, ◌≢◌, ◌≤◌, [], ◌∷◌, ℕ, suc, List, IfSome, IfNone};
 ghost use Rattle.std.specs.Prelude.{MatchOption, Some, None};
 ghost use Rattle.std.specs.Option.{option_map};
-ghost use Rattle.cnf_text.specs.Numbers.{number_of, capped};
+ghost use Rattle.cnf_text.specs.Numbers.{capped_number, number_of};
 ghost use Rattle.cnf_text.specs.Words.{IsToldAs};
 ghost use Rattle.lrat_text.specs.Grammar.{StepSymbol, step_symbol_of, positive, greatest_id, IsId};
 ghost use Rattle.lrat_text.specs.StepWords.{IsReadAs, HasId, IsNext, IsFront, ends_behind};
@@ -99,7 +99,7 @@ fn word_of(told: told::Word<'_>) -> Word
 /// What a number is to the reader.
 #[inline(always)]
 fn numeral(number: Number) -> Word
-    ensures { (bytes : List ℕ) → option_map capped (number_of bytes) ≡ Some number
+    ensures { (bytes : List ℕ) → option_map capped_number (number_of bytes) ≡ Some number
         → IsReadAs result (step_symbol_of bytes) × HasId result }
 {
     if number.magnitude > MAX_ID {

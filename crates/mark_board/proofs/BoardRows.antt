@@ -28,7 +28,8 @@ use Rattle.mark_board.specs.Rows.{AreRowsKept}
 use Rattle.mark_board.specs.Posting.{marks_after}
 use Rattle.mark_board.specs.Board.{BoardOf, IsPlace, IsRow, IsRowOn, TakesNode, tree_on, node_on}
 use Rattle.mark_board.specs.Board.{board_tree, board_node, worth_on}
-use Rattle.mark_board.specs.BoardData.{place_of, IsRegion, IsRoot, IsAbove, stored_board, AreSound}
+use Rattle.mark_board.specs.BoardData.{place_of_region, IsRegion, IsRoot, IsAbove, stored_board}
+use Rattle.mark_board.specs.BoardData.{AreSound}
 use Rattle.mark_board.specs.BoardData.{IsDataOf}
 use Rattle.mark_board.proofs.MarkingLaws.{marked_refuted}
 use Rattle.mark_board.proofs.MarkingSound.{refuted_is, after_post}
@@ -49,7 +50,7 @@ pub record IsTopOn (board : BoardOf) (above : split.Top) : Type 0 where
   pub is_above : IsAbove board.cut board.case.tree above
 
 region_place : (cut : ℕ) (tree : SplitTree) (r : Region) → IsRegion cut tree r →
-    IsPlace cut tree (place_of r)
+    IsPlace cut tree (place_of_region r)
 region_place cut tree (region.Part part root) is = is.within
 region_place cut tree (region.Top above) is = tt
 
@@ -58,11 +59,11 @@ module _ (board : BoardOf) (case : CaseOf) (stored : BoardData)
   pub on_part : (part root : ℕ) → stored.region ≡ region.Part part root →
       IsPartOn board part root
   on_part part root is = rw (← e)
-      (record { place_is = ap place_of is; is_root = rw is at holds.is_region })
+      (record { place_is = ap place_of_region is; is_root = rw is at holds.is_region })
 
   pub on_top : (above : split.Top) → stored.region ≡ region.Top above → IsTopOn board above
   on_top above is = rw (← e)
-      (record { place_is = ap place_of is; is_above = rw is at holds.is_region })
+      (record { place_is = ap place_of_region is; is_above = rw is at holds.is_region })
 
   pub is_place : IsPlace board.cut board.case.tree board.place
   is_place = rw (← e) (region_place stored.cut case.tree stored.region holds.is_region)
@@ -239,7 +240,7 @@ module _ (board : BoardOf) (case : CaseOf) (stored : BoardData)
   part_refuted part root is m =
       let tree = tree_on (stored_board case stored) in
       let at_root : IsRefuted case.formula
-      (path_at case.tree (board_node stored.cut case.tree (place_of stored.region) 0)) =
+      (path_at case.tree (board_node stored.cut case.tree (place_of_region stored.region) 0)) =
       stored_sound case stored 0 holds (omega (arith, some_node tree))
       (rw (subtree-root tree) (rw (← e) at m)) in
       let in_part : IsRefuted case.formula

@@ -10,6 +10,7 @@ use Rattle.split_tree.specs.Parts.{top, top_nodes}
 use Rattle.split_tree.proofs.NodesCoding.{branches_at, subtree-root, some_node, in_positive}
 use Rattle.split_tree.proofs.NodesCoding.{in_negative}
 use Rattle.split_tree.proofs.SplitTreeLabels.{nested}
+use Rattle.split_tree.proofs.SplitTreeDepths.{is_split}
 use Rattle.split_tree.proofs.LeavesNodes.{missing_is}
 use Rattle.mark_board.specs.TopPlaces.{top_node, part_count, part_place, IsPlaceOf}
 use Rattle.mark_board.proofs.BoardNumbers.{length-top_nodes}
@@ -162,11 +163,6 @@ comes_before cut tree i j m l =
 
 -- ---- a node has one place
 
-splits_or_not : (t : SplitTree) → IsSplit t ⊎ (IsSplit t → ⊥)
-splits_or_not missing = inr (λ h. h)
-splits_or_not (cube k) = inr (λ h. h)
-splits_or_not (split v p n) = inl tt
-
 not_later : (cut : ℕ) (tree : SplitTree) (node i j : ℕ) → IsPlaceOf cut tree node i →
     IsPlaceOf cut tree node j → i < j → ⊥
 not_later cut tree node i j p q m =
@@ -175,7 +171,7 @@ not_later cut tree node i j p q m =
     let reached : top_node cut tree j ≤ node = q.below.reached in
     let ends : node < top_node cut tree i + size (subtree_at tree (top_node cut tree i)) =
     p.below.before_end in
-    elim (splits_or_not (subtree_at (top cut tree) i)) [
+    elim (is_split (subtree_at (top cut tree) i)) [
       | inl s ↦ let e : top_node cut tree i ≡ node = p.own s in omega arith
       | inr g ↦ let w : top_node cut tree i + size (subtree_at tree (top_node cut tree i))
           ≤ top_node cut tree j = c.whole_part g in omega arith

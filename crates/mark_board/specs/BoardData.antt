@@ -17,9 +17,9 @@ use Rattle.mark_board.specs.Rows.{AreRowsKept}
 use Rattle.mark_board.specs.TopPlaces.{part_count, part_root}
 
 -- where a board of this region stands
-abbrev pub place_of : Region → Place
-place_of (region.Part part root) = Part part
-place_of (region.Top above) = Top
+abbrev pub place_of_region : Region → Place
+place_of_region (region.Part part root) = Part part
+place_of_region (region.Top above) = Top
 
 -- these are the nodes above the cut, and the roots of the parts
 pub record IsAbove (cut : ℕ) (tree : SplitTree) (above : split.Top) : Type 0 where
@@ -41,7 +41,7 @@ abbrev pub stored_board : CaseOf → BoardData → BoardOf
 stored_board case stored = record {
   case = case;
   cut = stored.cut;
-  place = place_of stored.region;
+  place = place_of_region stored.region;
   marks = stored.rows.marks.items;
 }
 

@@ -3,7 +3,7 @@
 ghost use Rattle.std.specs.Prelude.{◌≡◌, ◌≤◌, ◌<◌, ℕ, IfOk, map, length, slice_index, replicate};
 ghost use Rattle.split_tree.specs.SplitTree.{size};
 ghost use Rattle.mark_board.specs.Board.{board_tree};
-ghost use Rattle.mark_board.specs.BoardData.{place_of, IsDataOf};
+ghost use Rattle.mark_board.specs.BoardData.{IsDataOf, place_of_region};
 ghost use Rattle.mark_board.specs.TopPlaces.{part_count, part_root, worth_of};
 ghost use Rattle.mark_board.specs.declared.mark.Mark.TheVariants.{Open};
 ghost use Rattle.mark_board.specs.declared.place.Place.TheVariants.{Part as part_place};
@@ -73,7 +73,7 @@ impl BoardData {
         requires part { part < part_count cut case.now.tree }
         ensures data { IfOk result (IsDataOf case.now) }
         ensures place { IfOk result
-            (λ stored. (stored.cut ≡ cut) × (place_of stored.region ≡ part_place part)) }
+            (λ stored. (stored.cut ≡ cut) × (place_of_region stored.region ≡ part_place part)) }
         ensures marks { IfOk result
             (λ stored. stored.rows.marks.items
             ≡ replicate (size (board_tree cut case.now.tree (part_place part))) Open) }
@@ -95,7 +95,7 @@ impl BoardData {
         requires { cut ≤ 6 }
         ensures data { IfOk result (IsDataOf case.now) }
         ensures place { IfOk result
-            (λ stored. (stored.cut ≡ cut) × (place_of stored.region ≡ at_top)) }
+            (λ stored. (stored.cut ≡ cut) × (place_of_region stored.region ≡ at_top)) }
         ensures marks { IfOk result
             (λ stored. stored.rows.marks.items
             ≡ replicate (size (board_tree cut case.now.tree at_top)) Open) }

@@ -3,7 +3,7 @@ use Rattle.std.proofs.Common.{◌≡◌, ◌∙◌, ◌↔◌, sym, ap, refl, �
 use Rattle.std.proofs.Common.{[], ◌∷◌, ◌++◌, append-nil, append_assoc, ◌⊎◌, inl, inr, subst}
 use Rattle.std.proofs.lemmas.Bool.{eqb-true}
 use Rattle.std.specs.List.{onto_first}
-use Rattle.case_core.specs.Tokens.{Token, is_line_end, is_blank, words, token_lines, joined}
+use Rattle.case_core.specs.Tokens.{Token, is_line_end, is_blank, words, token_lines, all_tokens}
 use Rattle.case_core.specs.Tokens.{tokens_of}
 use Rattle.case_core.specs.Icnf.{after_header}
 use Rattle.case_core.specs.Proof.{Proof, IsProofOf}
@@ -48,7 +48,7 @@ almost_header text longer almost =
 -- ---- a proof with a line end behind it
 
 pub tokens_end : (text : List ℕ) → tokens_of (text ++ 10 ∷ []) ≡ tokens_of text
-tokens_end text = ap joined (lines_end text) ∙ joined_more (token_lines 1 text)
+tokens_end text = ap all_tokens (lines_end text) ∙ joined_more (token_lines 1 text)
 
 same_proof : (one other : List ℕ) (proof : Proof) → tokens_of one ≡ tokens_of other →
     IsProofOf one proof → IsProofOf other proof

@@ -15,7 +15,7 @@ use Rattle.case_core.proofs.CaseTables.{proof_added}
 use Rattle.proof_folder.specs.Added.{AreAlmost, IsCaseWith, MayAllBeAdded, section_of}
 use Rattle.proof_folder.specs.Added.{section_text, sections_of, texts_of}
 use Rattle.proof_folder.specs.Given.{Given, file_of, files_of, leaves_of, MayBeGiven, HasFewLeaves}
-use Rattle.proof_folder.specs.Given.{name_of, number_of}
+use Rattle.proof_folder.specs.Given.{leaf_number, name_of}
 use Rattle.proof_folder.proofs.AddedCase.{all_added, one_added}
 use Rattle.proof_folder.proofs.AddedMarks.{AlmostTexts, almost_for, proof_second}
 use Rattle.proof_folder.proofs.GivenNames.{one_line, leaf_named}
@@ -95,7 +95,7 @@ still_has one other target text almost some none =
     almost_for one other target almost in rw (some, none) at texts
 
 pub leaf_given : (bundle proof : List ℕ) (case : CaseOf) (leaf : Leaf) → IsCaseOf bundle case
-    → number_of leaf < 2 ^ 64 → HasLeaf case.tree leaf
+    → leaf_number leaf < 2 ^ 64 → HasLeaf case.tree leaf
     → proof_for case.sections (Named leaf) ≡ None → labels_of proof ≡ []
     → IsCaseWhere (bundle ++ section_text (name_of leaf) (Some proof)) case.tree (Named leaf)
 leaf_given bundle proof case leaf is few has free plain =

@@ -8,6 +8,7 @@ use Rattle.case_core.specs.Leaf.{Leaf}
 use Rattle.case_core.specs.Leaf.TheVariants.{Cube, Missing}
 use Rattle.case_core.specs.Target.{Target}
 use Rattle.case_core.specs.Target.TheVariants.{Leaf as Named, Node}
+use Rattle.split_tree.proofs.SplitTreeDepths.{is_split}
 use Rattle.case_core.specs.Case.{CaseOf, proof_for}
 use Rattle.mark_board.specs.declared.mark.Mark.{Mark}
 use Rattle.mark_board.specs.Marking.{mark_at}
@@ -36,11 +37,6 @@ has_leaf tree (Missing j) cubes = elim (cases_lt j 1) [
     | inr few ↦ inl (slice_index (missing_nodes tree) (j - 1), (some, few, refl))
   ]
 ]
-
-is_split : (tree : SplitTree) → IsSplit tree ⊎ (IsSplit tree → ⊥)
-is_split missing = inr (λ is. is)
-is_split (cube k) = inr (λ is. is)
-is_split (split v positive negative) = inl tt
 
 has_node : (tree : SplitTree) (node : ℕ) → HasTarget tree (Node node) ⊎
     (HasTarget tree (Node node) → ⊥)

@@ -18,7 +18,7 @@ use Rattle.case_core.proofs.LeavesPaths.{cube_leaves}
 use Rattle.case_core.proofs.CaseTables.{same_target-true, same_target-self}
 use Rattle.proof_folder.specs.Added.{section_of, sections_of}
 use Rattle.proof_folder.specs.Given.{Given, leaves_from, leaves_of, file_of, HasFewLeaves}
-use Rattle.proof_folder.specs.Given.{number_of}
+use Rattle.proof_folder.specs.Given.{leaf_number}
 
 -- which cubes a tree has: those from 1 to their count
 pub record HasCubes (tree : SplitTree) : Type 0 where
@@ -86,7 +86,7 @@ contained leaf (x ∷ leaves) (inr there) =
 -- ---- and each of them is a leaf of the tree
 
 abbrev pub IsOfTree : SplitTree → Leaf → Type 0
-IsOfTree tree leaf = HasLeaf tree leaf × (number_of leaf < 2 ^ 64)
+IsOfTree tree leaf = HasLeaf tree leaf × (leaf_number leaf < 2 ^ 64)
 
 both : (P : Leaf → Type 0) (one other : List Leaf) → AllByRecursion P one → AllByRecursion P other →
     AllByRecursion P (one ++ other)

@@ -25,7 +25,7 @@ use Rattle.case_core.specs.Leaf.TheVariants.{Cube, Missing}
 use Rattle.case_core.specs.Target.TheVariants.{Leaf as Named}
 use Rattle.case_core.specs.Bundle.{lines_of}
 use Rattle.case_core.specs.Label.{CubeName, MissingName, leaf_name, label_name, IsTargetOf}
-use Rattle.proof_folder.specs.Given.{name_of, number_of}
+use Rattle.proof_folder.specs.Given.{leaf_number, name_of}
 
 -- ---- digits
 
@@ -141,12 +141,13 @@ missing_label n few =
     ) refl
 
 -- a leaf's name is one line
-pub one_line : (leaf : Leaf) → number_of leaf < 2 ^ 64 → lines_of (name_of leaf) ≡ name_of leaf ∷ []
+pub one_line : (leaf : Leaf) → leaf_number leaf < 2 ^ 64
+    → lines_of (name_of leaf) ≡ name_of leaf ∷ []
 one_line (Cube k) few = (written_word k few).one_line
 one_line (Missing j) few = (missing_word (written j) (written_word j few)).one_line
 
 -- and names the leaf
-pub leaf_named : (tree : SplitTree) (leaf : Leaf) → number_of leaf < 2 ^ 64 → HasLeaf tree leaf
+pub leaf_named : (tree : SplitTree) (leaf : Leaf) → leaf_number leaf < 2 ^ 64 → HasLeaf tree leaf
     → IsTargetOf tree (label_name (words (codes "l " ++ name_of leaf))) (Named leaf)
 leaf_named tree (Cube k) few has =
     record { value = CubeName k; is = cube_label k few; named = (refl, has) }

@@ -31,9 +31,9 @@ name_of (Cube k) = decimal k
 name_of (Missing j) = codes "m" ++ decimal j
 
 -- its number
-abbrev pub number_of : Leaf → ℕ
-number_of (Cube k) = k
-number_of (Missing j) = j
+abbrev pub leaf_number : Leaf → ℕ
+leaf_number (Cube k) = k
+leaf_number (Missing j) = j
 
 -- so many leaves of a kind, from this number on
 abbrev pub leaves_from : (ℕ → Leaf) → ℕ → ℕ → List Leaf

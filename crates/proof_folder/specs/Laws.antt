@@ -17,7 +17,7 @@ use Rattle.mark_board.specs.declared.mark.Mark.{Mark}
 use Rattle.mark_board.specs.Findings.{AreFindings}
 use Rattle.proof_folder.specs.Added.{LeafFile, texts_of, sections_of, MayAllBeAdded, IsCaseWith}
 use Rattle.proof_folder.specs.Added.{AreAlmost}
-use Rattle.proof_folder.specs.Given.{Given, name_of, number_of, leaves_of, files_of, HasFewLeaves}
+use Rattle.proof_folder.specs.Given.{Given, name_of, leaf_number, leaves_of, files_of, HasFewLeaves}
 use Rattle.proof_folder.specs.Given.{MayBeGiven, AreMarksBy, AreFoundApart, IsJudgedAs}
 
 -- a line end behind a text changes nothing of its proof
@@ -52,7 +52,7 @@ FindingsWithLeaves =
 
 -- a leaf's name is one line, and behind an l and a space it names the leaf
 abbrev pub NamesNameLeaves : Type 0
-NamesNameLeaves = (tree : SplitTree) (leaf : Leaf) → HasLeaf tree leaf → number_of leaf < 2 ^ 64
+NamesNameLeaves = (tree : SplitTree) (leaf : Leaf) → HasLeaf tree leaf → leaf_number leaf < 2 ^ 64
     → (lines_of (name_of leaf) ≡ name_of leaf ∷ [])
     × IsTargetOf tree (label_name (words (codes "l " ++ name_of leaf))) (Named leaf)
 

@@ -3,7 +3,7 @@
 ghost use Rattle.std.specs.Prelude.{◌≡◌, ℕ, List, ◌<◌, ◌+◌, ◌^◌, ◌-◌, Option, IfOk, IfErr, IfSome};
 ghost use Rattle.std.specs.Prelude.{OnOk, Bool, None, false};
 ghost use Rattle.byte_flow.specs.Device.{IsDeviceFault};
-ghost use Rattle.case_core.specs.Form.{proof_left};
+ghost use Rattle.case_core.specs.Form.{text_in_form};
 ghost use Rattle.case_core.specs.Target.{Target};
 ghost use Rattle.proof_folder.specs.TargetProofs.{IsGiven, IsOpenedOf, left_text, text_by};
 
@@ -28,7 +28,7 @@ pub trait TargetProofs {
     /// In which form a proof is opened: before its first byte, which tells whether it is binary, or
     /// as a text.
     fn form(&self) -> ProofForm
-        ensures { (bytes : List ℕ) → proof_left result bytes ≡ text_by takes_binary bytes };
+        ensures { (bytes : List ℕ) → text_in_form result bytes ≡ text_by takes_binary bytes };
 
     /// Whether a proof may lie there for a target; without reading anything.
     fn may_have(&self, target: Target) -> bool

@@ -247,3 +247,9 @@ not_missed tree node place h e before behind =
       | inr more ↦ let a : node < get_or (missing_nodes tree) r.0 0 = behind r.0 more r.1 in
           omega (arith, r.2)
     ]
+
+-- each missing leaf, numbered from 1, stands at its node
+pub missing_stands : (tree : SplitTree) (b : ℕ) → b < length (missing_nodes tree) →
+    IsLeafAt tree (get_or (missing_nodes tree) b 0) (Absent (b + 1))
+missing_stands tree b l =
+    let q : (b + 1) - 1 ≡ b = omega arith in (omega arith, omega arith, rw q refl)

@@ -44,6 +44,11 @@ splits_or_not missing = inr (tt)
 splits_or_not (cube k) = inr (tt)
 splits_or_not (split v p n) = inl (tt)
 
+pub is_split : (t : SplitTree) → IsSplit t ⊎ (IsSplit t → ⊥)
+is_split missing = inr (λ h. h)
+is_split (cube k) = inr (λ h. h)
+is_split (split v p n) = inl tt
+
 pub leaf_one : (t : SplitTree) → IsLeaf t → size t ≡ 1
 leaf_one missing l = refl
 leaf_one (cube k) l = refl

@@ -1,7 +1,7 @@
 //! The queue of jobs: what its passes claim, one after another and in two threads, and when it is
 //! finished.
 ghost use Rattle.std.specs.Prelude.{◌≡◌, All};
-ghost use Rattle.cube_jobs.specs.Jobs.{IsPassOf};
+ghost use Rattle.cube_jobs.specs.Jobs.{IsJobPassOf};
 
 use crate::cases::case;
 use cube_jobs::{JobPass, Jobs};
@@ -29,7 +29,7 @@ fn filled<R: Abort + Wait>(
     bundle: &str,
     passes: usize,
 ) -> (Jobs, Vec<JobPass>)
-    ensures { All (λ pass. IsPassOf result.0 pass) result.1.items }
+    ensures { All (λ pass. IsJobPassOf result.0 pass) result.1.items }
 {
     assert!(rt; 0 < passes && passes <= 64);
     let case = case(rt, alloc, bundle);
@@ -38,9 +38,9 @@ fn filled<R: Abort + Wait>(
 
 /// The last of some passes.
 fn taken<R: Abort>(rt: &R, jobs: &Jobs, passes: &mut Vec<JobPass>) -> JobPass
-    requires { All (λ pass. IsPassOf jobs.now pass) passes.old.items }
-    ensures one { IsPassOf jobs.now result }
-    ensures others { All (λ pass. IsPassOf jobs.now pass) passes.new.items }
+    requires { All (λ pass. IsJobPassOf jobs.now pass) passes.old.items }
+    ensures one { IsJobPassOf jobs.now result }
+    ensures others { All (λ pass. IsJobPassOf jobs.now pass) passes.new.items }
 {
     let _jobs = jobs;
     passes.pop().expect(rt, "no pass is left")
@@ -48,8 +48,9 @@ fn taken<R: Abort>(rt: &R, jobs: &Jobs, passes: &mut Vec<JobPass>) -> JobPass
 
 /// Puts a pass to the others.
 fn hand_in<R: Abort>(rt: &R, jobs: &Jobs, passes: &mut Vec<JobPass>, pass: JobPass)
-    requires { All (λ pass. IsPassOf jobs.now pass) passes.old.items × IsPassOf jobs.now pass }
-    ensures { All (λ pass. IsPassOf jobs.now pass) passes.new.items }
+    requires { All (λ pass. IsJobPassOf jobs.now pass) passes.old.items
+        × IsJobPassOf jobs.now pass }
+    ensures { All (λ pass. IsJobPassOf jobs.now pass) passes.new.items }
 {
     let _jobs = jobs;
     passes.push(pass).expect(rt, "memory");
@@ -65,8 +66,8 @@ struct Claimed {
 
 /// Claims until no job is left.
 fn claim_all<R: Wait>(rt: &R, jobs: &Jobs, mut pass: JobPass) -> Claimed
-    requires { IsPassOf jobs.now pass }
-    ensures { IsPassOf jobs.now result.pass }
+    requires { IsJobPassOf jobs.now pass }
+    ensures { IsJobPassOf jobs.now result.pass }
 {
     let mut places = 0u64;
     let mut count = 0u64;
@@ -91,8 +92,8 @@ fn claim_by_turns<R: Abort + Wait>(
     jobs: &Jobs,
     passes: Vec<JobPass>,
 ) -> (Vec<JobPass>, u64, u64)
-    requires { All (λ pass. IsPassOf jobs.now pass) passes.items }
-    ensures { All (λ pass. IsPassOf jobs.now pass) result.0.items }
+    requires { All (λ pass. IsJobPassOf jobs.now pass) passes.items }
+    ensures { All (λ pass. IsJobPassOf jobs.now pass) result.0.items }
 {
     let mut done = Vec::new(alloc);
     let mut places = 0u64;
@@ -108,8 +109,8 @@ fn claim_by_turns<R: Abort + Wait>(
 
 /// Whether one pass claims these places, in this order, and then no more.
 fn claims_in_order<R: Wait>(rt: &R, jobs: &Jobs, pass: &mut JobPass, places: &[usize]) -> bool
-    requires { IsPassOf jobs.now pass.old }
-    ensures { IsPassOf jobs.now pass.new }
+    requires { IsJobPassOf jobs.now pass.old }
+    ensures { IsJobPassOf jobs.now pass.new }
 {
     for place in places {
         if jobs.claim(rt, pass) != Some(*place) {
@@ -204,18 +205,18 @@ fn race<R: Threads + Wait + Sync>(
     one: JobPass,
     two: JobPass,
 ) -> (Claimed, Claimed)
-    requires { IsPassOf jobs.now one × IsPassOf jobs.now two }
-    ensures { IsPassOf jobs.now result.0.pass × IsPassOf jobs.now result.1.pass }
+    requires { IsJobPassOf jobs.now one × IsJobPassOf jobs.now two }
+    ensures { IsJobPassOf jobs.now result.0.pass × IsJobPassOf jobs.now result.1.pass }
 {
     thread::join(
         rt,
         move ||
-            requires { IsPassOf jobs.now one }
-            ensures { IsPassOf jobs.entry.now result.pass }
+            requires { IsJobPassOf jobs.now one }
+            ensures { IsJobPassOf jobs.entry.now result.pass }
         { claim_all(rt, jobs, one) },
         move ||
-            requires { IsPassOf jobs.now two }
-            ensures { IsPassOf jobs.entry.now result.pass }
+            requires { IsJobPassOf jobs.now two }
+            ensures { IsJobPassOf jobs.entry.now result.pass }
         { claim_all(rt, jobs, two) },
     )
 }

@@ -17,7 +17,7 @@ use Rattle.mark_board.proofs.MarkingLaws.{test_same, test_other}
 use Rattle.mark_board.proofs.MarkingWalk.{zero_is_marked, some_not_marked, all_is_open}
 use Rattle.mark_board.proofs.MarkingWalk.{less_not_whole}
 use Rattle.node_fields.specs.Fields.{status_fields}
-use Rattle.tree_map.specs.Picture.{is_rejected, one_rejected, shown, color, frame}
+use Rattle.tree_map.specs.Picture.{is_rejected, one_rejected, nodes_shown, color, frame}
 use Rattle.tree_map.specs.Picture.{path_fields, told}
 
 -- ---- rejected proofs
@@ -66,14 +66,15 @@ module _ (tree : SplitTree) (marks : List Mark) (level node open_under : ℕ) (c
         rw (m, under) refl
 
     pub color_rejected : covered ≡ false → (open_under ≡ 0 → ⊥) →
-        one_rejected marks node (shown level (subtree_at tree node)) ≡ true →
+        one_rejected marks node (nodes_shown level (subtree_at tree node)) ≡ true →
         codes "x" ≡ color marks level node covered (subtree_at tree node)
     color_rejected free some bad =
         let m = some_not_marked tree (refuted_by marks) node (λ z. some (is ∙ z)) in
         rw (m, free, bad) refl
 
     pub color_open : covered ≡ false → (open_under ≡ 0 → ⊥) →
-        one_rejected marks node (shown level (subtree_at tree node)) ≡ false → node < size tree →
+        one_rejected marks node (nodes_shown level (subtree_at tree node)) ≡ false
+        → node < size tree →
         open_under ≡ worth_of tree node →
         codes "o" ≡ color marks level node covered (subtree_at tree node)
     color_open free some good l whole =
@@ -82,7 +83,8 @@ module _ (tree : SplitTree) (marks : List Mark) (level node open_under : ℕ) (c
         rw (free, m, good, w) refl
 
     pub color_part : covered ≡ false → (open_under ≡ 0 → ⊥) →
-        one_rejected marks node (shown level (subtree_at tree node)) ≡ false → node < size tree →
+        one_rejected marks node (nodes_shown level (subtree_at tree node)) ≡ false
+        → node < size tree →
         (open_under ≡ worth_of tree node → ⊥) →
         codes "p" ≡ color marks level node covered (subtree_at tree node)
     color_part free some good l part =

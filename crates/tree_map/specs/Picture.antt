@@ -44,9 +44,9 @@ one_rejected marks node (suc count) =
     is_rejected (mark_at marks node) || one_rejected marks (suc node) count
 
 -- for how many nodes a cell of this level stands
-abbrev pub shown : ℕ → SplitTree → ℕ
-shown zero tree = size tree
-shown (suc level) tree = 1
+abbrev pub nodes_shown : ℕ → SplitTree → ℕ
+nodes_shown zero tree = size tree
+nodes_shown (suc level) tree = 1
 
 -- the class of a cell by its color: marked, under a marked node, rejected, wholly open, or open in
 -- part
@@ -54,7 +54,7 @@ abbrev pub color : List Mark → ℕ → ℕ → Bool → SplitTree → List ℕ
 color marks level node covered tree =
     if marked (refuted_by marks) node tree then codes "r"
     else (if covered then codes "c"
-    else (if one_rejected marks node (shown level tree) then codes "x"
+    else (if one_rejected marks node (nodes_shown level tree) then codes "x"
     else (if wholly_open (refuted_by marks) node tree then codes "o" else codes "p")))
 
 -- and another class for an inner node that has a mark of its own: by the marks of a case's findings

@@ -5,7 +5,7 @@ ghost use Rattle.split_tree.specs.SplitTree.{size, subtree_at};
 ghost use Rattle.mark_board.specs.Marking.{mark_at, open_weight, refuted_by};
 ghost use Rattle.mark_board.specs.TopPlaces.{worth_of};
 ghost use Rattle.tree_map.specs.Picture.{attribute, edges, rectangle, is_rejected, one_rejected};
-ghost use Rattle.tree_map.specs.Picture.{shown, color, frame, own_status, path_fields, told};
+ghost use Rattle.tree_map.specs.Picture.{color, frame, nodes_shown, own_status, path_fields, told};
 ghost use Rattle.tree_map.specs.Inner.Picture.{cell_of};
 
 use case_core::{Case, Leaf, NodeId, Target};
@@ -155,7 +155,7 @@ fn color(
 fn shows_rejected(boards: &Boards<'_>, level: u32, node: NodeId) -> bool
     requires { node < size boards.now.case.tree }
     ensures { result ≡ one_rejected boards.now.marks node
-        (shown level (subtree_at boards.now.case.tree node)) }
+        (nodes_shown level (subtree_at boards.now.case.tree node)) }
 {
     if level == 0 {
         rejected_under(boards, node)

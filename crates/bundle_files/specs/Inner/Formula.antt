@@ -7,7 +7,7 @@ use Rattle.case_core.specs.Problem as code
 use Rattle.case_core.specs.Bundle.{lines_of}
 use Rattle.cube_report.specs.declared.fault.Fault.{Fault}
 use Rattle.cube_report.specs.declared.fault.Fault.TheVariants.{Memory}
-use Rattle.file_store.specs.Files.{Held, Gives}
+use Rattle.file_store.specs.Files.{Held, IsGivenAt}
 use Rattle.bundle_files.specs.Formula.{HasDimacsFault, HasOtherCount}
 
 -- a problem line is there
@@ -36,7 +36,7 @@ pub record IsFirstLine (text : List ℕ) (start count : ℕ) : Type 0 where
 -- the text of the formula's file has this fault
 abbrev pub IsFaultyFormula : Held → List ℕ → Fault → Type 0
 IsFaultyFormula held path fault =
-    (text : List ℕ) × Gives held path (Some text) × HasDimacsFault text fault
+    (text : List ℕ) × IsGivenAt held path (Some text) × HasDimacsFault text fault
 
 -- the bundle has another number of clauses than a problem line says, or memory ran out
 abbrev pub IsOtherCount : Option code.Problem → List ℕ → Fault → Type 0

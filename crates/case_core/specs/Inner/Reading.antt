@@ -4,7 +4,7 @@ use Rattle.std.specs.Io.KnownBytes.{Consumes}
 use Rattle.byte_flow.specs.Device.{IsLeft}
 use Rattle.hint_check.specs.Judging.{JudgingOf, says, says_binary}
 use Rattle.lrat_binary.specs.Binary.{text_of}
-use Rattle.lrat_binary.specs.Form.{proof_left}
+use Rattle.lrat_binary.specs.Form.{text_in_form}
 use Rattle.lrat_binary.specs.declared.form.ProofForm.{ProofForm}
 use Rattle.split_tree.specs.declared.node.Target.{Target}
 use Rattle.case_core.specs.Bundle.{labels_of}
@@ -26,16 +26,16 @@ SaysByText j = (bytes : List ℕ) → says_binary j bytes ≡ says j (text_of by
 
 -- a proof that was opened in this form, and begins with these bytes, is a text
 abbrev pub IsOpenedText : ProofForm → List ℕ → Type 0
-IsOpenedText opened begun = (more : List ℕ) → proof_left opened (begun ++ more) ≡ begun ++ more
+IsOpenedText opened begun = (more : List ℕ) → text_in_form opened (begun ++ more) ≡ begun ++ more
 
 -- of a text that was opened in this form: no line is a label line, and it is judged so, or its
 -- first label line
 abbrev pub IsTextOf : ProofForm → JudgingOf → List ℕ → ReadText → Type 0
 IsTextOf opened begun bytes (Judged read) =
-    (labels_of (proof_left opened bytes) ≡ []) × (length bytes ≡ read.length)
-    × (read.judged ≡ says begun (proof_left opened bytes))
+    (labels_of (text_in_form opened bytes) ≡ []) × (length bytes ≡ read.length)
+    × (read.judged ≡ says begun (text_in_form opened bytes))
 IsTextOf opened begun bytes (Labelled label) =
-    (proof_left opened bytes ≡ bytes) × IsFirstLabel bytes label.line.items label.lines
+    (text_in_form opened bytes ≡ bytes) × IsFirstLabel bytes label.line.items label.lines
 
 -- so it is of what a source had left
 pub record IsTextRead (opened : ProofForm) (left : Option (List ℕ)) (begun : JudgingOf)

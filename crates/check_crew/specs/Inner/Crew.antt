@@ -57,7 +57,7 @@ pub record HasTaken {R G T E : Type 0} (turns : Turns R G) (pass : Pass) (job_pa
     (end : Result T E) : Type 0 where
   pub own : IsPassOf (shared_of turns.site.core.now) pass
   pub owes : (view_of pass).owes ≡ None
-  pub of_jobs : queue.IsPassOf turns.jobs.now job_pass
+  pub of_jobs : queue.IsJobPassOf turns.jobs.now job_pass
   pub empty : OnOk end (job_pass.found_empty ≡ true)
   pub seen : OnOk end (All (HasSeenTurn turns.order.now (view_of pass)) job_pass.claims)
 
@@ -68,7 +68,7 @@ pub record IsShiftOf {R G P : Type 0} (turns : Turns R G) (held : Known) (failur
     (shift : Shift P) : Type 0 where
   pub own : IsPassOf (shared_of turns.site.core.now) shift.pass
   pub owes : (view_of shift.pass).owes ≡ None
-  pub of_jobs : queue.IsPassOf turns.jobs.now shift.job_pass
+  pub of_jobs : queue.IsJobPassOf turns.jobs.now shift.job_pass
   pub empty : shift.fault ≡ None → shift.job_pass.found_empty ≡ true
   pub seen : shift.fault ≡ None →
       All (HasSeenTurn turns.order.now (view_of shift.pass)) shift.job_pass.claims
@@ -100,7 +100,7 @@ pub record IsHandedIn {R G P : Type 0} (turns : Turns R G) (held : P → Known) 
   pub job_passes_count : vec_len handed.job_passes ≡ count
   pub own : All (IsPassOf (shared_of turns.site.core.now)) handed.passes.items
   pub free : All (λ pass. (view_of pass).owes ≡ None) handed.passes.items
-  pub jobs : All (queue.IsPassOf turns.jobs.now) handed.job_passes.items
+  pub jobs : All (queue.IsJobPassOf turns.jobs.now) handed.job_passes.items
   pub empty : All (λ (pass : JobPassOf). pass.found_empty ≡ true) handed.job_passes.items
   pub seen : HaveSeenClaims turns.order.now handed.passes.items handed.job_passes.items
   pub lists : (known : Known)

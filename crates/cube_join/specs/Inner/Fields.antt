@@ -5,11 +5,6 @@ use Rattle.mark_board.specs.declared.mark.Mark.{Mark}
 use Rattle.mark_board.specs.declared.mark.Mark.TheVariants.{Open, Refuted, Rejected}
 use Rattle.node_fields.specs.Fields.{literal_field}
 
--- none of the bytes is this one
-abbrev pub Lacks : ℕ → List ℕ → Type 0
-Lacks d [] = Unit {0}
-Lacks d (b ∷ bs) = (b ≢ d) × Lacks d bs
-
 -- the text doesn't begin with a digit, but with a blank or a line feed, or has ended
 abbrev pub EndsNumber : List ℕ → Type 0
 EndsNumber [] = Unit {0}

@@ -7,17 +7,17 @@ use Rattle.cube_report.specs.declared.fault.Fault.{Fault}
 use Rattle.cube_report.specs.declared.fault.Fault.TheVariants.{Memory, Device}
 use Rattle.cube_report.specs.Faults.{IsInputFault}
 use Rattle.cube_report.specs.Correct.{IsFaultOn}
-use Rattle.bundle_files.specs.Files.{Held, Gives}
+use Rattle.bundle_files.specs.Files.{Held, IsGivenAt}
 use Rattle.bundle_files.specs.Formula.{Sources, IsFormulaFault}
 use Rattle.cube_join.specs.Joined.{IsStranger}
 use Rattle.join_command.specs.declared.fault.JoinFault.{JoinFault}
 use Rattle.join_command.specs.declared.fault.JoinFault.TheVariants.{Run, Stranger}
-use Rattle.join_command.specs.Program.{IsRefused, IsStrangerAt}
-use Rattle.join_command.specs.Words.{Asked}
+use Rattle.join_command.specs.Program.{IsJoinRefused, IsStrangerAt}
+use Rattle.join_command.specs.Words.{JoinAsked}
 
 -- a text that lies at a path, as far as is known, and that one reading of it handed over
 abbrev pub lies_handed : Held → (List ℕ → List ℕ → Type 0) → List ℕ → List ℕ → Type 0
-lies_handed held hands path text = Gives held path (Some text) × hands path text
+lies_handed held hands path text = IsGivenAt held path (Some text) × hands path text
 
 -- why a file wasn't read, where so many calls had failed and have: want of memory, without a failed
 -- call, or a fault of the device with one
@@ -38,7 +38,7 @@ abbrev pub IsNotAdded : Held → List ℕ → SplitTree → List ℕ → ℕ →
 IsNotAdded held line tree path number before after (Run fault) = IsUnread before after fault
 IsNotAdded held line tree path number before after (Stranger other) =
     (other ≡ number) × (after ≡ before)
-    × ((text : List ℕ) × Gives held path (Some text)
+    × ((text : List ℕ) × IsGivenAt held path (Some text)
     × ((report : List ℕ) → text ≡ line ++ report → IsStranger tree report))
 
 -- why one of these records wasn't joined
@@ -57,9 +57,9 @@ IsUnjoined held bundle line paths before after (Stranger number) =
     × ((case : CaseOf) × IsCaseOf bundle case × IsStrangerAt held line case.tree paths number)
 
 -- why no joined report was written
-abbrev pub IsUnwritten : Held → Asked → ℕ → ℕ → JoinFault → Type 0
+abbrev pub IsUnwritten : Held → JoinAsked → ℕ → ℕ → JoinFault → Type 0
 IsUnwritten held asked before after (Run fault) =
-    (IsInputFault fault × (after ≡ before) × IsRefused held asked (Run fault))
+    (IsInputFault fault × (after ≡ before) × IsJoinRefused held asked (Run fault))
     ⊎ IsUnread before after fault
 IsUnwritten held asked before after (Stranger number) =
-    (after ≡ before) × IsRefused held asked (Stranger number)
+    (after ≡ before) × IsJoinRefused held asked (Stranger number)

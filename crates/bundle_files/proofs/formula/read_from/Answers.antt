@@ -1,6 +1,6 @@
 use Rattle.std.proofs.Common.{List, ℕ, option_map, Bor}
 use Rattle.cube_report.specs.Faults.{IsInputFault}
-use Rattle.file_store.specs.Files.{lies_in}
+use Rattle.file_store.specs.Files.{may_lie_at}
 use Rattle.bundle_files.specs.Formula.{IsFormulaFault}
 use Rattle.bundle_files.proofs.FormulaReading.{bundle_read, count_refused, handed_on, other_count}
 use Rattle.bundle_files.proofs.formula.read_from.Goals as goal
@@ -24,7 +24,7 @@ returns-in_err-case-clause-fault g c =
 pub returns-clause-bundle : goal.returns-clause-bundle
 returns-clause-bundle g c =
     let begun = c.in_ok-text.field-0 in
-    bundle_read (lies_in (g.D.Store.held c.args.store.now)) _ begun.said begun.text.items
+    bundle_read (may_lie_at (g.D.Store.held c.args.store.now)) _ begun.said begun.text.items
     c.append_given.new.bytes.items _ _ c.in_ok-text.ensures.read
     (rw c.in_ok-text.ensures.held at c.in_ok-append_given.ensures.appended)
     (rw c.deref.ensures.value at c.in_ok-case.ensures.ok)

@@ -3,5 +3,5 @@ use Rattle.bundle_files.proofs.judge.judge_leaves.Goals as goal
 
 pub returns-in-Ok-clause-apart : goal.returns-in-Ok-clause-apart
 returns-in-Ok-clause-apart g c =
-    c.in-Ok.ensures.apart (held_for (g.D.Store.held c.args.store.now) c.args.asked.folder.now)
+    c.in-Ok.ensures.apart (held_for (g.D.Store.held c.args.store.now) c.args.run.folder.now)
     c.in_ok-readers.ensures.held

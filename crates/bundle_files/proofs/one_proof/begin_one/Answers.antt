@@ -2,7 +2,7 @@ use Rattle.std.proofs.Common.{List, ℕ, option_map, Bor}
 use Rattle.case_core.specs.Leaf.TheVariants.{Cube}
 use Rattle.case_core.specs.Target.TheVariants.{Leaf as Named}
 use Rattle.cube_report.specs.Faults.{IsInputFault}
-use Rattle.file_store.specs.Files.{lies_in}
+use Rattle.file_store.specs.Files.{may_lie_at}
 use Rattle.bundle_files.specs.Judging.{IsRefusedWithEach}
 use Rattle.bundle_files.proofs.FormulaReading.{handed_on}
 use Rattle.bundle_files.proofs.OneProofCube.{file_refused, no_proof, one_read, one_tree}
@@ -38,7 +38,7 @@ returns-in_err-case-clause-fault g c =
 pub returns-clause-read : goal.returns-clause-read
 returns-clause-read g c =
     let begun = c.in_ok-text.field-0 in
-    one_read (lies_in (g.D.Store.held c.args.store.now)) _ begun.said begun.text.items
+    one_read (may_lie_at (g.D.Store.held c.args.store.now)) _ begun.said begun.text.items
     c.extend_from_slice.new.self.items c.in_ok-text.ensures.read
     c.in_ok-extend_from_slice.ensures.items
     (rw (c.in_ok-to_vec.ensures.items_if_clones_equal (λ x y e. e), c.deref.ensures.value)

@@ -1,5 +1,5 @@
 use Rattle.std.proofs.Common.{◌≡◌, ◌<◌, ◌∙◌, ◌++◌, ap, length, rules, sym, take}
-use Rattle.lrat_binary.specs.Form.{proof_left}
+use Rattle.lrat_binary.specs.Form.{text_in_form}
 use Rattle.lrat_binary.specs.declared.form.ProofForm.{ProofForm}
 use Rattle.case_core.proofs.ReadingProofs.{binary_read, nothing_read}
 use Rattle.case_core.proofs.reading.read_proof.Goals as goal
@@ -25,6 +25,6 @@ pub returns-in-Text-clause-read : goal.returns-in-Text-clause-read
 returns-in-Text-clause-read g c =
     c.read_text.ensures.read c.args.opened _
     (λ more. sym (c.begin.ensures.left more)
-    ∙ ap (λ (f : ProofForm). proof_left f (take c.in-Ok.count c.read.new.buffer ++ more))
+    ∙ ap (λ (f : ProofForm). text_in_form f (take c.in-Ok.count c.read.new.buffer ++ more))
     c.in-Text.is)
     c.in-Ok.ensures.bytes.0

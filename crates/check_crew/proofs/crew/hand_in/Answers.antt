@@ -32,7 +32,7 @@ loop-shift-preserved g c =
           (All-push (λ (pass : Pass). (view_of pass).owes ≡ None) _ _ was.free mine.is.owes);
       jobs =
           rw step.job_passes
-          (All-push (queue.IsPassOf turns.jobs.now) _ _ was.jobs mine.is.of_jobs);
+          (All-push (queue.IsJobPassOf turns.jobs.now) _ _ was.jobs mine.is.of_jobs);
       empty =
           rw step.job_passes
           (All-push (λ (pass : JobPassOf). pass.found_empty ≡ true) _ _ was.empty

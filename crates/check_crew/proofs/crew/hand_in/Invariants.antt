@@ -19,7 +19,7 @@ invariant-loop-shift g l = record {
       (into_iter_items l.shift-iterator);
   own : All (IsPassOf (shared_of l.crew.turns.site.core.now)) l.handed.passes.items;
   free : All (λ (pass : Pass). (view_of pass).owes ≡ None) l.handed.passes.items;
-  jobs : All (queue.IsPassOf l.crew.turns.jobs.now) l.handed.job_passes.items;
+  jobs : All (queue.IsJobPassOf l.crew.turns.jobs.now) l.handed.job_passes.items;
   empty : All (λ (pass : JobPassOf). pass.found_empty ≡ true) l.handed.job_passes.items;
   seen : HaveSeenClaims l.crew.turns.order.now l.handed.passes.items l.handed.job_passes.items;
   lists : (known : Known)

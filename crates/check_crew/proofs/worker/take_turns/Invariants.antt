@@ -9,6 +9,6 @@ invariant-loop g l = record {
   examiner : l.examiner ≡ l.turns.site.case.now;
   pass : IsPassOf (shared_of l.turns.site.core.now) l.pass;
   owes : (view_of l.pass).owes ≡ None;
-  job_pass : queue.IsPassOf l.turns.jobs.now l.job_pass;
+  job_pass : queue.IsJobPassOf l.turns.jobs.now l.job_pass;
   seen : All (HasSeenTurn l.turns.order.now (view_of l.pass)) l.job_pass.claims;
 }

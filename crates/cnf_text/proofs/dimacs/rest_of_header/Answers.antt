@@ -1,6 +1,6 @@
 use Rattle.std.proofs.Common.{◌≡◌, ap, ◌∙◌, ◌∷◌, []}
 use Rattle.std.specs.Option.{option_map}
-use Rattle.cnf_text.specs.Dimacs.{told}
+use Rattle.cnf_text.specs.Dimacs.{capped_magnitude}
 use Rattle.cnf_text.specs.Numbers.{decimal}
 use Rattle.cnf_text.specs.Tokens.{Token, below}
 use Rattle.cnf_text.proofs.DimacsHeader.{header_read, named, where_none}
@@ -25,6 +25,6 @@ returns c =
     (ap (λ (t : Token). t.bytes) c.cnf.view_is) c.as_slice-else-ne.ensures c.ne-else-ne.ensures
     c.if-ne-2.false)
     (c.in_ok-decimal.ensures
-    ∙ ap (λ (t : Token). option_map told (decimal t.bytes)) c.variables.view_is)
+    ∙ ap (λ (t : Token). option_map capped_magnitude (decimal t.bytes)) c.variables.view_is)
     (c.in_ok-decimal-2.ensures
-    ∙ ap (λ (t : Token). option_map told (decimal t.bytes)) c.clauses.view_is)
+    ∙ ap (λ (t : Token). option_map capped_magnitude (decimal t.bytes)) c.clauses.view_is)

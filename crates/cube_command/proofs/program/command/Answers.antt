@@ -1,6 +1,6 @@
 use Rattle.std.proofs.Common.{◌≡◌, arith, map, refl, subst, sym, true, IfOk}
 use Rattle.cube_report.specs.declared.fault.Fault.TheVariants as Fault
-use Rattle.cube_command.specs.Words.{AreApart, Asked, asked_of, GoesWith, IsElsewhere}
+use Rattle.cube_command.specs.Words.{HaveTwoPaths, Asked, asked_of, GoesWith, IsElsewhere}
 use Rattle.cube_command.specs.Headline.{IsRefutedAsHanded}
 use Rattle.cube_command.specs.Program.{AllowsPicturesFor, AllowsRecordsFor, AllowsReportsFor}
 use Rattle.cube_command.specs.Program.{IsReported}
@@ -41,7 +41,7 @@ run_request-run-requires-clause-alone g c = λ κs within.
 
 pub run_request-run-requires-clause-apart : goal.run_request-run-requires-clause-apart
 run_request-run-requires-clause-apart g c = λ κs within.
-    subst (λ (a : Asked). AreApart a.picture a.out) (sym c.in-Ok.ensures.asked)
+    subst (λ (a : Asked). HaveTwoPaths a.picture a.out) (sym c.in-Ok.ensures.asked)
     c.in-Ok.ensures.taken.1.1.0
 
 pub tell_run-status-requires-clause-fault : goal.tell_run-status-requires-clause-fault

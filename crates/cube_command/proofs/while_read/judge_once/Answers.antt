@@ -4,7 +4,7 @@ use Rattle.command_words.proofs.WordsRequests.{handed_on}
 use Rattle.command_words.specs.Request.{asked_in}
 use Rattle.cube_report.specs.Device.{IsLeft}
 use Rattle.cube_report.specs.Faults.{IsInputFault}
-use Rattle.bundle_files.specs.Files.{lies_in}
+use Rattle.bundle_files.specs.Files.{may_lie_at}
 use Rattle.cube_command.specs.Program.{IsRefusedFrom}
 use Rattle.cube_command.proofs.ProgramMade.{fault_below, handed_below, made_below, of_file}
 use Rattle.cube_command.proofs.ProgramMade.{of_input}
@@ -34,9 +34,9 @@ returns-in-Some-clause-made g c =
     let path = c.in-Some.path.now in
     let is : asked.file ≡ Some path = ap path_of c.in-Some.is in
     made_below held asked input c.in_ok-begun.begun
-    (λ text. lies_in held path text × g.D.Store.hands path text) c.requires.alone
+    (λ text. may_lie_at held path text × g.D.Store.hands path text) c.requires.alone
     c.in_ok-begun.ensures.read
-    (λ text given. of_file (lies_in held) asked.file input text path is given.0)
+    (λ text given. of_file (may_lie_at held) asked.file input text path is given.0)
     c.judge_at.result (rw c.in_ok-begun.ensures.held at c.judge_at.ensures.made)
 
 pub returns-in-Some-clause-handed : goal.returns-in-Some-clause-handed
@@ -47,7 +47,7 @@ returns-in-Some-clause-handed g c =
     let path = c.in-Some.path.now in
     let is : asked.file ≡ Some path = ap path_of c.in-Some.is in
     handed_below c.judge_at.result g.D.Store.hands asked input c.in_ok-begun.begun
-    (λ text. lies_in held path text × g.D.Store.hands path text) c.in_ok-begun.ensures.handed
+    (λ text. may_lie_at held path text × g.D.Store.hands path text) c.in_ok-begun.ensures.handed
     (λ text given. of_file g.D.Store.hands asked.file input text path is given.1)
     c.judge_at.ensures.made
 
@@ -58,9 +58,9 @@ returns-in-Some-clause-fault g c =
     let input = g.I.Source.remaining c.args.input.now in
     let path = c.in-Some.path.now in
     let is : asked.file ≡ Some path = ap path_of c.in-Some.is in
-    fault_below held asked input c.in_ok-begun.begun (lies_in held path) c.requires.alone
+    fault_below held asked input c.in_ok-begun.begun (may_lie_at held path) c.requires.alone
     c.in_ok-begun.ensures.read
-    (λ text given. of_file (lies_in held) asked.file input text path is given)
+    (λ text given. of_file (may_lie_at held) asked.file input text path is given)
     c.judge_at.result (rw c.in_ok-begun.ensures.held at c.judge_at.ensures.fault)
 
 -- ---- the input
@@ -73,7 +73,7 @@ returns-in-None-clause-made g c =
     let is : asked.file ≡ None = ap path_of c.in-None.is in
     made_below held asked input c.in_ok-begun.begun (IsLeft input) c.requires.alone
     c.in_ok-begun.ensures.read
-    (λ text given. of_input (lies_in held) asked.file input text is given)
+    (λ text given. of_input (may_lie_at held) asked.file input text is given)
     c.judge_source.result c.judge_source.ensures.made
 
 pub returns-in-None-clause-handed : goal.returns-in-None-clause-handed
@@ -94,5 +94,5 @@ returns-in-None-clause-fault g c =
     let is : asked.file ≡ None = ap path_of c.in-None.is in
     fault_below held asked input c.in_ok-begun.begun (IsLeft input) c.requires.alone
     c.in_ok-begun.ensures.read
-    (λ text given. of_input (lies_in held) asked.file input text is given)
+    (λ text given. of_input (may_lie_at held) asked.file input text is given)
     c.judge_source.result c.judge_source.ensures.fault

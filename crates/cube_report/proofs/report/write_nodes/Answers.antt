@@ -2,8 +2,8 @@ use Rattle.std.proofs.Common.{◌≡◌, ◌<◌, ◌≤◌, ◌++◌, ◌∙◌
 use Rattle.std.proofs.lemmas.List.{take_all}
 use Rattle.split_tree.specs.SplitTree.{subtrees, size}
 use Rattle.split_tree.proofs.NodesCoding.{length-subtrees}
+use Rattle.split_tree.proofs.NavigationSteps.{split_branches}
 use Rattle.cube_report.specs.Report.{node_lines}
-use Rattle.cube_report.proofs.ReportLines.{is_split}
 use Rattle.cube_report.proofs.ReportLines.{node_turn, split_part, leaf_part}
 use Rattle.cube_report.proofs.report.write_nodes.Goals.{in-Some+in_ok-write_marked, in_default}
 use Rattle.cube_report.proofs.report.write_nodes.Goals as goal
@@ -21,7 +21,7 @@ loop-number-preserved g c =
     (elim c.match-branches.branch [
       | in-Some+in_ok-write_marked w ↦
           let here =
-          is_split (g.M.MarkedTree.splits c.args.told.now) c.loop-number.number _ _
+          split_branches (g.M.MarkedTree.splits c.args.told.now) c.loop-number.number _ _
           (rw (tree, c.new-node.ensures) at w.in-Some.ensures) in
           let part =
           split_part (g.M.MarkedTree.splits c.args.told.now) (g.M.MarkedTree.marks c.args.told.now)

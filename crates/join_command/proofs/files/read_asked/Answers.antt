@@ -1,11 +1,11 @@
 use Rattle.std.proofs.Common.{List, ℕ, None, option_map, Bor}
-use Rattle.bundle_files.specs.Files.{lies_in}
+use Rattle.bundle_files.specs.Files.{may_lie_at}
 use Rattle.join_command.proofs.BundleRead.{read_anyhow, unread_bundle}
 use Rattle.join_command.proofs.files.read_asked.Goals as goal
 
 pub returns-in-Ok-clause-bundle : goal.returns-in-Ok-clause-bundle
 returns-in-Ok-clause-bundle g c =
-    read_anyhow (lies_in (g.D.Store.held c.args.store.now))
+    read_anyhow (may_lie_at (g.D.Store.held c.args.store.now))
     (option_map {T = Bor (List ℕ)} {U = List ℕ} (λ path. path.now) c.args.formula) c.args.file.now _
     None c.in-Ok.read.bundle.items c.in-Ok.ensures.bundle
 

@@ -2,7 +2,7 @@ use Rattle.std.proofs.Common.{◌≡◌, arith, map, refl, true}
 use Rattle.cube_command.proofs.StatusTold.{above_one, below_five, below_two, with_fault, with_one}
 use Rattle.cube_command.proofs.StatusTold.{with_zero}
 use Rattle.join_command.specs.Headline.{IsJoinedAsHanded}
-use Rattle.join_command.specs.Words.{asked_of}
+use Rattle.join_command.specs.Words.{join_asked_of}
 use Rattle.join_command.proofs.ProgramRuns.{device_five, device_join, fault_above, fault_join}
 use Rattle.join_command.proofs.ProgramRuns.{memory_allowed, memory_join, published_join, sound_join}
 use Rattle.join_command.specs.Program.{IsJoinWritten}
@@ -13,18 +13,18 @@ use Rattle.join_command.proofs.program.join_command.Goals as goal
 pub tell_join-requires-clause-memory : goal.tell_join-requires-clause-memory
 tell_join-requires-clause-memory g c =
     memory_allowed (g.E.Sink.allows c.args.errors.now) (g.D.Store.held c.args.store.now)
-    (asked_of (map g.S.AsStr.text c.args.words.now)) c.requires.faults
+    (join_asked_of (map g.S.AsStr.text c.args.words.now)) c.requires.faults
 
 pub tell_refused-requires-clause-memory : goal.tell_refused-requires-clause-memory
 tell_refused-requires-clause-memory g c =
     memory_allowed (g.E.Sink.allows c.args.errors.now) (g.D.Store.held c.args.store.now)
-    (asked_of (map g.S.AsStr.text c.args.words.now)) c.requires.faults
+    (join_asked_of (map g.S.AsStr.text c.args.words.now)) c.requires.faults
 
 pub returns-in-Ok-clause-refuted : goal.returns-in-Ok-clause-refuted
 returns-in-Ok-clause-refuted g c = λ zero.
     with_zero
     (IsJoinWritten (g.D.Store.held c.args.store.now)
-    (asked_of (map g.S.AsStr.text c.args.words.now)) (g.O.Sink.contents c.args.output.now)
+    (join_asked_of (map g.S.AsStr.text c.args.words.now)) (g.O.Sink.contents c.args.output.now)
     (g.O.Sink.contents c.run_request-run.new.output))
     c.run_request-run.result c.tell_join.result _ _ (fault_above _ _ _ _ _)
     c.tell_join.ensures.told (rw c.in-Ok.ensures.asked at c.run_request-run.ensures.written) zero
@@ -33,28 +33,29 @@ pub returns-in-Ok-clause-open : goal.returns-in-Ok-clause-open
 returns-in-Ok-clause-open g c = λ one.
     with_one
     (IsJoinWritten (g.D.Store.held c.args.store.now)
-    (asked_of (map g.S.AsStr.text c.args.words.now)) (g.O.Sink.contents c.args.output.now)
+    (join_asked_of (map g.S.AsStr.text c.args.words.now)) (g.O.Sink.contents c.args.output.now)
     (g.O.Sink.contents c.run_request-run.new.output))
     c.run_request-run.result c.tell_join.result _ _ (fault_above _ _ _ _ _)
     c.tell_join.ensures.told (rw c.in-Ok.ensures.asked at c.run_request-run.ensures.written) one
 
 pub returns-in-Ok-clause-sound : goal.returns-in-Ok-clause-sound
 returns-in-Ok-clause-sound g c = λ zero.
-    sound_join (g.D.Store.held c.args.store.now) (asked_of (map g.S.AsStr.text c.args.words.now))
+    sound_join (g.D.Store.held c.args.store.now)
+    (join_asked_of (map g.S.AsStr.text c.args.words.now))
     _ _ (returns-in-Ok-clause-refuted g c zero)
 
 pub returns-in-Ok-clause-published : goal.returns-in-Ok-clause-published
 returns-in-Ok-clause-published g c = λ zero.
     published_join (g.D.Store.held c.args.store.now)
-    (asked_of (map g.S.AsStr.text c.args.words.now))
-    (asked_of (map g.S.AsStr.text c.args.words.now)).formula _ _ refl
+    (join_asked_of (map g.S.AsStr.text c.args.words.now))
+    (join_asked_of (map g.S.AsStr.text c.args.words.now)).formula _ _ refl
     (returns-in-Ok-clause-refuted g c zero)
 
 pub returns-in-Ok-clause-handed : goal.returns-in-Ok-clause-handed
 returns-in-Ok-clause-handed g c = λ zero.
     with_zero
     (λ refuted. refuted ≡ true → IsJoinedAsHanded g.D.Store.hands
-    (asked_of (map g.S.AsStr.text c.args.words.now)))
+    (join_asked_of (map g.S.AsStr.text c.args.words.now)))
     c.run_request-run.result c.tell_join.result _ _ (fault_above _ _ _ _ _)
     c.tell_join.ensures.told (rw c.in-Ok.ensures.asked at c.run_request-run.ensures.handed) zero
     refl

@@ -1,5 +1,5 @@
-use Rattle.cube_jobs.specs.Jobs.{IsPassOf}
+use Rattle.cube_jobs.specs.Jobs.{IsJobPassOf}
 use Rattle.thread_suite.proofs.jobs_tests.claim_all.Given as goal
 
 abbrev pub invariant-loop : goal.invariant-loop
-invariant-loop g l = IsPassOf l.jobs l.pass
+invariant-loop g l = IsJobPassOf l.jobs l.pass

@@ -1,9 +1,10 @@
-use Rattle.cnf_text.specs.Tokens.{joined, below}
+use Rattle.cnf_text.specs.Tokens.{all_tokens, below}
 use Rattle.cnf_text.proofs.TokensUpTo.{walked, next_behind}
 use Rattle.cnf_text.proofs.tokens.Tokens.line_below.Goals as goal
 
 pub loop-preserved : goal.loop-preserved
 loop-preserved c =
-    walked (joined (below c.args.self)) (joined c.loop.tokens) (joined c.next.new.self)
+    walked (all_tokens (below c.args.self)) (all_tokens c.loop.tokens) (all_tokens c.next.new.self)
     c.loop.counter c.loop.invariant
-    (next_behind c.next.result (joined c.loop.tokens) (joined c.next.new.self) c.next.ensures)
+    (next_behind c.next.result (all_tokens c.loop.tokens)
+    (all_tokens c.next.new.self) c.next.ensures)

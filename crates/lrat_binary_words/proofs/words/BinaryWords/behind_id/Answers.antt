@@ -1,8 +1,9 @@
-use Rattle.lrat_binary_words.specs.Words.{symbols_of}
+use Rattle.lrat_binary_words.specs.Words.{symbols_with_ends}
 use Rattle.lrat_binary_words.proofs.Fronts.{unfinished}
 use Rattle.lrat_binary_words.proofs.words.BinaryWords.behind_id.Goals as goal
 
 pub returns-in-None-clause-front : goal.returns-in-None-clause-front
 returns-in-None-clause-front c =
-    unfinished c.args.id 2 c.self.inside.bytes.now c.args.self (λ ends. symbols_of ends c.args.self)
+    unfinished c.args.id 2 c.self.inside.bytes.now c.args.self
+    (λ ends. symbols_with_ends ends c.args.self)
     c.in-None.ensures c.self.view_is c.requires.1
