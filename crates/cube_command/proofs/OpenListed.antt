@@ -20,8 +20,8 @@ use Rattle.mark_board.specs.Marking.{is_refuted}
 use Rattle.node_fields.specs.Fields.{answer_line, literal_field, number_field, reason_field}
 use Rattle.node_fields.specs.Fields.{status_fields}
 use Rattle.node_fields.specs.Bytes.{Lacks}
-use Rattle.node_fields.proofs.FieldBytes.{has_none, lacks_append, lacks_decimal, lacks_it}
-use Rattle.node_fields.proofs.FieldBytes.{path_lacks, status_lacks}
+use Rattle.node_fields.proofs.FieldBytes.{lacks_append, lacks_decimal, number_lacks, path_lacks}
+use Rattle.node_fields.proofs.FieldBytes.{status_lacks}
 use Rattle.cube_report.specs.Bundle.{lines_of}
 use Rattle.cube_report.specs.Literal.{Literal}
 use Rattle.cube_report.specs.Report.{cube_line, missing_line, node_line, open_line, total_line}
@@ -105,6 +105,11 @@ other_end front back long other =
     ]
 
 -- ---- fields
+
+ends_lack : (path : List Literal) → Lacks 10 (flat_map literal_field path ++ codes " 0")
+ends_lack path =
+    lacks_append 10 (flat_map literal_field path) (codes " 0") (path_lacks path)
+    (λ e. absurd (omega (arith, e)), (λ e. absurd (omega (arith, e)), tt))
 
 -- the text begins with a space
 record Begins (text : List ℕ) : Type 0 where
@@ -230,7 +235,7 @@ cube_listed number mark rest =
 pub missing_listed : (number : ℕ) (path : List Literal) (mark : Mark) (rest : List ℕ) →
     open_names (missing_line number path mark ++ rest)
     ≡ listed (codes "m") number mark ++ open_names rest
-unfolding missing_line leaf_line has_none
+unfolding missing_line leaf_line
 missing_listed number path mark rest =
     let ends = flat_map literal_field path ++ codes " 0" in
     let fields = decimal number ++ ends in
@@ -244,8 +249,7 @@ missing_listed number path mark rest =
         λ e. absurd (omega (arith, e)),
         lacks_append 10 fields (status_fields mark)
             (lacks_append 10 (decimal number) ends (lacks_decimal 10 number (omega arith))
-            (lacks_append 10 (flat_map literal_field path) (codes " 0") (path_lacks path)
-            (lacks_it 10 (codes " 0") refl))) (status_lacks mark),
+            (ends_lack path)) (status_lacks mark),
       ),
     )
     ∙ ap (λ (text : List ℕ). text ++ open_names rest)
@@ -279,24 +283,22 @@ total_listed cubes leaves weight rest =
 
 pub node_listed : (path : List Literal) (mark : Mark) (rest : List ℕ) →
     open_names (node_line path mark ++ rest) ≡ open_names rest
-unfolding node_line has_none
+unfolding node_line
 node_listed path mark rest =
     other_listed 110 (flat_map literal_field path ++ codes " 0" ++ status_fields mark) rest
     (λ e. absurd (omega (arith, e))) refl refl
     (lacks_append 10 (flat_map literal_field path ++ codes " 0") (status_fields mark)
-    (lacks_append 10 (flat_map literal_field path) (codes " 0") (path_lacks path)
-    (lacks_it 10 (codes " 0") refl)) (status_lacks mark))
+    (ends_lack path) (status_lacks mark))
 
 pub branch_listed : (path : List Literal) (rest : List ℕ) →
     open_names (open_line path ++ rest) ≡ open_names rest
-unfolding open_line has_none
+unfolding open_line
 branch_listed path rest =
     ap (λ (text : List ℕ). open_names (111 ∷ (text ++ rest)))
     (sym (append_assoc (flat_map literal_field path) (codes " 0") (10 ∷ [])))
     ∙ other_listed 111 (flat_map literal_field path ++ codes " 0") rest
     (λ e. absurd (omega (arith, e))) refl refl
-    (lacks_append 10 (flat_map literal_field path) (codes " 0") (path_lacks path)
-    (lacks_it 10 (codes " 0") refl))
+    (ends_lack path)
 
 pub weight_listed : (weight : ℕ) (rest : List ℕ) →
     open_names (weight_line weight ++ rest) ≡ open_names rest

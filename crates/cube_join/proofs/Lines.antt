@@ -17,7 +17,7 @@ use Rattle.mark_board.proofs.MarkingLaws.{test_same, test_other}
 use Rattle.node_fields.specs.Fields.{number_field, literal_field, reason_field, status_fields}
 use Rattle.node_fields.specs.Bytes.{Lacks}
 use Rattle.node_fields.proofs.FieldBytes.{AreDigits, decimal_digits, lacks_append, lacks_digits}
-use Rattle.node_fields.proofs.FieldBytes.{lacks_it, number_lacks, status_lacks}
+use Rattle.node_fields.proofs.FieldBytes.{number_lacks, status_lacks}
 use Rattle.cube_join.proofs.Bytes.{cut}
 
 -- ---- statuses

@@ -18,11 +18,11 @@ pub lacks_append : (d : ℕ) (xs ys : List ℕ) → Lacks d xs → Lacks d ys �
 lacks_append d [] ys h k = k
 lacks_append d (x ∷ xs) ys h k = (h.0, lacks_append d xs ys h.1 k)
 
-pub has_none : ℕ → List ℕ → Bool
+has_none : ℕ → List ℕ → Bool
 has_none d [] = true
 has_none d (b ∷ bs) = if b == d then false else has_none d bs
 
-pub lacks_it : (d : ℕ) (bs : List ℕ) → has_none d bs ≡ true → Lacks d bs
+lacks_it : (d : ℕ) (bs : List ℕ) → has_none d bs ≡ true → Lacks d bs
 unfolding has_none
 lacks_it d [] none = tt
 lacks_it d (b ∷ bs) none = elim (cases_eq b d) [
