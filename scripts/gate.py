@@ -29,10 +29,6 @@ import wrong_bodies
 # (a crate that an earlier run on this machine proved is told as kept)
 PROVED = re.compile(r"rt: (\w+)(?:(: its tests are)? proved$| is kept:)")
 LEFT_OUT = shutil.ignore_patterns("out", "must-fail", ".git")
-# The lowest priority: wrong bodies have what `rt ci` leaves idle.
-LOWEST = 19
-# Where a session's priority is set, if the kernel shares processors out so.
-SESSION = pathlib.Path("/proc/self/autogroup")
 
 
 class Kept(build.Kept):
@@ -107,14 +103,14 @@ class Made:
 
 
 def stand_back():
-    """What is started from here on has the lowest priority, and what runs has not. Where the kernel shares processors out to sessions first, a priority
-    counts within one alone: so this one begins a session, which has the lowest, too."""
-    os.nice(LOWEST)
+    """What is started from here on has the lowest priority, and what runs has not: wrong bodies have what `rt ci` leaves idle. This one begins a session,
+    which has the lowest, too."""
+    os.nice(build.LOWEST)
     try:
         os.setsid()
-        SESSION.write_text(str(LOWEST))
     except OSError:
-        pass
+        return
+    build.stand_back("self")
 
 
 def run_beside(copy, mark, room):

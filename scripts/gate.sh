@@ -188,8 +188,8 @@ wrong "libraries below the programs left out" 's/for it in build.below(program)}
 wrong "the tests of suite left out" 's/ | {"suite"})/)/'
 wrong "programs handed over before the tests of suite" 's/, "suite: its tests are"//'
 wrong "tests that an earlier run has proved waited for" 's/^        made.hand_over()/        pass/'
-wrong "no priority" 's/^    os.nice(LOWEST)/    pass/'
-[ ! -s "$here/session" ] || wrong "no priority of the session" 's/^        SESSION.write_text(str(LOWEST))/        pass/'
+wrong "no priority" 's/^    os.nice(build.LOWEST)/    pass/'
+[ ! -s "$here/session" ] || wrong "no priority of the session" 's/^    build.stand_back("self")/    pass/'
 [ ! -s "$here/session" ] || wrong "the priority of the session that rt ci runs in" 's/^        os.setsid()/        pass/'
 echo "$name: $passed passed, $failed failed"
 [ "$failed" -eq 0 ]

@@ -80,6 +80,10 @@ wrong_ones() {
     wrong "what changes while it is proved taken as proved" 's/ and crate.sum() == crate.own//'
     wrong "small pages" 's/^        os.environ.setdefault("GLIBC_TUNABLES".*/        pass/'
     wrong "words that are lost" 's/, \*words\[2:\]\])/])/'
+    nice=claims_of_priorities
+    wrong "no priorities" 's/^        words = \["nice", .* if crate.stands_back else words/        pass/' "$nice"
+    wrong "the lowest priority for all" 's/^                crate.stands_back = .*/                crate.stands_back = True/' "$nice"
+    [ ! -e /proc/self/autogroup ] || wrong "no priorities of sessions" 's/^            stand_back(ran.pid)/            pass/' "$nice"
     looks=claims_of_looks
     wrong "files that are as they were where they have their size and number" 's/ %C@ / 0 /' "$looks" scripts/seen.sh
     wrong "files that are as they were where they have their time" 's/%C@/%T@/' "$looks" scripts/seen.sh

@@ -48,6 +48,7 @@ while [ $# -gt 0 ]; do
     shift
 done
 echo "$crate" >> "$HERE/notes"
+if [ "$NICE" ]; then sleep 0.5; echo "$crate $(nice) $(cat /proc/self/autogroup 2> /dev/null)" >> "$NICE"; fi
 if [ "$crate" = "$SLOW" ]; then sleep 2; fi
 if [ "$crate" = "$REFUSED" ]; then echo "a goal of $crate stays open"; exit 1; fi
 for it in $lower; do
@@ -222,6 +223,21 @@ claims_of_builds() {
     call "a changed file of another program" 7 ""
 }
 
+# What the longest way doesn't wait for is proved with the lowest priority.
+claims_of_priorities() {
+    rm -rf "$here/copy/crates/cubeboard/out"
+    : > "$here/nice"
+    NICE=$here/nice "$here/copy/cubeboard" > /dev/null 2>&1 < /dev/null
+    for crate in cnf_text hint_check check_crew cubeboard; do grep -q "^$crate $(nice) " "$here/nice" || echo "$crate"; done > "$here/others"
+    grep -q '^byte_flow 19 ' "$here/nice" && grep -q '^lrat_binary 19 ' "$here/nice" && [ ! -s "$here/others" ]
+    count "crates beside the longest way have the lowest priority, and those of it have not" $?
+    # (where the kernel doesn't share processors out to sessions first, none has a priority)
+    if [ -e /proc/self/autogroup ]; then
+        grep -q '^byte_flow .* nice 19$' "$here/nice" && grep -q '^lrat_binary .* nice 19$' "$here/nice" && ! grep -q '^cnf_text .* nice 19$' "$here/nice"
+        count "so have their sessions" $?
+    fi
+}
+
 # On a terminal one line is written over.
 claims_of_terminals() {
     echo "// on a terminal" >> "$here/copy/crates/cube_report/src/lib.rt"
@@ -229,7 +245,7 @@ claims_of_terminals() {
     python3 -c 'import pty, sys; pty.spawn(sys.argv[1:])' "$here/copy/cubeboard" < /dev/null > "$here/out" 2> "$here/err"
     SLOW=
     many=$(reach below cubeboard | tr ' ' '\n' | grep -c .)
-    # cube_command and the program come behind it; cube_explain is proved beside it.
+    # cube_command and the program come behind it; run_watch is proved beside it.
     tr '\r' '\n' < "$here/out" | grep -q "proving $((many - 2)) of $many: bundle_files, 0:[0-9][0-9] min" && [ "$(grep -c proved "$here/out")" -le 1 ]
     count "on a terminal one line is written over" $?
 }
@@ -444,6 +460,7 @@ begin() {
 
 claims() {
     claims_of_builds
+    claims_of_priorities
     claims_of_terminals
     claims_of_the_list
     claims_of_calls_at_once

@@ -32,7 +32,7 @@ import build
 PROGRAMS = ("cubeboard", "cubejoin")
 # Which script tries what which crates do. tests/rows try all of them, so that one isn't here.
 SCRIPTS = {
-    "explain": {"lrat_binary", "cube_explain", "cube_command", "cube_report", "cubeboard"},
+    "explain": {"lrat_binary", "run_terms", "cube_explain", "cube_command", "cube_report", "cubeboard"},
     "files": {"byte_flow", "file_store", "bundle_files", "run_watch", "cube_command", "join_command", "cubeboard", "cubejoin"},
     "pipes": {"byte_flow", "lrat_binary", "case_core", "check_crew", "file_store", "bundle_files", "run_watch", "cube_command", "cubeboard"},
     "picture": {"tree_map", "node_fields", "split_tree", "mark_board"},

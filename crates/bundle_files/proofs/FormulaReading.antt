@@ -16,8 +16,8 @@ use Rattle.case_core.specs.Sections.{IsCaseOf}
 use Rattle.case_core.proofs.BundleMore.{lines_more}
 use Rattle.case_core.proofs.IcnfUnique.{one_text}
 use Rattle.case_core.proofs.BundleLines.{empty_line}
-use Rattle.cube_report.specs.declared.fault.Fault.{Fault}
-use Rattle.cube_report.specs.declared.fault.Fault.TheVariants.{Counts}
+use Rattle.cube_report.specs.Fault.{Fault}
+use Rattle.cube_report.specs.Fault.TheVariants.{Counts}
 use Rattle.cube_report.specs.Faults.{IsInputFault}
 use Rattle.cube_report.specs.Device.{GrewBy}
 use Rattle.file_store.specs.Files.{Held, IsRead, IsTextAt, may_lie_at}

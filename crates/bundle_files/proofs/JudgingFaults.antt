@@ -4,8 +4,8 @@ use Rattle.std.specs.Result.{IsErrAnd}
 use Rattle.cube_report.specs.Device.{IsDeviceFault}
 use Rattle.cube_report.specs.DeviceFault.{DeviceFault}
 use Rattle.cube_report.specs.DeviceFault.TheVariants as flow
-use Rattle.cube_report.specs.declared.fault.Fault.{Fault}
-use Rattle.cube_report.specs.declared.fault.Fault.TheVariants.{Memory}
+use Rattle.cube_report.specs.Fault.{Fault}
+use Rattle.cube_report.specs.Fault.TheVariants.{Memory}
 use Rattle.cube_report.specs.Faults.{IsInputFault, fault_of_device}
 use Rattle.cube_report.proofs.CorrectReports.{told}
 use Rattle.bundle_files.specs.Judging.{IsJudgingFault}

@@ -8,7 +8,7 @@ use Rattle.case_core.specs.SplitTree.{SplitTree}
 use Rattle.case_core.specs.Leaves.{cube_count, missing_nodes}
 use Rattle.case_core.specs.Case.{CaseOf}
 use Rattle.cube_report.specs.Mark.{Mark}
-use Rattle.cube_report.specs.declared.fault.Fault.{Fault}
+use Rattle.cube_report.specs.Fault.{Fault}
 use Rattle.cube_report.specs.declared.engine.Outcome.{Outcome}
 use Rattle.cube_report.specs.Faults.{IsInputFault, fault_of_case}
 use Rattle.cube_report.specs.Stated.{IsWrittenBy}

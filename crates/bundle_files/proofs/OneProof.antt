@@ -38,7 +38,7 @@ use Rattle.cube_report.specs.One.{IsFoundOn}
 use Rattle.cube_report.specs.Stated.{IsWrittenBy}
 use Rattle.cube_report.proofs.CorrectReports.{outcome}
 use Rattle.cube_report.proofs.ReportSame.{written_is_stated}
-use Rattle.cube_report.specs.declared.fault.Fault.{Fault}
+use Rattle.cube_report.specs.Fault.{Fault}
 use Rattle.proof_folder.specs.Added.{section_text}
 use Rattle.proof_folder.specs.Given.{Given, AreMarksBy, HasFewLeaves, IsJudgedAs, MayBeGiven}
 use Rattle.proof_folder.proofs.GivenCase.{IsCaseWhere, leaf_given}

@@ -21,7 +21,7 @@ use Rattle.case_core.specs.declared.fault.CaseFault.{CaseFault}
 use Rattle.case_core.proofs.BundleMore.{lines_more}
 use Rattle.case_core.proofs.DimacsFormula.{clauses_as_symbols}
 use Rattle.case_core.proofs.IcnfUnique.{one_spelling}
-use Rattle.cube_report.specs.declared.fault.Fault.{Fault}
+use Rattle.cube_report.specs.Fault.{Fault}
 use Rattle.cube_report.specs.Device.{GrewBy}
 use Rattle.file_store.specs.Files.{Held, IsTextAt, may_lie_at}
 use Rattle.bundle_files.specs.Formula.{HasCount, HasOtherCount, IsBundleBy, IsFormulaFront}

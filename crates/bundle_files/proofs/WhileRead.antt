@@ -22,10 +22,11 @@ use Rattle.cube_report.specs.ReadFault.{ReadFault}
 use Rattle.cube_report.specs.ReadFault.TheVariants as read
 use Rattle.cube_report.specs.WhileRead.{IsAllRead, IsReadFault, IsReadRefused, bundle_behind}
 use Rattle.mark_board.specs.Boards.{BoardsOf}
-use Rattle.cube_report.specs.Faults.{IsInputFault, fault_of_case, fault_of_read}
+use Rattle.cube_report.specs.CrewFaults.{fault_of_read}
+use Rattle.cube_report.specs.Faults.{IsInputFault, fault_of_case}
 use Rattle.cube_report.specs.Stated.{IsWrittenBy}
-use Rattle.cube_report.specs.declared.fault.Fault.{Fault}
-use Rattle.cube_report.specs.declared.fault.Fault.TheVariants.{Device}
+use Rattle.cube_report.specs.Fault.{Fault}
+use Rattle.cube_report.specs.Fault.TheVariants.{Device}
 use Rattle.cube_report.proofs.CorrectReports.{outcome}
 use Rattle.cube_report.proofs.ReportSame.{written_is_stated}
 use Rattle.bundle_files.specs.Judging.{IsJudgingFault}

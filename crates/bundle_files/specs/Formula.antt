@@ -12,8 +12,8 @@ use Rattle.case_core.specs.DimacsFault.{DimacsFault}
 use Rattle.case_core.specs.Problem as code
 use Rattle.case_core.specs.Bundle.{icnf_text, labels_of, lines_of}
 use Rattle.case_core.specs.Bundle.{AreWholeLines}
-use Rattle.cube_report.specs.declared.fault.Fault.{Fault}
-use Rattle.cube_report.specs.declared.fault.Fault.TheVariants.{Counts}
+use Rattle.cube_report.specs.Fault.{Fault}
+use Rattle.cube_report.specs.Fault.TheVariants.{Counts}
 use Rattle.cube_report.specs.Faults.{fault_of_dimacs}
 use Rattle.file_store.specs.Files.{Held, IsGivenAt, may_lie_at, IsTextAt, IsRead, IsJudgedOf}
 

@@ -4,8 +4,8 @@ use Rattle.case_core.specs.Binary.{proof_text}
 use Rattle.proof_folder.specs.Added.{section_text}
 use Rattle.file_store.specs.Files.{Held, IsJudgedOf}
 use Rattle.bundle_files.specs.Formula.{IsFormulaFault, IsReadBy}
-use Rattle.cube_report.specs.declared.fault.Fault.{Fault}
-use Rattle.cube_report.specs.declared.fault.Fault.TheVariants.{Device}
+use Rattle.cube_report.specs.Fault.{Fault}
+use Rattle.cube_report.specs.Fault.TheVariants.{Device}
 use Rattle.cube_report.specs.Correct.{IsOutcome, IsFaultOn}
 
 -- what is written is what a run on the bundle with the folder's proofs promises

@@ -4,7 +4,7 @@ use Rattle.case_core.specs.Bundle.{icnf_text}
 use Rattle.case_core.specs.Labelled.{IsPart, fresh_text}
 use Rattle.cube_report.specs.Correct.{IsFaultOn, IsOutcome}
 use Rattle.cube_report.specs.Device.{GrewBy}
-use Rattle.cube_report.specs.declared.fault.Fault.{Fault}
+use Rattle.cube_report.specs.Fault.{Fault}
 use Rattle.bundle_files.specs.Formula.{HasCount, HasOtherCount}
 use Rattle.bundle_files.specs.declared.formula.BegunBundle.{BegunBundle}
 use Rattle.bundle_files.specs.declared.while_read.BundleFront.{BundleFront}

@@ -12,12 +12,12 @@ ghost use Rattle.check_crew.specs.One.{IsProofPosted};
 ghost use Rattle.check_crew.specs.Inner.One.{IsPosted};
 
 use crate::gate::Gate;
-use crate::settings::Settings;
 use crate::site::{Site, post_found};
 use board_hall::{Hall, Pass};
 use byte_flow::{DeviceFault, Source};
 use case_core::{Case, Examiner, LabelLine, ProofForm, ReadFinding, ReadProof, Target};
 use mark_board::{Boards, Mark};
+use run_terms::Settings;
 use std::alloc::{AllocError, Global};
 use std::marker::Model;
 use std::sync::Wait;

@@ -14,10 +14,10 @@ ghost use Rattle.command_words.specs.Request.{asked_in, flag_text, HasDigits, Sa
 ghost use Rattle.command_words.specs.Inner.Words.{asked_found, with_flags, with_inputs, with_lists};
 ghost use Rattle.command_words.specs.Inner.Words.{with_numbers, with_outputs, with_results};
 
-use check_crew::Settings;
 use clap::builder::ValueParser;
 use clap::error::ErrorKind;
 use clap::{Arg, ArgAction, ArgMatches, Command, Error, value_parser};
+use run_terms::Settings;
 use std::alloc::{AllocError, Global};
 use std::convert::AsStr;
 

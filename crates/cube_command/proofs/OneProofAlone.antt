@@ -9,7 +9,7 @@ use Rattle.case_core.specs.Sections.{IsCaseOf}
 use Rattle.cube_report.specs.Bundle.{icnf_text}
 use Rattle.cube_report.specs.Correct.{IsOutcome, IsUnsatisfiable}
 use Rattle.cube_report.specs.Faults.{IsInputFault}
-use Rattle.cube_report.specs.declared.fault.Fault.{Fault}
+use Rattle.cube_report.specs.Fault.{Fault}
 use Rattle.bundle_files.specs.Files.{GivesOneOf, Held, IsTextAt, may_lie_at}
 use Rattle.bundle_files.specs.Formula.{IsBundleBy, IsBundleOf, IsFormulaFault, IsReadBy}
 use Rattle.bundle_files.specs.Judging.{IsOutcomeWith, IsRefusedWith, IsRefusedWithEach}

@@ -1,7 +1,7 @@
 -- What is said of a run on one proof, in the place of cubes and proofs.
 use Rattle.std.proofs.Common.{◌≡◌, refl, subst, ℕ, Bool, List}
 use Rattle.std.proofs.Common.{Option, None, Some, Result, Ok, Err, IfOk}
-use Rattle.cube_report.specs.declared.fault.Fault.{Fault}
+use Rattle.cube_report.specs.Fault.{Fault}
 use Rattle.bundle_files.specs.Files.{Held, IsTextAt}
 use Rattle.bundle_files.specs.Formula.{IsBundleBy, IsBundleOf}
 use Rattle.cube_command.specs.Sources.{IsSoBy, sources_of}

@@ -8,8 +8,8 @@ use Rattle.bundle_files.specs.Files.{Held, IsGivenAt, IsJudgedOf, may_lie_at}
 use Rattle.bundle_files.specs.Formula.{IsBundleOf, IsReadBy, IsReadFrom}
 use Rattle.bundle_files.proofs.FormulaText.{published}
 use Rattle.bundle_files.proofs.LawsFormula.{judged_unsatisfiable}
-use Rattle.cube_report.specs.declared.fault.Fault.{Fault}
-use Rattle.cube_report.specs.declared.fault.Fault.TheVariants.{Memory, Device, Thread}
+use Rattle.cube_report.specs.Fault.{Fault}
+use Rattle.cube_report.specs.Fault.TheVariants.{Memory, Device, Thread}
 use Rattle.cube_report.specs.Dimacs.{IsDimacs}
 use Rattle.cube_report.specs.Formula.{HasNoModel}
 use Rattle.cube_report.specs.Literal.{Literal}

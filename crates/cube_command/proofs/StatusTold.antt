@@ -1,12 +1,12 @@
 -- What holds of a run by the status with which it was told.
 use Rattle.std.proofs.Common.{◌≡◌, ◌≢◌, ◌<◌, ◌⊎◌, refl, ap, subst, ℕ, Bool, true, false}
 use Rattle.std.proofs.Common.{Result, Ok, Err, IfOk, IfErr, OnErr, MatchResult, inl, inr, arith}
-use Rattle.cube_report.specs.declared.fault.Fault.{Fault}
-use Rattle.cube_report.specs.declared.fault.Fault.TheVariants.{Header, Token, Unfinished, TooLarge}
-use Rattle.cube_report.specs.declared.fault.Fault.TheVariants.{Limit, Memory, Repeats, NotATree}
-use Rattle.cube_report.specs.declared.fault.Fault.TheVariants.{Overlap, BadLabel, NoSuchLeaf}
-use Rattle.cube_report.specs.declared.fault.Fault.TheVariants.{ProofTwice, Device, Thread}
-use Rattle.cube_report.specs.declared.fault.Fault.TheVariants.{NoProblem, Counts}
+use Rattle.cube_report.specs.Fault.{Fault}
+use Rattle.cube_report.specs.Fault.TheVariants.{Header, Token, Unfinished, TooLarge}
+use Rattle.cube_report.specs.Fault.TheVariants.{Limit, Memory, Repeats, NotATree}
+use Rattle.cube_report.specs.Fault.TheVariants.{Overlap, BadLabel, NoSuchLeaf}
+use Rattle.cube_report.specs.Fault.TheVariants.{ProofTwice, Device, Thread}
+use Rattle.cube_report.specs.Fault.TheVariants.{NoProblem, Counts}
 use Rattle.cube_report.specs.Faults.{IsInputFault}
 use Rattle.cube_command.specs.Program.{status_of, status_of_answer}
 

@@ -7,8 +7,8 @@ use Rattle.bundle_files.specs.Formula.{IsBundleOf, IsFormulaFault}
 use Rattle.cube_report.specs.Case.{CaseOf}
 use Rattle.cube_report.specs.Mark.{Mark}
 use Rattle.cube_report.specs.Picture.{map_text}
-use Rattle.cube_report.specs.declared.fault.Fault.{Fault}
-use Rattle.cube_report.specs.declared.fault.Fault.TheVariants.{Memory, Device, Thread}
+use Rattle.cube_report.specs.Fault.{Fault}
+use Rattle.cube_report.specs.Fault.TheVariants.{Memory, Device, Thread}
 use Rattle.cube_report.specs.Faults.{IsInputFault, fault_text}
 use Rattle.cube_report.specs.Device.{AppendsBeginning}
 use Rattle.cube_report.specs.Correct.{AllowsReports, IsCorrect, IsFaultOn, IsJudged, IsReportOn}

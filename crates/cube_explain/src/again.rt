@@ -5,8 +5,8 @@ ghost use Rattle.std.specs.Prelude.{◌≡◌, ◌<◌, [], IfSome, OnOk, length
 use crate::files::{ReadFiles, Unread, open_again};
 use crate::labels::have_same_words;
 use crate::step_lines::StepWalk;
+use byte_flow::{DeviceFault, Source};
 use case_core::{LabelledText, first_word};
-use cube_report::{DeviceFault, Source};
 use std::alloc::Global;
 use std::io;
 use std::io::{ErrorKind, Read};

@@ -9,7 +9,7 @@ use crate::parts::file_part;
 use crate::run::Run;
 use crate::shown::Shown;
 use case_core::{first_word, read_problem};
-use cube_report::Fault;
+use run_terms::Fault;
 use std::io::Eprint;
 
 /// Tells what a fault comes from.

@@ -4,7 +4,7 @@ use crate::again::front_again;
 use crate::files::{ReadFiles, Unread, read_again};
 use crate::lines::{Line, line_at};
 use crate::shown::{Name, Shown};
-use cube_report::Asked;
+use run_terms::Asked;
 use std::alloc::Global;
 use std::fmt::Display;
 use std::io::Eprint;

@@ -14,7 +14,7 @@ use crate::run::Run;
 use crate::shown::{Name, Shown};
 use crate::step_lines::StepWalk;
 use case_core::{Case, Formula, binary_text, read_bundle};
-use cube_report::{Asked, Explain, Fault, Kept};
+use run_terms::{Asked, Explain, Fault, Kept};
 use sha2::{Digest, Sha256};
 use std::alloc::{AllocError, Global};
 use std::fmt::Display;

@@ -12,8 +12,8 @@ use Rattle.case_core.specs.Case.{CaseOf}
 use Rattle.case_core.specs.Sections.{IsCaseOf}
 use Rattle.mark_board.specs.Marking.{refuted_by, marked, open_weight, open_branches}
 use Rattle.mark_board.specs.TopPlaces.{worth_of}
-use Rattle.cube_report.specs.declared.fault.Fault.{Fault}
-use Rattle.cube_report.specs.Faults.{IsInputFault}
+use Rattle.run_terms.specs.declared.fault.Fault.{Fault}
+use Rattle.run_terms.specs.Faults.{IsInputFault}
 use Rattle.node_fields.specs.Fields.{answer_line}
 use Rattle.cube_report.specs.Report.{total_line, cube_lines, missing_lines, node_lines, open_lines}
 use Rattle.cube_report.specs.Report.{weight_line}

@@ -10,8 +10,8 @@ use Rattle.case_core.specs.declared.fault.CaseFault.{CaseFault}
 use Rattle.mark_board.specs.declared.mark.Mark.{Mark}
 use Rattle.mark_board.specs.Marking.{marked, refuted_by}
 use Rattle.mark_board.specs.Findings.{AreFindings}
-use Rattle.cube_report.specs.declared.fault.Fault.{Fault}
-use Rattle.cube_report.specs.Faults.{fault_of_case}
+use Rattle.run_terms.specs.declared.fault.Fault.{Fault}
+use Rattle.run_terms.specs.Faults.{fault_of_case}
 use Rattle.tree_map.specs.Picture.{map_text}
 use Rattle.cube_report.specs.Report.{report_text}
 

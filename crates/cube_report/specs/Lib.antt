@@ -1,4 +1,3 @@
-pub mod Faults
 pub mod Report
 pub mod Correct
 pub mod Stated
@@ -15,7 +14,10 @@ pub use Rattle.check_crew.specs.One
 pub use Rattle.check_crew.specs.Seen
 pub use Rattle.check_crew.specs.WhileRead
 pub use Rattle.check_crew.specs.declared.fault.ReadFault
+pub use Rattle.check_crew.specs.CrewFaults
 pub use Rattle.mark_board.specs.declared.mark.Mark
+pub use Rattle.run_terms.specs.Faults
+pub use Rattle.run_terms.specs.declared.fault.Fault
 pub use Rattle.split_tree.specs.Leaves
 pub use Rattle.split_tree.specs.Parts
 pub use Rattle.split_tree.specs.SplitTree

@@ -6,7 +6,7 @@ ghost use Rattle.std.specs.Prelude.{All, vec_len};
 ghost use Rattle.std.specs.Io.KnownBytes.{Keeps, Appends};
 ghost use Rattle.split_tree.specs.SplitTree.{size};
 ghost use Rattle.mark_board.specs.declared.mark.Mark.TheVariants.{Open};
-ghost use Rattle.cube_report.specs.Faults.{IsInputFault};
+ghost use Rattle.run_terms.specs.Faults.{IsInputFault};
 ghost use Rattle.byte_flow.specs.Device.{AppendsBeginning, IsLeft};
 ghost use Rattle.cube_report.specs.Stated.{IsStated, IsWrittenBy};
 ghost use Rattle.case_core.specs.Target.{Target};
@@ -18,12 +18,12 @@ ghost use Rattle.cube_report.specs.Correct.{IsReportOn, IsAnswerOn, IsCorrect, I
 ghost use Rattle.cube_report.specs.Correct.{IsFaultOn, IsUnsatisfiable, SaysRefuted, map_if};
 ghost use Rattle.cube_report.specs.Correct.{AllowsReports};
 
-use crate::fault::Fault;
 use crate::report::report_of;
 use byte_flow::{Sink, Source, read_all, write_all};
 use case_core::{Case, Examiner, read_bundle, take_bundle};
 use check_crew::{CrewFault, Gate, Settings, TargetProofs, conquer, conquer_elsewhere};
 use mark_board::Boards;
+use run_terms::Fault;
 use std::alloc::{AllocError, Global};
 use std::sync::Wait;
 use std::thread::Threads;

@@ -2,8 +2,6 @@
 #![tactic(auto)]
 
 mod engine;
-mod explain;
-mod fault;
 mod laws;
 mod report;
 
@@ -16,10 +14,9 @@ pub use check_crew::{
 pub use engine::{
     Outcome, judge_apart, judge_bundle, run, run_io, run_one, write_report, written_by,
 };
-pub use explain::{Asked, Explain, Kept, NoExplain};
-pub use fault::Fault;
 pub use laws::{
     a_line_for_each_section, a_short_report, one_answer, one_report, same_report, written_is_stated,
 };
 pub use mark_board::Place;
 pub use report::{line_of, report_of};
+pub use run_terms::{Asked, Explain, Fault, Kept, NoExplain};

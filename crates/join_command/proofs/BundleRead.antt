@@ -1,12 +1,12 @@
 -- The bundle of FILE, read under the formula that has a file of its own.
 use Rattle.std.proofs.Common.{◌≡◌, ◌≢◌, ◌+◌, ◌⊎◌, ◌∙◌, ℕ, List, Option, None, Some, inl, inr, refl}
 use Rattle.std.proofs.Common.{arith, subst, sym}
-use Rattle.cube_report.specs.declared.fault.Fault.{Fault}
-use Rattle.cube_report.specs.declared.fault.Fault.TheVariants.{Header, Token, Unfinished, TooLarge}
-use Rattle.cube_report.specs.declared.fault.Fault.TheVariants.{Limit, Memory, Repeats, NotATree}
-use Rattle.cube_report.specs.declared.fault.Fault.TheVariants.{Overlap, BadLabel, NoSuchLeaf}
-use Rattle.cube_report.specs.declared.fault.Fault.TheVariants.{ProofTwice, Device, Thread}
-use Rattle.cube_report.specs.declared.fault.Fault.TheVariants.{NoProblem, Counts}
+use Rattle.cube_report.specs.Fault.{Fault}
+use Rattle.cube_report.specs.Fault.TheVariants.{Header, Token, Unfinished, TooLarge}
+use Rattle.cube_report.specs.Fault.TheVariants.{Limit, Memory, Repeats, NotATree}
+use Rattle.cube_report.specs.Fault.TheVariants.{Overlap, BadLabel, NoSuchLeaf}
+use Rattle.cube_report.specs.Fault.TheVariants.{ProofTwice, Device, Thread}
+use Rattle.cube_report.specs.Fault.TheVariants.{NoProblem, Counts}
 use Rattle.cube_report.specs.Faults.{IsInputFault}
 use Rattle.bundle_files.specs.Files.{Held}
 use Rattle.bundle_files.specs.Formula.{AddsClauses, HasDimacsFault, IsBundleBy, IsFormulaFault}

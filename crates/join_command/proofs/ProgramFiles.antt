@@ -26,7 +26,7 @@ use Rattle.cube_report.specs.Device.{AppendsBeginning}
 use Rattle.join_command.specs.Inner.Files.{AreNotAdded, IsUnjoined}
 use Rattle.join_command.specs.Inner.Files.{lies_handed}
 use Rattle.join_command.proofs.FilesJoined.{texts_known}
-use Rattle.cube_report.specs.declared.fault.Fault.TheVariants.{Memory}
+use Rattle.cube_report.specs.Fault.TheVariants.{Memory}
 use Rattle.join_command.proofs.RecordsTold.{reports_told}
 use Rattle.join_command.proofs.WordsRequests.{handed_on}
 

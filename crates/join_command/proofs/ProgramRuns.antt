@@ -15,8 +15,8 @@ use Rattle.bundle_files.specs.Files.{Held, IsGivenAt, may_lie_at}
 use Rattle.bundle_files.specs.Formula.{IsBundleBy, IsHandedFrom, IsReadBy, IsUnder}
 use Rattle.cube_join.specs.Joined.{IsJoined}
 use Rattle.bundle_files.proofs.FormulaText.{bundle_formula}
-use Rattle.cube_report.specs.declared.fault.Fault.{Fault}
-use Rattle.cube_report.specs.declared.fault.Fault.TheVariants.{Memory, Device, Thread}
+use Rattle.cube_report.specs.Fault.{Fault}
+use Rattle.cube_report.specs.Fault.TheVariants.{Memory, Device, Thread}
 use Rattle.cube_report.specs.Faults.{IsInputFault}
 use Rattle.cube_report.specs.Correct.{IsUnsatisfiable}
 use Rattle.cube_command.specs.Program.{IsLineWritten}

@@ -36,7 +36,7 @@ impl From<DeviceFault> for JoinFault {
 }
 
 impl From<AllocError> for JoinFault {
-    ghost use Rattle.cube_report.specs.declared.fault.Fault.TheVariants.{Memory};
+    ghost use Rattle.cube_report.specs.Fault.TheVariants.{Memory};
 
     ghost from_gives = { λ _ told. told ≡ Run Memory };
 

@@ -3,7 +3,7 @@
 ghost use Rattle.std.specs.Prelude.{◌≡◌, ◌⊎◌, ◌<◌, ◌^◌, ◌-◌, codes, OnOk, IfOk, IfErr};
 ghost use Rattle.std.specs.Prelude.{MatchResult};
 ghost use Rattle.std.specs.String.{string_bytes};
-ghost use Rattle.cube_report.specs.declared.fault.Fault.TheVariants.{Memory};
+ghost use Rattle.cube_report.specs.Fault.TheVariants.{Memory};
 ghost use Rattle.cube_command.specs.Program.{IsLineWritten, status_of_answer};
 ghost use Rattle.join_command.specs.Program.{IsReadingFault, join_fault_line};
 ghost use Rattle.join_command.specs.Inner.Telling.{IsFaultWritten, status_of};

@@ -5,8 +5,8 @@ use Rattle.case_core.specs.Tokens.{Token, line_tokens, token_lines}
 use Rattle.case_core.specs.Dimacs.{Problem, after_problem}
 use Rattle.case_core.specs.Problem as code
 use Rattle.case_core.specs.Bundle.{lines_of}
-use Rattle.cube_report.specs.declared.fault.Fault.{Fault}
-use Rattle.cube_report.specs.declared.fault.Fault.TheVariants.{Memory}
+use Rattle.cube_report.specs.Fault.{Fault}
+use Rattle.cube_report.specs.Fault.TheVariants.{Memory}
 use Rattle.file_store.specs.Files.{Held, IsGivenAt}
 use Rattle.bundle_files.specs.Formula.{HasDimacsFault, HasOtherCount}
 

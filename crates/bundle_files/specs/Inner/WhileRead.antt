@@ -2,7 +2,7 @@
 use Rattle.std.specs.Prelude.{◌⊎◌, ℕ, List, Option}
 use Rattle.case_core.specs.Problem as code
 use Rattle.cube_report.specs.Correct.{IsFaultOn}
-use Rattle.cube_report.specs.declared.fault.Fault.{Fault}
+use Rattle.cube_report.specs.Fault.{Fault}
 use Rattle.bundle_files.specs.Formula.{HasCount, HasOtherCount}
 
 -- it has this fault, its first, and no other clauses than is said; or it has others

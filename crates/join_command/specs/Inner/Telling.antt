@@ -1,6 +1,6 @@
 -- The status of a fault, and how it is told.
 use Rattle.std.specs.Prelude.{◌≡◌, ℕ, List, ◌⊎◌, Option}
-use Rattle.cube_report.specs.declared.fault.Fault.TheVariants.{Memory}
+use Rattle.cube_report.specs.Fault.TheVariants.{Memory}
 use Rattle.cube_command.specs.Program.{IsLineWritten, status_of as status_of_run}
 use Rattle.join_command.specs.declared.fault.JoinFault.{JoinFault}
 use Rattle.join_command.specs.declared.fault.JoinFault.TheVariants.{Run, Stranger}

@@ -1,5 +1,6 @@
 use Rattle.cube_report.specs.Device.{GrewBy}
-use Rattle.cube_report.specs.Faults.{IsInputFault, fault_of_read}
+use Rattle.cube_report.specs.CrewFaults.{fault_of_read}
+use Rattle.cube_report.specs.Faults.{IsInputFault}
 use Rattle.cube_report.proofs.CorrectReports.{told}
 use Rattle.bundle_files.specs.Judging.{IsJudgingFault}
 use Rattle.bundle_files.specs.WhileRead.{IsRefusedBelow}

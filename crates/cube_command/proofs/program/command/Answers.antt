@@ -1,5 +1,5 @@
 use Rattle.std.proofs.Common.{◌≡◌, arith, map, refl, subst, sym, true, IfOk}
-use Rattle.cube_report.specs.declared.fault.Fault.TheVariants as Fault
+use Rattle.cube_report.specs.Fault.TheVariants as Fault
 use Rattle.cube_command.specs.Words.{HaveTwoPaths, Asked, asked_of, GoesWith, IsElsewhere}
 use Rattle.cube_command.specs.Headline.{IsRefutedAsHanded}
 use Rattle.cube_command.specs.Program.{AllowsPicturesFor, AllowsRecordsFor, AllowsReportsFor}

@@ -1,8 +1,9 @@
 use Rattle.std.proofs.Common.{◌≢◌, refl, ap}
-use Rattle.cube_report.proofs.FaultsOfCrew.{crew_fault, crew_no_device}
+use Rattle.check_crew.proofs.FaultsOfCrew.{crew_fault, crew_no_device}
 use Rattle.cube_report.proofs.CorrectReports.{outcome, stated, told}
-use Rattle.cube_report.specs.declared.fault.Fault.TheVariants.{Device, Memory}
-use Rattle.cube_report.specs.Faults.{IsInputFault, fault_of_case, fault_of_crew}
+use Rattle.run_terms.specs.declared.fault.Fault.TheVariants.{Device, Memory}
+use Rattle.check_crew.specs.CrewFaults.{fault_of_crew}
+use Rattle.run_terms.specs.Faults.{IsInputFault, fault_of_case}
 use Rattle.cube_report.specs.Correct.{IsFaultOn}
 use Rattle.cube_report.proofs.engine.judge_bundle.Goals as goal
 

@@ -1,5 +1,5 @@
 use Rattle.std.proofs.Common.{ℕ, List, ◌≢◌, subst}
-use Rattle.cube_report.specs.declared.fault.Fault.TheVariants.{Memory, Thread}
+use Rattle.run_terms.specs.declared.fault.Fault.TheVariants.{Memory, Thread}
 use Rattle.cube_report.specs.Correct.{IsFaultOn, IsUnsatisfiable}
 use Rattle.cube_report.proofs.CorrectReports.{outcome_says, told}
 use Rattle.cube_report.proofs.engine.run.Goals as goal

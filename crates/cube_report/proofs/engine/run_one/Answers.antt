@@ -1,7 +1,7 @@
 use Rattle.std.proofs.Common.{◌≢◌, refl, ap}
 use Rattle.cube_report.proofs.CorrectReports.{correct, outcome_says, report_on, told}
-use Rattle.cube_report.specs.declared.fault.Fault.TheVariants.{Memory}
-use Rattle.cube_report.specs.Faults.{fault_of_case}
+use Rattle.run_terms.specs.declared.fault.Fault.TheVariants.{Memory}
+use Rattle.run_terms.specs.Faults.{fault_of_case}
 use Rattle.cube_report.specs.Correct.{IsCorrect, IsFaultOn}
 use Rattle.cube_report.proofs.engine.run_one.Goals as goal
 

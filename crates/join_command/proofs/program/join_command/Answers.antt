@@ -6,7 +6,7 @@ use Rattle.join_command.specs.Words.{join_asked_of}
 use Rattle.join_command.proofs.ProgramRuns.{device_five, device_join, fault_above, fault_join}
 use Rattle.join_command.proofs.ProgramRuns.{memory_allowed, memory_join, published_join, sound_join}
 use Rattle.join_command.specs.Program.{IsJoinWritten}
-use Rattle.cube_report.specs.declared.fault.Fault.TheVariants as Fault
+use Rattle.cube_report.specs.Fault.TheVariants as Fault
 use Rattle.join_command.specs.declared.fault.JoinFault.TheVariants as JoinFault
 use Rattle.join_command.proofs.program.join_command.Goals as goal
 

@@ -1,7 +1,8 @@
 use Rattle.std.proofs.Common.{refl, ap}
 use Rattle.cube_report.proofs.CorrectReports.{correct, told}
-use Rattle.cube_report.proofs.FaultsOfCrew.{crew_fault}
-use Rattle.cube_report.specs.Faults.{IsInputFault, fault_of_case, fault_of_crew}
+use Rattle.check_crew.proofs.FaultsOfCrew.{crew_fault}
+use Rattle.cube_report.specs.CrewFaults.{fault_of_crew}
+use Rattle.cube_report.specs.Faults.{IsInputFault, fault_of_case}
 use Rattle.cube_report.specs.Correct.{IsFaultOn}
 use Rattle.own_threads.proofs.report.outcome_of.Goals as goal
 

@@ -7,16 +7,12 @@ use Rattle.case_core.specs.DimacsFault.{DimacsFault}
 use Rattle.case_core.specs.DimacsFault.TheVariants as dimacs
 use Rattle.byte_flow.specs.declared.fault.DeviceFault.{DeviceFault}
 use Rattle.byte_flow.specs.declared.fault.DeviceFault.TheVariants as flow
-use Rattle.check_crew.specs.declared.fault.CrewFault.{CrewFault}
-use Rattle.check_crew.specs.declared.fault.CrewFault.TheVariants as crew
-use Rattle.check_crew.specs.declared.fault.ReadFault.{ReadFault}
-use Rattle.check_crew.specs.declared.fault.ReadFault.TheVariants as read
-use Rattle.cube_report.specs.declared.fault.Fault.{Fault}
-use Rattle.cube_report.specs.declared.fault.Fault.TheVariants.{Header, Token, Unfinished, TooLarge}
-use Rattle.cube_report.specs.declared.fault.Fault.TheVariants.{Limit, Memory, Repeats, NotATree}
-use Rattle.cube_report.specs.declared.fault.Fault.TheVariants.{Overlap, BadLabel, NoSuchLeaf}
-use Rattle.cube_report.specs.declared.fault.Fault.TheVariants.{ProofTwice, Device, Thread}
-use Rattle.cube_report.specs.declared.fault.Fault.TheVariants.{NoProblem, Counts}
+use Rattle.run_terms.specs.declared.fault.Fault.{Fault}
+use Rattle.run_terms.specs.declared.fault.Fault.TheVariants.{Header, Token, Unfinished, TooLarge}
+use Rattle.run_terms.specs.declared.fault.Fault.TheVariants.{Limit, Memory, Repeats, NotATree}
+use Rattle.run_terms.specs.declared.fault.Fault.TheVariants.{Overlap, BadLabel, NoSuchLeaf}
+use Rattle.run_terms.specs.declared.fault.Fault.TheVariants.{ProofTwice, Device, Thread}
+use Rattle.run_terms.specs.declared.fault.Fault.TheVariants.{NoProblem, Counts}
 
 -- a fault of the bundle, as a fault of the run
 abbrev pub fault_of_case : CaseFault → Fault
@@ -37,17 +33,6 @@ fault_of_case (case.ProofTwice line) = ProofTwice line
 abbrev pub fault_of_device : DeviceFault → Fault
 fault_of_device flow.Memory = Memory
 fault_of_device flow.Device = Device
-
--- a fault of the workers, as a fault of the run
-abbrev pub fault_of_crew : CrewFault → Fault
-fault_of_crew crew.Memory = Memory
-fault_of_crew crew.Thread = Thread
-
--- a fault of a bundle that is read once, as a fault of the run
-abbrev pub fault_of_read : ReadFault → Fault
-fault_of_read (read.Case fault) = fault_of_case fault
-fault_of_read (read.Device fault) = fault_of_device fault
-fault_of_read read.Thread = Thread
 
 -- a fault of the formula's own file, as a fault of the run
 abbrev pub fault_of_dimacs : DimacsFault → Fault

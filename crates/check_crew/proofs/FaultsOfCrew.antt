@@ -2,8 +2,8 @@
 use Rattle.std.proofs.Common.{◌≢◌, refl}
 use Rattle.check_crew.specs.declared.fault.CrewFault.{CrewFault}
 use Rattle.check_crew.specs.declared.fault.CrewFault.TheVariants as crew
-use Rattle.cube_report.specs.declared.fault.Fault.TheVariants.{Memory, Device, Thread}
-use Rattle.cube_report.specs.Faults.{fault_of_crew}
+use Rattle.run_terms.specs.declared.fault.Fault.TheVariants.{Memory, Device, Thread}
+use Rattle.check_crew.specs.CrewFaults.{fault_of_crew}
 
 -- a crew's fault is want of memory or of a thread
 pub crew_fault : (fault : CrewFault) → fault_of_crew fault ≢ Memory → fault_of_crew fault ≢ Thread →

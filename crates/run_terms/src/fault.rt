@@ -2,7 +2,6 @@
 
 use byte_flow::DeviceFault;
 use case_core::{CaseFault, DimacsFault};
-use check_crew::{CrewFault, ReadFault};
 use std::alloc::{AllocError, AllocFailed};
 use std::error::Error;
 use std::fmt;
@@ -78,7 +77,7 @@ struct Pair(u64, u64);
 
 impl fmt::Display for Pair {
     ghost use Rattle.std.specs.Prelude.{Some};
-    ghost use Rattle.cube_report.specs.Faults.{pair_text};
+    ghost use Rattle.run_terms.specs.Faults.{pair_text};
 
     ghost output = { λ pair. Some (pair_text pair.0 pair.1) };
 
@@ -94,7 +93,7 @@ struct Said(u64, u64);
 
 impl fmt::Display for Said {
     ghost use Rattle.std.specs.Prelude.{Some};
-    ghost use Rattle.cube_report.specs.Faults.{said_text};
+    ghost use Rattle.run_terms.specs.Faults.{said_text};
 
     ghost output = { λ said. Some (said_text said.0 said.1) };
 
@@ -107,7 +106,7 @@ impl fmt::Display for Said {
 /// Writes the fault's name and what it names, as `F2 token, line 7`.
 impl fmt::Display for Fault {
     ghost use Rattle.std.specs.Prelude.{Some};
-    ghost use Rattle.cube_report.specs.Faults.{fault_text};
+    ghost use Rattle.run_terms.specs.Faults.{fault_text};
 
     ghost output = { λ fault. Some (fault_text fault) };
 
@@ -159,7 +158,7 @@ impl Error for Fault {}
 
 impl From<AllocError> for Fault {
     ghost use Rattle.std.specs.Prelude.{◌≡◌};
-    ghost use Rattle.cube_report.specs.declared.fault.Fault.TheVariants.{Memory};
+    ghost use Rattle.run_terms.specs.declared.fault.Fault.TheVariants.{Memory};
 
     ghost from_gives = { λ _ fault. fault ≡ Memory };
 
@@ -170,7 +169,7 @@ impl From<AllocError> for Fault {
 
 impl<T: Drop> From<AllocFailed<T>> for Fault {
     ghost use Rattle.std.specs.Prelude.{◌≡◌};
-    ghost use Rattle.cube_report.specs.declared.fault.Fault.TheVariants.{Memory};
+    ghost use Rattle.run_terms.specs.declared.fault.Fault.TheVariants.{Memory};
 
     ghost from_gives = { λ _ fault. fault ≡ Memory };
 
@@ -181,7 +180,7 @@ impl<T: Drop> From<AllocFailed<T>> for Fault {
 
 impl From<DeviceFault> for Fault {
     ghost use Rattle.std.specs.Prelude.{◌≡◌};
-    ghost use Rattle.cube_report.specs.Faults.{fault_of_device};
+    ghost use Rattle.run_terms.specs.Faults.{fault_of_device};
 
     ghost from_gives = { λ fault told. told ≡ fault_of_device fault };
 
@@ -195,7 +194,7 @@ impl From<DeviceFault> for Fault {
 
 impl From<CaseFault> for Fault {
     ghost use Rattle.std.specs.Prelude.{◌≡◌};
-    ghost use Rattle.cube_report.specs.Faults.{fault_of_case};
+    ghost use Rattle.run_terms.specs.Faults.{fault_of_case};
 
     ghost from_gives = { λ fault told. told ≡ fault_of_case fault };
 
@@ -219,7 +218,7 @@ impl From<CaseFault> for Fault {
 
 impl From<DimacsFault> for Fault {
     ghost use Rattle.std.specs.Prelude.{◌≡◌};
-    ghost use Rattle.cube_report.specs.Faults.{fault_of_dimacs};
+    ghost use Rattle.run_terms.specs.Faults.{fault_of_dimacs};
 
     ghost from_gives = { λ fault told. told ≡ fault_of_dimacs fault };
 
@@ -238,35 +237,6 @@ impl From<DimacsFault> for Fault {
                 greatest,
                 found,
             },
-        }
-    }
-}
-
-impl From<CrewFault> for Fault {
-    ghost use Rattle.std.specs.Prelude.{◌≡◌};
-    ghost use Rattle.cube_report.specs.Faults.{fault_of_crew};
-
-    ghost from_gives = { λ fault told. told ≡ fault_of_crew fault };
-
-    fn from(fault: CrewFault) -> Fault {
-        match fault {
-            CrewFault::Memory => Fault::Memory,
-            CrewFault::Thread => Fault::Thread,
-        }
-    }
-}
-
-impl From<ReadFault> for Fault {
-    ghost use Rattle.std.specs.Prelude.{◌≡◌};
-    ghost use Rattle.cube_report.specs.Faults.{fault_of_read};
-
-    ghost from_gives = { λ fault told. told ≡ fault_of_read fault };
-
-    fn from(fault: ReadFault) -> Fault {
-        match fault {
-            ReadFault::Case(fault) => Fault::from(fault),
-            ReadFault::Device(fault) => Fault::from(fault),
-            ReadFault::Thread => Fault::Thread,
         }
     }
 }
