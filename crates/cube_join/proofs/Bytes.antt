@@ -1,7 +1,6 @@
 -- Texts that are cut at a byte which they don't have.
-use Rattle.std.proofs.Common.{◌≡◌, ℕ, zero, suc, ◌<◌, ◌≤◌, ◌==◌, ◌%◌, ◌/◌, List, [], ◌∷◌, ◌++◌}
-use Rattle.std.proofs.Common.{true, false, refl, sym, arith, decimal, cond}
-use Rattle.std.specs.Fmt.{digits, digits_onto, digit_glyph}
+use Rattle.std.proofs.Common.{◌≡◌, ℕ, List, [], ◌∷◌, ◌++◌}
+use Rattle.std.proofs.Common.{refl, sym}
 use Rattle.node_fields.specs.Bytes.{Lacks}
 
 -- the bytes up to the first such byte, and what is behind it

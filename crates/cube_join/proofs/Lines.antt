@@ -1,23 +1,18 @@
 -- What can be read back of a report's lines.
-use Rattle.std.proofs.Common.{◌≡◌, ℕ, ◌<◌, ◌≤◌, ◌==◌, ◌^◌, List, [], ◌∷◌, ◌++◌}
-use Rattle.std.proofs.Common.{Bool, true, false, refl, sym, ap, ◌∙◌, arith, inl, inr, codes}
+use Rattle.std.proofs.Common.{◌≡◌, ℕ, ◌<◌, ◌≤◌, ◌^◌, List, [], ◌∷◌, ◌++◌}
+use Rattle.std.proofs.Common.{Bool, true, false, refl, sym, ap, ◌∙◌, arith}
 use Rattle.std.proofs.Common.{append_assoc, decimal}
 use Rattle.std.specs.Prelude.{if◌then◌else◌}
 use Rattle.std.specs.List.{flat_map}
-use Rattle.std.proofs.lemmas.Bool.{cases_eq}
 use Rattle.std.proofs.lemmas.Fmt.{decimal_injective}
 use Rattle.case_core.specs.Literal.{Literal}
-use Rattle.case_core.specs.Reason.{Reason}
-use Rattle.case_core.specs.Reason.TheVariants.{Unreadable, Id, Hint, Unit as NotUnit}
-use Rattle.case_core.specs.Reason.TheVariants.{Empty, Group, Candidate, End}
 use Rattle.mark_board.specs.declared.mark.Mark.{Mark}
 use Rattle.mark_board.specs.declared.mark.Mark.TheVariants.{Open, Refuted, Rejected}
 use Rattle.mark_board.specs.Marking.{is_refuted, mark_at}
-use Rattle.mark_board.proofs.MarkingLaws.{test_same, test_other}
-use Rattle.node_fields.specs.Fields.{number_field, literal_field, reason_field, status_fields}
+use Rattle.node_fields.specs.Fields.{literal_field, status_fields}
 use Rattle.node_fields.specs.Bytes.{Lacks}
-use Rattle.node_fields.proofs.FieldBytes.{AreDigits, decimal_digits, lacks_append, lacks_digits}
-use Rattle.node_fields.proofs.FieldBytes.{number_lacks, status_lacks}
+use Rattle.node_fields.proofs.FieldBytes.{AreDigits, decimal_digits, lacks_digits}
+use Rattle.node_fields.proofs.FieldBytes.{status_lacks}
 use Rattle.cube_join.proofs.Bytes.{cut}
 
 -- ---- statuses

@@ -44,11 +44,6 @@ splits_or_not missing = inr (tt)
 splits_or_not (cube k) = inr (tt)
 splits_or_not (split v p n) = inl (tt)
 
-pub is_split : (t : SplitTree) → IsSplit t ⊎ (IsSplit t → ⊥)
-is_split missing = inr (λ h. h)
-is_split (cube k) = inr (λ h. h)
-is_split (split v p n) = inl tt
-
 pub leaf_one : (t : SplitTree) → IsLeaf t → size t ≡ 1
 leaf_one missing l = refl
 leaf_one (cube k) l = refl
@@ -58,3 +53,9 @@ pub leaf_no_split : (t : SplitTree) → IsLeaf t → IsSplit t → ⊥
 leaf_no_split missing l s = s
 leaf_no_split (cube k) l s = s
 leaf_no_split (split v p n) l s = l
+
+pub is_split : (t : SplitTree) → IsSplit t ⊎ (IsSplit t → ⊥)
+is_split t = elim (splits_or_not t) [
+  | inl inner ↦ inl inner
+  | inr leaf ↦ inr (leaf_no_split t leaf)
+]
