@@ -13,6 +13,7 @@ mod labelled;
 mod laws;
 mod reading;
 mod sections;
+mod stored;
 mod target;
 
 pub use bundle::{icnf_part, line_count, line_ends, read_bundle, read_tree, take_bundle};
@@ -32,4 +33,5 @@ pub use laws::{
 };
 pub use lrat_binary::{ProofForm, binary_text, turn_from};
 pub use split_tree::{Leaf, NodeId, Target, Tree};
+pub use stored::StoredFinding;
 pub use target::has_target;

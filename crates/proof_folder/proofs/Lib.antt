@@ -8,3 +8,4 @@ pub mod GivenCase
 pub mod GivenFindings
 pub mod GivenFound
 pub mod GivenBelow
+pub mod AddedLineEnd

@@ -1,6 +1,7 @@
 use Rattle.std.proofs.Common.{◌∙◌, ◌≡◌, rules, None}
-use Rattle.check_crew.proofs.SeenTurns.{stays_same}
-use Rattle.check_crew.proofs.TargetsSeen.{examined_more, none_opened}
+use Rattle.std.proofs.lemmas.List.Elements.{All-push}
+use Rattle.check_crew.specs.Inner.Targets.{IsExamined}
+use Rattle.check_crew.proofs.TargetsSeen.{none_opened}
 use Rattle.check_crew.proofs.targets.next_proof.Goals as goal
 
 pub loop-preserved : goal.loop-preserved
@@ -10,9 +11,9 @@ loop-preserved g c =
     record {
       held = step.held ∙ was.held;
       count = step.ok ∙ was.count;
-      absent = λ view were.
+      absent =
           rw c.in_ok-push.ensures.items
-          (examined_more (g.P.TargetProofs.held c.args.proofs.now) view view c.loop.examined.items _
-          (stays_same view) (was.absent view were)
+          (All-push (λ one. IsExamined (g.P.TargetProofs.held c.args.proofs.now one.target)
+          c.args.turns.site.case.now one.target one.examined) c.loop.examined.items _ was.absent
           (rw was.held at (none_opened _ _ c.in_ok-proof.field-0 step.opened none)));
     }
