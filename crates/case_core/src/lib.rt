@@ -13,7 +13,6 @@ mod labelled;
 mod laws;
 mod reading;
 mod sections;
-mod stored;
 mod target;
 
 pub use bundle::{icnf_part, line_count, line_ends, read_bundle, read_tree, take_bundle};
@@ -33,5 +32,4 @@ pub use laws::{
 };
 pub use lrat_binary::{ProofForm, binary_text, turn_from};
 pub use split_tree::{Leaf, NodeId, Target, Tree};
-pub use stored::StoredFinding;
 pub use target::has_target;

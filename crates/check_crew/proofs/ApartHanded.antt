@@ -1,22 +1,24 @@
 -- What a worker hands back.
 use Rattle.std.proofs.Common.{◌≡◌, ℕ, List, Option, All, Result, Ok, Err}
-use Rattle.std.proofs.Common.{subst, true}
+use Rattle.std.proofs.Common.{ap, subst, sym, true, ◌∙◌}
 use Rattle.std.specs.Prelude.{IfOk, MatchOption, OnOk}
 use Rattle.std.proofs.lemmas.List.Elements.{All-weaker}
 use Rattle.case_core.specs.Case.{CaseOf}
 use Rattle.case_core.specs.Target.{Target}
+use Rattle.board_hall.specs.declared.pass.Pass.{Pass}
+use Rattle.board_hall.specs.declared.view.CutCase.{CutCase}
 use Rattle.board_hall.specs.declared.view.View.{View}
 use Rattle.board_hall.specs.Clauses.{Stays}
+use Rattle.board_hall.specs.Halls.{HallOf, IsPassOf, view_of}
 use Rattle.proof_folder.specs.TargetProofs.{Known}
+use Rattle.check_crew.specs.Examined.{IsExamined}
 use Rattle.byte_flow.specs.Device.{IsDeviceFault}
 use Rattle.check_crew.specs.declared.crew.Crew.{Crew}
 use Rattle.check_crew.specs.declared.worker.Job.{Job}
 use Rattle.check_crew.specs.declared.worker.Shift.{Shift}
 use Rattle.check_crew.specs.declared.worker.Turns.{Turns}
 use Rattle.check_crew.specs.declared.targets.ExaminedTarget.{ExaminedTarget}
-use Rattle.check_crew.specs.declared.targets.Examined.{Examined}
-use Rattle.check_crew.specs.declared.targets.Examined.TheVariants.{Absent, Found, Labelled}
-use Rattle.check_crew.specs.Inner.Targets.{AreOfCase, IsExamined, IsListOf, IsOfCase}
+use Rattle.check_crew.specs.Inner.Apart.{IsListOf}
 use Rattle.check_crew.specs.Inner.Crew.{HasSeenTurn, IsDealtBy, IsHandedBy, IsShiftOf}
 use Rattle.check_crew.proofs.SeenTurns.{section_stays}
 use Rattle.cube_jobs.specs.Jobs.{JobPassOf}
@@ -45,30 +47,20 @@ faults_met crew held failures shifts =
     (IsDeviceFault 0 (failures shift.proofs))) (λ shift handed. handed.is.fault_is) shifts
 
 -- the list of a worker that no fault stopped
-pub list_of : (case : CaseOf) (held known : Known) (examined : List ExaminedTarget)
-    → All (λ one. IsExamined (held one.target) case one.target one.examined) examined
+pub list_of : (hall : HallOf) (case : CaseOf) (held known : Known) (pass : Pass)
+    (examined : List ExaminedTarget) → case ≡ hall.of.case → IsPassOf hall pass
+    → All (λ one. IsExamined (held one.target) (view_of pass) one.target one.examined) examined
     → ((target : Target) → held target ≡ known target) → IsListOf known case examined
-list_of case held known examined each same =
-    All-weaker (λ one. IsExamined (held one.target) case one.target one.examined)
-    (λ one. IsExamined (known one.target) case one.target one.examined)
-    (λ one.
-    subst (λ (k : Option (Option (List ℕ))). IsExamined k case one.target one.examined)
-    (same one.target)) examined each
-
-of_case_one : (known : Option (Option (List ℕ))) (case : CaseOf) (target : Target)
-    (examined : Examined) → IsExamined known case target examined → IsOfCase case examined
-of_case_one known case target Absent is = tt
-of_case_one known case target (Found finding) is = is.of_case
-of_case_one known case target Labelled is = tt
-
--- what it found is of the case
-pub of_case : (case : CaseOf) (held : Known) (examined : List ExaminedTarget)
-    → All (λ one. IsExamined (held one.target) case one.target one.examined) examined
-    → AreOfCase case examined
-of_case case held examined each =
-    All-weaker (λ one. IsExamined (held one.target) case one.target one.examined)
-    (λ one. IsOfCase case one.examined)
-    (λ one. of_case_one (held one.target) case one.target one.examined) examined each
+list_of hall case held known pass examined of own each same = record {
+  view = view_of pass;
+  of_case = ap (λ (k : CutCase). k.case) own.1 ∙ sym of;
+  all =
+      All-weaker (λ one. IsExamined (held one.target) (view_of pass) one.target one.examined)
+      (λ one. IsExamined (known one.target) (view_of pass) one.target one.examined)
+      (λ one.
+      subst (λ (k : Option (Option (List ℕ))). IsExamined k (view_of pass) one.target one.examined)
+      (same one.target)) examined each;
+}
 
 -- what a worker hands back for a job that was dealt
 pub handed_by : {R G P : Type 0} (crew : Crew R G P) (held : P → Known) (failures : P → ℕ)

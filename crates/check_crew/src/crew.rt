@@ -10,7 +10,7 @@ ghost use Rattle.board_hall.specs.declared.view.Proofs.TheVariants.{Elsewhere as
 ghost use Rattle.mark_board.specs.Findings.{AreFindings};
 ghost use Rattle.proof_folder.specs.TargetProofs.{Known};
 ghost use Rattle.check_crew.specs.Seen.{HaveSeenSections};
-ghost use Rattle.check_crew.specs.Inner.Targets.{AreOfCase, IsListOf};
+ghost use Rattle.check_crew.specs.Inner.Apart.{IsListOf};
 ghost use Rattle.check_crew.specs.Inner.Crew.{IsReady, IsDealtBy, IsHandedBy, IsJobOf, IsShiftOf};
 ghost use Rattle.check_crew.specs.Inner.Crew.{IsHandedIn, IsRunFault, AreClosed};
 
@@ -96,7 +96,7 @@ pub fn conquer<'c, R: Threads + Wait + Sync, G: Gate + Sync>(
 }
 
 /// A hall before its workers begin: their passes, the targets whose proofs lie elsewhere in their
-/// order, of a case without sections, and what is known of all these proofs.
+/// order, and what is known of all these proofs.
 #[derive(Drop)]
 pub(crate) struct Opened<'c> {
     pub(crate) hall: Hall<'c>,
@@ -118,16 +118,13 @@ pub(crate) fn run<'c, R: Threads + Wait + Sync, G: Gate + Sync, P: TargetProofs 
 ) -> Result<(Boards<'c>, Vec<Vec<ExaminedTarget>>), RunFault<P>>
     requires cut { cut ≤ 6 }
     requires elsewhere { 0 < vec_len opened.targets
-        → ((hall_of opened.hall).of.proofs ≡ AnyElsewhere)
-        × ((hall_of opened.hall).of.case.sections ≡ []) }
+        → (hall_of opened.hall).of.proofs ≡ AnyElsewhere }
     requires count { (0 < vec_len proofs) × (vec_len proofs ≤ 32) }
     requires passes { (vec_len opened.passes ≡ vec_len proofs)
         × ((hall_of opened.hall).passes ≡ vec_len proofs) }
     requires new { All (IsNewPass (hall_of opened.hall)) opened.passes.items }
     requires fresh { All (λ one. P.failures one ≡ 0) proofs.items }
     ensures closed { IfOk result (λ run. AreClosed (hall_of opened.entry.hall) run.0) }
-    ensures of_case { IfOk result (λ run. All (λ list.
-        AreOfCase (hall_of opened.entry.hall).of.case list.items) run.1.items) }
     ensures lists { (known : Known)
         → All (λ one. (target : Target) → P.held one target ≡ known target) proofs.items
         → IfOk result (λ run. All (λ list.
@@ -168,8 +165,7 @@ fn examine_all<R: Threads + Wait + Sync, G: Gate + Sync, P: TargetProofs + Send 
     proofs: Vec<P>,
 ) -> Result<(Vec<Pass>, Vec<Vec<ExaminedTarget>>), RunFault<P>>
     requires case { site.case.now ≡ (core_of site.core.now).case }
-    requires elsewhere { 0 < length targets.now
-        → ((core_of site.core.now).proofs ≡ AnyElsewhere) × (site.case.now.sections ≡ []) }
+    requires elsewhere { 0 < length targets.now → (core_of site.core.now).proofs ≡ AnyElsewhere }
     requires count { (0 < vec_len proofs) × (vec_len proofs ≤ 32) }
     requires pairs { vec_len passes ≡ vec_len proofs }
     requires new { All (IsNewPass (shared_of site.core.now)) passes.items }
@@ -180,8 +176,6 @@ fn examine_all<R: Threads + Wait + Sync, G: Gate + Sync, P: TargetProofs + Send 
     ensures free { IfOk result
         (λ handed. All (λ pass. (view_of pass).owes ≡ None) handed.0.items) }
     ensures seen { IfOk result (λ handed. HaveSeenSections site.entry.case.now handed.0.items) }
-    ensures of_case { IfOk result
-        (λ handed. All (λ list. AreOfCase site.entry.case.now list.items) handed.1.items) }
     ensures lists { (known : Known)
         → All (λ one. (target : Target) → P.held one target ≡ known target) proofs.items
         → IfOk result (λ handed.

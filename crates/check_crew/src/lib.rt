@@ -2,13 +2,13 @@
 //! on the boards.
 #![tactic(auto)]
 
+mod compare;
 mod crew;
 mod elsewhere;
 mod fault;
 mod found;
 mod gate;
 mod handed;
-mod marks;
 mod no_proofs;
 mod one;
 mod order;
@@ -28,4 +28,5 @@ pub use gate::{Elsewhere, Found, Gate, NoGate};
 pub use one::OneWorker;
 pub use proof_folder::TargetProofs;
 pub use run_terms::Settings;
+pub use targets::Examined;
 pub use while_read::conquer_while_read;

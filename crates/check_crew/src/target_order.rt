@@ -3,7 +3,7 @@
 ghost use Rattle.std.specs.Prelude.{◌≡◌, ◌<◌, All, IfOk, OnOk, vec_len};
 ghost use Rattle.case_core.specs.SplitTree.{size};
 ghost use Rattle.proof_folder.specs.TargetProofs.{Known};
-ghost use Rattle.check_crew.specs.Inner.Targets.{AreAbsent};
+ghost use Rattle.check_crew.specs.Inner.Apart.{AreAbsent};
 
 use crate::gate::Elsewhere;
 use case_core::{Case, Leaf, NodeId, Target};

@@ -1,16 +1,19 @@
 //! What a worker does of targets whose proofs don't stand in the case.
 
-ghost use Rattle.std.specs.Prelude.{◌≡◌, ◌<◌, ◌^◌, ◌-◌, [], None, All, IfOk, IfErr, IfSome, OnOk};
-ghost use Rattle.std.specs.Prelude.{length, List, Option, ℕ};
+ghost use Rattle.std.specs.Prelude.{◌≡◌, ◌<◌, ◌^◌, ◌-◌, [], None, All, IfOk, IfErr, IfSome};
+ghost use Rattle.std.specs.Prelude.{false, length, List, Option, ℕ};
 ghost use Rattle.byte_flow.specs.Device.{IsDeviceFault};
-ghost use Rattle.case_core.specs.FindingOf.{stored_of};
+ghost use Rattle.case_core.specs.Case.{proof_for};
+ghost use Rattle.std.specs.Prelude.{OnOk};
+ghost use Rattle.case_core.specs.Finding.{target_of};
 ghost use Rattle.case_core.specs.Leaves.{HasTarget};
-ghost use Rattle.case_core.specs.Target.{Target};
 ghost use Rattle.board_hall.specs.Halls.{core_of, shared_of, view_of, IsPassOf};
 ghost use Rattle.board_hall.specs.Clauses.{Stays};
+ghost use Rattle.board_hall.specs.declared.view.View.{View};
 ghost use Rattle.board_hall.specs.declared.view.Proofs.TheVariants.{Elsewhere as AnyElsewhere};
 ghost use Rattle.proof_folder.specs.TargetProofs.{IsLeftOf, left_text};
-ghost use Rattle.check_crew.specs.Inner.Targets.{IsExamined, IsFoundOf, found_in};
+ghost use Rattle.check_crew.specs.Examined.{IsExamined};
+ghost use Rattle.check_crew.specs.Inner.Apart.{IsFoundOf, found_in};
 ghost use Rattle.check_crew.specs.Inner.Crew.{IsReady};
 
 use crate::gate::Gate;
@@ -18,23 +21,22 @@ use crate::site::{Site, post_found};
 use crate::worker::Turns;
 use board_hall::Pass;
 use byte_flow::DeviceFault;
-use case_core::{
-    Case, Examiner, ReadFinding, ReadProof, StoredFinding, Target, has_target,
-};
+use case_core::{Case, Examiner, Judged, ReadFinding, ReadProof, Target, has_target};
 use proof_folder::TargetProofs;
 use std::alloc::Global;
 use std::sync::Wait;
 use std::sync::atomic::Ordering;
 
 /// What became of a target that was taken.
-#[derive(Clone, Copy)]
-pub(crate) enum Examined {
+#[derive(Clone, Copy, Debug)]
+pub enum Examined {
     /// No proof lies there for it.
     Absent,
-    /// This was found by its proof, and was posted.
-    Found(StoredFinding),
-    /// Its proof has a label line, so the run has to be made with all proofs in one bundle.
-    Labelled,
+    /// Its proof is judged so, and that was posted.
+    Found(Judged),
+    /// The run has to be made with all proofs in one bundle: the proof has a label line, or the
+    /// target has a section of its own.
+    Other,
 }
 
 /// A target, and what became of it.
@@ -51,6 +53,14 @@ struct OpenedTarget<T> {
     proof: T,
 }
 
+/// Whether a target has a section of its own in the case.
+fn has_section(case: &Case, target: Target) -> bool
+    requires { HasTarget case.now.tree target }
+    ensures { result ≡ false → proof_for case.now.sections target ≡ None }
+{
+    case.proof_for(target).is_some()
+}
+
 /// What is found by the proof of a target, which is read to its end and given back; `None` where it
 /// has a label line.
 fn read_target<'c, P: TargetProofs>(
@@ -60,7 +70,7 @@ fn read_target<'c, P: TargetProofs>(
     opened: OpenedTarget<P::Proof>,
 ) -> Result<Option<ReadFinding<'c>>, DeviceFault>
     requires target { HasTarget examiner.old.tree opened.target }
-    requires bare { examiner.old.sections ≡ [] }
+    requires none { proof_for examiner.old.sections opened.target ≡ None }
     requires left { IsLeftOf (P.held proofs.old opened.target)
         (left_text P.takes_binary (P.Proof.remaining opened.proof)) }
     requires fresh { P.Proof.failures opened.proof ≡ 0 }
@@ -68,9 +78,7 @@ fn read_target<'c, P: TargetProofs>(
     ensures same { examiner.new ≡ examiner.old }
     ensures held { P.held proofs.new ≡ P.held proofs.old }
     ensures found { IfOk result (λ some. IfSome some
-        (λ read. (read.finding.case.now ≡ examiner.old)
-        × IsFoundOf (P.held proofs.old opened.target) examiner.old opened.target
-        (stored_of read.finding))) }
+        (λ read. IsFoundOf (P.held proofs.old opened.target) examiner.old opened.target read)) }
     ensures ok { OnOk result (P.failures proofs.new ≡ P.failures proofs.old) }
     ensures err { IfErr result
         (λ fault. IsDeviceFault (P.failures proofs.old) (P.failures proofs.new) fault) }
@@ -100,23 +108,29 @@ fn post_target<'c, R: Wait, G: Gate>(
     site: Site<'_, 'c, R, G>,
     worker: u32,
     pass: &mut Pass,
+    target: Target,
     read: ReadFinding<'c>,
 ) -> Examined
     requires case { site.case.now ≡ (core_of site.core.now).case }
     requires elsewhere { (core_of site.core.now).proofs ≡ AnyElsewhere }
+    requires free { proof_for site.case.now.sections target ≡ None }
     requires own { IsPassOf (shared_of site.core.now) pass.old }
     requires owes { (view_of pass.old).owes ≡ None }
-    requires of { read.finding.case.now ≡ site.case.now }
+    requires of { (read.finding.case.now ≡ site.case.now)
+        × (target_of read.finding.leaf read.finding.node ≡ target) }
     ensures own { IsPassOf (shared_of site.entry.core.now) pass.new }
     ensures owes { (view_of pass.new).owes ≡ None }
     ensures stays { Stays (view_of pass.old) (view_of pass.new) }
-    ensures examined { (known : Option (Option (List ℕ))) (target : Target)
-        → IsFoundOf known site.entry.case.now target (stored_of read.entry.finding)
-        → IsExamined known site.entry.case.now target result }
+    ensures examined { (known : Option (Option (List ℕ)))
+        → IsFoundOf known site.entry.case.now target read.entry
+        → IsExamined known (view_of pass.new) target result }
 {
-    let found = read.finding.unbind();
-    post_found(site, worker, pass, read);
-    Examined::Found(found)
+    let judged = read.finding.judged();
+    if post_found(site, worker, pass, read) {
+        Examined::Found(judged)
+    } else {
+        Examined::Other
+    }
 }
 
 /// Judges the proof of a target while it is read, and posts what is found; the gate is called
@@ -131,7 +145,6 @@ fn examine_target<'c, R: Wait, G: Gate, P: TargetProofs>(
 ) -> Result<Examined, DeviceFault>
     requires case { site.case.now ≡ (core_of site.core.now).case }
     requires elsewhere { (core_of site.core.now).proofs ≡ AnyElsewhere }
-    requires bare { site.case.now.sections ≡ [] }
     requires examiner { examiner.old ≡ site.case.now }
     requires target { HasTarget site.case.now.tree opened.target }
     requires left { IsLeftOf (P.held proofs.old opened.target)
@@ -146,19 +159,24 @@ fn examine_target<'c, R: Wait, G: Gate, P: TargetProofs>(
     ensures owes { (view_of pass.new).owes ≡ None }
     ensures stays { Stays (view_of pass.old) (view_of pass.new) }
     ensures examined { IfOk result (λ examined. IsExamined (P.held proofs.old opened.target)
-        site.entry.case.now opened.target examined) }
+        (view_of pass.new) opened.target examined) }
     ensures ok { OnOk result (P.failures proofs.new ≡ P.failures proofs.old) }
     ensures err { IfErr result
         (λ fault. IsDeviceFault (P.failures proofs.old) (P.failures proofs.new) fault) }
 {
     let target = opened.target;
+    let asked = target;
     let announced = target;
+    if has_section(site.case, asked) {
+        site.gate.falls_back(target);
+        return Ok(Examined::Other);
+    }
     site.gate.before(worker, announced);
     match read_target(site.alloc, examiner, proofs, opened)? {
-        Some(read) => Ok(post_target(site, worker, pass, read)),
+        Some(read) => Ok(post_target(site, worker, pass, target, read)),
         None => {
             site.gate.falls_back(target);
-            Ok(Examined::Labelled)
+            Ok(Examined::Other)
         }
     }
 }
@@ -194,8 +212,8 @@ pub(crate) fn end_targets<R, G>(turns: Turns<'_, R, G>) {
 }
 
 /// Does so where the run has to be made with all proofs in one bundle.
-fn end_at_label<R, G>(turns: Turns<'_, R, G>, examined: Examined) {
-    if let Examined::Labelled = examined {
+fn end_at_other<R, G>(turns: Turns<'_, R, G>, found: Examined) {
+    if let Examined::Other = found {
         end_targets(turns);
     }
 }
@@ -212,7 +230,6 @@ fn take_target<'c, R: Wait, G: Gate, P: TargetProofs>(
 ) -> Result<ExaminedTarget, DeviceFault>
     requires case { turns.site.case.now ≡ (core_of turns.site.core.now).case }
     requires elsewhere { (core_of turns.site.core.now).proofs ≡ AnyElsewhere }
-    requires bare { turns.site.case.now.sections ≡ [] }
     requires examiner { examiner.old ≡ turns.site.case.now }
     requires target { HasTarget turns.site.case.now.tree opened.target }
     requires left { IsLeftOf (P.held proofs.old opened.target)
@@ -227,14 +244,14 @@ fn take_target<'c, R: Wait, G: Gate, P: TargetProofs>(
     ensures owes { (view_of pass.new).owes ≡ None }
     ensures stays { Stays (view_of pass.old) (view_of pass.new) }
     ensures examined { IfOk result (λ one. IsExamined (P.held proofs.old one.target)
-        turns.entry.site.case.now one.target one.examined) }
+        (view_of pass.new) one.target one.examined) }
     ensures ok { OnOk result (P.failures proofs.new ≡ P.failures proofs.old) }
     ensures err { IfErr result
         (λ fault. IsDeviceFault (P.failures proofs.old) (P.failures proofs.new) fault) }
 {
     let target = opened.target;
     let examined = examine_target(turns.site, worker, examiner, proofs, pass, opened)?;
-    end_at_label(turns, examined);
+    end_at_other(turns, examined);
     Ok(ExaminedTarget { target, examined })
 }
 
@@ -246,8 +263,6 @@ fn next_proof<R: Wait, G, P: TargetProofs>(
     examined: &mut Vec<ExaminedTarget>,
 ) -> Result<Option<OpenedTarget<P::Proof>>, DeviceFault>
     requires count { P.failures proofs.old < 2 ^ 64 - 1 }
-    requires were { All (λ one. IsExamined (P.held proofs.old one.target)
-        turns.site.case.now one.target one.examined) examined.old.items }
     ensures held { P.held proofs.new ≡ P.held proofs.old }
     ensures target { IfOk result (λ found. IfSome found
         (λ opened. HasTarget turns.entry.site.case.now.tree opened.target)) }
@@ -257,8 +272,11 @@ fn next_proof<R: Wait, G, P: TargetProofs>(
         (left_text P.takes_binary (P.Proof.remaining opened.proof)))) }
     ensures fresh { IfOk result (λ found. IfSome found
         (λ opened. P.Proof.failures opened.proof ≡ 0)) }
-    ensures absent { OnOk result (All (λ one. IsExamined (P.held proofs.old one.target)
-        turns.entry.site.case.now one.target one.examined) examined.new.items) }
+    ensures absent { OnOk result ((view : View)
+        → All (λ one. IsExamined (P.held proofs.old one.target) view one.target one.examined)
+        examined.old.items
+        → All (λ one. IsExamined (P.held proofs.old one.target) view one.target one.examined)
+        examined.new.items) }
     ensures ok { OnOk result (P.failures proofs.new ≡ P.failures proofs.old) }
     ensures err { IfErr result
         (λ fault. IsDeviceFault (P.failures proofs.old) (P.failures proofs.new) fault) }
@@ -292,7 +310,6 @@ fn take_targets<R: Wait, G: Gate, P: TargetProofs>(
 ) -> Result<(), DeviceFault>
     requires case { turns.site.case.now ≡ (core_of turns.site.core.now).case }
     requires elsewhere { (core_of turns.site.core.now).proofs ≡ AnyElsewhere }
-    requires bare { turns.site.case.now.sections ≡ [] }
     requires first { HasTarget turns.site.case.now.tree first.target }
     requires left { IsLeftOf (P.held proofs.old first.target)
         (left_text P.takes_binary (P.Proof.remaining first.proof)) }
@@ -301,13 +318,13 @@ fn take_targets<R: Wait, G: Gate, P: TargetProofs>(
     requires free { (view_of pass.old).owes ≡ None }
     requires count { P.failures proofs.old < 2 ^ 64 - 1 }
     requires examined { All (λ one. IsExamined (P.held proofs.old one.target)
-        turns.site.case.now one.target one.examined) examined.old.items }
+        (view_of pass.old) one.target one.examined) examined.old.items }
     ensures held { P.held proofs.new ≡ P.held proofs.old }
     ensures own { IsPassOf (shared_of turns.entry.site.core.now) pass.new }
     ensures owes { (view_of pass.new).owes ≡ None }
     ensures stays { OnOk result (Stays (view_of pass.old) (view_of pass.new)) }
     ensures examined { OnOk result (All (λ one. IsExamined (P.held proofs.old one.target)
-        turns.entry.site.case.now one.target one.examined) examined.new.items) }
+        (view_of pass.new) one.target one.examined) examined.new.items) }
     ensures ok { OnOk result (P.failures proofs.new ≡ P.failures proofs.old) }
     ensures err { IfErr result
         (λ fault. IsDeviceFault (P.failures proofs.old) (P.failures proofs.new) fault) }
@@ -344,7 +361,7 @@ pub(crate) fn examine_targets<R: Wait, G: Gate, P: TargetProofs>(
     ensures owes { (view_of pass.new).owes ≡ None }
     ensures stays { OnOk result (Stays (view_of pass.old) (view_of pass.new)) }
     ensures examined { OnOk result (All (λ one. IsExamined (P.held proofs.old one.target)
-        turns.entry.site.case.now one.target one.examined) examined.new.items) }
+        (view_of pass.new) one.target one.examined) examined.new.items) }
     ensures ok { OnOk result (P.failures proofs.new ≡ P.failures proofs.old) }
     ensures err { IfErr result
         (λ fault. IsDeviceFault (P.failures proofs.old) (P.failures proofs.new) fault) }

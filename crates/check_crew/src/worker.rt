@@ -10,7 +10,7 @@ ghost use Rattle.cube_jobs.specs.Jobs as queue;
 ghost use Rattle.cube_jobs.specs.Jobs.{new_pass};
 ghost use Rattle.board_hall.specs.Halls.{core_of, shared_of, view_of, IsPassOf, IsNewPass};
 ghost use Rattle.board_hall.specs.Clauses.{Stays, PostsNothing, IsOfSection};
-ghost use Rattle.check_crew.specs.Inner.Targets.{IsExamined};
+ghost use Rattle.check_crew.specs.Examined.{IsExamined};
 ghost use Rattle.check_crew.specs.Seen.{HasSeenMark, HasSeenSection};
 ghost use Rattle.check_crew.specs.Inner.Crew.{IsReady, IsJobOf, IsShiftOf, HasTaken, HasSeenTurn};
 
@@ -169,7 +169,7 @@ fn take_both<R: Wait, G: Gate, P: TargetProofs>(
     requires none { examined.old.items ≡ [] }
     ensures taken { HasTaken turns.entry pass.new job_pass.new result }
     ensures examined { OnOk result (All (λ one. IsExamined (P.held proofs.old one.target)
-        turns.entry.site.case.now one.target one.examined) examined.new.items) }
+        (view_of pass.new) one.target one.examined) examined.new.items) }
     ensures ok { OnOk result (P.failures proofs.new ≡ 0) }
     ensures err { IfErr result (λ fault. IsDeviceFault 0 (P.failures proofs.new) fault) }
 {

@@ -12,7 +12,7 @@ use Rattle.case_core.specs.Bundle.{lines_of, is_label, line_onto, text_before}
 use Rattle.case_core.proofs.BundleMore.{no_lines, one_end, joined_more, lines_end, header_end}
 use Rattle.proof_folder.specs.Added.{AreEnds, IsAlmost}
 
-pub almost_of : (text longer : List ℕ) → (longer ≡ text) ⊎ (longer ≡ text ++ 10 ∷ []) →
+almost_of : (text longer : List ℕ) → (longer ≡ text) ⊎ (longer ≡ text ++ 10 ∷ []) →
     IsAlmost text longer
 almost_of text longer (inl same) = ([], tt, same ∙ sym (append-nil text))
 almost_of text longer (inr more) = (10 ∷ [], (refl, tt), more)

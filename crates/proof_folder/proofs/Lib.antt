@@ -8,4 +8,3 @@ pub mod GivenCase
 pub mod GivenFindings
 pub mod GivenFound
 pub mod GivenBelow
-pub mod AddedLineEnd

@@ -1,6 +1,5 @@
 -- What the workers of a crew share, begin with and hand back.
-use Rattle.std.specs.Prelude.{◌≡◌, ◌<◌, ℕ, List, [], length, slice_index, true, None, All}
-use Rattle.std.specs.Prelude.{flat_map}
+use Rattle.std.specs.Prelude.{◌≡◌, ◌<◌, ℕ, List, length, slice_index, true, None, All, flat_map}
 use Rattle.std.specs.Prelude.{MatchOption, OnOk, Result, vec_len}
 use Rattle.case_core.specs.Target.{Target}
 use Rattle.std.specs.List.{Contains}
@@ -20,9 +19,10 @@ use Rattle.check_crew.specs.declared.crew.Handed.{Handed}
 use Rattle.check_crew.specs.declared.worker.Job.{Job}
 use Rattle.check_crew.specs.declared.worker.Shift.{Shift}
 use Rattle.check_crew.specs.declared.worker.Turns.{Turns}
-use Rattle.check_crew.specs.Inner.Targets.{AreOfCase, IsExamined, IsListOf}
+use Rattle.check_crew.specs.Inner.Apart.{IsListOf}
 use Rattle.check_crew.specs.Inner.Order.{IsOrder}
 use Rattle.proof_folder.specs.TargetProofs.{Known}
+use Rattle.check_crew.specs.Examined.{IsExamined}
 use Rattle.check_crew.specs.Seen.{HasSeenSection, HaveSeenSections}
 
 -- that of the section whose turn it is in this order
@@ -30,14 +30,12 @@ abbrev pub HasSeenTurn : List ℕ → View → ℕ → Type 0
 HasSeenTurn order v turn = HasSeenSection v (slice_index order turn)
 
 -- the hall is of this case, the queue has a turn for each of its sections, and targets have turns
--- only where the hall takes their proofs from elsewhere and the case has no sections
+-- only where the hall takes their proofs from elsewhere
 pub record IsReady {R G : Type 0} (turns : Turns R G) : Type 0 where
   pub case_is : turns.site.case.now ≡ (core_of turns.site.core.now).case
   pub jobs_are : turns.jobs.now.sections ≡ length turns.order.now
   pub order_is : IsOrder (length turns.site.case.now.sections) turns.order.now
-  pub elsewhere : 0 < length turns.targets.now
-      → ((core_of turns.site.core.now).proofs ≡ AnyElsewhere)
-      × (turns.site.case.now.sections ≡ [])
+  pub elsewhere : 0 < length turns.targets.now → (core_of turns.site.core.now).proofs ≡ AnyElsewhere
 
 -- the passes of a worker have done nothing yet, and no call of what it reads by has failed
 pub record IsJobOf {R G P : Type 0} (failures : P → ℕ) (job : Job R G P) : Type 0 where
@@ -75,7 +73,7 @@ pub record IsShiftOf {R G P : Type 0} (turns : Turns R G) (held : Known) (failur
   pub seen : shift.fault ≡ None →
       All (HasSeenTurn turns.order.now (view_of shift.pass)) shift.job_pass.claims
   pub each : shift.fault ≡ None →
-      All (λ one. IsExamined (held one.target) turns.site.case.now one.target one.examined)
+      All (λ one. IsExamined (held one.target) (view_of shift.pass) one.target one.examined)
       shift.examined.items
   pub fault_is : MatchOption shift.fault (failures shift.proofs ≡ 0)
       (IsDeviceFault 0 (failures shift.proofs))
@@ -105,7 +103,6 @@ pub record IsHandedIn {R G P : Type 0} (turns : Turns R G) (held : P → Known) 
   pub jobs : All (queue.IsJobPassOf turns.jobs.now) handed.job_passes.items
   pub empty : All (λ (pass : JobPassOf). pass.found_empty ≡ true) handed.job_passes.items
   pub seen : HaveSeenClaims turns.order.now handed.passes.items handed.job_passes.items
-  pub of_case : All (λ list. AreOfCase turns.site.case.now list.items) handed.lists.items
   pub lists : (known : Known)
       → All (λ one. (target : Target) → held one target ≡ known target) readers
       → All (λ list. IsListOf known turns.site.case.now list.items) handed.lists.items

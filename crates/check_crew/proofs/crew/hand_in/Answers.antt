@@ -5,9 +5,9 @@ use Rattle.cube_jobs.specs.Jobs as queue
 use Rattle.cube_jobs.specs.Jobs.{JobPassOf}
 use Rattle.board_hall.specs.declared.pass.Pass.{Pass}
 use Rattle.board_hall.specs.Halls.{shared_of, view_of, IsPassOf}
-use Rattle.check_crew.specs.Inner.Targets.{AreOfCase, IsListOf}
+use Rattle.check_crew.specs.Inner.Apart.{IsListOf}
 use Rattle.check_crew.specs.Inner.Crew.{IsHandedBy}
-use Rattle.check_crew.proofs.ApartHanded.{list_of, of_case}
+use Rattle.check_crew.proofs.ApartHanded.{list_of}
 use Rattle.check_crew.proofs.SeenFindings.{claims_more}
 use Rattle.check_crew.proofs.crew.hand_in.Goals as goal
 
@@ -40,15 +40,11 @@ loop-shift-preserved g c =
       seen = rw (step.passes, step.job_passes)
           (claims_more turns.order.now handed.passes.items handed.job_passes.items
           shift.pass shift.job_pass was.seen (mine.is.seen step.fault));
-      of_case =
-          rw step.lists
-          (All-push (λ list. AreOfCase site.case.now list.items) _ _ was.of_case
-          (of_case site.case.now (g.P.TargetProofs.held mine.reader) shift.examined.items
-          (mine.is.each step.fault)));
       lists = λ known all.
           rw step.lists
           (All-push (λ list. IsListOf known site.case.now list.items) _ _ (was.lists known all)
-          (list_of site.case.now (g.P.TargetProofs.held mine.reader) known shift.examined.items
+          (list_of (shared_of site.core.now) site.case.now (g.P.TargetProofs.held mine.reader) known
+          shift.pass shift.examined.items c.requires.ready.case_is mine.is.own
           (mine.is.each step.fault)
           (All-contains
           (λ one. (target : Target) → g.P.TargetProofs.held one target ≡ known target) _
@@ -65,6 +61,5 @@ returns g c =
       jobs = was.jobs;
       empty = was.empty;
       seen = was.seen;
-      of_case = was.of_case;
       lists = was.lists;
     }

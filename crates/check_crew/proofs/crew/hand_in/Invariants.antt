@@ -6,7 +6,7 @@ use Rattle.cube_jobs.specs.Jobs.{JobPassOf}
 use Rattle.board_hall.specs.declared.pass.Pass.{Pass}
 use Rattle.board_hall.specs.Halls.{shared_of, view_of, IsPassOf}
 use Rattle.proof_folder.specs.TargetProofs.{Known}
-use Rattle.check_crew.specs.Inner.Targets.{AreOfCase, IsListOf}
+use Rattle.check_crew.specs.Inner.Apart.{IsListOf}
 use Rattle.check_crew.specs.Inner.Crew.{IsHandedBy, HaveSeenClaims}
 use Rattle.check_crew.proofs.crew.hand_in.Given as goal
 
@@ -22,7 +22,6 @@ invariant-loop-shift g l = record {
   jobs : All (queue.IsJobPassOf l.crew.turns.jobs.now) l.handed.job_passes.items;
   empty : All (λ (pass : JobPassOf). pass.found_empty ≡ true) l.handed.job_passes.items;
   seen : HaveSeenClaims l.crew.turns.order.now l.handed.passes.items l.handed.job_passes.items;
-  of_case : All (λ list. AreOfCase l.crew.turns.site.case.now list.items) l.handed.lists.items;
   lists : (known : Known)
       → All (λ one. (target : Target) → g.P.TargetProofs.held one target ≡ known target)
       l.crew.readers.now.value.items

@@ -1,7 +1,7 @@
 use Rattle.std.proofs.Common.{◌≡◌, false, rules, sym, subst, ℕ, None}
 use Rattle.case_core.specs.Target.TheVariants.{Node}
 use Rattle.proof_folder.specs.TargetProofs.{IsGiven}
-use Rattle.check_crew.proofs.TargetsMarks.{noted_more}
+use Rattle.check_crew.proofs.ApartRight.{noted_more}
 use Rattle.check_crew.proofs.target_order.add_node.Goals as goal
 
 pub returns-clause-absent : goal.returns-clause-absent

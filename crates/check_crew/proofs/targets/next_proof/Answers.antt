@@ -1,7 +1,6 @@
 use Rattle.std.proofs.Common.{◌∙◌, ◌≡◌, rules, None}
-use Rattle.std.proofs.lemmas.List.Elements.{All-push}
-use Rattle.check_crew.specs.Inner.Targets.{IsExamined}
-use Rattle.check_crew.proofs.TargetsSeen.{none_opened}
+use Rattle.check_crew.proofs.SeenTurns.{stays_same}
+use Rattle.check_crew.proofs.TargetsSeen.{examined_more, none_opened}
 use Rattle.check_crew.proofs.targets.next_proof.Goals as goal
 
 pub loop-preserved : goal.loop-preserved
@@ -11,9 +10,9 @@ loop-preserved g c =
     record {
       held = step.held ∙ was.held;
       count = step.ok ∙ was.count;
-      absent =
+      absent = λ view were.
           rw c.in_ok-push.ensures.items
-          (All-push (λ one. IsExamined (g.P.TargetProofs.held c.args.proofs.now one.target)
-          c.args.turns.site.case.now one.target one.examined) c.loop.examined.items _ was.absent
+          (examined_more (g.P.TargetProofs.held c.args.proofs.now) view view c.loop.examined.items _
+          (stays_same view) (was.absent view were)
           (rw was.held at (none_opened _ _ c.in_ok-proof.field-0 step.opened none)));
     }

@@ -1,8 +1,8 @@
 use Rattle.std.proofs.Common.{◌∙◌, refl, rules}
-use Rattle.std.proofs.lemmas.List.Elements.{All-push}
 use Rattle.byte_flow.specs.Device.{IsDeviceFault}
-use Rattle.check_crew.specs.Inner.Targets.{IsExamined}
+use Rattle.board_hall.specs.Halls.{view_of}
 use Rattle.check_crew.proofs.SeenTurns.{stays_same, stays_on}
+use Rattle.check_crew.proofs.TargetsSeen.{examined_more}
 use Rattle.check_crew.proofs.targets.take_targets.Goals as goal
 
 pub loop-init : goal.loop-init
@@ -19,14 +19,6 @@ loop-init g c = record {
   examined = c.requires.examined;
 }
 
-pub next_proof-requires-clause-were : goal.next_proof-requires-clause-were
-next_proof-requires-clause-were g c κs within =
-    let was = c.loop.invariant in let step = c.in_ok-one.ensures in
-    rw (step.held, was.held, c.in_ok-push.ensures.items)
-    (All-push (λ one. IsExamined (g.P.TargetProofs.held c.args.proofs.now one.target)
-    c.args.turns.site.case.now one.target one.examined) c.loop.examined.items _ was.examined
-    (rw was.held at step.examined))
-
 pub loop-preserved : goal.loop-preserved
 loop-preserved g c =
     let was = c.loop.invariant in let step = c.in_ok-one.ensures in
@@ -41,12 +33,19 @@ loop-preserved g c =
       pass = step.own;
       owes = step.owes;
       stays = stays_on _ _ _ was.stays step.stays;
-      examined = rw (step.held, was.held) at next.absent;
+      examined = (rw (step.held, was.held) at next.absent) (view_of c.take_target.new.pass)
+          (rw c.in_ok-push.ensures.items
+          (examined_more (g.P.TargetProofs.held c.args.proofs.now) _ _ c.loop.examined.items _
+          step.stays was.examined (rw was.held at step.examined)));
     }
 
 pub returns-in_default-clause-examined : goal.returns-in_default-clause-examined
 returns-in_default-clause-examined g c =
-    rw (c.in_ok-one.ensures.held, c.loop.invariant.held) at c.in_ok-following.ensures.absent
+    let was = c.loop.invariant in let step = c.in_ok-one.ensures in
+    (rw (step.held, was.held) at c.in_ok-following.ensures.absent) (view_of c.take_target.new.pass)
+    (rw c.in_ok-push.ensures.items
+    (examined_more (g.P.TargetProofs.held c.args.proofs.now) _ _ c.loop.examined.items _
+    step.stays was.examined (rw was.held at step.examined)))
 
 pub returns-in_default-clause-stays : goal.returns-in_default-clause-stays
 returns-in_default-clause-stays g c =

@@ -3,7 +3,7 @@ use Rattle.case_core.specs.Leaves.{HasTarget}
 use Rattle.board_hall.specs.Halls.{shared_of, view_of, IsPassOf}
 use Rattle.board_hall.specs.Clauses.{Stays}
 use Rattle.proof_folder.specs.TargetProofs.{IsLeftOf, left_text}
-use Rattle.check_crew.specs.Inner.Targets.{IsExamined}
+use Rattle.check_crew.specs.Examined.{IsExamined}
 use Rattle.check_crew.proofs.targets.take_targets.Given as goal
 
 abbrev pub invariant-loop : goal.invariant-loop
@@ -19,5 +19,5 @@ invariant-loop g l = record {
   owes : (view_of l.pass).owes ≡ None;
   stays : Stays (view_of l.initial.pass) (view_of l.pass);
   examined : All (λ one. IsExamined (g.P.TargetProofs.held l.initial.proofs one.target)
-      l.turns.site.case.now one.target one.examined) l.examined.items;
+      (view_of l.pass) one.target one.examined) l.examined.items;
 }
